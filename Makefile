@@ -5,7 +5,9 @@
 # make example     tangles the web in examples/, compiles it and runs it, and edits it by a script
 # make check       runs the gate (rt ci) and the tests over the built programs; 'N passed, M failed' ends it
 # make further     tries the wrong bodies that the gate leaves out for their time
+# make layers      proves and builds bin/tangle_layers, which prints what each layer makes of a web
 # make bench       measures the instructions, time and memory that the built programs take
+# make documents   makes docs/definitions.md from the sources
 #
 # PROGRAM_PREFIX=proved- installs proved-ctangle and proved-retangle, with pages of these names.
 # Give the same to make uninstall. GNU make's own rule for webs then takes CTANGLE=proved-ctangle,
@@ -36,6 +38,14 @@ bin/retangle: $(sources)
 	mkdir -p bin
 	cp crates/retangle/out/retangle $@
 
+layers: bin/tangle_layers
+
+# It lists the layers of the web of its stored run (docs/layers.md).
+bin/tangle_layers: $(sources)
+	cd crates/tangle_layers && rt run -- data/a.w
+	mkdir -p bin
+	cp crates/tangle_layers/out/tangle_layers $@
+
 # rt keeps no file that is written in its own folder, so the C has a full path.
 try:
 	rm -rf bin/try
@@ -63,6 +73,9 @@ example: bin/ctangle bin/retangle
 bench: bin/ctangle bin/retangle
 	python3 -B bench/run.py bin/ctangle bin/retangle
 
+documents:
+	python3 -B tests/definitions.py
+
 check:
 	tests/check.sh
 
@@ -72,4 +85,4 @@ further:
 clean:
 	rm -rf bin examples/out
 
-.PHONY: all try install uninstall example bench check further clean
+.PHONY: all layers try install uninstall example bench documents check further clean

@@ -22,7 +22,7 @@ static int sum_{n}(int count, const char *text)
 
 
 def c_program(lines, head='@c'):
-    """A web of so many lines of documentation, macros and C, in parts with this head."""
+    """A web of `lines` lines of documentation, macros and C, in parts with this head."""
     made = []
     number = 0
     while len(made) < lines:
@@ -45,7 +45,7 @@ def change_file(lines, count):
 
 
 def names(count, as_names=True):
-    """A web that defines so many names, and uses each by an abbreviation.
+    """A web that defines `count` names, and uses each by an abbreviation.
 
     Without names the same text is in control texts.
     """
@@ -63,9 +63,9 @@ def names(count, as_names=True):
 
 
 def named_program(lines, parts=1000, files=10, tail=''):
-    """A program of so many lines in parts with names, which the program and named files use.
+    """A program of `lines` lines in parts with names, which the program and named files use.
 
-    There are at most so many parts, and each tenth begins a named file or the program: it uses
+    There are at most `parts` parts, and each tenth begins a named file or the program: it uses
     those after it. The tail is the end of each name but a file's; dots make it an abbreviation.
     """
     size = max(16, lines // parts)
@@ -85,7 +85,7 @@ def named_program(lines, parts=1000, files=10, tail=''):
 
 
 def leaves(lines, names, groups=30, tail=''):
-    """A program of so many lines and names: it uses groups, and these leaves, which use nothing.
+    """A program of `lines` lines and `names` names: it uses groups, and these leaves, which use nothing.
 
     The tail is the end of each leaf's name; dots make it an abbreviation.
     """
@@ -116,7 +116,7 @@ def uses_alone(names, opener):
 
 
 def many_names(sections, names):
-    """So many sections, each a part of one of so many names; the program uses each name."""
+    """`sections` sections, each a part of one of `names` names; the program uses each name."""
     made = ['@ The program uses each name.', '@c']
     made += ['@<Name %05d@>' % number for number in range(names)]
     for number in range(sections - 1):
@@ -125,7 +125,7 @@ def many_names(sections, names):
 
 
 def named_files(count):
-    """A program, and so many named files in no order, each of one part of one line."""
+    """A program, and `count` named files in no order, each of one part of one line."""
     numbers = list(range(count))
     random.Random(count).shuffle(numbers)
     made = ['@ The program.', '@c', 'main();']

@@ -16,40 +16,23 @@ The last line is 'N passed, M failed'.
 import os
 import re
 import shutil
-import subprocess
 import sys
 import tempfile
 
-from checks import blocks_of, check, finish, lay, read, same, write
+import making
+from checks import blocks_of, check, files_below, lay, new_folder, read, run_all, same, write
+from running import run
 
 ctangle, retangle, top = (os.path.abspath(path) for path in sys.argv[1:4])
 
-PATIENCE = 60           # seconds for a run
 README_WORDS = 900      # it is read at one sitting
-SECONDS = 10 ** 9       # nanoseconds
-
-
-def run(arguments, folder, **changed):
-    """Standard output, standard error and the status. A make that runs the tests is hidden."""
-    environment = {name: os.environ[name] for name in os.environ if not name.startswith('MAKE')}
-    done = subprocess.run(arguments, cwd=folder, stdin=subprocess.DEVNULL, capture_output=True,
-                          timeout=PATIENCE, env=dict(environment, **changed))
-    return done.stdout, done.stderr, done.returncode
-
-
-def new_folder(temporary, name, files):
-    folder = os.path.join(temporary, name)
-    os.mkdir(folder)
-    lay(folder, files)
-    return folder
 
 
 def path_with(temporary):
     """A path on which ctangle and retangle are the programs under test."""
     folder = os.path.join(temporary, 'programs')
-    os.mkdir(folder)
-    shutil.copy(ctangle, os.path.join(folder, 'ctangle'))
-    shutil.copy(retangle, os.path.join(folder, 'retangle'))
+    if not os.path.exists(folder):
+        making.copy_programs((ctangle, retangle), folder)
     return folder + os.pathsep + os.environ['PATH']
 
 
@@ -68,21 +51,12 @@ def rule_of_readme():
     return found[0]
 
 
-def set_back(folder):
-    """Makes all files ten seconds older, so that what is written or touched next is newer."""
-    for path, _, names in os.walk(folder):
-        for name in names:
-            file = os.path.join(path, name)
-            time = os.stat(file).st_mtime_ns - 10 * SECONDS
-            os.utime(file, ns=(time, time))
-
-
 def is_made_again(folder, target, path):
     """Whether make writes the target, and what it says on standard error."""
-    before = os.stat(os.path.join(folder, target)).st_mtime_ns
+    before = making.time_of(folder, target)
     _, errors, status = run(['make', target], folder, PATH=path)
     check(status == 0, 'make ' + target, errors)
-    return os.stat(os.path.join(folder, target)).st_mtime_ns != before
+    return making.time_of(folder, target) != before
 
 
 def check_touched(folder, target, path, sources, others, name):
@@ -90,7 +64,7 @@ def check_touched(folder, target, path, sources, others, name):
     _, errors, status = run(['make', target], folder, PATH=path)
     check(status == 0, '%s, make %s' % (name, target), errors)
     for touched in [None] + sources + others:
-        set_back(folder)
+        making.set_back(folder)
         if touched:
             os.utime(os.path.join(folder, touched))
         same(is_made_again(folder, target, path), touched in sources,
@@ -110,9 +84,9 @@ PROJECT = {
 INCLUDED = ['b.w', 'c.w', 'nclude.w', 'parts/d.w']
 
 
-def test_rule(temporary, path):
+def test_rule(temporary):
     """The rule of README.md, without and with a change file, and a program of it."""
-    makefile = rule_of_readme()
+    makefile, path = rule_of_readme(), path_with(temporary)
     folder = new_folder(temporary, 'rule', dict(PROJECT, Makefile=makefile))
     for target in ('hello.c', 'hello'):
         check_touched(folder, target, path, ['hello.w'] + INCLUDED, ['e.w', 'faster.ch', 'no.w', 'f.w'],
@@ -128,7 +102,7 @@ def test_rule(temporary, path):
     check(b'int c = 1;' in read(folder, 'hello.c'), 'README.md', 'no line of faster.ch')
 
     # an inclusion that is new counts from the next make on
-    set_back(folder)
+    making.set_back(folder)
     write(b'int c;\n@i f.w\n', folder, 'c.w')
     check(is_made_again(folder, 'hello.c', path), 'README.md', 'c.w was changed')
     check_touched(folder, 'hello.c', path, ['f.w'], [], 'README.md, a new inclusion')
@@ -140,8 +114,9 @@ def test_rule(temporary, path):
     check(not os.path.exists(os.path.join(folder, 'hello.c')), 'README.md', 'hello.c is there')
 
 
-def test_missing(temporary, path):
+def test_missing(temporary):
     """A file that is not there stops make, unless a rule makes it; one may include itself."""
+    path = path_with(temporary)
     folder = new_folder(temporary, 'missing', {'hello.w': b'@ A.\n@c\nint a;\n@i made.w\n',
                                                'Makefile': rule_of_readme()})
     _, errors, status = run(['make', 'hello.c'], folder, PATH=path)
@@ -164,8 +139,8 @@ def test_missing(temporary, path):
     check(status == 2 and b'b.w:1: error: inclusion too deep\n' in errors, 'a file that includes itself', errors)
 
 
-def test_examples(temporary, path):
-    folder = os.path.join(temporary, 'examples')
+def test_examples(temporary):
+    path, folder = path_with(temporary), os.path.join(temporary, 'examples')
     shutil.copytree(os.path.join(top, 'examples'), folder, ignore=shutil.ignore_patterns('out'))
     check_touched(folder, 'out/primes', path, ['primes.w', 'sieve.w'], ['primes.ch', 'hello.w'], 'examples')
     check_touched(folder, 'out/more-primes', path, ['primes.w', 'sieve.w', 'primes.ch'], ['hello.w'], 'examples')
@@ -185,16 +160,7 @@ exit $status
 
 
 def copy_of_top(temporary, name):
-    """A folder with what the Makefile needs, in which nothing is built."""
-    source = os.path.join(temporary, name)
-    os.makedirs(os.path.join(source, 'bin'))
-    os.makedirs(os.path.join(source, 'crates', 'ctangle'))
-    for folder in ('docs', 'examples'):
-        shutil.copytree(os.path.join(top, folder), os.path.join(source, folder))
-    shutil.copy(os.path.join(top, 'Makefile'), source)
-    shutil.copy(ctangle, os.path.join(source, 'bin', 'ctangle'))
-    shutil.copy(retangle, os.path.join(source, 'bin', 'retangle'))
-    return source
+    return making.copy_of_top(top, (ctangle, retangle), temporary, name)
 
 
 def test_try(temporary):
@@ -212,15 +178,10 @@ def test_try(temporary):
     check(b'Nothing was proved' in printed, 'make try', printed)
 
 
-def files_below(folder):
-    return sorted(os.path.relpath(os.path.join(path, name), folder)
-                  for path, _, names in os.walk(folder) for name in names)
-
-
 def test_prefix(temporary):
     """Other names leave the files of the usual ones, and are removed alone."""
     source, root = copy_of_top(temporary, 'prefix'), os.path.join(temporary, 'a root')
-    make = ['make', '-s', '-o', 'bin/ctangle', '-o', 'bin/retangle', 'DESTDIR=' + root, 'PREFIX=/usr']
+    make = ['make', '-s'] + making.BUILT + ['DESTDIR=' + root, 'PREFIX=/usr']
     usual = ['usr/bin/ctangle', 'usr/bin/retangle', 'usr/share/man/man1/ctangle.1', 'usr/share/man/man1/retangle.1']
     proved = [os.path.join(os.path.dirname(name), 'proved-' + os.path.basename(name)) for name in usual]
     for arguments, expected in ((['install', 'PROGRAM_PREFIX=proved-'], proved), (['install'], usual + proved),
@@ -270,7 +231,7 @@ def test_surprises(temporary):
     same(read(folder, 'a.w'), b'/*2:*/\n#line 4 "a.w"\n\n2\n/*:2*/\n', 'over the web by its name')
 
 
-def test_pages():
+def test_pages(_):
     page = re.sub(r'\\f[A-Z]', '', read(top, 'docs', 'ctangle.1').decode())
     messages = re.findall(r'^\| `\w+`[^|]*\|([^|]*)\|', read(top, 'docs', 'faults.md').decode(), re.M)
     check(len(messages) > 25, 'docs/faults.md', 'its table')
@@ -282,15 +243,8 @@ def test_pages():
 
 def main():
     with tempfile.TemporaryDirectory() as temporary:
-        path = path_with(temporary)
-        test_rule(temporary, path)
-        test_missing(temporary, path)
-        test_examples(temporary, path)
-        test_try(temporary)
-        test_prefix(temporary)
-        test_surprises(temporary)
-    test_pages()
-    return finish()
+        return run_all((test_rule, test_missing, test_examples, test_try, test_prefix,
+                        test_surprises, test_pages), temporary)
 
 
 if __name__ == '__main__':

@@ -1,6 +1,6 @@
 """The web of a chain of names: the program uses k0001, k0001 uses k0002, and so on.
 
-usage: chain.py COUNT      prints the web of so many names
+usage: chain.py COUNT      prints the web of COUNT names
 """
 import sys
 

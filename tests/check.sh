@@ -12,7 +12,10 @@ count() { # LOG
     last=$(tail -n 1 "$1")
     case $last in
     *[0-9]' passed, '*[0-9]' failed') ;;
-    *) last='0 passed, 1 failed' ;;
+    *)
+        echo "FAIL $1: it ends without a count" >>"$1"
+        last='0 passed, 1 failed'
+        ;;
     esac
     passed=$((passed + ${last%% *}))
     last=${last#*, }
@@ -22,9 +25,12 @@ count() { # LOG
 rt ci 2>&1 | tee bin/gate.log
 count bin/gate.log
 
-cp crates/ctangle/out/ctangle crates/retangle/out/retangle bin/
+cp crates/ctangle/out/ctangle crates/retangle/out/retangle \
+    crates/tangle_layers/out/tangle_layers bin/
 tests/run.sh 2>&1 | tee bin/tests.log
 count bin/tests.log
 
+# what failed, once more, since it may be far above
+grep -hE '^FAIL |NOT PROVED|NOT REFUSED|NOT TRIED|BAD EDIT|FAILED' bin/gate.log bin/tests.log
 echo "$passed passed, $failed failed" | tee bin/check.count
 [ "$failed" -eq 0 ]

@@ -3,7 +3,7 @@ import os
 import re
 import tempfile
 
-SHOWN = 20              # so many problems are printed
+SHOWN = 100             # the most problems that are printed
 LONGEST = 2000          # so much of a value is printed
 
 counts = {True: 0, False: 0}
@@ -33,16 +33,25 @@ def finish():
     return 1 if counts[False] else 0
 
 
-def run_all(tests):
-    """Runs the tests one after another, and finishes."""
+def run_all(tests, *arguments):
+    """Runs the tests one after another, each with these arguments, and finishes. A test that ends
+    early, since a program left something that no test expects, has failed."""
     for test in tests:
-        test()
+        try:
+            test(*arguments)
+        except Exception as fault:
+            check(False, test.__name__, '%s: %s' % (type(fault).__name__, fault))
     return finish()
 
 
 def read(*path):
     with open(os.path.join(*path), 'rb') as file:
         return file.read()
+
+
+def read_if_there(*path):
+    """The same of a file that may not be there: then None."""
+    return read(*path) if os.path.isfile(os.path.join(*path)) else None
 
 
 def write(text, *path):
@@ -55,6 +64,20 @@ def lay(folder, files):
     for name, text in files.items():
         os.makedirs(os.path.dirname(os.path.join(folder, name)), exist_ok=True)
         write(text, folder, name)
+
+
+def new_folder(temporary, name, files):
+    """A folder of this name with these files."""
+    folder = os.path.join(temporary, name)
+    os.mkdir(folder)
+    lay(folder, files)
+    return folder
+
+
+def files_below(folder):
+    """The paths of all files of a folder and the folders in it."""
+    return sorted(os.path.relpath(os.path.join(path, name), folder)
+                  for path, _, names in os.walk(folder) for name in names)
 
 
 def written_in(folder, files):

@@ -1,36 +1,46 @@
 """Compares the built programs with the reference tangler of tests/reference.
 
 usage: compare.py generated CTANGLE FIRST COUNT      generated webs, by their seeds
-       compare.py short CTANGLE MOST                 short webs over small alphabets, so many of
-                                                     each kind
+       compare.py short CTANGLE MOST                 short webs over small alphabets, at most
+                                                     MOST of each kind
        compare.py cut CTANGLE WEB..                  webs cut after every byte
        compare.py scripts RETANGLE FIRST COUNT       generated projects with scripts, by their seeds
        compare.py edited RETANGLE WEB..              webs edited line by line into what a cut
                                                      leaves, and back, and so by lists
+       compare.py layers TANGLE_LAYERS FIRST COUNT   generated webs, by their seeds
+       compare.py edited_layers TANGLE_LAYERS FIRST COUNT
+                                                     pairs of a generated web with what an edit
+                                                     makes of it, by their seeds
+       compare.py layers_at_limits TANGLE_LAYERS     webs at the limits of weight and depth, each
+                                                     with each as what an edit makes of it
 
 Of a run every output file, all faults and the status are compared, of a script the answers and the
-status.
+status, of a listing of layers each line.
 The last line is 'N passed, M failed'.
 """
+import itertools
 import os
 import shutil
-import subprocess
 import sys
 import tempfile
 
 sys.path.insert(0, os.path.join(os.path.dirname(os.path.abspath(__file__)), 'reference'))
 import generator
+import layers
+import pairs
 import programs
 import short_webs
-from checks import finish, lay, same
+from checks import check, finish, lay, same
 from faults import fault_line, status_of
-from files import Roles, add
-from scripts import Script
+from files import ROLES, table_of
+from hostile import chained
+from running import run
+from scripts import Script, answer
 from sessions import Session
 from tangling import Tangling
 
-SECONDS = 60
-ROLES = Roles(b'a.w', None, b'a.c')
+LONGEST_LINE = 200          # the most characters that are shown of a line
+
 
 
 def tangled(arguments, folder):
@@ -81,17 +91,15 @@ def files_of(folder):
     return found
 
 
-def run(program, arguments, folder, script=None):
-    return subprocess.run([program] + arguments, cwd=folder, input=script or b'', capture_output=True, timeout=SECONDS)
-
-
 def arguments_of(project, seed):
     """Arguments that name the project's files, with and without extensions and flags."""
     arguments = ['+s'] if seed % 5 == 0 else []
-    arguments.append('a' if seed % 2 else 'a.w')
+    web = os.fsdecode(project.web)
+    arguments.append(web[:-len('.w')] if seed % 2 else web)
     has_out = project.out != b'a.c'
     if project.change:
-        arguments.append('a' if seed % 3 else 'a.ch')
+        change = os.fsdecode(project.change)
+        arguments.append(change[:-len('.ch')] if seed % 3 else change)
     elif has_out:
         arguments.append('-')
     if has_out:
@@ -106,8 +114,8 @@ class Comparison:
     def compare_run(self, name, arguments, folder):
         status, faults, files = tangled(arguments, folder)
         before = files_of(folder)
-        done = run(self.program, arguments, folder)
-        same((done.returncode, done.stdout, done.stderr, files_of(folder)),
+        done = run([self.program] + arguments, folder)
+        same((done.status, done.output, done.errors, files_of(folder)),
              (status, b'', faults, {**before, **files}), name)
 
     def generated(self, folder, first, count):
@@ -148,9 +156,8 @@ class Comparison:
             except TooLarge:
                 print('generated script %d is too large' % seed)
                 continue
-            done = run(self.program, arguments, folder, text)
-            same((done.returncode, done.stdout, done.stderr), (answers.status, answers.written, b''),
-                 'generated script %d' % seed)
+            same(run([self.program] + arguments, folder, text),
+                 (answers.written, b'', answers.status), 'generated script %d' % seed)
 
     def edited(self, folder, webs):
         """A session that is edited from a whole web into one of its cuts, and back, edit by edit or
@@ -169,18 +176,73 @@ class Comparison:
         there, back = edits_into_front(whole, part), edits_into_whole(whole, part)
         questions = questions_about(whole, part)
         of_part, of_whole = (answers_to(questions, lines) for lines in (part, whole))
-        same(self.answers(folder, part, questions), (of_part.status, of_part.written, b''), name + ', started there')
+        same(self.answers(folder, part, questions), (of_part.written, b'', of_part.status), name + ', started there')
         answers = b'ok\n' * len(there) + of_part.written + b'ok\n' * len(back) + of_whole.written
         script = b''.join(there) + questions + b''.join(back) + questions
-        same(self.answers(folder, whole, script), (of_whole.status, answers, b''), name)
+        same(self.answers(folder, whole, script), (answers, b'', of_whole.status), name)
         answers = listed(there) + of_part.written + listed(back) + of_whole.written
         script = as_list(there) + questions + as_list(back) + questions
-        same(self.answers(folder, whole, script), (of_whole.status, answers, b''), name + ', by lists')
+        same(self.answers(folder, whole, script), (answers, b'', of_whole.status), name + ', by lists')
+
+    def layers(self, folder, first, count):
+        for seed in range(first, first + count):
+            project = generator.Project(seed)
+            name = 'layers of generated web %d' % seed
+            if project.is_small():
+                make_folder(folder, project.files)
+                self.compare_listing(name, arguments_of(project, seed), folder)
+            else:
+                print('%s: too large' % name)
+
+    def edited_layers(self, folder, first, count):
+        """Of half of the pairs the second project is the older one."""
+        for seed in range(first, first + count):
+            pair = pairs.pair(seed)
+            name = 'layers of pair %d' % seed
+            if all(project.is_small() for project in pair):
+                make_folder(folder, pair[0].files + pair[1].files)
+                old, new = pair if seed // 2 % 2 else pair[::-1]
+                arguments = arguments_of(old, seed) + ['--and'] + arguments_of(new, seed)
+                self.compare_listing(name, arguments, folder)
+            else:
+                print('%s: too large' % name)
+
+    def layers_at_limits(self, folder):
+        webs = {'doubled': chained(30, '1', 2), 'deep': chained(999, '1'),
+                'too-deep': chained(1000, '1'), 'cycle': chained(30, '@<n00000@>')}
+        make_folder(folder, [])
+        lay(folder, {name + '.w': ''.join(case.web).encode() for name, case in webs.items()})
+        for old, new in itertools.product(webs, webs):
+            name = 'layers of %s and %s names' % (old, new)
+            self.compare_listing(name, [old, '--and', new], folder)
+
+    def compare_listing(self, name, arguments, folder):
+        status, listing, errors = layers.run(arguments, programs.Folder(folder))
+        before = files_of(folder)
+        done = run([self.program] + arguments, folder)
+        if done.output != listing:
+            problem = first_difference(listing, done.output)
+            check(False, name, 'status %s, %s' % (done.status, problem))
+        else:
+            same((done.status, done.errors, files_of(folder)), (status, errors, before), name)
 
     def answers(self, folder, lines, script):
         make_folder(folder, [(b'a.w', lines)])
-        done = run(self.program, ['a'], folder, script)
-        return done.returncode, done.stdout, done.stderr
+        return run([self.program, 'a'], folder, script)
+
+
+def first_difference(expected, found):
+    """The first line that is another one, after the two lines before it."""
+    expected, found = (text.split(b'\n') for text in (expected, found))
+    at = next(at for at in range(len(expected) + 1) if found[at:at + 1] != expected[at:at + 1])
+    before = [b'  ' + line for line in expected[max(0, at - 2):at]]
+    missing = [b'- ' + line for line in expected[at:at + 1]]
+    added = [b'+ ' + line for line in found[at:at + 1]]
+    return 'line %d\n' % (at + 1) + '\n'.join(map(shown_line, before + missing + added))
+
+
+def shown_line(line):
+    return '    ' + line.decode('latin-1')[:LONGEST_LINE]
 
 
 def lines_of(text):
@@ -215,11 +277,11 @@ def questions_about(*webs):
 
 
 def answers_to(script, web):
-    return Script(Session(files_with(web), ROLES), script)
+    return answer({'a.w': bytes_of(web)}, script)
 
 
 def files_with(lines):
-    return add([], b'a.w', bytes_of(lines))
+    return table_of({'a.w': bytes_of(lines)})
 
 
 class TooLarge(Exception):
@@ -236,16 +298,11 @@ def main():
     comparison = Comparison(rest.pop(0))
     with tempfile.TemporaryDirectory() as temporary:
         folder = os.path.join(temporary, 'folder')
-        if mode == 'cut':
-            comparison.cut(folder, rest)
-        elif mode == 'edited':
-            comparison.edited(folder, rest)
-        elif mode == 'short':
-            comparison.short(folder, int(rest[0]))
-        elif mode == 'generated':
-            comparison.generated(folder, *map(int, rest))
+        compare = getattr(comparison, mode)
+        if mode in ('cut', 'edited'):
+            compare(folder, rest)
         else:
-            comparison.scripts(folder, *map(int, rest))
+            compare(folder, *map(int, rest))
     return finish()
 
 

@@ -3,26 +3,19 @@
 # large), each of which sets the marks and has a list of edits, against the reference tangler
 # (tests/compare.py).
 
-compare() { # NAME ARGUMENT..
-    _name=$1
-    shift
-    python3 -B "$top/tests/compare.py" "$@" >"$temporary/log" 2>&1
-    count_last_line "$_name" "$temporary/log"
-}
-
 test_comparison() {
-    compare 'generated webs' generated "$temporary/ctangle" 0 4001
-    compare 'short webs' short "$temporary/ctangle" 50
+    run_python 'generated webs' compare.py generated "$temporary/ctangle" 0 4001
+    run_python 'short webs' compare.py short "$temporary/ctangle" 50
 }
 
 test_cuts() {
     set -- "$top"/tests/cases/scanning/*/in/a.w "$top"/tests/cases/names/*/in/a.w \
         "$top/tests/cases/output/names-that-contain-each-other-have-no-output/in/a.w" \
         "$top/tests/cases/output/name-over-two-sections-and-a-named-file/in/a.w"
-    compare 'cut webs' cut "$temporary/ctangle" "$@"
-    compare 'webs edited into their cuts' edited "${RETANGLE:-$top/bin/retangle}" "$@"
+    run_python 'cut webs' compare.py cut "$temporary/ctangle" "$@"
+    ! find_retangle cuts || run_python 'webs edited into their cuts' compare.py edited "$retangle" "$@"
 }
 
 test_scripts() {
-    compare 'scripts' scripts "${RETANGLE:-$top/bin/retangle}" 0 4001
+    ! find_retangle scripts || run_python scripts compare.py scripts "$retangle" 0 4001
 }

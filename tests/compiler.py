@@ -15,7 +15,6 @@ The last line is 'N passed, M failed'.
 import os
 import random
 import re
-import subprocess
 import sys
 import tempfile
 from collections import Counter
@@ -23,9 +22,9 @@ from collections import Counter
 ctangle, top = (os.path.abspath(path) for path in sys.argv[1:3])
 from checks import check, lay, read, run_all, same
 from random_macros import KINDS, Web
+from running import run
 
 STORED = os.path.join(top, 'tests', 'compiler')
-PATIENCE = 60           # seconds for a run
 WEBS = 400
 TOGETHER = 50           # how many webs one run of the compiler reads
 LEAST = 20              # so often each pair of kinds, and each other place, is in the generated webs
@@ -41,11 +40,6 @@ TOKEN = re.compile(
 
 
 # ---------------------------------------------------------------------- running
-
-def run(arguments, folder):
-    done = subprocess.run(arguments, cwd=folder, capture_output=True, timeout=PATIENCE)
-    return done.stdout, done.stderr, done.returncode
-
 
 def tangle(name, folder, *arguments):
     same(run([ctangle, 'a'] + list(arguments), folder), (b'', b'', 0), name + ', ctangle')

@@ -18,15 +18,13 @@ import time
 program, top = (os.path.abspath(path) for path in sys.argv[1:3])
 sys.path[:0] = [os.path.join(top, 'tests'), os.path.join(top, 'tests', 'reference')]
 from checks import check, conversation_of, folder_with, run_all
-from files import Roles, add
+from files import ROLES, Roles
 from limits import FILE_BYTES
-from scripts import Script
-from sessions import Session
+from scripts import answer
 
 PATIENCE = 60           # seconds for an answer, and for a script
 LIST_BYTES = 10 ** 9    # what all held edits of a script fit into
 WEB = b'@ A.\n@c\nint x;\n'
-ROLES = Roles(b'a.w', None, b'a.c')
 
 
 class Project:
@@ -113,11 +111,10 @@ def test_stored_conversations():
 
 # ------------------------------------------------------------------ malformed and very long scripts
 
-def answered(script, files=(), roles=ROLES):
-    table = []
-    for name, text in [(b'a.w', WEB)] + list(files):
-        table = add(table, name, text)
-    done = Script(Session(table, roles), script)
+def answered(script, files={}, roles=ROLES):
+    """What the reference answers over these files, and the web of one piece where it is not
+    among them."""
+    done = answer({'a.w': WEB, **files}, script, roles)
     return done.written, done.status
 
 
@@ -168,7 +165,21 @@ def test_malformed():
             check_script('malformed last line', before + line, *answered(before + line))
 
 
+# Scripts with their answers and statuses. The last line may have no line feed; an edit without a text
+# is no command, an empty line is nothing but a text where one is taken.
+ENDS = [
+    (b'', b'', 0), (b'\n\n', b'', 0), (b'work', b'work 1\n', 0), (b'quit', b'ok\n', 0),
+    (b'insert 1 a.w\n\n', b'ok\n', 0), (b'insert 1 a.w\ny', b'ok\n', 0),
+    (b'replace 3 a.w\n"', b'ok\n', 1), (b'create a\ncreate b', b'ok\nok\n', 0),
+] + [(line + end, b'no BadCommand\n', 0) for end in (b'', b'\n') for line in (
+    b'insert 1 a.w', b'replace 999999999 a.w', b'insert 000000012 ', b'replace 0  a b ',
+    b'insert 1234567890 a.w', b'insert 9', b'insert ', b'replace  1 a.w', b'replace -1 a.w',
+    b'replace 1x a.w', b'replace 1\ta.w', b'replace a.w')]
+
+
 def test_ends():
+    for script, answers, status in ENDS:
+        check_script('end of the script %r' % script, script, answers, status)
     held = b'begin\nreplace 3 a.w\n"x\n'         # an error, once it is made
     for script in (b'', b'\n', b'quit', b'quit\nwork\n', b'work\nquit\ninsert 1 a.w\n',
                    b'insert 1 a.w', b'insert 1 a.w\n', b'insert 1 a.w\n\n', b'insert 1 a.w\n@ ',
@@ -237,7 +248,7 @@ def test_change_file():
               b'show a.c\nwork\nbegin\nremove 1 a.ch\ndiscard a.ch\ncommit\nshow a.c\n')
     roles = Roles(b'a.w', b'a.ch', b'a.c')
     written, status, _ = run_script(Project(files), ['a', '--change', 'a'], script)
-    check((written, status) == answered(script, [(b'a.ch', files['a.ch'])], roles), 'change file', '%r' % written)
+    check((written, status) == answered(script, files, roles), 'change file', '%r' % written)
 
 
 def test_most_lines():
@@ -290,9 +301,10 @@ def test_full_disk():
 
 def test_arguments():
     for arguments, part in (([], b'<WEB>'), (['a', 'b'], b"'b'"), (['a', '--out'], b'--out <FILE>'),
-                            (['a', '--nothing'], b'--nothing'), ([b'\xff'], b'<WEB>'),
+                            (['--change', 'b'], b'<WEB>'), (['a', '--nothing'], b'--nothing'),
+                            ([b'\xff'], b'<WEB>'),
                             (['--help'], b'Usage: retangle [OPTIONS] <WEB>'),
-                            (['-V'], b'retangle 1.0')):
+                            (['--version'], b'retangle 1.0'), (['-V'], b'retangle 1.0')):
         written, status, errors = run_script(Project({'a.w': WEB}), arguments, b'work\n')
         check((written, status) == (b'', 2) and part in errors, 'arguments',
               '%r: %r, status %d' % (arguments, errors, status))
@@ -311,6 +323,10 @@ def test_arguments():
         written, status, _ = run_script(Project({'a.w': WEB}), arguments, b'show %s\n' % name)
         check((written, status) == (b'= %s 36\n' % name + text, 0), 'arguments',
               '%r: %r' % (arguments, written))
+    files = {'x/y.web': WEB, 'b.ch': b'@x\nint x;\n@y\nint y;\n@z\n'}
+    written, status, _ = run_script(Project(files), ['--change=b', 'x/y.web'], b'show y.c\n')
+    check((written, status) == (b'= y.c 55\n/*1:*/\n#line 2 "x/y.web"\n\n#line 4 "b.ch"\nint y;\n'
+                                b'/*:1*/\n', 0), 'arguments', '%r' % written)
 
 
 def main():

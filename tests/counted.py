@@ -1,5 +1,5 @@
-"""Counts the allocations of starts and of edits. An expansion takes allocations, so one that is made
-needlessly is seen here: twice, or in a second work.
+"""Counts the allocations of starts, of edits, of commands and of questions. An expansion takes
+allocations, so one that is made needlessly is seen here: twice, or in a second work.
 
 usage: counted.py RETANGLE REFUSE      REFUSE is tests/refuse.c as a library
 
@@ -12,14 +12,14 @@ doubles.
 The last line is 'N passed, M failed'.
 """
 import os
-import subprocess
 import sys
 
-from checks import check, finish, folder_with
+from chain import chain
+from checks import check, folder_with, read, run_all
+from running import run
 
 retangle, refuse = (os.path.abspath(path) for path in sys.argv[1:3])
 
-SECONDS = 60
 SIZES = (10, 1000, 10000)
 
 # What an edit takes for a node that it changed, and that uses none: the expansion; and for its body
@@ -31,21 +31,24 @@ ONE_NODE = ANOTHER + 4
 DOUBLINGS = 60
 CYCLE = '@<z@>'
 
-def allocations(web, script, answers):
-    """How many allocations a conversation takes."""
+
+def converse(web, script):
+    """What a conversation is answered, and how many allocations it takes."""
     with folder_with({'a.w': web.encode()}) as folder:
         counted = os.path.join(folder, 'counted')
-        environment = dict(os.environ, LD_PRELOAD=refuse, COUNT_TO=counted)
-        done = subprocess.run([retangle, 'a'], cwd=folder, env=environment, input=script.encode(),
-                              capture_output=True, timeout=SECONDS)
-        written = done.stdout.decode()
-        check(written == answers, 'a conversation', '%r, not %r' % (written[:200], answers[:200]))
-        with open(counted) as reported:
-            return int(reported.read().split()[0])
+        done = run([retangle, 'a'], folder, script.encode(), LD_PRELOAD=refuse, COUNT_TO=counted)
+        return done.output.decode(), int(read(counted).split()[0])
+
+
+def allocations(web, script, answers):
+    """How many allocations a conversation with these answers takes."""
+    written, count = converse(web, script)
+    check(written == answers, 'a conversation', '%r, not %r' % (written[:200], answers[:200]))
+    return count
 
 
 class Project:
-    """A program that uses so many names, a line each. These all use a last one. Two files use none,
+    """A program that uses `count` names, a line each. These all use a last one. Two files use none,
     and nothing uses them.
 
     last: the text of the last name. If that name uses itself, the files alone can be expanded.
@@ -69,7 +72,7 @@ def edits(lines):
 
 
 def taken(project, before, edit, work):
-    """The allocations of an edit, or of a list of several, that affects so many nodes. The edits
+    """The allocations of an edit, or of a list of several, that affects `count` nodes. The edits
     before it are made one by one."""
     front, answers = edits(before), 'ok\n' * len(before)
     script = edits(edit)
@@ -104,11 +107,13 @@ def check_size(count):
     nothing = check_one(name, project, [])
     check_one(name + ', after an edit', project, [(project.line_of_last, '3')])
 
-    # An edit that affects nothing expands nothing, though all could be expanded.
-    in_cycle = taken(cyclic, [], [(cyclic.lines_of_files[0], '1')], 0)
-    check(abs(nothing - in_cycle) <= DOUBLINGS, name,
-          'an edit that affects nothing: %d allocations, and %d where nothing can be expanded'
-          % (nothing, in_cycle))
+    # An edit or a list that affects nothing expands nothing, though all could be expanded.
+    both = [(line, '1') for line in project.lines_of_files]
+    for kind, edit in (('an edit', both[:1]), ('a list of edits', both)):
+        somewhere, in_cycle = (taken(one, [], edit, 0) for one in (project, cyclic))
+        check(abs(somewhere - in_cycle) <= DOUBLINGS, name,
+              '%s that affects nothing: %d allocations, and %d where nothing can be expanded'
+              % (kind, somewhere, in_cycle))
 
     # The expansion of the last name takes one allocation, and that of each name that uses it two,
     # since it has a list of its uses. The program's list doubles its capacity. So do lists of names
@@ -124,10 +129,48 @@ def check_size(count):
           % (name, nothing, everything))
 
 
-def main():
+def test_commands():
+    """A command takes no memory where it has at most 4,096 bytes with its text and line feeds. A
+    long one does."""
+    web, name = '@ A.\n@c\nint x;\n', 'a command of %d bytes'
+    without = allocations(web, 'work\nquit\n', 'work 1\nok\n')
+    for size in (0, 86, 4077, 4081, 4082, 100000):
+        edit = 'insert x a.w\n' + 'x' * size + '\n'       # it is no command, and has a text
+        more = allocations(web, 'work\n' + edit + 'quit\n', 'work 1\nno BadCommand\nok\n') - without
+        check((more > 0) == (len(edit) > 4096), name % len(edit), '%d allocations' % more)
+
+
+# Questions, with how their answers begin.
+QUESTIONS = {'show a.c\n': '= a.c ', 'show s.h\n': '= s.h ', 'show t.h\n': 'no NoOutput\n',
+             'faults\n': 'faults 1\na.w:', 'work\n': 'work '}
+# A name in a name and so on, a named file with more text than fits into a buffer, and a name that is
+# not used.
+ASKED = chain(40) + '@ @(s.h@>=\n' + 'x\n' * 10000 + '@ @<u@>=\n1\n'
+
+
+def test_questions():
+    """A question that is asked again takes no memory: after a start, after an edit, and in an open
+    list."""
+    for before in ('', 'insert 1 a.w\n% top\n', 'begin\nremove 1 a.w\n'):
+        first = converse(ASKED, before)[0]
+        for question, answer in QUESTIONS.items():
+            name = '%r after %r' % (question, before)
+            once, count = converse(ASKED, before + question)
+            answered = once[len(first):]
+            check(once.startswith(first) and answered.startswith(answer), name, '%r' % once[:200])
+            often, more = converse(ASKED, before + question * 9)
+            check(often == first + answered * 9, name, '%r' % often[:200])
+            check(count == more, name,
+                  '%d allocations, and %d if it is asked nine times' % (count, more))
+
+
+def test_sizes():
     for count in SIZES:
         check_size(count)
-    return finish()
+
+
+def main():
+    return run_all((test_sizes, test_commands, test_questions))
 
 
 if __name__ == '__main__':

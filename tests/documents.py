@@ -2,13 +2,17 @@
 
 usage: documents.py [FOLDER]      the folder of the repository
 
-- docs/definitions.md: each definition is in the file beside it, each file of code is there, and
-  each promise is a function of the file beside it, with that clause; each file of specs/ is in the
-  map, and each page of docs/ that names it has a part there.
-- docs/words.md: each name of the code is in the crate beside it. No word that these replaced is in the sources, the
-  definitions, the proofs or the documents.
+- docs/definitions.md is what tests/definitions.py makes of the sources; bugs that are planted in a
+  copy of these change it. Each page of docs/ that leads to it has a part there. It has just the
+  files of specs/ on which clauses of public functions rest, and each kind of fault.
+- docs/faults.md: the kinds of faults, their messages and levels are those of the code.
+- docs/words.md: each name of the code is in the crate beside it. No word that these replaced is in
+  the sources, the definitions, the proofs or the documents.
 - docs/DECISIONS.md: each crate exports what the table of the surface says, and besides only laws.
-- docs/promises.md: each public call of a crate that has a table there is in it, and each clause is one of the calls.
+- docs/promises.md: the page has each crate below those that it uses. Each public call has a
+  comment, and a clause unless the page says that it has none.
+- Each file, name and make target of docs/promises.md and docs/changing.md is there. What
+  docs/changing.md quotes is in the file that it names.
 - docs/sessions.md: the reference gives the answers of its conversation; each line of a script is in
   its table and in docs/retangle.1. README.md names each page of docs/.
 - crates/*/must-fail and tests/wrong-bodies: each public function that is no law has an edit of its own, or of a private
@@ -18,20 +22,19 @@ usage: documents.py [FOLDER]      the folder of the repository
   CALLS and MADE say, and nowhere else; bugs that are planted in a copy of the code are seen.
 The last line is 'N passed, M failed'.
 """
+import copy
 import os
 import re
 import sys
 
+import definitions
+from sources import crates_in, exported_of, functions_in, functions_of, page_in, surface_of
+
 sys.path.insert(0, os.path.join(os.path.dirname(os.path.abspath(__file__)), 'reference'))
 from checks import check, conversation_of, finish
-from files import Roles, add
-from scripts import Script
-from sessions import Session
+from scripts import answer
 
-DEFINITION = r'^ *(?:(?:abbrev|unfoldable) )?pub (?:record |data )?%s(?: |$)'
-FUNCTION = re.compile(r'^\s*(pub |pub\(crate\) )?(?:const )?fn (\w+)', re.M)
 CODED = re.compile(r'`([^`]+)`')
-TAKES_NOTHING = re.compile(r'fn \w+(?:<[^(]*>)?\(\)(?!\s*->)')     # a law has no arguments and no result
 
 # Words that those of docs/words.md replaced.
 REPLACED = re.compile(
@@ -43,8 +46,9 @@ EXPANDING = ('tangle_plans', 'tangle_expansion', 'tangle_graph', 'tangle_affecte
              'ctangle', 'retangle')
 
 # Which function calls what, once in its text. A session begins one work in a start, one in an edit
-# and one in a list of edits; each expansion is made in `expand`, which notes its node in the work.
-# So last_work() counts all that was expanded. Outputs are written into the writer as they are made.
+# and one in a list of edits, and starts no other session; each expansion is made in `expand`, which
+# notes its node in the work. So last_work() counts all that was expanded. Outputs are written into
+# the writer as they are made, and only where they are asked for, so that no session holds them.
 CALLS = {
     'Work::new': ['tangle_session/session.rt: ' + caller for caller in ('start', 'apply', 'apply_all')],
     'expand_all': ['tangle_session/session.rt: start'],
@@ -62,6 +66,15 @@ CALLS = {
     'write_text': [],
     'write_file': ['tangle_expansion/files.rt: file_size', 'tangle_session/session.rt: write_output_at'],
     'create_output': ['ctangle_cli/writing.rt: create_outputs'],
+    'Session::start': ['tangle_session/headline.rt: start_and_edit', 'ctangle_cli/run.rt: started',
+                       'retangle/main.rt: run_named'],
+    'Analysis::build': ['tangle_session/session.rt: start', 'tangle_session/tangling.rt: tangle_again'],
+    'tangle_again': ['tangle_session/session.rt: make_all'],
+    'expand_over': ['tangle_session/tangling.rt: tangle_again'],
+    'make_all': ['tangle_session/session.rt: apply', 'tangle_session/session.rt: apply_all'],
+    'write_output_at': ['tangle_session/session.rt: write_output', 'ctangle_cli/writing.rt: create_output'],
+    'write_output': ['tangle_session/headline.rt: ask_all', 'ctangle_cli/conversation.rt: write_bytes'],
+    'file_size': ['tangle_session/session.rt: output_size'],
 }
 
 # Where a value is made by its fields. A second work or expansion is made in no other way: neither
@@ -77,7 +90,7 @@ MADE = {
 LOOPS = ['tangle_affected/keeping.rt: expand_list', 'tangle_expansion/expanding.rt: expansion_of',
          'tangle_expansion/writing.rt: write_text_after', 'ctangle_cli/writing.rt: create_outputs']
 
-# Bugs that no clause sees, in a file of a crate: what is replaced, and by what.
+# Bugs that no clause sees, in a file of a crate: what is replaced and by what, in turn.
 PLANTED = {
     'all nodes are expanded in a second work at each edit': (
         'tangle_affected', 'keeping.rt', '    expand_list(alloc, new, &list, &mut kept, work)?;\n',
@@ -103,89 +116,73 @@ PLANTED = {
     'a session writes its outputs when it starts': (
         'tangle_session', 'session.rt', '        let mut work = Work::new(alloc);\n',
         '        write_text(&expansion, &analysis.numbers, &mut sink)?;\n        let mut work = Work::new(alloc);\n'),
+    'a second session is started for a list of edits': (
+        'tangle_session', 'session.rt', '        self.make_all(edits, work)\n',
+        '        if let (Ok(files), Ok(roles)) = (self.state.files.copy(), roles_of(&self.roles)) {\n'
+        '            drop(Session::start(self.alloc, files, roles));\n        }\n'
+        '        self.make_all(edits, work)\n'),
+    'a session holds the bytes of its outputs': (
+        'tangle_session', 'session.rt', '    alloc: Global,\n}\n',
+        '    alloc: Global,\n    outputs: IoSink<Vec<u8>>,\n}\n', '        self.state = next;\n',
+        '        self.state = next;\n        for name in self.output_names() {\n'
+        '            let _ = self.write_output(name, &mut self.outputs);\n        }\n'),
 }
 
-def texts_in(folder, ending):
-    found = {}
-    if os.path.isdir(folder):
-        for name in sorted(os.listdir(folder)):
-            if name.endswith(ending):
-                with open(os.path.join(folder, name), encoding='utf-8') as source:
-                    found[name] = source.read()
-    return found
+# Bugs that change docs/definitions.md, in a file of a crate: what is replaced, and by what.
+MISTAKEN = {
+    'a clause promises less': (
+        'tangle_lines', 'code', 'reading.rt', 's ≡ source_of files.entry.now roles.now', 's ≡ s'),
+    'a definition has another name': (
+        'tangle_scan', 'specs', 'Rules.antt', 'abbrev pub has_join ', 'abbrev pub has_joint '),
+    'a rule is another one': (
+        'tangle_names', 'specs', 'Names.antt', '-- the name begins with', '-- the name ends with'),
+    'a function has another name': (
+        'tangle_scan', 'code', 'spacing.rt', 'fn may_follow_name', 'fn may_come_next'),
+}
 
 
-class Crate:
-    def __init__(self, folder):
-        self.specs = texts_in(os.path.join(folder, 'specs'), '.antt')
-        self.code = texts_in(os.path.join(folder, 'src'), '.rt')
-        self.edits = texts_in(os.path.join(folder, 'must-fail'), '.edit')
-        self.further_edits = texts_in(os.path.join(folder, '../../tests/wrong-bodies', os.path.basename(folder)), '.edit')
-        self.whole = '\n'.join(self.code.values())
+# ------------------------------------------------------------------ definitions and faults
+
+def check_definitions(crates, top):
+    name = 'docs/definitions.md'
+    text, found = page_in(top, name), definitions.Definitions(crates)
+    check(text == definitions.page(crates), name, 'is not made of these sources: run make documents')
+    for bug, (crate, part, file, old, new) in MISTAKEN.items():
+        texts = getattr(crates[crate], part)
+        check(texts[file].count(old) == 1, 'a planted bug', 'where %s is planted' % bug)
+        mistaken = copy.copy(crates[crate])
+        setattr(mistaken, part, {**texts, file: texts[file].replace(old, new)})
+        check(definitions.page({**crates, crate: mistaken}) != text, 'a planted bug',
+              '%s, and it is not seen' % bug)
+    for page in sorted(os.listdir(os.path.join(top, 'docs'))):
+        leads = '`%s` leads from each rule' % name in page_in(top, 'docs/' + page)
+        check(not leads or '\n## `docs/%s`\n' % page in text, name, 'nothing of docs/%s' % page)
+    for page in definitions.PAGES:
+        check(os.path.exists(os.path.join(top, page)), name, 'no page %s' % page)
+    resting = {(one.crate, one.file) for one in found.resting}
+    for crate, file in found.specs:
+        has_part = '\n### `%s/specs/%s.antt`\n' % (crate, file) in text
+        rests = (crate, file) in resting
+        check(has_part == rests, name, '%s.antt of %s has %s part, and %s public clause rests on it'
+              % (file, crate, 'a' if has_part else 'no', 'a' if rests else 'no'))
 
 
-# ------------------------------------------------------------------ the map
-
-class Map:
-    """The rows of docs/definitions.md: below a heading, RULE | DEFINITION, .. | its file | CODE, .. |
-    PROMISE, .. | its file or files. A promise is CALL or CALL: CLAUSE, a call NAME or TYPE::NAME."""
-
-    def __init__(self, top, crates):
-        self.top, self.crates, self.name = top, crates, 'docs/definitions.md'
-        with open(os.path.join(top, self.name), encoding='utf-8') as source:
-            self.text = source.read()
-
-    def check(self):
-        parts = re.split(r'^## (.*)$', self.text, flags=re.M)
-        for head, part in zip(parts[1::2], parts[2::2]):
-            for line in re.findall(r'^\|(.*)\|$', part, re.M)[2:]:
-                cells = [CODED.findall(cell) for cell in line.split(' | ')[1:]]
-                check(len(cells) == 5 and all(cells), self.name, 'no row: %s' % line)
-                if len(cells) == 5 and all(cells):
-                    self.check_row(*cells)
-            for page in CODED.findall(head):
-                check(os.path.exists(os.path.join(self.top, page)), self.name, 'no page %s' % page)
-        self.check_whole(' '.join(parts[1::2]))
-
-    def check_row(self, definitions, specs, code, promises, files):
-        for word in definitions:
-            text = self.file(specs[0], 'specs')
-            check(re.search(DEFINITION % re.escape(word), text, re.M), self.name,
-                  '%s is not in %s' % (word, specs[0]))
-        for path in code:
-            check(self.file(path, 'src'), self.name, 'no file %s' % path)
-        files = files * len(promises) if len(files) == 1 else files
-        check(len(files) == len(promises), self.name, 'so many files: %s' % ', '.join(files))
-        for promise, path in zip(promises, files):
-            call, _, clause = promise.partition(': ')
-            texts = [one[4] for one in functions_in(self.file(path, 'src'))
-                     if one[2] == call.split('::')[-1]]
-            check(texts, self.name, '%s is not in %s' % (call, path))
-            expected = r'ensures %s\b' % re.escape(clause) if clause else r'\bensures\b'
-            check(any(re.search(expected, text) for text in texts), self.name,
-                  'no clause %s of %s in %s' % (clause, call, path))
-
-    def file(self, path, folder):
-        """The text of CRATE/specs/FILE or CRATE/src/FILE, or nothing."""
-        crate, _, rest = path.partition('/%s/' % folder)
-        here = self.crates.get(crate)
-        return (here.specs if folder == 'specs' else here.code).get(rest, '') if here else ''
-
-    def check_whole(self, heads):
-        """Each page that names the map has a part in it, and each file of specs/ is in it."""
-        for page in sorted(os.listdir(os.path.join(self.top, 'docs'))):
-            with open(os.path.join(self.top, 'docs', page), encoding='utf-8') as source:
-                leads = '`%s` leads from each rule' % self.name in source.read()
-            check(not leads or '`docs/%s`' % page in heads, self.name, 'nothing of docs/%s' % page)
-        after = dict(re.findall(r'^- \*\*`(\w+)`\*\*: (.*(?:\n  .*)*)$', self.text, re.M))
-        for crate, here in self.crates.items():
-            for file in here.specs:
-                where = '`%s/specs/%s`' % (crate, file) in self.text or '`%s`' % file in after.get(crate, '')
-                check(where or file == 'Lib.antt', self.name, '%s of %s is not in it' % (file, crate))
-        for crate, files in after.items():
-            for file in re.findall(r'`(\w+\.antt)`', files):
-                check(crate in self.crates and file in self.crates[crate].specs, self.name,
-                      'no file %s of %s' % (file, crate))
+def check_faults(crates, top):
+    """The rows of docs/faults.md, KIND or KIND, a warning | message | line, are the kinds of the
+    code, in their order."""
+    name = 'docs/faults.md'
+    rows = re.findall(r'^\| `(\w+)`(, a warning)? \| `([^`]*)`', page_in(top, name), re.M)
+    code, specs = crates['tangle_faults'].code, crates['tangle_faults'].specs
+    enum = re.search(r'pub enum FaultKind \{(.*?)\n\}', code['faults.rt'], re.S).group(1)
+    kinds = re.findall(r'^    (\w+),', enum, re.M)
+    check([row[0] for row in rows] == kinds, name, 'other kinds than FaultKind has')
+    messages = dict(re.findall(r'FaultKind::(\w+) => \(\s*b"([^"]*)"', code['fault_line.rt']))
+    page = page_in(top, 'docs/definitions.md')
+    for kind, warning, message in rows:
+        check(message.startswith(messages.get(kind, '?')), name, 'another message of %s' % kind)
+        is_warning = 'is_error_kind %s = false' % kind in specs['Faults.antt']
+        check(is_warning == bool(warning), name, '%s is a warning, or none' % kind)
+        check('`%s`' % kind in page, 'docs/definitions.md', 'nothing of %s' % kind)
 
 
 # ------------------------------------------------------------------ the conversation
@@ -194,9 +191,7 @@ def check_conversation(top):
     """The reference gives the answers of the conversation in docs/sessions.md."""
     web, turns = conversation_of(top)
     typed, answered = (b''.join(parts) for parts in zip(*turns))
-    session = Session(add([], b'a.w', web), Roles(b'a.w', None, b'a.c'))
-    done = Script(session, typed)
-    check(done.written == answered, 'docs/sessions.md', 'another conversation')
+    check(answer({'a.w': web}, typed).written == answered, 'docs/sessions.md', 'another conversation')
 
 
 def check_commands(crates, top):
@@ -253,36 +248,7 @@ def check_readme(top):
         check('docs/%s' % page in reported, 'README.md', 'docs/%s is not in it' % page)
 
 
-# ------------------------------------------------------------------ wrong bodies
-
-def functions_in(text):
-    """The functions of a file: (start, type of the impl or '', name, whether public, text)."""
-    starts = [(found.start(), found) for found in FUNCTION.finditer(text)]
-    impls = [(found.start(), found.group(1)) for found in
-             re.finditer(r'^(?:impl(?:<[^>{]*>)? (?:\w+(?:<[^{]*?>)? for )?|pub trait |trait )(\w+)', text, re.M)]
-    for number, (start, found) in enumerate(starts):
-        end = starts[number + 1][0] if number + 1 < len(starts) else len(text)
-        before = [name for at, name in impls if at < start]
-        is_method = text[found.start():found.end()].lstrip('\n').startswith(' ')
-        yield start, before[-1] if is_method and before else '', found.group(2), found.group(1) == 'pub ', text[start:end]
-
-
-def functions_of(here):
-    return [(file,) + one for file, text in here.code.items() for one in functions_in(text)]
-
-
-def exported_of(here):
-    """The names that the crate exports."""
-    root = here.code['lib.rt']
-    exported = set(re.findall(r'\w+', ' '.join(re.findall(r'^pub use (?:\w+::)*([^;]*);', root, re.M))))
-    return exported | set(re.findall(r'^pub (?:struct|enum|trait|fn) (\w+)', root, re.M))
-
-
-def surface_of(here, functions):
-    """The public functions that the crate passes on, and the methods of the types that it passes on."""
-    exported = exported_of(here)
-    return [one for one in functions if one[4] and (one[2] or one[3]) in exported]
-
+# ------------------------------------------------------------------ crates and calls
 
 def check_surface(crates, top):
     """The names in the table of docs/DECISIONS.md, CRATE | of its own | re-exported, are what the crate exports, but for
@@ -299,30 +265,69 @@ def check_surface(crates, top):
         exported = exported_of(crates[crate])
         for word in words:
             check(word in exported, name, '%s does not export %s' % (crate, word))
-        laws = {one[3] for one in functions_of(crates[crate]) if TAKES_NOTHING.search(one[5])}
+        laws = {one[3] for one in functions_of(crates[crate]) if definitions.LAW.search(one[5])}
         missing = sorted(exported - laws - set(words))
         check(not missing, name, '%s exports %s' % (crate, ', '.join(missing)))
 
 
-def check_promises(crate, here, part):
-    """Each public call is in the tables of docs/promises.md, as NAME or TYPE::NAME."""
-    reported = {word.split('::')[-1] for word in CODED.findall(part)}
-    missing = sorted({one[3] for one in surface_of(here, functions_of(here))} - reported)
-    check(not missing, 'docs/promises.md', '%s of %s' % (', '.join(missing), crate))
+def check_crates(crates, top):
+    """The table of docs/promises.md names each crate below those that it uses."""
+    name = 'docs/promises.md'
+    cells = re.findall(r'^\| (`.*?) \|', page_in(top, name), re.M)
+    named = CODED.findall(' '.join(cells))
+    check(sorted(named) == sorted(crates), name, 'other crates: %s' % ', '.join(named))
+    for crate, libraries in re.findall(r'^(\w+):(.*)', page_in(top, 'crates.txt'), re.M):
+        above = named[:named.index(crate)] if crate in named else []
+        used = [library for library in libraries.split() if library in crates]
+        missing = [library for library in used if library not in above]
+        check(not missing, name, '%s is not below %s' % (crate, ', '.join(missing)))
 
 
-def check_clauses(crates, functions, part):
-    """Each name in the last cell of a row CALL, .. | what is proved | clauses is a clause of the calls, a definition, a
-    call or a crate."""
-    definitions = '\n'.join(text for here in crates.values() for text in here.specs.values())
-    for first, last in re.findall(r'^\| (.*?) \| .* \| (.*) \|$', part, re.M):
-        calls = {word.split('::')[-1] for word in CODED.findall(first)}
-        texts = '\n'.join(text for name, text in functions if name in calls)
-        for word in CODED.findall(last):
-            found = re.search(r'ensures %s\b' % re.escape(word), texts) or '::' in word or word in calls or word in crates
-            check(found or re.search(DEFINITION % re.escape(word), definitions, re.M), 'docs/promises.md',
-                  'no clause %s of %s' % (word, first))
+def check_calls_say(crates, top):
+    """Each public call has a comment, and a clause unless docs/promises.md says that it has none."""
+    without = set(re.findall(r'`(\w+)` has no clause', page_in(top, 'docs/promises.md')))
+    for crate, here in crates.items():
+        for file, start, _, call, _, function in surface_of(here, functions_of(here)):
+            before = re.sub(r'^ *#\[.*\n', '', here.code[file][:start], flags=re.M).rstrip()
+            check(before.split('\n')[-1].lstrip().startswith('///'), crate, '%s has no comment' % call)
+            says = re.search(r'\bensures\b', function) or call in without
+            check(says, crate, '%s has no clause' % call)
 
+
+# ------------------------------------------------------------------ what pages name
+
+def check_names(crates, top, page):
+    """Each file, make target and name that a page has in code is there, a name in a crate or in a
+    file of the page."""
+    words = CODED.findall(re.sub(r'^    .*', '', page_in(top, page), flags=re.M))
+    targets = re.findall(r'^(\w+):', page_in(top, 'Makefile'), re.M)
+    texts = [text for here in crates.values() for text in [here.whole, *here.specs.values()]]
+    texts += [page_in(top, word) for word in words if os.path.isfile(os.path.join(top, word))]
+    known = {*re.findall(r'\w+', '\n'.join(texts)), *crates, 'must', 'fail'}
+    for word in words:
+        first, _, rest = word.partition(' ')
+        if first == 'make':
+            check(not rest or rest in targets, page, 'no target %s' % rest)
+        elif '/' in first or first.endswith('.md'):
+            check(os.path.exists(os.path.join(top, first)), page, 'no file %s' % first)
+        elif first not in ('rt', 'python3') and re.match(r'\w', word):
+            missing = set(re.findall(r'\w+', word)) - known
+            check(not missing, page, '%s: no %s' % (word, ', '.join(sorted(missing))))
+
+
+def check_quotes(top, page):
+    """A block after a paragraph that ends in a colon has lines of the file that this names last."""
+    blocks = r'((?:^(?!    ).+\n)*^(?!    ).+:\n)\n((?:^    .*\n)+)'
+    for before, block in re.findall(blocks, page_in(top, page), re.M):
+        file = (CODED.findall(before) or [''])[-1]
+        check(os.path.isfile(os.path.join(top, file)), page, 'no file before %s' % block)
+        if os.path.isfile(os.path.join(top, file)):
+            lines = [line.strip() for line in page_in(top, file).split('\n')]
+            for line in block.splitlines():
+                check(line.strip() in lines, page, '%s does not have: %s' % (file, line.strip()))
+
+
+# ------------------------------------------------------------------ wrong bodies
 
 def check_edits(crate, here, excused):
     edits = [*here.edits.values(), *here.further_edits.values()]
@@ -389,8 +394,9 @@ def problems_of_calls(sources):
             problems.append('%s has another name' % made)
         if re.search(r'#\[derive\((?!Drop\)\])[^\]]*\]\s*pub(?:\(crate\))? struct %s\b' % made, whole):
             problems.append('%s may be copied' % made)
-    if re.search(r'\bSelf\s*(?:\{|::)', texts['tangle_expansion/work.rt']):
-        problems.append('Work has another name in work.rt')
+    for kind, file in (('Work', 'tangle_expansion/work.rt'), ('Session', 'tangle_session/session.rt')):
+        if re.search(r'\bSelf\s*(?:\{|::)', texts[file]):
+            problems.append('%s has another name in %s' % (kind, file))
     callers = set().union(*CALLS.values(), *MADE.values()) - {'tangle_expansion/work.rt: new'}
     for file, text in texts.items():
         for _, _, name, _, body in functions_in(text):
@@ -407,10 +413,12 @@ def check_calls(crates):
                for crate in EXPANDING for file, text in crates[crate].code.items()}
     for problem in problems_of_calls(sources) or ['']:
         check(not problem, 'what expands and writes', problem)
-    for bug, (crate, file, old, new) in PLANTED.items():
+    for bug, (crate, file, *texts) in PLANTED.items():
         path = '%s/%s' % (crate, file)
-        check(sources[path].count(old) == 1, 'a planted bug', 'where %s is planted' % bug)
-        planted = {**sources, path: sources[path].replace(old, new)}
+        planted = dict(sources)
+        for old, new in zip(texts[::2], texts[1::2]):
+            check(planted[path].count(old) == 1, 'a planted bug', 'where %s is planted' % bug)
+            planted[path] = planted[path].replace(old, new)
         check(problems_of_calls(planted), 'a planted bug', '%s, and it is not seen' % bug)
 
 
@@ -450,24 +458,21 @@ def reached(one, private):
 
 def main():
     top = sys.argv[1] if len(sys.argv) > 1 else os.path.join(os.path.dirname(os.path.abspath(__file__)), '..')
-    folder = os.path.join(top, 'crates')
-    crates = {name: Crate(os.path.join(folder, name)) for name in sorted(os.listdir(folder))}
-    Map(top, crates).check()
+    crates = crates_in(top)
+    check_definitions(crates, top)
+    check_faults(crates, top)
     check_conversation(top)
     check_commands(crates, top)
     check_words(top, crates)
     check_replaced_words(top)
     check_readme(top)
     check_surface(crates, top)
-    with open(os.path.join(top, 'docs', 'promises.md'), encoding='utf-8') as source:
-        parts = re.split(r'^## `(\w+)`.*$', source.read(), flags=re.M)
-    functions = [(one[3], one[5]) for here in crates.values() for one in functions_of(here)]
-    for crate, part in zip(parts[1::2], parts[2::2]):
-        if crate in crates and '| Call |' in part:
-            check_promises(crate, crates[crate], part)
-            check_clauses(crates, functions, part)
-    with open(os.path.join(top, 'docs', 'wrong-bodies.md'), encoding='utf-8') as source:
-        rows = re.findall(r'^\| `(\w+)` \| without an edit: ([^|]*)', source.read(), re.M)
+    check_crates(crates, top)
+    check_calls_say(crates, top)
+    check_names(crates, top, 'docs/promises.md')
+    check_names(crates, top, 'docs/changing.md')
+    check_quotes(top, 'docs/changing.md')
+    rows = re.findall(r'^\| `(\w+)` \| without an edit: ([^|]*)', page_in(top, 'docs/wrong-bodies.md'), re.M)
     for crate, here in crates.items():
         check_edits(crate, here, {name for row in rows if row[0] == crate for name in CODED.findall(row[1])})
         check_edits_apply(crate, here)

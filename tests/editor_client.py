@@ -13,7 +13,6 @@ import contextlib
 import os
 import random
 import re
-import shutil
 import signal
 import subprocess
 import sys
@@ -22,28 +21,15 @@ import tempfile
 ctangle, retangle, top = (os.path.abspath(path) for path in sys.argv[1:4])
 sys.path[:0] = [os.path.join(top, below) for below in ('examples', 'tests', 'tests/reference')]
 import editor
-from checks import check, finish, lay, read, same, write
+from checks import check, lay, new_folder, read, run_all, same, write
 from limits import LINE_BYTES
+from running import SECONDS, run
 from sessions import edited_lines
 
-PATIENCE = 60           # seconds for a run; ten times that for all tests
+os.environ['RETANGLE'] = retangle
+
 PROGRAM = [sys.executable, '-B', os.path.join(top, 'examples', 'editor.py')]
 AS_NOBODY = ['setpriv', '--reuid=65534', '--regid=65534', '--clear-groups']
-
-
-def new_folder(temporary, name, **files):
-    """A folder with these files, whose names have _ instead of a dot."""
-    folder = os.path.join(temporary, name)
-    os.mkdir(folder)
-    lay(folder, {file.replace('_', '.'): text for file, text in files.items()})
-    return folder
-
-
-def run(arguments, folder, text=b'', program=retangle):
-    """Standard output, standard error and the status."""
-    done = subprocess.run(arguments, cwd=folder, input=text, capture_output=True, timeout=PATIENCE,
-                          env=dict(os.environ, RETANGLE=program))
-    return done.stdout, done.stderr, done.returncode
 
 
 def script(folder, name, text):
@@ -95,7 +81,7 @@ class Client:
     def ends(self, status):
         self.process.stdin.close()
         same(self.process.stdout.read(), b'', 'editor.py, the end')
-        same(self.process.wait(PATIENCE), status, 'editor.py, the status')
+        same(self.process.wait(SECONDS), status, 'editor.py, the status')
 
 
 WITH_B_AND_C = b'''\
@@ -124,7 +110,8 @@ TOO_LONG = b'a.w was not taken: it has a line of more than 65,535 bytes\n'
 
 
 def test_client(temporary):
-    folder = new_folder(temporary, 'client', a_w=b'@ A.\n@c\nint x;\n@i b.w\n', b_w=b'int y;\n')
+    folder = new_folder(temporary, 'client',
+                        {'a.w': b'@ A.\n@c\nint x;\n@i b.w\n', 'b.w': b'int y;\n'})
     client = Client(folder, 'a')
     client.prints(b'faults', b'')
     client.refuses(b'show a.h', b'a.h: no output file')
@@ -163,13 +150,13 @@ def test_client(temporary):
 
 
 def test_ends_of_the_client(temporary):
-    folder = new_folder(temporary, 'ends')
+    folder = new_folder(temporary, 'ends', {})
     same(run(PROGRAM + ['a'], folder, b'faults\n'), (b'', b'retangle: cannot read a.w\n', 3),
          'editor.py without a web')
-    same(run(PROGRAM + ['a'], folder, program='./none'),
+    same(run(PROGRAM + ['a'], folder, RETANGLE='./none'),
          (b'', b'retangle: it cannot be run: No such file or directory\n', 127),
          'editor.py without retangle')
-    same(run(PROGRAM + ['a'], folder, program='true'),
+    same(run(PROGRAM + ['a'], folder, RETANGLE='true'),
          (b'', b'retangle ended with status 0\n', 3), 'editor.py, another program')
     write(b'@ A.\n@c\n@<v@>\n', folder, 'a.w')
     same(run(PROGRAM + ['a'], folder, b'faults\nquit\nwork\n'), (NO_V + b'ok\nok\n', b'', 1),
@@ -189,7 +176,7 @@ REASONS = {         # why a file cannot be saved
 
 def test_names(temporary):
     web = b'@ A.\n@c\n@i b.w\n@i ./b.w\n'
-    folder = new_folder(temporary, 'names', a_w=web, b_w=b'int b;\n', o_w=b'@i c.w\n')
+    folder = new_folder(temporary, 'names', {'a.w': web, 'b.w': b'int b;\n', 'o.w': b'@i c.w\n'})
     os.mkdir(os.path.join(folder, 'below'))
     os.mkfifo(os.path.join(folder, 'pipe'))
     os.symlink(folder, os.path.join(temporary, 'link'))
@@ -227,12 +214,10 @@ def test_names(temporary):
 def test_permissions(temporary):
     """A file that may not be read, for a user who is not root."""
     runner = AS_NOBODY if os.getuid() == 0 else []
-    try:
-        subprocess.run(runner + ['true'], check=True, capture_output=True)
-    except (OSError, subprocess.CalledProcessError):
+    if run(runner + ['true'], temporary).status != 0:
         print('skipped: permissions (root, and setpriv does not work here)')
         return
-    folder = new_folder(temporary, 'permissions', a_w=b'@ A.\n@c\n@i b.w\n', b_w=b'1\n')
+    folder = new_folder(temporary, 'permissions', {'a.w': b'@ A.\n@c\n@i b.w\n', 'b.w': b'1\n'})
     os.chmod(temporary, 0o755)
     client = Client(folder, 'a', runner=runner)
     client.prints(b'faults', b'')
@@ -245,7 +230,7 @@ def test_permissions(temporary):
 
 
 def test_update(temporary):
-    folder = new_folder(temporary, 'update', a_w=b'@ A.\n@c\nint x;\n')
+    folder = new_folder(temporary, 'update', {'a.w': b'@ A.\n@c\nint x;\n'})
     client = Client(folder, 'a')
     client.prints(b'update a.w 4\n@ A.\n@c\nint y;   \n@i b c.w',
                   b'a.w:4: error: included file not found: b\nupdated a.w: edits 2, faults 1\n')
@@ -265,7 +250,8 @@ def test_update(temporary):
 
 
 def test_retangle_that_ends(temporary):
-    folder = new_folder(temporary, 'killed', a_w=b'@ A.\n@c\n@i b\n@i c\n', b=b'1\n', c=b'2\n')
+    folder = new_folder(temporary, 'killed',
+                        {'a.w': b'@ A.\n@c\n@i b\n@i c\n', 'b': b'1\n', 'c': b'2\n'})
     client = Client(folder, 'a', program=script(folder, 'r', b'echo $$ >pid\nexec REAL "$@"\n'))
     again = b'retangle ended by signal 9; it was started again\n'
 
@@ -297,7 +283,8 @@ def test_retangle_that_ends(temporary):
 
 
 def test_a_last_line_of_spaces(temporary):
-    folder = new_folder(temporary, 'spaces', a_w=b'@ A.\n@c\n@i b.w\nint x;\n  ', b_w=b'1\n ')
+    folder = new_folder(temporary, 'spaces',
+                        {'a.w': b'@ A.\n@c\n@i b.w\nint x;\n  ', 'b.w': b'1\n '})
     client = Client(folder, 'a')
     client.prints(b'faults', b'')
     client.saves('b.w', b'1\n \n2\n   ', b'saved b.w: edits 2, faults 0\n')
@@ -313,7 +300,7 @@ def test_a_last_line_of_spaces(temporary):
 
 # ---------------------------------------------------------------------- the edits of a file
 
-def test_edits():
+def test_edits(_):
     """The edits of a save turn any lines into any others."""
     name, chance = 'the edits of a save', random.Random(1)
     for at in range(900):
@@ -432,7 +419,7 @@ class Tour:
 def test_tours(temporary):
     """After each save and update the class shows what ctangle makes of the files."""
     for seed in range(4):
-        folder = new_folder(temporary, 'tour %d' % seed)
+        folder = new_folder(temporary, 'tour %d' % seed, {})
         tour = Tour(folder, random.Random(seed))
         for _ in range(40):
             tour.step()
@@ -458,7 +445,7 @@ def test_starts(temporary):
     """A file that changes while retangle starts is the one that the class has."""
     for name, text in CHANGES.items():
         files = {'a.w': b'@ A.\n@c\n@i b.w\n', 'b.w': b'1\n'}
-        folder = new_folder(temporary, name, a_w=files['a.w'], b_w=files['b.w'])
+        folder = new_folder(temporary, name, {'a.w': files['a.w'], 'b.w': files['b.w']})
         client = open_client(folder, b'a', program=script(folder, 'r', text))
         same(read(folder, 'starts'), b'\n\n', 'starts of retangle, %s' % name)
         check_saves(client, folder, dict(files, **{'b.w': read(folder, 'b.w')}))
@@ -476,7 +463,7 @@ def check_saves(client, folder, files):
 
 
 def test_files_that_always_change(temporary):
-    folder = new_folder(temporary, 'always', a_w=b'@ @c\n1\n')
+    folder = new_folder(temporary, 'always', {'a.w': b'@ @c\n1\n'})
     program = script(folder, 'r', b'echo >>a.w\nexec REAL "$@"\n')
     try:
         open_client(folder, b'a', program=program)
@@ -493,7 +480,7 @@ FULL = 'retangle was ended, since its script has no room for more; it was starte
 def test_long_scripts(temporary):
     """A script that would be too long is begun again before, with what the editor has."""
     files = {'a.w': b'@ A.\n@c\n@i b.w\n', 'b.w': b'1\n'}
-    folder = new_folder(temporary, 'long', a_w=files['a.w'], b_w=files['b.w'])
+    folder = new_folder(temporary, 'long', {'a.w': files['a.w'], 'b.w': files['b.w']})
     with limits_of(2000, 900):
         client = open_client(folder, b'a')
         for number in range(60):
@@ -528,7 +515,7 @@ def limits_of(script_bytes, list_bytes):
 def test_the_longest_script(temporary):
     """The limit is that of retangle: updates are taken beyond it."""
     web = [b'@ A.', b'@c', b'1', b'@ B.']
-    folder = new_folder(temporary, 'longest', a_w=b'\n'.join(web))
+    folder = new_folder(temporary, 'longest', {'a.w': b'\n'.join(web)})
     client, total = open_client(folder, b'a'), 0
     for number in range(7):
         web[4:] = [b'%d' % number + b'x' * 60000] * 200
@@ -541,7 +528,7 @@ def test_the_longest_script(temporary):
 def test_long_lists(temporary):
     """More edits than there is room for their answers in a pipe."""
     files = {'a.b.w': b'@ A.\n@c\n' + b'1\n' * 40000}
-    folder = new_folder(temporary, 'lists')
+    folder = new_folder(temporary, 'lists', {})
     lay(folder, files)
     client = open_client(folder, b'a.b.w')
     lines = [b'@ A.', b'@c'] + [b'2'] * 40000
@@ -566,7 +553,7 @@ ORIGINS = {         # of each line of the outputs, where it is not a #line or on
 
 
 def test_maps(temporary):
-    folder = new_folder(temporary, 'maps')
+    folder = new_folder(temporary, 'maps', {})
     lay(folder, MAPPED)
     client = open_client(folder, b'a', b'a')
     same(client.outputs(), list(ORIGINS), 'outputs')
@@ -587,24 +574,13 @@ def test_maps(temporary):
 
 
 def main():
-    signal.alarm(10 * PATIENCE)         # a test that waits for an answer ends
+    signal.alarm(10 * SECONDS)          # a test that waits for an answer ends
     with tempfile.TemporaryDirectory() as temporary:
-        test_client(temporary)
-        test_ends_of_the_client(temporary)
-        test_names(temporary)
-        test_permissions(temporary)
-        test_update(temporary)
-        test_retangle_that_ends(temporary)
-        test_a_last_line_of_spaces(temporary)
-        test_edits()
-        test_tours(temporary)
-        test_starts(temporary)
-        test_files_that_always_change(temporary)
-        test_long_scripts(temporary)
-        test_the_longest_script(temporary)
-        test_long_lists(temporary)
-        test_maps(temporary)
-    return finish()
+        return run_all((test_client, test_ends_of_the_client, test_names, test_permissions,
+                        test_update, test_retangle_that_ends, test_a_last_line_of_spaces,
+                        test_edits, test_tours, test_starts, test_files_that_always_change,
+                        test_long_scripts, test_the_longest_script, test_long_lists, test_maps),
+                       temporary)
 
 
 if __name__ == '__main__':

@@ -2,13 +2,12 @@
 # a build does with a web (tests/build.py).
 
 test_example() {
-    python3 -B "$top/tests/build.py" "$temporary/ctangle" "${RETANGLE:-$top/bin/retangle}" "$top" \
-        >"$temporary/log" 2>&1
-    count_last_line example "$temporary/log"
+    find_retangle example || return
+    run_python example build.py "$temporary/ctangle" "$retangle" "$top"
     cp -R "$top/examples" "$temporary/example"
     rm -rf "$temporary/example/out"
     if ! make -C "$temporary/example" run CTANGLE="$temporary/ctangle" \
-        RETANGLE="${RETANGLE:-$top/bin/retangle}" >"$temporary/log" 2>&1; then
+        RETANGLE="$retangle" >"$temporary/log" 2>&1; then
         fail example "$(tail -n 5 "$temporary/log")"
         return
     fi

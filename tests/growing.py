@@ -50,8 +50,14 @@ def files(count):
     return lines
 
 
-# Edits that move all lines.
-SCRIPT = 'insert 1 a.w\n% top\nwork\nremove 1 a.w\nwork\n'
+def no_script(_):
+    return ''
+
+
+def edits(count):
+    """Edits of a chain that move all lines, and one of the name that all others reach."""
+    return ('insert 1 a.w\n%% top\nwork\nremove 1 a.w\nwork\nreplace %d a.w\n2\nwork\n'
+            % (2 * count + 3))
 
 
 class Taken:
@@ -91,9 +97,10 @@ def compare(name, few, many):
 
 def main():
     counter = find_counter()
-    for web, program, script in ((star, ctangle, ''), (cycle, ctangle, ''), (files, ctangle, ''),
-                                 (chain, retangle, SCRIPT)):
-        few, many = (Taken(web(count), [program, 'a'], script, counter) for count in (FEW, MANY))
+    for web, program, script in ((star, ctangle, no_script), (cycle, ctangle, no_script),
+                                 (files, ctangle, no_script), (chain, retangle, edits)):
+        few, many = (Taken(web(count), [program, 'a'], script(count), counter)
+                     for count in (FEW, MANY))
         compare('a %s of names' % web.__name__ if web != files else 'named files', few, many)
     return finish()
 

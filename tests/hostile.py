@@ -52,6 +52,37 @@ def one_cycle(count=50000):
     return case
 
 
+def linked(count, leads_back, contains_itself):
+    """A chain in which each name also uses those that `leads_back` gives for it: itself, or names before it. Each
+    name reaches a cycle."""
+    case = Case()
+    case.web.append('@<n00000@>\n')
+    for k in range(count):
+        used = ([k + 1] if k + 1 < count else []) + leads_back(k)
+        case.web.append('@ @<n%05d@>=\n%s\n' % (k, ''.join('@<n%05d@>' % n for n in used) or '1'))
+    case.faults = ['a.w:%d: error: contains itself: <n%05d>\n' % (2 * k + 3, k) for k in range(count)
+                   if contains_itself(k)]
+    return case
+
+
+def chain_to_a_cycle(count=50000):
+    return linked(count, lambda k: [k] if k == count - 1 else [], lambda k: k == count - 1)
+
+
+def each_uses_itself(count=50000):
+    return linked(count, lambda k: [k], lambda k: True)
+
+
+def two_of_three(count=50000):
+    """Of each three names the second uses the first; the last name is such a second one."""
+    return linked(count, lambda k: [k - 1] if k % 3 == 1 else [], lambda k: k % 3 < 2)
+
+
+def cycles_in_cycles(count=50000):
+    """Each name of the second half leads back to one of the first."""
+    return linked(count, lambda k: [count - 1 - k] if k >= count // 2 else [], lambda k: True)
+
+
 def chain(count=50000):
     case = chained(count, '1')
     case.faults = [too_large(2 * k + 3, 'n%05d' % k) for k in range(count) if count - k > DEEPEST] + [LARGE_PROGRAM]
@@ -135,6 +166,10 @@ def by_the_next_ten(count=100000):
 CASES = {
     'one cycle of 50,000 names': one_cycle,
     '25,000 names that use themselves or a partner': themselves_or_a_partner,
+    'chain of 50,000 names to one that uses itself': chain_to_a_cycle,
+    'chain of 50,000 names that each use themselves': each_uses_itself,
+    'chain of 50,000 names with cycles of two': two_of_three,
+    'chain of 50,000 names with cycles in cycles': cycles_in_cycles,
     'chain of 50,000 names': chain,
     'name with 100,000 pieces': many_pieces,
     'piece with 300,000 uses of one name': many_uses,

@@ -49,8 +49,9 @@ plainly() {
 # Leaves the folder in $temporary/run, what it has to have in $temporary/expected, the streams and
 # $status.
 run_program() { # CASE RUNNER
-    rm -rf "$temporary/run" "$temporary/expected"
+    rm -rf "$temporary/run" "$temporary/expected" "$temporary/difference"
     mkdir "$temporary/run" "$temporary/expected"
+    : >"$temporary/difference"
     chmod 777 "$temporary/run"
     if [ -d "$1/in" ]; then
         cp -R "$1/in/." "$temporary/run"
@@ -78,15 +79,45 @@ ended_so() { # CASE
     [ -z "$problem" ]
 }
 
+# Reports that the last run did not end as its case says.
 report() { # NAME
     fail "$1" "$problem"
     sed 's/^/    /' "$temporary/difference" | head -n 20
     sed 's/^/    standard error: /' "$temporary/stderr" | head -n 10
+    sed 's/^/    expected there: /' "$_case/stderr" | head -n 10
 }
 
 run_case() { # NAME CASE [RUNNER]
     run_program "$2" "${3:-plainly}"
     if ended_so "$2"; then pass; else report "$1"; fi
+}
+
+# Whether retangle is there, as $retangle; else the test of this name fails.
+find_retangle() { # NAME
+    retangle=${RETANGLE:-$top/bin/retangle}
+    [ -x "$retangle" ] && return
+    fail "$1" "$retangle is not there: run make first"
+    return 1
+}
+
+# Compiles tests/LIBRARY.c to be loaded before the C library; else the test of this name fails.
+compile_library() { # NAME LIBRARY
+    cc -O2 -shared -fPIC -o "$temporary/$2.so" "$top/tests/$2.c" && return
+    fail "$1" "tests/$2.c does not compile"
+    return 1
+}
+
+# Runs a test in Python with these arguments, and takes over its counts.
+run_python() { # NAME FILE ARGUMENT..
+    _name=$1 _file=$2
+    shift 2
+    python3 -B "$top/tests/$_file" "$@" >"$temporary/log" 2>&1
+    count_last_line "$_name" "$temporary/log"
+}
+
+# The same over both programs and the repository.
+run_python_over_both() { # NAME FILE
+    ! find_retangle "$1" || run_python "$1" "$2" "$temporary/ctangle" "$retangle" "$top"
 }
 
 # Takes over the counts of a log whose last line has them, and shows the rest of it.

@@ -60,6 +60,11 @@ test_line_count() {
 ' >"$case/in/a.w"
     must_end 3 'ctangle: a.w: TooManyLines'
     run_case 'file of 1,000,001 lines' "$case"
+
+    mv "$case/in/a.w" "$case/in/b.w"
+    printf '@i b.w\n' >"$case/in/a.w"
+    must_end 3 'ctangle: b.w: TooManyLines'
+    run_case 'included file of 1,000,001 lines' "$case"
 }
 
 sparse_file() { # FILE SIZE
@@ -165,6 +170,11 @@ test_file_count() {
     included_files 256
     must_end 3 'ctangle: f256.w: TooManyFiles'
     run_case '257 files' "$case"
+
+    rm "$case/in/f256.w"
+    must_end 1 'a.w:256: error: included file not found: f256.w' 'warning: no program text'
+    : >"$case/expected/a.c"
+    run_case '257 files, of which the last one is not there' "$case"
 }
 
 measured() {
@@ -381,12 +391,8 @@ test_graphs() {
 
 # A web of 40,000 names beside one of 10,000: memory and instructions.
 test_growing() {
-    if [ ! -x "${RETANGLE:-$top/bin/retangle}" ] \
-        || ! cc -O2 -shared -fPIC -o "$temporary/refuse.so" "$top/tests/refuse.c"; then
-        fail '40,000 names' 'retangle is not there, or tests/refuse.c does not compile'
-        return
+    if find_retangle '40,000 names' && compile_library '40,000 names' refuse; then
+        run_python '40,000 names' growing.py "$temporary/ctangle" "$retangle" "$temporary/measure" \
+            "$temporary/refuse.so" "$top"
     fi
-    python3 -B "$top/tests/growing.py" "$temporary/ctangle" "${RETANGLE:-$top/bin/retangle}" \
-        "$temporary/measure" "$temporary/refuse.so" "$top" >"$temporary/log" 2>&1
-    count_last_line '40,000 names' "$temporary/log"
 }

@@ -15,7 +15,6 @@ import json
 import os
 import random
 import re
-import subprocess
 import sys
 import time
 
@@ -28,6 +27,7 @@ from checks import check, folder_with, read, run_all, same, write
 from lsp_client import PATIENCE, Client, framed, message, range_of
 from names import Names
 from reading import Reading
+from running import run
 from scanning import Web
 
 os.environ['RETANGLE'] = retangle
@@ -247,9 +247,7 @@ def bytes_of(text):
 def tangled(files, *arguments):
     """What ctangle reports of these files, as Client.faults gives it, and the outputs."""
     with folder_with(files) as folder:
-        done = subprocess.run([ctangle, *arguments], cwd=folder, stderr=subprocess.PIPE,
-                              timeout=PATIENCE)
-        lines = done.stderr.decode(errors='replace').split('\n')[:-1]
+        lines = run([ctangle, *arguments], folder).errors.decode(errors='replace').split('\n')[:-1]
         faults = sorted(re.sub('^(?=error: |warning: )', 'a.w:1: ', line) for line in lines)
         return faults, {name: read(folder, name) for name in os.listdir(folder)
                         if os.path.isfile(os.path.join(folder, name))}
@@ -648,7 +646,7 @@ def test_c():
         same((asked['method'], asked['params']['uri'], line),
              ('window/showDocument', shown['uri'], shown['line']), 'lsp.py, showDocument')
     same(shown['file'].startswith(client.folder.name), False, 'lsp.py, an output that is not there')
-    subprocess.run([ctangle, 'a'], cwd=client.folder.name, timeout=PATIENCE)
+    run([ctangle, 'a'], client.folder.name)
     shown = client.c_of('a.w', 8)['result']
     same(shown['file'], client.path('b.h'), 'lsp.py, an output that is there')
     client.change('a.w', (((0, 0), (0, 0)), '\n'))

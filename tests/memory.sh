@@ -3,12 +3,10 @@
 # expanded.
 
 test_memory() {
-    if ! cc -O2 -shared -fPIC -o "$temporary/refuse.so" "$top/tests/refuse.c"; then
-        fail 'refused allocations' 'tests/refuse.c does not compile'
-        return
-    fi
+    compile_library 'refused allocations' refuse || return
     one_web=$top/tests/cases/reading/one-web-makes-one-c-file
     for name in reading/one-web-makes-one-c-file reading/change-past-the-end-of-an-included-file \
+        reading/change-and-inclusions-of-which-one-is-missing \
         programs/longer-output-is-replaced programs/flags-and-names-without-extensions \
         programs/four-names-are-too-many output/name-over-two-sections-and-a-named-file \
         output/names-that-contain-each-other-have-no-output; do
@@ -16,23 +14,14 @@ test_memory() {
     done
     refuse_each_allocation refusing_from 'one web, without memory from an allocation on' "$one_web"
     test_conversation
-    test_counts
     test_crates
 }
 
 test_conversation() {
-    retangle=${RETANGLE:-$top/bin/retangle}
-    if [ ! -x "$retangle" ]; then
-        fail 'refused allocations of a conversation' "$retangle is not there: run make first"
-        return
-    fi
-    python3 -B "$top/tests/refused.py" "$retangle" "$temporary/refuse.so" "$top" >"$temporary/log" 2>&1
-    count_last_line 'refused allocations of a conversation' "$temporary/log"
-}
-
-test_counts() {
-    python3 -B "$top/tests/counted.py" "$retangle" "$temporary/refuse.so" >"$temporary/log" 2>&1
-    count_last_line 'counted allocations' "$temporary/log"
+    find_retangle 'refused allocations of a conversation' || return
+    run_python 'refused allocations of a conversation' refused.py "$retangle" \
+        "$temporary/refuse.so" "$top"
+    run_python 'counted allocations' counted.py "$retangle" "$temporary/refuse.so"
 }
 
 refusing() {
@@ -101,10 +90,7 @@ survived_as() { # FILE OLD EXPECTED
 # The tests of the crates, which ask the library for their own refusals.
 test_crates() {
     kit=$(dirname "$(rt doc)")
-    for crate in tangle_script_tests tangle_names_tests tangle_graph_tests tangle_session_tests \
-        ctangle_cli_tests; do
-        test_crate "$crate"
-    done
+    test_crate tangle_tests
 }
 
 # The library makes the file when it refuses an allocation; without it the tests would pass and show nothing.

@@ -6,11 +6,11 @@
 # usage: tests/run.sh [PART..]
 #
 # The parts are documents, users, editor, lsp, example, cases, compiler, conversations, machine,
-# streams, limits, sizes, memory, comparison, cuts and scripts; without one all are run. Several run
-# side by side, as many at a time as there are processors; what each says is shown when all have
-# ended.
+# streams, limits, sizes, memory, comparison, cuts, scripts and layers; without one all are run.
+# Several run side by side, as many at a time as there are processors; what each says is shown when
+# all have ended.
 #
-# CTANGLE=PATH and RETANGLE=PATH take other programs.
+# CTANGLE=PATH, RETANGLE=PATH and LAYERS=PATH take other programs.
 # The last line is 'N passed, M failed'.
 set -u
 LC_ALL=C
@@ -31,8 +31,8 @@ chmod 755 "$temporary"
 . "$top/tests/lib.sh"
 
 # The longest parts come first.
-[ $# -gt 0 ] || set -- scripts comparison limits sizes cuts memory conversations compiler streams \
-    cases machine lsp editor users example documents
+[ $# -gt 0 ] || set -- scripts comparison layers limits sizes cuts memory \
+    conversations compiler streams cases machine lsp editor users example documents
 if [ $# -gt 1 ]; then
     printf '%s\n' "$@" | xargs -P "$(nproc)" -I PART sh -c '"$0" "$1" >"$2/$1" 2>&1' "$0" PART "$temporary"
     for part; do
@@ -60,8 +60,13 @@ chmod 755 "$temporary/ctangle"
 . "$top/tests/sizes.sh"
 . "$top/tests/memory.sh"
 . "$top/tests/comparison.sh"
+. "$top/tests/layers.sh"
 
-"test_$1"
+if type "test_$1" >/dev/null 2>&1; then
+    "test_$1"
+else
+    fail "$1" 'there is no such part'
+fi
 
 echo "$passed passed, $failed failed"
 [ "$failed" -eq 0 ]

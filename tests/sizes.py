@@ -10,24 +10,23 @@ docs/output.md and docs/reading.md, with no graph of names; files are compared w
 The last line is 'N passed, M failed'.
 """
 import os
-import subprocess
 import sys
 
 ctangle, retangle, top = (os.path.abspath(path) for path in sys.argv[1:4])
 sys.path[:0] = [os.path.join(top, 'tests'), os.path.join(top, 'tests', 'reference')]
 from chain import chain
-from checks import check, difference, folder_with, run_all, written_in
-from files import Roles, add
+from checks import check, difference, run_all
 from hostile import mark, piece
 from limits import FILES
-from scripts import Script
-from sessions import Session
+from running import run_over
+from scripts import answer
 
 TURNS = (256, 4096, 65536)
 NO_FAULTS = ('faults\n', 'faults 0\n')
 NO_MAIN_FILE = ('show a.c\n', 'no NoOutput\n')
 PROGRAM_TOO_LARGE = 'error: too large: the unnamed program'
 SECONDS = 300
+
 
 def around(before, after):
     """Each power, from so much before it to so much after it."""
@@ -36,19 +35,21 @@ def around(before, after):
 
 def run(program, arguments, files, script=''):
     """The status, what is written on both streams, and the files that were created or written."""
-    files = {name: text.encode('latin-1') for name, text in files.items()}
-    with folder_with(files) as folder:
-        done = subprocess.run([program] + arguments, cwd=folder, input=script.encode('latin-1'),
-                              capture_output=True, timeout=SECONDS)
-        made = {name: text.decode('latin-1') for name, text in written_in(folder, files).items()}
-    return done.returncode, done.stdout.decode('latin-1'), done.stderr.decode('latin-1'), made
+    (output, errors, status), made = run_over(encoded(files), [program] + arguments,
+                                              script.encode('latin-1'), SECONDS)
+    made = {name: text.decode('latin-1') for name, text in made.items()}
+    return status, output.decode('latin-1'), errors.decode('latin-1'), made
+
+
+def encoded(files):
+    return {name: text.encode('latin-1') for name, text in files.items()}
 
 
 def converse(name, files, turns, status=0, arguments=('a',)):
     """A conversation, (script lines, answer) each."""
     script, expected = (''.join(parts) for parts in zip(*turns))
     ended, written, errors, _ = run(retangle, list(arguments), files, script)
-    check((ended, errors) == (status, ''), name, 'status %d, %r' % (ended, errors[:200]))
+    check((ended, errors) == (status, ''), name, 'status %s, %r' % (ended, errors[:200]))
     check(written == expected, name, difference(expected, written))
 
 
@@ -64,7 +65,7 @@ def shown(name, text):
 def tangle(name, files, expected, faults='', status=0, arguments=('a',)):
     """A run of ctangle, with the files that it creates."""
     ended, written, errors, made = run(ctangle, list(arguments), files)
-    check((ended, written) == (status, ''), name, 'status %d' % ended)
+    check((ended, written) == (status, ''), name, 'status %s' % ended)
     check(errors == faults, name, difference(faults, errors))
     check(set(made) == set(expected), name, '%d files, not %d' % (len(made), len(expected)))
     other = [file for file in expected if made.get(file) != expected[file]]
@@ -141,7 +142,7 @@ def named_file(k, first=4):
 
 
 def many_files(count):
-    """A program and so many named files."""
+    """A program and `count` named files."""
     files = range(1, count + 1)
     return '@ P.\n@c\nx\n' + ''.join('@ @(%s@>=\n%d\n' % (file_name(k), k) for k in files)
 
@@ -210,10 +211,7 @@ def test_files():
         web = '@ P.\n@c\n' + ''.join('@i %s\n' % name for name in included)
         lines = edits_of_files('i%03d.w' % (count - 1))
         script = ''.join(line + '\nwork\nshow a.c\nfaults\n' for line in lines)
-        table = add([], b'a.w', web.encode())
-        for name, text in included.items():
-            table = add(table, name.encode(), text.encode())
-        expected = Script(Session(table, Roles(b'a.w', None, b'a.c')), script.encode())
+        expected = answer(encoded({'a.w': web, **included}), script.encode())
         turns = [(script, expected.written.decode('latin-1'))]
         converse('%d files' % count, {'a.w': web, **included}, turns, expected.status)
 
@@ -221,7 +219,7 @@ def test_files():
 # ------------------------------------------------------------------ sections, uses, macros, lists
 
 def test_sections():
-    """So many sections with a C part each: the program has so many pieces."""
+    """Sections with a C part each, all of the program."""
     for count in around(1, 1):
         pieces = [piece(k, 2 * k - 1, '\nx\n') for k in range(1, count + 1)]
         turns = [shown('a.c', ''.join(pieces) + '\n'),
@@ -258,7 +256,7 @@ def test_macros():
 
 
 def test_lists():
-    """Lists of so many edits: one that is made, and one whose last edit is refused."""
+    """Lists of edits: one that is made, and one whose last edit is refused."""
     for count in around(1, 1):
         edits = ''.join('replace 3 a.w\nx%d\n' % k for k in range(1, count + 1))
         made = [work(1), shown('a.c', piece(1, 2, '\nx%d\n' % count) + '\n')]
@@ -300,7 +298,7 @@ def test_lines_taken():
 
 
 def too_large(count):
-    """The faults of so many names, each used first two lines after the one before it, and of the
+    """The faults of `count` names, each used first two lines after the one before it, and of the
     program."""
     names = ['a.w:%d: error: too large: <n%02d>' % (3 + 2 * k, k) for k in range(count)]
     return reported(*names + [PROGRAM_TOO_LARGE])

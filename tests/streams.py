@@ -1,5 +1,5 @@
-"""Streams and files that fail at each byte, by a library that comes before the calls of the C
-library.
+"""Streams and files that fail at each byte, and which files are read, by a library that comes
+before the calls of the C library.
 
 usage: streams.py CTANGLE RETANGLE FAIL TOP
 
@@ -10,30 +10,28 @@ The last line is 'N passed, M failed'.
 import os
 import subprocess
 import sys
+import tempfile
 from concurrent.futures import ThreadPoolExecutor
 
 ctangle, retangle, fail, top = (os.path.abspath(path) for path in sys.argv[1:5])
 sys.path[:0] = [os.path.join(top, 'tests'), os.path.join(top, 'tests', 'reference')]
-from checks import check, folder_with, run_all, written_in
+from checks import check, folder_with, read, run_all, same
 from faults import fault_line
-from files import Roles, add
+from files import Roles, table_of
 from limits import FILE_BYTES
-from scripts import Script
-from sessions import Session
+from running import SECONDS, run_over
+from scripts import answer
 from tangling import Tangling
 
-SECONDS = 60
 WEB = b'@ A.\n@c\nint x;\n'
+
 
 def run(program, arguments, files, script=b'', **fails):
     """The status, what is on both streams, and the files that were created or written."""
     limits = {name.upper(): str(count) for name, count in fails.items()}
-    environment = dict(os.environ, LD_PRELOAD=fail, **limits)
-    with folder_with(files) as folder:
-        done = subprocess.run([program] + arguments, cwd=folder, env=environment, input=script,
-                              capture_output=True, timeout=SECONDS)
-        made = written_in(folder, files)
-    return done.returncode, done.stdout, done.stderr, made
+    (output, errors, status), made = run_over(files, [program] + arguments, script, LD_PRELOAD=fail,
+                                              **limits)
+    return status, output, errors, made
 
 
 class Cases:
@@ -52,21 +50,12 @@ class Cases:
                 check(ended == expected, self.name, '%r: %r, not %r' % (fails, ended, expected))
 
 
-def table_of(files):
-    table = []
-    for name, text in files.items():
-        table = add(table, name.encode(), text)
-    return table
-
-
-def answers(files, roles, script, **ends):
-    done = Script(Session(table_of(files), roles), script, **ends)
+def answers(files, script, **ends):
+    done = answer(files, script, **ends)
     return done.status, done.written, b'', {}
 
 
 # ------------------------------------------------------------------ scripts
-
-ROLES = Roles(b'a.w', None, b'a.c')
 
 # Every line of a script, malformed ones, empty ones and empty texts, and lists that are made,
 # refused and cancelled.
@@ -89,10 +78,35 @@ def test_failing_readers():
     for name, script in SCRIPTS.items():
         cases = Cases('reader that fails, %s' % name)
         for size in range(len(script) + 1):
-            expected = answers(files, ROLES, script[:size], reader_fails=True)
+            expected = answers(files, script[:size], reader_fails=True)
             cases.add((retangle, ['a'], files, script), expected, fail_input=size)
             cases.add((retangle, ['a'], files, script), expected, fail_input=size, chunk=1)
         cases.compare()
+
+
+# What is sent before the reader fails, with its answers: a command is carried out when it has ended,
+# an edit when its text has.
+UNENDED = ((b'', b''), (b'work\nrepl', b'work 1\n'), (b'work\nreplace 1 a.w\nint y', b'work 1\n'),
+           (b'work\nreplace 1 a.w\n', b'work 1\n'), (b'work\nquit', b'work 1\n'))
+
+
+def test_unended_commands():
+    cases = Cases('reader that fails in a command')
+    for sent, answered in UNENDED:
+        for size in range(1, 12):
+            cases.add((retangle, ['a'], {'a.w': WEB}, sent + b'\nwork\n'),
+                      (3, answered, b'', {}), fail_input=len(sent), chunk=size)
+    cases.compare()
+
+
+def test_chunks():
+    """A script with each kind of line, whose bytes come in chunks of each size."""
+    stored = os.path.join(top, 'tests', 'conversations', 'each-line-of-a-script-and-its-near-misses')
+    files, script = {'a.w': read(stored, 'in', 'a.w')}, read(stored, 'stdin')
+    cases = Cases('script in chunks')
+    for size in range(1, len(script) + 1):
+        cases.add((retangle, ['a'], files, script), (0, read(stored, 'stdout'), b'', {}), chunk=size)
+    cases.compare()
 
 
 def test_failing_writers():
@@ -100,8 +114,8 @@ def test_failing_writers():
     files = {'a.w': WEB}
     for name, script in SCRIPTS.items():
         cases = Cases('writer that fails, %s' % name)
-        for size in range(len(answers(files, ROLES, script)[1]) + 1):
-            expected = answers(files, ROLES, script, capacity=size)
+        for size in range(len(answers(files, script)[1]) + 1):
+            expected = answers(files, script, capacity=size)
             cases.add((retangle, ['a'], files, script), expected, fail_output=size)
             cases.add((retangle, ['a'], files, script), expected, fail_output=size, chunk=1)
         cases.compare()
@@ -118,6 +132,22 @@ def test_longest_scripts():
     for more, status in ((b'', 0), (b'\n', 3), (b'work\n', 3)):
         found = run(retangle, ['a'], {'a.w': WEB}, whole + more)
         check(found == (status, b'work 1\nwork 1\n', b'', {}), 'longest script', '%r' % (found,))
+    for size, answered, status in ((FILE_BYTES, b'no BadCommand\n', 0), (FILE_BYTES + 1, b'', 3)):
+        found = run(retangle, ['a'], {'a.w': WEB}, b'x' * size)
+        check(found == (status, answered, b'', {}), 'line of %d bytes' % size, '%r' % (found,))
+
+
+def test_longest_texts():
+    """An edit with a long text, and `quit`. Their line feeds are the 14th byte and the
+    19th besides the text: within what a script may have, or after it."""
+    too_long = b'no LineTooLong\n'
+    for size, answered, status, limits in (
+            (60000000, too_long + b'ok\n', 0, {}), (60000000, too_long + b'ok\n', 0, {'chunk': 7}),
+            (FILE_BYTES - 19, too_long + b'ok\n', 0, {}), (FILE_BYTES - 18, too_long, 3, {}),
+            (FILE_BYTES - 14, too_long, 3, {}), (FILE_BYTES - 13, b'', 3, {})):
+        script = b'insert 1 a.w\n' + b'x' * size + b'\nquit\nwork\n'
+        found = run(retangle, ['a'], {'a.w': WEB}, script, **limits)
+        check(found == (status, answered, b'', {}), 'text of %d bytes' % size, '%r' % (found,))
 
 
 # ------------------------------------------------------------------ runs
@@ -129,6 +159,38 @@ PROJECT = {
     'b.w': b'@ @<v@>=\nN\n',
 }
 ARGUMENTS = ['a', 'a']
+
+
+# Arguments of ctangle, the files that are there, and the names that it asks for.
+ASKED = (
+    # the web and the change file first, then what they include, round by round
+    (['a', 'a'], {'a.w': b'@i b.w\n', 'a.ch': b'', 'b.w': b'@i c.w\n@i d.w\n', 'c.w': b'', 'd.w': b''},
+     ['a.w', 'a.ch', 'b.w', 'c.w', 'd.w']),
+    # a name that stays missing is not asked for again
+    (['a'], {'a.w': b'@i none.w\n@i b.w\n@i none.w\n', 'b.w': b'@i none.w\n@i c.w\n', 'c.w': b''},
+     ['a.w', 'none.w', 'b.w', 'c.w']),
+    # nor is a file that is there: one that includes itself, a web that is its own change file
+    (['a'], {'a.w': b'@i b.w\n@i b.w\n', 'b.w': b'@i a.w\n@i b.w\n'}, ['a.w', 'b.w']),
+    (['a', 'a.w'], {'a.w': b'@x\ny\n@y\n@z\n'}, ['a.w']),
+    # a name that is too long is no file name
+    (['a'], {'a.w': b'@i ' + b'n' * 255}, ['a.w', 'n' * 255]),
+    (['a'], {'a.w': b'@i ' + b'n' * 256}, ['a.w']),
+)
+
+
+def names_asked(program, arguments, files):
+    with tempfile.TemporaryDirectory() as temporary:
+        to = os.path.join(temporary, 'names')
+        run(program, arguments, files, names_to=to)
+        return read(to).decode().splitlines()
+
+
+def test_names_asked():
+    for arguments, files, names in ASKED:
+        same(names_asked(ctangle, arguments, files), names, 'files that ctangle asks for')
+        options = [word for name in arguments[1:] for word in ('--change', name)]
+        same(names_asked(retangle, arguments[:1] + options, files), names,
+             'files that retangle asks for')
 
 
 def tangled(files):
@@ -218,9 +280,9 @@ def test_closed_pipes():
 
 
 def main():
-    return run_all((test_failing_readers, test_failing_writers, test_longest_scripts,
-                    test_failing_files, test_failing_outputs, test_failing_errors,
-                    test_closed_pipes))
+    return run_all((test_failing_readers, test_unended_commands, test_chunks, test_failing_writers,
+                    test_longest_scripts, test_longest_texts, test_names_asked, test_failing_files,
+                    test_failing_outputs, test_failing_errors, test_closed_pipes))
 
 
 if __name__ == '__main__':

@@ -11,74 +11,45 @@ The last line is 'N passed, M failed'.
 import os
 import re
 import shutil
-import subprocess
 import sys
 import tempfile
 
 ctangle, retangle, top = (os.path.abspath(path) for path in sys.argv[1:4])
-from checks import blocks_of, check, finish, lay, read, same, turns_of, write
-
-PATIENCE = 60           # seconds for a run
-
-def run(arguments, folder, text=b'', **changed):
-    """Standard output, standard error and the status. A make that runs the tests is hidden."""
-    environment = {name: os.environ[name] for name in os.environ if not name.startswith('MAKE')}
-    done = subprocess.run(arguments, cwd=folder, input=text, capture_output=True, timeout=PATIENCE,
-                          env=dict(environment, **changed))
-    return done.stdout, done.stderr, done.returncode
+import making
+from checks import (blocks_of, check, files_below, new_folder, read, read_if_there, run_all, same,
+                    turns_of, write)
+from running import run
 
 
 def is_there(*path):
     return os.path.exists(os.path.join(*path))
 
 
-def new_folder(temporary, name, **files):
-    """A folder with these files, whose names have _ instead of a dot."""
-    folder = os.path.join(temporary, name)
-    os.mkdir(folder)
-    lay(folder, {file.replace('_', '.'): text for file, text in files.items()})
-    return folder
-
-
 # ---------------------------------------------------------------------- make install
 
-def files_below(folder):
-    return sorted(os.path.relpath(os.path.join(path, name), folder)
-                  for path, _, names in os.walk(folder) for name in names)
-
-
-def copy_to_install(temporary):
-    """A folder with what make install copies, so that nothing is built."""
-    source = os.path.join(temporary, 'source')
-    os.makedirs(os.path.join(source, 'bin'))
-    shutil.copytree(os.path.join(top, 'docs'), os.path.join(source, 'docs'))
-    shutil.copy(os.path.join(top, 'Makefile'), source)
-    shutil.copy(ctangle, os.path.join(source, 'bin', 'ctangle'))
-    shutil.copy(retangle, os.path.join(source, 'bin', 'retangle'))
-    return source
+def installed(temporary):
+    """Where test_install installs."""
+    return os.path.join(temporary, 'prefix')
 
 
 def test_install(temporary):
-    """The folder of the programs that were installed."""
-    make = ['make', '-s', '-o', 'bin/ctangle', '-o', 'bin/retangle']
-    source, root = copy_to_install(temporary), os.path.join(temporary, 'an empty root')
+    make = ['make', '-s'] + making.BUILT
+    source = making.copy_of_top(top, (ctangle, retangle), temporary, 'source')
+    root, prefix = os.path.join(temporary, 'an empty root'), installed(temporary)
     _, errors, status = run(make + ['install', 'PREFIX=/usr', 'DESTDIR=' + root], source)
     check(status == 0, 'make install', errors)
     pages = ['usr/share/man/man1/ctangle.1', 'usr/share/man/man1/retangle.1']
     same(files_below(root), ['usr/bin/ctangle', 'usr/bin/retangle'] + pages, 'make install')
     for page in pages:
-        same(read(root, page), read(top, 'docs', os.path.basename(page)), page)
+        same(read_if_there(root, page), read(top, 'docs', os.path.basename(page)), page)
         check_page(os.path.join(root, page))
     run(make + ['uninstall', 'PREFIX=/usr', 'DESTDIR=' + root], source)
     same(files_below(root), [], 'make uninstall')
 
-    prefix = os.path.join(temporary, 'prefix')
     run(make + ['install', 'PREFIX=' + prefix], source)
-    programs = os.path.join(prefix, 'bin')
-    same(run([os.path.join(programs, 'ctangle')], temporary),
+    same(run([os.path.join(prefix, 'bin', 'ctangle')], temporary),
          (b'', b'usage: ctangle [flags] web [change [out]]\n', 2), 'an installed program')
     check_man(os.path.join(prefix, 'share', 'man'))
-    return programs
 
 
 def check_page(page):
@@ -106,18 +77,18 @@ def block(begins):
     return found[0]
 
 
-def test_readme(temporary, programs):
+def test_readme(temporary):
     web = block(b'@ ')
-    folder = new_folder(temporary, 'hello', hello_w=web)
+    folder = new_folder(temporary, 'hello', {'hello.w': web})
     same(run([ctangle, 'hello'], folder), (b'', b'', 0), 'README.md, ctangle hello')
-    same(read(folder, 'hello.c'), block(b'/*1:*/'), 'README.md, hello.c')
+    same(read_if_there(folder, 'hello.c'), block(b'/*1:*/'), 'README.md, hello.c')
     check_conversation(folder, block(b'$ retangle hello'))
 
     write(b''.join(web.splitlines(True)[:-2]), folder, 'hello.w')
     same(run([ctangle, 'hello'], folder), (b'', block(b'hello.w:'), 1), 'README.md, the fault')
 
     write(web, folder, 'hello.w')
-    path = programs + os.pathsep + os.environ['PATH']
+    path = os.path.join(installed(temporary), 'bin') + os.pathsep + os.environ['PATH']
     check_make(folder, path, 'make hello without a Makefile')
     write(block(b'.DELETE_ON_ERROR:'), folder, 'Makefile')
     check_make(folder, path, 'make hello by the rule of README.md')
@@ -135,16 +106,20 @@ def check_conversation(folder, conversation):
     same(run([retangle] + arguments, folder, typed)[0], answered, 'README.md, retangle')
 
 
+def remove(folder, name):
+    if is_there(folder, name):
+        os.remove(os.path.join(folder, name))
+
+
 def check_make(folder, path, name):
-    for file in ('hello', 'hello.c'):
-        if is_there(folder, file):
-            os.remove(os.path.join(folder, file))
+    remove(folder, 'hello')
+    remove(folder, 'hello.c')
     _, errors, status = run(['make', 'hello'], folder, PATH=path)
     check(status == 0, name, errors)
-    same(run(['./hello'], folder), (b'hello, world\n', b'', 0), name)
+    same(run(['./hello'], folder), (b'hello, world\n', b'', 0), name + ', and ./hello')
 
 
-def test_names():
+def test_names(_):
     """README.md names what is there."""
     text = re.sub(r'^    .*$', '', read(top, 'README.md').decode(), flags=re.M)
     for name in re.findall(r'`((?:crates|docs|examples|tests)/[^`]*)`', text):
@@ -156,33 +131,26 @@ OUTPUTS = ['calc.c', 'stack.c', 'stack.h']
 
 # ---------------------------------------------------------------------- recipes
 
-SECONDS = 10 ** 9       # nanoseconds
-
-
-def make_older(folder):
-    """Sets the times of all files of a folder back by ten seconds, so that what is written next is
-    newer."""
-    for name in os.listdir(folder):
-        path = os.path.join(folder, name)
-        time = os.stat(path).st_mtime_ns - 10 * SECONDS
-        os.utime(path, ns=(time, time))
-
-
 def times(folder, names):
-    return [os.stat(os.path.join(folder, name)).st_mtime_ns for name in names]
+    return [making.time_of(folder, name) for name in names]
+
+
+def older(times):
+    """What these times are after files were set back."""
+    return [time and time - making.BACK for time in times]
 
 
 def make(folder, makefile, web):
     """Whether make succeeds with this text of the web, and standard error."""
-    make_older(folder)
+    making.set_back(folder)
     write(web, folder, 'calc.w')
     _, errors, status = run(['make', '-f', makefile, 'CTANGLE=' + ctangle], folder)
     return status == 0, errors
 
 
-def must_make(folder, makefile, web):
+def must_make(folder, makefile, web, name):
     done, errors = make(folder, makefile, web)
-    check(done and not errors, makefile, errors)
+    check(done and not errors, '%s, %s' % (makefile, name), errors)
 
 
 def must_fail(folder, makefile, web):
@@ -193,16 +161,21 @@ def must_fail(folder, makefile, web):
           makefile + ', an error', errors)
 
 
+def calculates(folder, typed, expected, makefile):
+    """The program that a recipe made prints this."""
+    same(run(['./calc'] + typed.split(), folder).output, expected, '%s, calc %s' % (makefile, typed))
+
+
 def test_recipe(temporary, makefile):
     """The folder in which a recipe made the program, and the web."""
     folder = os.path.join(temporary, makefile)
     shutil.copytree(os.path.join(top, 'examples', 'several'), folder)
     web = read(folder, 'calc.w')
-    must_make(folder, makefile, web)
-    same(run(['./calc', '2', '3', '+', '4', 'x'], folder)[0], b'20\n', makefile)
-    same(run(['./calc', '2', '3', '-'], folder)[0], b'-1\n', makefile)
-    must_make(folder, makefile, web.replace(b'%g', b'%.2f'))
-    same(run(['./calc', '2', '3', '-'], folder)[0], b'-1.00\n', makefile)
+    must_make(folder, makefile, web, 'make')
+    calculates(folder, '2 3 + 4 x', b'20\n', makefile)
+    calculates(folder, '2 3 -', b'-1\n', makefile)
+    must_make(folder, makefile, web.replace(b'%g', b'%.2f'), 'another format')
+    calculates(folder, '2 3 -', b'-1.00\n', makefile + ', another format')
     return folder, web
 
 
@@ -216,37 +189,34 @@ def test_several(temporary):
 def test_unchanged(temporary):
     makefile = 'unchanged.mk'
     folder, web = test_recipe(temporary, makefile)
-    must_make(folder, makefile, web)
+    must_make(folder, makefile, web, 'the first format')
     made = OUTPUTS + ['calc.o', 'stack.o', 'calc']
     before = times(folder, made)
-    must_make(folder, makefile, web)
-    same(times(folder, made), [time - 10 * SECONDS for time in before], makefile + ', the same web')
+    must_make(folder, makefile, web, 'make of the same web')
+    same(times(folder, made), older(before), makefile + ', the same web')
 
     # the main file alone changes
     stack = ['stack.c', 'stack.h', 'stack.o']
     before = times(folder, stack)
-    must_make(folder, makefile, web.replace(b'%g', b'%.2f'))
-    same(times(folder, stack), [time - 10 * SECONDS for time in before], makefile + ', other files')
-    same(run(['./calc', '1'], folder)[0], b'1.00\n', makefile + ', one file')
+    must_make(folder, makefile, web.replace(b'%g', b'%.2f'), 'make after one file changed')
+    same(times(folder, stack), older(before), makefile + ', other files')
+    calculates(folder, '1', b'1.00\n', makefile + ', one file')
 
     # an error changes no output, and a missing output is made again
-    outputs = [read(folder, name) for name in OUTPUTS]
+    outputs = [read_if_there(folder, name) for name in OUTPUTS]
     must_fail(folder, makefile, web)
-    same([read(folder, name) for name in OUTPUTS], outputs, makefile + ', outputs after an error')
-    must_make(folder, makefile, web)
-    os.remove(os.path.join(folder, 'stack.h'))
+    same([read_if_there(folder, name) for name in OUTPUTS], outputs,
+         makefile + ', outputs after an error')
+    must_make(folder, makefile, web, 'make after an error')
+    remove(folder, 'stack.h')
     _, errors, status = run(['make', '-f', makefile, 'CTANGLE=' + ctangle], folder)
     check(status == 0 and is_there(folder, 'stack.h'), makefile + ', a missing output', errors)
 
 
 def main():
     with tempfile.TemporaryDirectory() as temporary:
-        programs = test_install(temporary)
-        test_readme(temporary, programs)
-        test_names()
-        test_several(temporary)
-        test_unchanged(temporary)
-    return finish()
+        return run_all((test_install, test_readme, test_names, test_several, test_unchanged),
+                       temporary)
 
 
 if __name__ == '__main__':

@@ -1,4 +1,5 @@
 """The table of files, a list of (name, lines), and the three roles (docs/reading.md)."""
+import os
 from collections import namedtuple
 
 import limits
@@ -6,6 +7,8 @@ import limits
 # marks: 'full', or 'bare' for line marks that are a line feed alone
 Roles = namedtuple('Roles', 'web change out marks')
 Roles.__new__.__defaults__ = ('full',)
+
+ROLES = Roles(b'a.w', None, b'a.c')     # where a test has no others
 
 
 class Refused(Exception):
@@ -42,3 +45,11 @@ def add(files, name, text):
     if len(lines) > limits.FILE_LINES:
         raise Refused('TooManyLines')
     return files + [(name, lines)]
+
+
+def table_of(files):
+    """The table of these files, bytes by name."""
+    table = []
+    for name, text in files.items():
+        table = add(table, os.fsencode(name), text)
+    return table

@@ -206,7 +206,7 @@ def front_edit(chance, lines):
 
 
 class Project:
-    """Files as (name, lines), the roles, and so many edits."""
+    """Files as (name, lines), the roles, and edits."""
 
     def __init__(self, seed, edits=0):
         chance = random.Random(seed)

@@ -86,6 +86,18 @@ class Graph:
                     ahead.append(user)
         return found
 
+    def order(self):
+        """The nodes that reach no cycle, each after all that it uses: at first those that use no
+        name; each in turn then adds those of its users of which all used names are there."""
+        missing = {node: len(self.uses[node]) for node in self.nodes}
+        found = [node for node in self.nodes if not missing[node]]
+        for node in found:                      # which grows meanwhile
+            for user in self.users[node]:
+                missing[user] -= 1
+                if not missing[user]:
+                    found.append(user)
+        return found
+
     def _measure(self, node):
         if node in self.reaches_cycle:
             self.weight[node], self.depth[node] = limits.WEIGHT + 1, limits.DEPTH + 1

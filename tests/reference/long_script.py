@@ -13,9 +13,7 @@ import random
 import sys
 
 sys.path.insert(0, os.path.join(os.path.dirname(os.path.abspath(__file__))))
-from files import Roles, add
-from scripts import Script
-from sessions import Session
+from scripts import answer
 
 PARTS = 120
 GROUPS = 8
@@ -207,7 +205,7 @@ def main():
     os.makedirs(os.path.join(folder, b'in'), exist_ok=True)
     text = b''.join(line + b'\n' for line in lines)
     given = b''.join(line + b'\n' for line in script)
-    answers = Script(Session(add([], b'a.w', text), Roles(b'a.w', None, b'a.c')), given)
+    answers = answer({'a.w': text}, given)
     for name, part in ((b'in/a.w', text), (b'stdin', given), (b'stdout', answers.written),
                        (b'arguments', b'a\n'), (b'status', b'%d\n' % answers.status)):
         write(os.path.join(folder, name), part)

@@ -5,20 +5,22 @@ from faults import Fault
 
 
 class Names:
-    """The full names in order, what each occurrence resolves to (a name or None), and the faults of names."""
+    """The full names in order, what each occurrence resolves to (a name, or None, with the kind of
+    its fault in `unresolved`), and the faults of names."""
 
     def __init__(self, occurrences):
         self.sorted = sorted(set(one.text for one in occurrences if not one.is_abbreviated))
-        self.resolved, self.faults = [], []
+        self.resolved, self.unresolved, self.faults = [], {}, []
         self.first, self.first_file = {}, {}    # a name's first occurrence, and the first that makes it a file
         for number, occurrence in enumerate(occurrences):
-            name = self._resolve(occurrence)
+            name = self._resolve(number, occurrence)
             self.resolved.append(name)
             if name is not None:
                 self.first.setdefault(name, number)
                 if occurrence.is_file:
                     self.first_file.setdefault(name, number)
         self.full_names = sorted(self.first, key=self.first.get)
+        self.numbers = {name: number for number, name in enumerate(self.full_names)}
         for name in self.full_names:
             if len(self._beginning_with(name)) > 1:
                 self.faults.append(Fault('PrefixName', occurrences[self.first[name]].place, name))
@@ -28,11 +30,12 @@ class Names:
         start = bisect_left(self.sorted, prefix)
         return [name for name in self.sorted[start:start + 2] if name.startswith(prefix)]
 
-    def _resolve(self, occurrence):
+    def _resolve(self, number, occurrence):
         if not occurrence.is_abbreviated:
             return occurrence.text
         found = self._beginning_with(occurrence.text[:-3])
         if len(found) == 1:
             return found[0]
-        self.faults.append(Fault('Ambiguous' if found else 'NoFullName', occurrence.place, occurrence.text))
+        self.unresolved[number] = 'Ambiguous' if found else 'NoFullName'
+        self.faults.append(Fault(self.unresolved[number], occurrence.place, occurrence.text))
         return None

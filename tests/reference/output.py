@@ -11,7 +11,7 @@ def item_text(item):
 
 def macro_text(items):
     """A backslash at the end is not written, since with it the line feed would not end the macro."""
-    while items[-1].kind in ('Blank', 'LineEnd') or items[-1] == ('Sign', b'\\'):
+    while items[-1].kind in ('Blank', 'LineEnd') or items[-1][:2] == ('Sign', b'\\'):
         items = items[:-1]
     return b'#define ' + b''.join(b'\\\n' if item.kind == 'LineEnd' else item_text(item) for item in items) + b'\n'
 

@@ -39,6 +39,12 @@ class Web:
     def place(self, at):
         return self.source[self.row(at)].place
 
+    def span(self, item):
+        """The source line of an item with text of the source, and its columns: of the first byte, after the last."""
+        row = self.row(item.at)
+        column = item.at - self.starts[row]
+        return row, column, column + len(item.value)
+
     def fault(self, kind, at):
         self.noted.append((at, Fault(kind, self.place(at))))
 

@@ -3,6 +3,8 @@ import re
 
 import limits
 from faults import fault_line
+from files import ROLES, table_of
+from sessions import Session
 
 ADDRESS = re.compile(rb'([0-9]{1,9}) ((?s:.*))\Z')
 
@@ -14,8 +16,8 @@ class WriterFailed(Exception):
 class Script:
     """Answers a script over a session.
 
-    reader_fails: the reader fails after these bytes. capacity: the writer takes so many bytes and
-    then fails.
+    reader_fails: the reader fails after these bytes. capacity: how many bytes the writer takes
+    before it fails.
     """
 
     def __init__(self, session, text, reader_fails=False, capacity=None):
@@ -96,3 +98,8 @@ class Script:
         held, self.held = self.held, [] if line == b'begin' else None
         refused = self.session.apply(held) if line == b'commit' else None
         return b'ok\n' if refused is None else b'no %s %d\n' % (refused[0].encode(), refused[1] + 1)
+
+
+def answer(files, text, roles=ROLES, **ends):
+    """A script over a new session of these files, by name."""
+    return Script(Session(table_of(files), roles), text, **ends)

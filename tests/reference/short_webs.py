@@ -92,6 +92,6 @@ def web(kind, number):
 
 
 def some(kind, most):
-    """The numbers of so many webs of this kind, or of all: always the same ones, in order."""
+    """The numbers of `most` webs of this kind, or of all: always the same ones, in order."""
     whole = count(kind)
     return range(whole) if whole <= most else sorted(random.Random(kind).sample(range(whole), most))

@@ -3,7 +3,8 @@ from collections import namedtuple
 
 from parts import Token
 
-Item = namedtuple('Item', 'kind value')
+# at: the position in the web's text at which its own text begins
+Item = namedtuple('Item', 'kind value at')
 
 SPACE = ('White', 'LineEnd')
 NAMING = ('Word', 'Code', 'Verbatim')           # items like these at the front of a macro are its name
@@ -32,7 +33,7 @@ def continues(token):
 
 
 def macro_items(tokens):
-    return [Item(token.kind, token.value) for token in spaced(with_spaces(tokens, True), True)]
+    return [Item(token.kind, token.value, token.at) for token in spaced(with_spaces(tokens, True), True)]
 
 
 def part_items(tokens, web, opening):
@@ -118,5 +119,5 @@ def counted(tokens, web, opening):
             file, line = value
         elif kind in ('LineEnd', 'QuoteBreak'):
             line += 1
-        items.append(Item(kind, value))
+        items.append(Item(kind, value, token.at))
     return items

@@ -1,10 +1,15 @@
 """Plain tangling: the output files and the faults of files with roles (docs/output.md, docs/faults.md)."""
+from collections import namedtuple
+
 from faults import Fault, status_of
 from graph import PROGRAM, Graph
 from names import Names
 from output import Writer
 from reading import Reading
 from scanning import Web
+
+# has_macros: all macros begin the file; has_piece: its node has one
+Output = namedtuple('Output', 'name node has_macros has_piece')
 
 
 class Tangling:
@@ -16,8 +21,10 @@ class Tangling:
         self.names = Names(self.web.occurrences)
         self.graph = Graph(self.web, self.names)
         self.has_program = bool(self.graph.pieces[PROGRAM])
-        self.faults = (reading.faults + self.web.faults + self.names.faults
-                       + self._faults_of_nodes() + self._no_program())
+        self.faults_of = {'reading': reading.faults, 'scanning': self.web.faults,
+                          'names': self.names.faults,
+                          'graph': self._faults_of_nodes() + self._no_program()}
+        self.faults = sum(self.faults_of.values(), [])
         self.status = status_of(self.faults)
 
     def _no_program(self):
@@ -47,27 +54,34 @@ class Tangling:
         return bool(graph.pieces[node]) and node not in graph.reaches_cycle and node not in graph.expandable
 
     def outputs(self):
-        """The name and node of each output file, in order; the main file's node may have no piece."""
-        if not self.has_program or PROGRAM in self.graph.expandable:
-            yield self.out, PROGRAM
+        """The output files, in order."""
+        graph = self.graph
+        if not self.has_program or PROGRAM in graph.expandable:
+            yield Output(self.out, PROGRAM, not self.web.has_all_macros, self.has_program)
         for name in sorted(self.names.first_file, key=self.names.first_file.get):
-            if name in self.graph.expandable and name != self.out:
-                yield name, name
+            if name in graph.expandable and name != self.out:
+                yield Output(name, name, False, True)
 
-    def size(self, writer=None):
+    def writer(self):
+        return Writer(self.web, self.graph, self.marks)
+
+    def size(self):
         """How many bytes all output files have together."""
-        writer = writer or Writer(self.web, self.graph, self.marks)
-        return sum(self._size(writer, node) for _, node in self.outputs())
-
-    def _size(self, writer, node):
-        front = 0 if node is not PROGRAM or self.web.has_all_macros else len(writer.macros)
-        return front + (writer.size(node) + 1 if self.graph.pieces[node] else 0)
+        writer = self.writer()
+        return sum(size_of(output, writer) for output in self.outputs())
 
     def files(self):
         """The name and bytes of each output file, in order."""
-        writer = Writer(self.web, self.graph, self.marks)
-        return [(name, self._text(writer, node)) for name, node in self.outputs()]
+        writer = self.writer()
+        return [(output.name, text_of(output, writer)) for output in self.outputs()]
 
-    def _text(self, writer, node):
-        front = b'' if node is not PROGRAM or self.web.has_all_macros else writer.macros
-        return front + (writer.text(node) + b'\n' if self.graph.pieces[node] else b'')
+
+def size_of(output, writer):
+    """The length of an output file, found without making it."""
+    front = len(writer.macros) if output.has_macros else 0
+    return front + (writer.size(output.node) + 1 if output.has_piece else 0)
+
+
+def text_of(output, writer):
+    front = writer.macros if output.has_macros else b''
+    return front + (writer.text(output.node) + b'\n' if output.has_piece else b'')

@@ -1,4 +1,4 @@
-//! `ctangle [flags] web [change [out]]`: tangles a web into C, in the folder that it runs in.
+//! `ctangle [flags] web [change [out]]`: tangles a web into C, in the current folder.
 #![tactic(auto)]
 
 use ctangle_cli::{
@@ -9,8 +9,8 @@ use std::mem::forget;
 use std::process::ExitCode;
 use tangle_lines::Sink;
 
-// Runs `ctangle`, and returns its status. With an argument that is not UTF-8 it has no arguments,
-// and reports its usage.
+// Runs `ctangle`, and returns its status. If an argument is not UTF-8, all arguments are left out,
+// so the usage line is written.
 fn run<E: Sink>(rt: &HostRuntime, err: &mut E) -> u8 {
     let arguments = match command_line(rt) {
         Ok(arguments) => arguments,
@@ -24,8 +24,8 @@ fn run<E: Sink>(rt: &HostRuntime, err: &mut E) -> u8 {
     }
 }
 
-// Runs `ctangle` with these arguments. The program ends after the run, which frees the session's
-// memory at once: so the session is not dropped.
+// Runs `ctangle` with these arguments. The session is not dropped, since the end of the program
+// frees its memory at once.
 fn run_arguments<E: Sink>(rt: &HostRuntime, arguments: &[&[u8]], err: &mut E) -> u8 {
     let Ended { status, session } = run_keeping_session(
         rt.alloc(),
@@ -42,6 +42,7 @@ fn no_memory<E: Sink>(err: &mut E) -> u8 {
     3
 }
 
+// It has no `?`: an error that `main` returned would be status 1.
 fn main(rt: HostRuntime) -> ExitCode {
     let mut err = lines_to(&rt, rt.stderr());
     let status = run(&rt, &mut err);

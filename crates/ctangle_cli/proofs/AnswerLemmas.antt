@@ -26,7 +26,7 @@ use Rattle.ctangle_cli.specs.Conversation.AnswersEdit.{IsRefused}
 use Rattle.ctangle_cli.specs.Conversation.AnswersList.{IsListMade, IsListRefused, IsListOutOfMemory}
 use Rattle.ctangle_cli.proofs.RunLemmas.{whole_then_cut, whole_then_whole}
 
--- bytes after the output so far
+-- more bytes are written after the output so far
 module _ {T E : Type 0} (old now new : Stream) (output bytes : List ℕ) (so_far : Result T E) (x : T) (is : so_far ≡ Ok x) (h : WritesAnswer old now output so_far) where
   pub then_all : TakesAll now new bytes → TakesAll old new (output ++ bytes)
   then_all k = whole_then_whole old now new output bytes (subst (WritesAnswer old now output) is h) k
@@ -63,7 +63,7 @@ asks_for_edit (Marks Bare) = refl
 abbrev Same : Result (Unit {0}) Refusal → Result (Unit {0}) Refusal → Type 0
 Same a b = a ≡ b
 
--- what a session does with an edit, while no list is open, answers the request for it
+-- what a session does with an edit, while no list is open, answers the request for this edit
 pub refused_now : (s t : SessionRead) (d : Option (Vec Edit Global)) (made : Edit) (refusal : Refusal) → d ≡ None
     → IfSome (session_refusal s.files s.roles made) (λ other. Same (Err refusal) (Err other))
     → IfNone (session_refusal s.files s.roles made) (refusal ≡ NoMemory) → t ≡ s
@@ -126,7 +126,7 @@ pub committed : (s t : SessionRead) (d : Option (Vec Edit Global)) (held : Vec E
     → answers (session_and_draft s d) Commit output (session_and_draft t None)
 committed s t d held output some h = rw some (h, refl)
 
--- an output that was not written whole
+-- an output that was not written whole was written up to a prefix of its bytes
 pub output_is_cut : (a b : Stream) (bytes : List ℕ) (refusal : Refusal) → WritesOut a b bytes (Err refusal) → TakesPrefix a b bytes
 output_is_cut a b bytes (WriteFault n) h = (n, h.0, h.1, h.2)
 output_is_cut a b bytes BadName h = absurd h

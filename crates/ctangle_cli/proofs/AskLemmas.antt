@@ -1,4 +1,4 @@
--- What loading asks for, step by step.
+-- Which names loading asks for, step by step.
 use Rattle.std.proofs.Common.{◌≡◌, ◌∙◌, ◌⊎◌, inl, inr, ℕ, zero, suc, ◌≤◌, Bool, true, false, cond, ◌||◌, List, [], ◌∷◌, ◌++◌, Option, Some, None, Ok, Err, ap, subst, sym, refl, length, take, drop, get_or, ◌+◌, ◌<◌, length-append, append_assoc, append-nil, arith, Contains}
 use Rattle.std.specs.Prelude.{All, IfSome, OnErr, Result, filter, map, nat_lt}
 use Rattle.std.specs.List.{IsDistinct, list_any}
@@ -45,7 +45,7 @@ or_moved false true false = refl
 or_moved false false true = refl
 or_moved false false false = refl
 
--- the table has one name more
+-- the table with one more file
 has_with : (files : FileTable) (name bytes other : List ℕ) → has_file (with_file files name bytes) other ≡ (has_file files other || bytes_eq other name)
 has_with files name bytes other =
     has_any (with_file files name bytes) other ∙ list_any-append (λ f. bytes_eq other f.0) files ((name, cut bytes) ∷ [])
@@ -59,7 +59,7 @@ added files next name bytes e = by (nat_lt file_limit (length bytes)) (add_refus
     by false (Some r) e = absurd (cc)
     by false None e = cc
 
--- this name alone was tried since
+-- only this name was tried since
 abbrev pub TriesThis : Tries → Tries → List ℕ → Type 0
 TriesThis old new name = (other : List ℕ) → is_tried new other ≡ (is_tried old other || bytes_eq other name)
 
@@ -114,14 +114,14 @@ pub untried : (a b : Bool) → a ≡ false → b ≡ false → (a || b) ≡ fals
 untried true b e f = absurd (cc)
 untried false b e f = f
 
--- all that was tried stays so, and so does this
+-- each name that was tried still is, and so is this one
 pub tries_this : (old new : Tries) (name : List ℕ) → TriesThis old new name → TriesAll old new (name ∷ [])
 tries_this old new name this = record {
   stay = λ other e. this other ∙ or_left (is_tried old other) (bytes_eq other name) e;
   all = All-cons (IsTriedIn new) name [] (λ named. this name ∙ or_right (is_tried old name) (bytes_eq name name) ((bytes_eq-Decides name name).1 refl)) (All-nil (IsTriedIn new));
 }
 
--- one more name that is held, or the same names where it is there
+-- one more name is kept, or the same names where it is kept already
 held_at : (other name : List ℕ) (names : List (List ℕ)) → list_any (bytes_eq name) names ≡ true → (list_any (bytes_eq other) names || bytes_eq other name) ≡ list_any (bytes_eq other) names
 held_at other name names h = by (bytes_eq other name) refl
   where
@@ -140,12 +140,12 @@ held_more other ks k = by (list_any (λ m. bytes_eq k.items m.items) ks) refl
     by false e = ap (list_any (bytes_eq other)) (map-append (λ k. k.items) ks (k ∷ [])) ∙ list_any-append (bytes_eq other) (map (λ k. k.items) ks) (k.items ∷ [])
         ∙ ap (λ b. list_any (bytes_eq other) (map (λ k. k.items) ks) || b) (or_false (bytes_eq other k.items))
 
--- where what stops is known
+-- a property that holds in any case also holds if the result is an error
 pub always_err : {T E P : Type 0} (r : Result T E) → P → OnErr r P
 always_err (Ok v) p = tt
 always_err (Err e) p = p
 
--- one after another
+-- a list of names, one after another
 abbrev pub AsksSoFar : Tries → Tries → List (List ℕ) → List (List ℕ) → Type 0
 AsksSoFar old now all rest = (before : Option (List (List ℕ))) (needed : List (List ℕ)) → All (Contains needed) all → TriesOnce before old needed
     → All (Contains needed) rest × TriesOnce before now needed
@@ -153,7 +153,7 @@ AsksSoFar old now all rest = (before : Option (List (List ℕ))) (needed : List 
 abbrev pub TriesSoFar : Tries → List (List ℕ) → List (List ℕ) → Type 0
 TriesSoFar now all rest = (last : Tries) → TriesStay now last → All (IsTriedIn last) rest → All (IsTriedIn last) all
 
--- a step at a time
+-- one more step
 none_among : {X : Type 0} (P : X → Type 0) (x : X) (xs : List X) → All P (x ∷ xs) → P x × All P xs
 none_among P x xs h = (h zero x (omega arith), λ k d lt. h (suc k) d (omega arith))
 
@@ -197,7 +197,7 @@ missed_at faults i fault b inside is e = ap missed_in (drop_more faults i fault 
 pub none_missed : (faults : List FaultRead) (i : ℕ) → length faults ≤ i → missed_in (drop i faults) ≡ []
 none_missed faults i end = ap missed_in (drop_of_length-le faults end)
 
--- rounds: what is asked for in one is what its reading misses
+-- rounds: a round asks for the names that are missing when its files are read
 still_needed : (files next : FileTable) (roles : RolesRead) (name : List ℕ) → Grows files next → IsNeeded files roles name → IsNeeded next roles name
 still_needed files next roles name g w = elim w [
   | inl web ↦ inl web
@@ -265,7 +265,7 @@ last_asks (Some names) old now roles missed is stays done r = record {
   missing = λ name c named. tried_asked names now r.0 name r.2 (All-contains (IsTriedIn now) missed name done.all (subst (λ l. Contains l name) (ap (λ t. missing_of t roles) stays ∙ sym is) c) named);
 }
 
--- the web and the change file
+-- the web and the change file, which are asked for first
 nothing_asked : (before : Option (List (List ℕ))) (needed : List (List ℕ)) → TriesOnce before (record { asked = before; files = []; absent = [] }) needed
 unfolding IsDistinct
 nothing_asked None needed = tt

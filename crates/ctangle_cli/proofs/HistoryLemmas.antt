@@ -1,4 +1,4 @@
--- The answered commands of a script go on a history.
+-- The answered commands of a script extend a history.
 use Rattle.std.proofs.Common.{◌≡◌, List, [], ◌∷◌, ◌++◌, refl, ap, sym, subst, append_assoc, inl, inr}
 use Rattle.std.specs.Prelude.{ℕ, Option, None, Some, false, Ok, Err, unwrap_or}
 use Rattle.tangle_files.specs.Lines.{FileTable}
@@ -18,7 +18,7 @@ use Rattle.ctangle_cli.specs.Conversation.{SessionAndDraft, IsMade, IsRefused, I
 use Rattle.ctangle_cli.specs.Histories.{AreCallsOf, IsCallOf, IsEdit, IsHeld, IsOpened, IsCommitted, IsDropped, IsNoEdit, IsOutOfMemory, is_of_list}
 
 module _ (files : FileTable) (roles : RolesRead) where
-  -- the calls so far and the one of this request, if there is one, are a history of the session after it
+  -- the earlier calls and the one of this request, if there is one, are a history of the session after it
   abbrev GoesOn : List Call → Request → List ℕ → SessionAndDraft → SessionAndDraft → Type 0
   GoesOn calls request output s t =
       (call : List Call) × IsCallOf request output s.draft call t.draft × History files roles (calls ++ call) t.session
@@ -31,7 +31,7 @@ module _ (files : FileTable) (roles : RolesRead) where
   unchanged calls s t history same =
       subst (λ cs. History files roles cs t) (sym (append_none calls)) (subst (λ u. History files roles calls u) (sym same) history)
 
-  -- a request that asks for no edit and is none of a list
+  -- a request that neither asks for an edit nor changes the open list
   stays : (calls : List Call) (s t : SessionAndDraft) (request : Request) (output : List ℕ)
       → History files roles calls s.session → is_edit request ≡ false → is_of_list s.draft request ≡ false → t ≡ s
       → GoesOn calls request output s t
@@ -74,7 +74,7 @@ module _ (files : FileTable) (roles : RolesRead) where
     Edited s (Several held) (Err list_memory) history (inr refl, same),
   )
 
-  -- the list that is open before and the one that is open after, by other arguments for them
+  -- the open list before and after the request, given by equal values
   with_drafts : (calls : List Call) (request : Request) (output : List ℕ) (s t : SessionAndDraft) (before after : Option (List Edit))
       → s.draft ≡ before → t.draft ≡ after
       → (call : List Call) × IsCallOf request output before call after × History files roles (calls ++ call) t.session → GoesOn calls request output s t

@@ -12,3 +12,4 @@ mod WorkedArguments
 mod AnswerLemmas
 mod NoMissingLemmas
 mod HistoryLemmas
+mod PlainLemmas

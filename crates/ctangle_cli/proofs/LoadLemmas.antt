@@ -1,6 +1,6 @@
 -- Steps of loading, one after another.
 use Rattle.std.proofs.Common.{◌≡◌, ◌∙◌, inl, inr, ℕ, zero, suc, ◌-◌, ◌<◌, ◌≤◌, Bool, true, false, cond, not, ◌||◌, List, [], ◌∷◌, Option, Some, None, Result, Ok, Err, ap, subst, sym, refl, length, length-append, append_assoc, append-nil, ◌++◌, arith}
-use Rattle.std.specs.Prelude.{IfSome, IfNone, IsOkUnless, nat_lt, nat_le, ◌==◌, ◌&&◌, ◌+◌, map, All, is_some, position}
+use Rattle.std.specs.Prelude.{IfSome, IfNone, IsOkUnless, nat_lt, ◌==◌, ◌&&◌, ◌+◌, map, All, is_some, position}
 use Rattle.std.specs.List.{list_any, position_or_len}
 use Rattle.std.specs.Str.{bytes_eq}
 use Rattle.std.proofs.lemmas.List.Elements.{All-append}
@@ -15,18 +15,19 @@ use Rattle.tangle_files.specs.declared.refusal.Refusal.TheVariants.{NoMemory as 
 use Rattle.tangle_files.specs.Lines.{FileTable, cut, file_number, lines_of}
 use Rattle.tangle_files.specs.Adding.{add_refusal, with_file, has_file, is_name}
 use Rattle.tangle_files.specs.Roles.{RolesRead, has_file_if_any, fits}
+use Rattle.tangle_files.proofs.TableLemmas.{accepted}
 use Rattle.tangle_streams.specs.Streams.{Failed}
 use Rattle.tangle_folders.specs.Folder.{File, IsFileAnswer, file_bytes, file_limit, with_name_added}
 use Rattle.ctangle_cli.specs.Loading.{AreAbsent, missing_of, LoadEnd, Grows, IsLoadEnd, Loaded, LoadsTo, StopsFor, NamesLastAsked, add_bytes, add_present, after_round, and_then, refused_as, rounds_from, rounds_in, bad_name, load_of, load_unless, unless_refused, with_inclusion, with_inclusions, with_round, with_needed}
 use Rattle.ctangle_cli.specs.Loading.LoadEnd.{CannotRead, Refused, NoMemory}
 
--- lack of memory is no claim
+-- out of memory, no reason is claimed
 pub stops_given : (reported : Option (List File)) (loads : List File → Loaded) (f g : ℕ) (needed given : LoadEnd)
     → IsLoadEnd needed given → StopsFor reported loads f g needed → StopsFor reported loads f g given
 stops_given reported loads f g needed given which h =
     elim which [ inl e ↦ subst (StopsFor reported loads f g) (sym e) h | inr e ↦ subst (StopsFor reported loads f g) (sym e) tt ]
 
--- where these load so, those do
+-- each ending of the first loading is an ending of the second
 pub Follows : Option (List File) → (List File → Loaded) → (List File → Loaded) → Type 0
 Follows reported these those = IfSome reported (λ all. (e : LoadEnd) → these all ≡ Err e → those all ≡ Err e)
 
@@ -46,7 +47,7 @@ stops_along reported these those f g h (Refused name refusal) unfailed same stop
     (err_along reported these those (Refused name refusal) same stops.0, stops.1 ∙ unfailed)
 stops_along reported these those f g h NoMemory unfailed same stops = tt
 
--- a refusal of the table
+-- the table refuses a file
 pub stops_refused : (reported : Option (List File)) (n : ℕ) (name : List ℕ) (loads : Loaded) (refusal : Refusal)
     → loads ≡ Err (Refused name refusal) → StopsFor reported (λ _. loads) n n (refused_as name refusal)
 stops_refused reported n name loads RefusalMemory e = tt
@@ -74,7 +75,7 @@ refused_bytes T reported n files name bytes refusal (Some e) is fits some none =
     let same : refusal ≡ e = cc in
     stops_refused reported n name (add_bytes files name bytes) refusal (within_limit files name bytes fits ∙ ap (unless_refused files name bytes) (sym is) ∙ ap (λ r. Err (Refused name r)) (sym same))
 
--- the bytes that a folder gave are those that it has
+-- the bytes that a folder answered are those of its file
 pub needed_bytes : (reported : Option (List File)) (files : FileTable) (name : List ℕ) (bytes : Vec ℕ Global) → IsFileAnswer reported name (Ok bytes)
     → IfSome reported (λ all. (e : LoadEnd) → add_bytes files name bytes.items ≡ Err e → with_needed all files name ≡ Err e)
 needed_bytes None files name bytes h = tt
@@ -92,11 +93,11 @@ included_bytes None files name bytes h absent named = tt
 included_bytes (Some all) files name bytes h absent named = λ e stop.
     chosen (has_file files name) (is_name name) files (add_present files name (file_bytes all name)) absent named ∙ ap (add_present files name) h ∙ stop
 
--- a longer list
+-- a list with an item at its end isn't empty
 some_at_end : {X : Type 0} (xs : List X) (x : X) → 0 < length (xs ++ x ∷ [])
 some_at_end xs x = omega (arith, length-append xs (x ∷ []))
 
--- allocation
+-- tables that grow
 pub Grows-refl : (files : FileTable) → Grows files files
 Grows-refl files = record { more = []; is = sym (append-nil files); within = λ h. absurd (omega arith) }
 
@@ -114,18 +115,9 @@ Grows-trans a b c first second = record {
         omega (arith, inside, ap length same, length-append b [])
     by xs within (y ∷ ys) same more some = more (omega arith)
 
--- neither of two refusals applies
-none_from_cond : {X : Type 0} (b : Bool) (x : X) (o : Option X) → cond b (Some x) o ≡ None → (b ≡ false) × (o ≡ None)
-none_from_cond true x o h = absurd (cc)
-none_from_cond false x o h = (refl, h)
-
--- a file is added to fewer than 256
+-- when a file is added, the table had fewer than 256
 is_below_limit : (files : FileTable) (name bytes : List ℕ) → add_refusal files name bytes ≡ None → length files < 256
-is_below_limit files name bytes h =
-    let first = none_from_cond (not (is_name name)) _ _ h in
-    let second = none_from_cond (has_file files name) _ _ first.1 in
-    let third = none_from_cond (nat_le 256 (length files)) _ _ second.1 in
-    omega (arith, leb-false 256 (length files) third.0)
+is_below_limit files name bytes h = omega (arith, leb-false 256 (length files) (accepted files name bytes (sym h)).below_limit)
 
 grows_unless : (files next : FileTable) (name bytes : List ℕ) (o : Option Refusal) → add_refusal files name bytes ≡ o → unless_refused files name bytes o ≡ Ok next → Grows files next
 grows_unless files next name bytes None is e =
@@ -167,7 +159,7 @@ grows_all all (name ∷ names) files next e =
     grows_then files next (with_inclusion all files name) (λ mid. with_inclusions all names mid)
     (λ mid is. grows_if (has_file files name || not (is_name name)) files mid name (file_bytes all name) is) (λ mid more. grows_all all names mid next more) e
 
--- what comes after a round that added files
+-- two continuations that agree on each longer table give the same loading after a round
 after_same : (files : FileTable) (l : Loaded) (f g : FileTable → Loaded) → ((next : FileTable) → l ≡ Ok next → (length next ≡ length files → ⊥) → f next ≡ g next)
     → after_round files l f ≡ after_round files l g
 after_same files (Err ending) f g h = refl
@@ -194,7 +186,7 @@ longer files next g more = by g.more g.is g.within
     by [] is within = absurd (more (ap length is ∙ ap length (append-nil files)))
     by (x ∷ xs) is within = (omega (arith, ap length is, length-append files (x ∷ xs)), within (omega arith))
 
--- more rounds than files give the same
+-- any number of rounds that is more than the files yet to be added gives the same
 rounds_enough : (all : List File) (roles : RolesRead) (n m : ℕ) (files : FileTable) → 256 - length files < n → 256 - length files < m → rounds_in all roles n files ≡ rounds_in all roles m files
 unfolding rounds_in
 rounds_enough all roles zero m files p q = absurd (omega arith)
@@ -207,7 +199,7 @@ rounds_enough all roles (suc n) (suc m) files p q =
     let y = g.1 in
     rounds_enough all roles n m next (omega arith) (omega arith))
 
--- a round that adds files is followed by the rest
+-- after a round that adds files the remaining rounds follow
 pub next_round : (all : List File) (roles : RolesRead) (files next : FileTable) → with_round all roles files ≡ Ok next → (length next ≡ length files → ⊥) → rounds_from all roles next ≡ rounds_from all roles files
 unfolding rounds_in
 next_round all roles files next e more =
@@ -217,7 +209,7 @@ next_round all roles files next e more =
     rounds_enough all roles (suc (256 - length next)) (256 - length files) next (omega arith) (omega arith)
     ∙ sym (ap (λ l. after_round files l (λ t. rounds_in all roles (256 - length files) t)) e ∙ ap (λ b. cond b (Ok next) (rounds_in all roles (256 - length files) next)) (ne_eqb (length next) (length files) more))
 
--- rounds stop where one does
+-- the rounds end in the fault in which one of them ends
 pub rounds_stop : (reported reported' : Option (List File)) (roles : RolesRead) (start cur : FileTable) (ns : List (List ℕ)) (f f0 f' : ℕ) (e : LoadEnd)
     → reported ≡ reported' → ns ≡ missing_of cur roles → IfSome reported' (λ all. rounds_from all roles cur ≡ rounds_from all roles start) → f ≡ f0
     → StopsFor reported (λ all. with_inclusions all ns cur) f f' e → StopsFor reported' (λ all. rounds_from all roles start) f0 f' e
@@ -229,7 +221,7 @@ rounds_stop reported reported' roles start cur ns f f0 f' e stay is inv same sto
     by None h = tt
     by (Some all) h = λ e stop. sym h ∙ stopped_round all roles cur e (subst (λ l. with_inclusions all l cur ≡ Err e) is stop)
 
--- and end where one adds nothing
+-- and they end with the table of the first round that adds nothing
 pub rounds_last : (reported reported' : Option (List File)) (roles : RolesRead) (start cur next : FileTable) (ns : List (List ℕ)) (f f0 f' : ℕ)
     → reported ≡ reported' → ns ≡ missing_of cur roles → IfSome reported' (λ all. rounds_from all roles cur ≡ rounds_from all roles start) → f ≡ f0
     → LoadsTo reported (λ all. with_inclusions all ns cur) f f' next → length next ≡ length cur → LoadsTo reported' (λ all. rounds_from all roles start) f0 f' next
@@ -252,12 +244,12 @@ rounds_on reported reported' roles start cur next ns f f' stay is inv loads more
     by None h k = tt
     by (Some all) h k = next_round all roles cur next (subst (λ l. with_inclusions all l cur ≡ Ok next) is k) more ∙ h
 
--- a test of the names of some items
+-- a test of the names of items
 pub list_any-map : {X Y : Type 0} (f : X → Y) (p : Y → Bool) (xs : List X) → list_any p (map f xs) ≡ list_any (λ x. p (f x)) xs
 list_any-map f p [] = refl
 list_any-map f p (x ∷ xs) = ap (λ b. p (f x) || b) (list_any-map f p xs)
 
--- one more name that the folder doesn't have
+-- one more name of which the folder has no file
 pub absent_more : (reported : Option (List File)) (b : Bool) (ks : List (Vec ℕ Global)) (k : Vec ℕ Global) → AreAbsent reported (map (λ k. k.items) ks) → AreAbsent reported (k.items ∷ [])
     → AreAbsent reported (map (λ k. k.items) (cond b ks (ks ++ k ∷ [])))
 absent_more None b ks k before this = tt
@@ -273,14 +265,14 @@ absent_at all name (n ∷ ns) h e = by (bytes_eq name n) refl (absent_at all nam
     by true same rest = subst (λ m. file_bytes all m ≡ None) (sym ((bytes_eq-Decides name n).0 same)) (h zero [] (omega arith))
     by false other rest = rest (subst (λ b. (b || list_any (bytes_eq name) ns) ≡ true) other e)
 
--- a name that the folder doesn't have adds nothing
+-- a name of which the folder has no file adds nothing
 pub absent_adds_none : (reported : Option (List File)) (files : FileTable) (name : List ℕ) (names : List (List ℕ)) → AreAbsent reported names → list_any (bytes_eq name) names ≡ true
     → has_file files name ≡ false → is_name name ≡ true → IfSome reported (λ all. with_inclusion all files name ≡ Ok files)
 absent_adds_none None files name names h e absent named = tt
 absent_adds_none (Some all) files name names h e absent named =
     chosen (has_file files name) (is_name name) files (add_present files name (file_bytes all name)) absent named ∙ ap (add_present files name) (absent_at all name names h e)
 
--- a file is there where the table has its lines
+-- a file is there if the table has its lines
 nat_lt-suc : (a b : ℕ) → nat_lt (1 + a) (suc b) ≡ nat_lt a b
 nat_lt-suc a b = by (nat_lt (1 + a) (suc b)) refl (nat_lt a b) refl
   where
@@ -313,11 +305,11 @@ has_any (f ∷ files) name = by (bytes_eq name f.0) (has_any files name)
     by true rest = refl
     by false rest = rest
 
--- a file has a number where the table has its lines
+-- a file has a number if the table has its lines
 pub numbered_as_has : (files : FileTable) (name : List ℕ) → is_some (file_number files name) ≡ has_file files name
 numbered_as_has files name = is_some-position (λ f. bytes_eq name f.0) files ∙ sym (has_any files name)
 
--- the files stay in a table that grows
+-- a table that grows keeps its files
 has_file-append : (files more : FileTable) (name : List ℕ) → has_file files name ≡ true → has_file (files ++ more) name ≡ true
 has_file-append [] more name h = absurd (cc)
 has_file-append (f ∷ files) more name h = by (bytes_eq name f.0) h (has_file-append files more name)
@@ -363,7 +355,7 @@ grows_fits old new roles g h =
 pub fits_both : (files : FileTable) (roles : RolesRead) → has_file files roles.web ≡ true → has_file_if_any files roles.change ≡ true → fits files roles ≡ true
 fits_both files roles p q = both (has_file files roles.web) (has_file_if_any files roles.change) p q
 
--- the name that is reported was asked for last
+-- the reported name was asked for last
 pub asked_last : (old new : Option (List (List ℕ))) (name : List ℕ) (given : LoadEnd) → new ≡ with_name_added old name → IsLoadEnd (CannotRead name) given → NamesLastAsked new given
 asked_last old new name given asks which = elim which [
   | inl e ↦ subst (NamesLastAsked new) (sym e) (subst (λ n. NamesLastAsked n (CannotRead name)) (sym asks) (by old))
@@ -384,7 +376,7 @@ refused_last asked name refusal given which = elim which [
   | inr e ↦ subst (NamesLastAsked asked) (sym e) tt
 ]
 
--- the names are file names
+-- the three names are file names
 pub loads_named : (reported : Option (List File)) (roles given : RolesRead) (files : FileTable) → bad_name given ≡ None → roles ≡ given
     → IfSome reported (λ all. load_unless all roles None ≡ Ok files) → IfSome reported (λ all. load_of all given ≡ Ok files)
 loads_named None roles given files fine same loads = tt

@@ -12,7 +12,7 @@ use Rattle.ctangle_cli.specs.Loading.{Grows, Loaded, add_bytes, add_present, aft
 use Rattle.ctangle_cli.specs.Loading.LoadEnd.{CannotRead}
 use Rattle.ctangle_cli.proofs.LoadLemmas.{grows_all, grows_one, longer}
 
--- a table that has grown and is no longer is the same
+-- a table that has grown and has the same length is the same table
 pub same_table : (files next : FileTable) → Grows files next → length next ≡ length files → next ≡ files
 same_table files next g same = by g.more g.is
   where

@@ -7,7 +7,7 @@ use Rattle.std.proofs.lemmas.List.Folds.{list_any_at}
 use Rattle.bstr.specs.Find.{IsFirstByte, IsLastByte}
 
 module _ (test : ℕ → Bool) (name : List ℕ) where
-  -- where the part after the last byte that passes begins
+  -- where the part after the last byte that passes the test begins
   past-last : (k : ℕ) → IsLastByte test name (Some k) → length name - suffix_len (λ b. not (test b)) name ≡ k + 1
   past-last k h =
       let place : k + 1 - 1 ≡ k = omega arith in
@@ -44,7 +44,7 @@ none_passes test [] none = refl
 none_passes test (b ∷ bytes) none =
     none_passes test bytes (λ j l. none (suc j) (omega (arith, l))) ∙ ap (λ t. t || list_any test bytes) (sym (none 0 (omega arith)))
 
--- a byte passes where a first one is found
+-- some byte passes the test if a first one is found
 pub passes-found : (test : ℕ → Bool) (bytes : List ℕ) (r : Option ℕ) → IsFirstByte test bytes r → is_some r ≡ list_any test bytes
 passes-found test bytes (Some k) h = sym (list_any_at test bytes k 0 h.0.high h.1)
 passes-found test bytes None h = none_passes test bytes (λ j l. false_from_ne_true _ (h j (omega arith) l))

@@ -126,7 +126,7 @@ module _ (files : FileTable) (no_missing : IncludesNoMissing files) where
     MissesNone n = (t : ℕ) (cs : List Change) (ws : List WaitingLine) → list_any new_misses cs ≡ false → list_any misses_waiting ws ≡ false
         → missed_in (reads_in files file n (record { waiting = ws; changes = cs; taken = t })).faults ≡ []
 
-    -- an inclusion of a file that is there
+    -- a line that includes a file of the table
     file_misses_none : (n : ℕ) → MissesNone n → (w : WaitingLine) (ws : List WaitingLine) (cs : List Change) (t : ℕ) (name : List ℕ) (m : Option ℕ) → is_some m ≡ true
         → list_any new_misses cs ≡ false → list_any misses_waiting ws ≡ false
         → missed_in (after files file (Goes (record { lines = []; faults = (included files w name m).1 })
@@ -154,7 +154,7 @@ module _ (files : FileTable) (no_missing : IncludesNoMissing files) where
     line_misses_none n rest w ws cs t (Some (b ∷ bs)) here changes none =
         file_misses_none n rest w ws cs t (b ∷ bs) (file_number files (b ∷ bs)) (numbered_as_has files (b ∷ bs) ∙ not_true (has_file files (b ∷ bs)) here) changes none
 
-    -- a change is used
+    -- a line at which a change is used
     change_misses_none : (n : ℕ) → MissesNone n → (c : Change) (w : WaitingLine) (ws : List WaitingLine) (cs : List Change) (t : ℕ) → new_misses c ≡ false
         → list_any new_misses cs ≡ false → list_any misses_waiting (w ∷ ws) ≡ false
         → missed_in (after files file (change_step files file c cs w ws t) (λ s. reads_in files file n s)).faults ≡ []

@@ -1,4 +1,4 @@
--- A run that ends with status 3 and writes nothing is none: on a stream that reports its bytes the clause is false.
+-- A run that does nothing does not end with status 3: each such ending writes some bytes, or something fails.
 use Rattle.std.proofs.Common.{◌≡◌, ◌⊎◌, inl, inr, Option, None, Some, ℕ, ◌<◌, take, Bool, true, false, cond, List, [], ◌∷◌, ◌++◌, ap, subst, length, length-append, arith}
 use Rattle.std.specs.Prelude.{codes}
 use Rattle.std.specs.Io.KnownBytes.{Appends}
@@ -29,7 +29,7 @@ silent bytes some h =
 silent_from : (old : Stream) (bytes : List ℕ) → old ≡ silent_stream → 0 < length bytes → TakesAll old silent_stream bytes ⊎ TakesPrefix old silent_stream bytes → ⊥
 silent_from old bytes same some h = silent bytes some (subst (λ (s : Stream). TakesAll s silent_stream bytes ⊎ TakesPrefix s silent_stream bytes) same h)
 
--- nor is one that writes something before
+-- nor does one that writes some bytes before
 silent_after : (between : Stream) (before bytes : List ℕ) → 0 < length bytes → TakesAll nothing_done.stream between before
     → TakesAll between nothing_done.stream bytes ⊎ TakesPrefix between nothing_done.stream bytes → ⊥
 silent_after between before bytes some first last = by between.taken first.0 last

@@ -1,4 +1,4 @@
--- In which order loading asks, step by step.
+-- The order in which loading asks for names, step by step.
 use Rattle.std.proofs.Common.{◌≡◌, ◌∙◌, ◌⊎◌, inl, inr, ℕ, zero, suc, Bool, true, false, cond, not, ◌||◌, List, [], ◌∷◌, ◌++◌, Option, Some, None, Ok, Err, ap, subst, sym, refl, append_assoc, append-nil}
 use Rattle.std.specs.Prelude.{IfSome, filter, ⊤}
 use Rattle.std.specs.List.{list_any}
@@ -21,14 +21,14 @@ use Rattle.ctangle_cli.specs.AskedNames.{AsksByRounds, AsksFront, AsksSome, Asks
 use Rattle.ctangle_cli.specs.Tries.{EndsAmong, GoesOn, HasAsked, InRounds, IsAbout, Tries, is_tried, tried}
 use Rattle.ctangle_cli.proofs.AskLemmas.{TriesThis, added, after_more, or_false, or_left, or_right}
 
--- a name that is new, and one that is not
+-- a name that is new, and a name that is not
 with_asked_new : (asked : List (List ℕ)) (name : List ℕ) → list_any (bytes_eq name) asked ≡ false → with_asked_once asked name ≡ asked ++ name ∷ []
 with_asked_new asked name e = ap (λ b. cond b asked (asked ++ name ∷ [])) e
 
 with_asked_old : (asked : List (List ℕ)) (name : List ℕ) → list_any (bytes_eq name) asked ≡ true → with_asked_once asked name ≡ asked
 with_asked_old asked name e = ap (λ b. cond b asked (asked ++ name ∷ [])) e
 
--- what was asked for stays in front
+-- the names asked for before stay in front
 with_asked_front : (asked : List (List ℕ)) (name : List ℕ) → (more : List (List ℕ)) × (with_asked_once asked name ≡ asked ++ more)
 with_asked_front asked name = by (list_any (bytes_eq name) asked)
   where
@@ -43,7 +43,7 @@ with_all_asked_front asked (name ∷ names) =
     let rest = with_all_asked_front (with_asked_once asked name) names in
     (here.0 ++ rest.0, rest.1 ∙ ap (λ l. l ++ rest.0) here.1 ∙ append_assoc asked here.0 rest.0)
 
--- asking again asks for nothing
+-- a name that was asked for before is not asked for again
 abbrev AreAsked : List (List ℕ) → List (List ℕ) → Type 0
 AreAsked asked [] = ⊤
 AreAsked asked (name ∷ names) = (list_any (bytes_eq name) asked ≡ true) × AreAsked asked names
@@ -104,7 +104,7 @@ pub found_none : (reported : Option (List File)) (files : FileTable) (name : Lis
 found_none None files name h = tt
 found_none (Some all) files name h = sym (append-nil files) ∙ ap (λ o. files ++ file_if_there name o) (sym h)
 
--- the folder was not asked
+-- the folder was asked for nothing
 pub goes_none : (reported : Option (List File)) (old : Tries) → GoesOn reported old old []
 goes_none None old = tt
 goes_none (Some all) old = λ before since h. h
@@ -174,7 +174,7 @@ pub ends_short : (reported : Option (List File)) (old : Tries) (asked : Option (
 ends_short reported old asked name fresh which =
     elim which [ inl e ↦ ends_before reported old asked (name ∷ []) e | inr e ↦ ends_about reported old asked name NoMemory fresh e tt ]
 
--- one after another
+-- a list of names, one after another
 abbrev pub OrderSoFar : Option (List File) → Tries → Tries → List (List ℕ) → List (List ℕ) → Type 0
 OrderSoFar reported old now all rest =
     IfSome reported (λ files. (before since : List (List ℕ)) → HasAsked files before old since
@@ -284,7 +284,7 @@ rounds_stop_here (Some all) roles start old so_far = λ before r.
     let here = so_far before r in
     (here.0, record { front = asked_in all roles here.0; rest = []; split = sym (append-nil (asked_in all roles here.0)); after = here.1.after })
 
--- from the web on
+-- rounds that begin with the web and the change file
 abbrev pub Begun : Option (List File) → Option (List (List ℕ)) → RolesRead → Tries → Type 0
 Begun reported asked roles now = IfSome reported (λ all. IfSome asked (λ before. InRounds all roles before now))
 
@@ -344,7 +344,7 @@ until_rounds reported asked now roles start ending begun stops fine = some_of re
     by (Some all) None begun stops = tt
     by (Some all) (Some before) begun stops = stops before begun
 
--- nothing was asked
+-- no name was asked for
 none_of : (names before : List (List ℕ)) → AsksFront names before (Some before)
 none_of names before = record { front = []; rest = names; split = refl; after = ap (λ l. Some l) (sym (append-nil before)) }
 
@@ -362,7 +362,7 @@ until_bad reported asked roles name refusal given bad which =
     by RefusalMemory = until_none reported asked roles
     by r = inl (bad, refl)
 
--- the folder did not fail, or at the last name
+-- the folder did not fail, or only at the last name
 pub fails_not : (old new : FolderRead) → new.failed ≡ old.failed → new.failures ≡ old.failures → FailsLast old new
 fails_not old new same counted = inl (same, counted)
 
@@ -386,7 +386,7 @@ pub named_ends : (reported : Option (List File)) (old : Tries) (asked : Option (
     → EndsAmong reported old asked (filter is_name (name ∷ [])) ending
 named_ends reported old asked name ending named h = subst (λ l. EndsAmong reported old asked l ending) (sym (one_name name named)) h
 
--- by the same names
+-- the same for equal names
 pub until_same : (reported : Option (List File)) (before now : Option (List (List ℕ))) (ending : LoadEnd) (roles given : RolesRead) → roles ≡ given → AsksUntil reported roles before now ending
     → AsksUntil reported given before now ending
 until_same reported before now ending roles given same h = subst (λ (r : RolesRead). AsksUntil reported r before now ending) same h

@@ -1,4 +1,4 @@
--- What clap asks of the three arguments of retangle, and the way from its getters to the matches of a simple command.
+-- clap's conditions on the three arguments of `retangle`, and how its getters lead to the matches of a simple command.
 use Rattle.std.proofs.Common.{◌≡◌, ◌∙◌, ℕ, zero, suc, true, false, List, [], ◌∷◌, Result, Ok, Err, refl, sym, ap, subst, inl, inr, arith, codes, true≢false}
 use Rattle.std.specs.List.{All}
 use Rattle.std.specs.Result.{IfErr, IsErrAnd}
@@ -13,7 +13,7 @@ use Rattle.clap.proofs.WalkLemmas.{first_value-rows}
 not_text : (s t : List ℕ) → bytes_eq s t ≡ false → bytes_eq t t ≡ true → s ≡ t → ⊥
 not_text s t apart same e = true≢false (sym same ∙ (sym (ap (λ u. bytes_eq u t) e) ∙ apart))
 
--- a plain argument whose id is none of clap's own flags
+-- a plain argument whose id differs from those of clap's own flags
 pub fits : (a : Arg) (id : List ℕ) → IsPlainArg a × (a.global ≡ false) → a.id.now ≡ id → bytes_eq id [] ≡ false
     → bytes_eq id (codes "help") ≡ false → bytes_eq id (codes "version") ≡ false → FitsChain a
 fits a id plain is named help version = (

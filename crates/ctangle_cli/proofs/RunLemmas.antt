@@ -1,4 +1,4 @@
--- What is written on a stream, one after another.
+-- Several writes on a stream, one after another.
 use Rattle.std.proofs.Common.{◌≡◌, ◌∙◌, ◌⊎◌, inl, inr, ℕ, ◌+◌, ◌<◌, ◌≤◌, List, [], ◌∷◌, ◌++◌, Result, Ok, Err, ap, subst, sym, refl, length, take, suc, length-append, arith, append_assoc, append-nil}
 use Rattle.std.proofs.lemmas.List.{take-append-le}
 use Rattle.tangle_streams.proofs.StreamLemmas.{Appends-append, Appends-none}
@@ -79,7 +79,7 @@ faults_cut a b c d xs i x lt e p q =
     ap (λ l. l ++ fault_lines (drop (suc i) xs)) (sym (lines_next xs i x lt e)) ∙ sym (lines-append (take (suc i) xs) (drop (suc i) xs)) ∙ ap fault_lines (take-append-drop (suc i) xs) in
     subst (TakesPrefix a c) whole (cut_more a c _ (fault_lines (drop (suc i) xs)) (whole_then_cut a b c _ (fault_line x) p (cut_from b c d (fault_line x) q)))
 
--- writing stopped for lack of memory, or because the folder failed
+-- writing stopped because memory ran out, or because the folder failed
 pub tangled_stops : (t : Tangling) (old new : Moment) (mid : Stream) (name : List ℕ) (fault : FolderFault) (r : Result ℕ WriteFault)
     → StopsAt t.outputs old.folder.created new.folder.created name fault → (fault ≢ NoMemory → Failed old.folder.failures new.folder.failures)
     → (fault ≡ NoMemory → new.folder.failures ≡ old.folder.failures) → TakesAll old.stream mid (fault_lines t.faults) → IsWritten mid new.stream (unwritten_line fault name) r
@@ -96,7 +96,7 @@ tangled_stops t old new mid name fault r stops why calm reported put = IsUnwritt
   output_reported = tries_from mid new.stream r (unwritten_line fault name) put;
 }) refl
 
--- the tangling of which these are the faults
+-- the tangling with these faults
 abbrev pub tangling_with : FileTable → RolesRead → List FaultRead → Tangling
 tangling_with files roles faults = record { faults = faults; outputs = outputs_of files roles }
 

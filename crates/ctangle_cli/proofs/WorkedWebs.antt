@@ -1,5 +1,5 @@
--- Worked webs come out: the output files and the faults. None of their names contains itself, so the faults of the graph are those of
--- a graph without cycles.
+-- Worked webs: their output files and faults are as expected. None of their names contains itself, so the faults of the
+-- graph are those of a graph without cycles.
 use Rattle.std.proofs.Common.{◌≡◌, ℕ, zero, suc, false, List, [], ◌∷◌, ◌++◌, Option, None, Some, refl}
 use Rattle.std.specs.Prelude.{codes}
 use Rattle.std.specs.Fmt.{digits}
@@ -26,7 +26,7 @@ tangle_of files roles = record {
   outputs = outputs_of files roles;
 }
 
--- the web in the first of these files; the web alone; and with a change file
+-- tangling these files, whose web is `a.w`; a web alone; and a web with a change file
 abbrev tangled_files : FileTable → Tangling
 tangled_files files = tangle_of files (roles_of (codes "a.w") None (codes "a.c"))
 

@@ -1,4 +1,4 @@
--- What creating, writing and closing leave of the list of files created.
+-- How creating, writing and closing a file change the list of created files.
 use Rattle.std.proofs.Common.{◌≡◌, ◌∙◌, ◌++◌, inr, ℕ, List, [], ◌∷◌, Option, Some, None, ap, subst, refl, append_assoc, append-nil, take, zero, suc, Result, Ok, Err, OnOk, OnErr}
 use Rattle.std.specs.Io.KnownBytes.{Appends}
 use Rattle.tangle_folders.specs.declared.folder.FolderFault.{FolderFault}
@@ -31,7 +31,7 @@ pub with_created-none : (old : Option (List File)) → with_created old [] ≡ o
 with_created-none None = refl
 with_created-none (Some old) = ap Some (append-nil old)
 
--- the file created has the bytes that its sink was given
+-- the created file has the bytes that its sink took
 pub wrote : (a b c : Option (List File)) (s t : Option (List ℕ)) (name bytes : List ℕ)
     → Begins a s → b ≡ with_created a ((name, []) ∷ []) → Appends s t bytes → Closes b c t → c ≡ with_created a ((name, bytes) ∷ [])
 wrote None None c s t name bytes first added put closed = closed
@@ -62,7 +62,7 @@ front_of_front (suc n) zero xs = (0, refl)
 front_of_front (suc n) (suc m) [] = (0, refl)
 front_of_front (suc n) (suc m) (x ∷ xs) = let r = front_of_front n m xs in (suc r.0, ap (λ l. x ∷ l) r.1)
 
--- a prefix of the file was created, whether or not its closing was refused
+-- a prefix of the file was created, whether or not closing it failed
 pub wrote_prefix : {T : Type 0} (r : Result T FolderFault) (a b c : Option (List File)) (s t : Option (List ℕ)) (name bytes : List ℕ) (m : ℕ)
     → Begins a s → b ≡ with_created a ((name, []) ∷ []) → Appends s t (take m bytes) → OnOk r (Closes b c t) → OnErr r (ClosesWithin b c t)
     → AddsPrefix a c (name, bytes)
@@ -73,7 +73,7 @@ wrote_prefix (Err fault) a b c s t name bytes m first added put whole prefix =
     let k = front_of_front w.0 m bytes in
     ((name, take k.0 bytes) ∷ [], inr (k.0, refl), w.1 ∙ ap (λ l. with_created a ((name, l) ∷ [])) k.1)
 
--- what the sink took of an output that a session wrote: all of it, or a front
+-- the sink took all the bytes of an output that a session wrote, or a prefix of them
 pub took : (o : Option (List ℕ)) (a b : Stream) (n : ℕ) → IsSome o → WritesOutput o a b (Ok n) → Appends a.taken b.taken (unwrap_or o [])
 took None a b n some h = absurd (cc)
 took (Some bytes) a b n some h = h.1
@@ -83,7 +83,7 @@ took_front None a b e some h = absurd (cc)
 took_front (Some bytes) a b (refusal.WriteFault n) some h = (n, h.1)
 took_front (Some bytes) a b _ some h = absurd h
 
--- So far some of the outputs are created, and these are the names of the others.
+-- Some of the outputs are created, and these are the names of the others.
 pub record HasWritten (outputs : List File) (old new : Option (List File)) (names : List (List ℕ)) : Type 0 where
   pub done : List File
   pub others : List File
@@ -101,7 +101,7 @@ wrote_all outputs old new names none h = by h.others (sym none ∙ h.names_are) 
     by [] is all = h.created ∙ ap (with_created old) (sym (all ∙ append-nil h.done))
     by (f ∷ others) is all = absurd (cc)
 
--- the output of the next name is the first of those that are left
+-- the output of the next name is the first of the remaining outputs
 lookup_here : (done others : List File) (f : File) → IsDistinct bytes_eq (map (λ f. f.0) (done ++ f ∷ others)) → lookup (bytes_eq f.0) (done ++ f ∷ others) ≡ Some f.1
 lookup_here [] others f distinct = ap (λ b. cond b (Some f.1) (lookup (bytes_eq f.0) others)) ((bytes_eq-Decides f.0 f.0).1 refl)
 lookup_here (g ∷ done) others f distinct =
@@ -156,7 +156,7 @@ wrote_next outputs old mid new name names next is = record {
   names_are = next.names_are;
 }
 
--- writing stopped at the next output: for lack of memory, or because the folder failed
+-- writing stopped at the next output, because memory ran out or the folder failed
 stops_without : (outputs : List File) (old mid new : Option (List File)) (name : List ℕ) (names : List (List ℕ)) (fault : FolderFault) → IsNext outputs old mid name names
     → new ≡ mid → StopsAt outputs old new name fault
 stops_without outputs old mid new name names fault next nothing = record {

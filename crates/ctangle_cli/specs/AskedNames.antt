@@ -1,4 +1,4 @@
--- The names that loading asks a folder for, in their order, and where it stops asking.
+-- The names for which loading asks a folder, in their order, and where it stops asking.
 use Rattle.std.specs.Prelude.{◌≡◌, ◌⊎◌, ℕ, zero, suc, List, [], ◌∷◌, ◌++◌, Option, None, Some, IfSome, filter, if◌then◌else◌}
 use Rattle.std.specs.List.{list_any}
 use Rattle.std.specs.Str.{bytes_eq}
@@ -10,11 +10,11 @@ use Rattle.tangle_folders.specs.Folder.{File, FolderRead, file_bytes, with_name_
 use Rattle.ctangle_cli.specs.Loading.{LoadEnd, IsAskedLast, bad_name, missing_of}
 use Rattle.ctangle_cli.specs.Loading.LoadEnd.{CannotRead, Refused, NoMemory}
 
--- one name more is asked for, unless it was asked for before
+-- this name is asked for too, unless it was asked for already
 abbrev pub with_asked_once : List (List ℕ) → List ℕ → List (List ℕ)
 with_asked_once asked name = if list_any (bytes_eq name) asked then asked else asked ++ name ∷ []
 
--- each of these names, in their order
+-- each of these names is asked for, in their order
 abbrev pub with_all_asked : List (List ℕ) → List (List ℕ) → List (List ℕ)
 with_all_asked asked [] = asked
 with_all_asked asked (name ∷ names) = with_all_asked (with_asked_once asked name) names
@@ -28,70 +28,74 @@ abbrev pub files_under : List File → List (List ℕ) → FileTable
 files_under all [] = []
 files_under all (name ∷ names) = file_if_there name (file_bytes all name) ++ files_under all names
 
--- the change file, if there is one
+-- the change file, if one is named
 abbrev pub named_in : Option (List ℕ) → List (List ℕ)
 named_in None = []
 named_in (Some name) = name ∷ []
 
--- all are the files of the folder
+-- `all` is the files of the folder
 module _ (all : List File) (roles : RolesRead) where
-  -- a round: the sources are read, and of the names that they miss those are asked for that are file names
+  -- one more round: the sources are read, and each missing name that is a file name is asked for
   abbrev pub asked_next : List (List ℕ) → List (List ℕ)
   asked_next asked = with_all_asked asked (filter is_name (missing_of (files_under all asked) roles))
 
-  -- the names asked for in so many rounds, after the web and the change file
+  -- the names asked for in this number of rounds, after the web and the change file
   abbrev pub asked_in : ℕ → List (List ℕ)
   asked_in zero = with_all_asked [] (roles.web ∷ named_in roles.change)
   asked_in (suc rounds) = asked_next (asked_in rounds)
 
-  -- none, where the web, the change file or the main file has a bad name
+  -- the same, but none where the web, the change file or the main file has a bad name
   abbrev pub asked_unless : Option (List ℕ) → ℕ → List (List ℕ)
   asked_unless (Some name) rounds = []
   asked_unless None rounds = asked_in rounds
 
-  -- A loading that gives its files asks for the names of so many rounds, of which the next would ask for none.
+  -- A loading that gives its files asks for the names of some number of rounds, and one more round
+  -- would ask for none.
   pub record AsksWhole (before : List (List ℕ)) (now : Option (List (List ℕ))) : Type 0 where
     pub rounds : ℕ
     pub after : now ≡ Some (before ++ asked_in rounds)
     pub last : asked_next (asked_in rounds) ≡ asked_in rounds
 
--- of these names some were asked for, up to this one
+-- the names up to this one, and no later one, were asked for
 pub record AsksUpTo (names before : List (List ℕ)) (now : Option (List (List ℕ))) (name : List ℕ) : Type 0 where
   pub front : List (List ℕ)
   pub rest : List (List ℕ)
   pub split : names ≡ front ++ name ∷ rest
   pub after : now ≡ Some (before ++ (front ++ name ∷ []))
 
--- of these names some were asked for from the first on, or none
+-- some of these names were asked for, from the first on, or none
 pub record AsksFront (names before : List (List ℕ)) (now : Option (List (List ℕ))) : Type 0 where
   pub front : List (List ℕ)
   pub rest : List (List ℕ)
   pub split : names ≡ front ++ rest
   pub after : now ≡ Some (before ++ front)
 
--- the name that an ending reports is the one at which the asking stopped
+-- asking stopped at the name that the ending reports; out of memory, it stopped anywhere
 abbrev pub StopsAmong : List (List ℕ) → List (List ℕ) → Option (List (List ℕ)) → LoadEnd → Type 0
 StopsAmong names before now (CannotRead name) = AsksUpTo names before now name
 StopsAmong names before now (Refused name refusal) = AsksUpTo names before now name
 StopsAmong names before now NoMemory = AsksFront names before now
 
--- A folder that reports its files and what it is asked for was asked for just the names of loading.
+-- If the folder reports its files and what it is asked for: loading asked it for the names of its
+-- rounds, and for no other.
 abbrev pub AsksByRounds : Option (List File) → RolesRead → Option (List (List ℕ)) → Option (List (List ℕ)) → Type 0
 AsksByRounds reported roles before now = IfSome reported (λ all. IfSome before (λ names. AsksWhole all roles names now))
 
--- Where loading ended without its files, it was asked for some of these names from the first on.
+-- A loading that ended without its files asked for some of these names, from the first on.
 abbrev pub AsksSome : Option (List File) → RolesRead → Option (List (List ℕ)) → Option (List (List ℕ)) → LoadEnd → Type 0
 AsksSome reported roles before now ending =
     IfSome reported (λ all. IfSome before (λ names. (rounds : ℕ) × StopsAmong (asked_unless all roles (bad_name roles) rounds) names now ending))
 
--- A name that is refused is the last of these, or it is one of the three, and nothing was asked for.
+-- The same, but a refused name may also be one of the three that are tested first, and then nothing
+-- was asked for.
 abbrev pub AsksUntil : Option (List File) → RolesRead → Option (List (List ℕ)) → Option (List (List ℕ)) → LoadEnd → Type 0
 AsksUntil reported roles before now (CannotRead name) = AsksSome reported roles before now (CannotRead name)
 AsksUntil reported roles before now (Refused name refusal) =
     ((bad_name roles ≡ Some name) × (now ≡ before)) ⊎ AsksSome reported roles before now (Refused name refusal)
 AsksUntil reported roles before now NoMemory = AsksSome reported roles before now NoMemory
 
--- A folder failed at no file that it was asked for, or at the last alone; so nothing was asked for after a failure.
+-- A folder failed at no file that it was asked for, or only at the last one: nothing was asked for
+-- after a failure.
 abbrev pub FailsLast : FolderRead → FolderRead → Type 0
 FailsLast old new =
     ((new.failed ≡ old.failed) × (new.failures ≡ old.failures))

@@ -1,4 +1,4 @@
--- That no name is asked for twice, and that each was needed.
+-- No name is asked for twice, and each was needed.
 use Rattle.std.specs.Prelude.{◌≡◌, ◌⊎◌, ◌≤◌, ℕ, true, List, ◌++◌, Option, Some, IfSome, All, Contains, length, take}
 use Rattle.std.specs.List.{IsDistinct}
 use Rattle.std.specs.Str.{bytes_eq}
@@ -7,23 +7,25 @@ use Rattle.tangle_files.specs.Lines.{FileTable}
 use Rattle.tangle_files.specs.Roles.{RolesRead}
 use Rattle.ctangle_cli.specs.Loading.{missing_of}
 
--- after the names asked for before are others, no two of them the same
+-- other names were asked for after these, no two of them the same
 pub record AsksSince (names : List (List ℕ)) (now : Option (List (List ℕ))) : Type 0 where
   pub asked : List (List ℕ)
   pub after : now ≡ Some (names ++ asked)
   pub once : IsDistinct bytes_eq asked
 
--- no name was asked for twice since, where the folder reports what it was asked for
+-- no name was asked for twice since, if the folder reports what it was asked for
 abbrev pub AsksOnce : Option (List (List ℕ)) → Option (List (List ℕ)) → Type 0
 AsksOnce before now = IfSome before (λ names. AsksSince names now)
 
--- the web, the change file, or a name that the reading of the first so many files misses
+-- the web, the change file, or a name that is missing when the first `n` files are read, for some
+-- `n`
 abbrev pub IsNeeded : FileTable → RolesRead → List ℕ → Type 0
 IsNeeded files roles name =
     (name ≡ roles.web) ⊎ ((roles.change ≡ Some name) ⊎ ((n : ℕ) × (n ≤ length files) × Contains (missing_of (take n files) roles) name))
 
--- Each name asked for since, until the files were loaded: it was asked for once, and was needed. Among them are the names of
--- all files, and each file name that their reading still misses.
+-- The names asked for since, until the files were loaded. Each was asked for once, and was needed.
+-- Among them are the names of all files, and each file name that is still missing when the files
+-- are read.
 pub record AsksFor (names : List (List ℕ)) (now : Option (List (List ℕ))) (files : FileTable) (roles : RolesRead) : Type 0 where
   pub asked : List (List ℕ)
   pub after : now ≡ Some (names ++ asked)

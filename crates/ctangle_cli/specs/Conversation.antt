@@ -24,7 +24,7 @@ use Rattle.ctangle_cli.specs.Messages.{fault_lines, refusal_name}
 use Rattle.ctangle_cli.specs.declared.conversation.Accepted.{Accepted}
 use Rattle.ctangle_cli.specs.declared.conversation.Accepted.TheVariants.{Made, Held}
 
--- a session, and the list of edits that is open, if one is
+-- a session, and the list of edits that is open, if there is one
 pub record SessionAndDraft : Type 0 where
   pub session : SessionRead
   pub draft : Option (List Edit)
@@ -49,7 +49,7 @@ request_for (edit.Marks mode) = marks_request mode
 abbrev pub refused_line : Refusal → List ℕ
 refused_line refusal = codes "no " ++ refusal_name refusal ++ codes "\n"
 
--- the line that says that an edit was made, or is held in the list that is open
+-- the line that answers an edit which was made, or is held in the open list
 abbrev pub accepted_line : Accepted → List ℕ
 accepted_line Made = codes "ok\n"
 accepted_line Held = codes "held\n"
@@ -59,7 +59,7 @@ abbrev pub edit_line : Result Accepted Refusal → List ℕ
 edit_line (Ok accepted) = accepted_line accepted
 edit_line (Err refusal) = refused_line refusal
 
--- the number of the edit that a list is refused for, from 1; 0 where memory ran out
+-- the number, from 1, of the edit for which the list is refused; 0 where memory ran out
 abbrev pub edit_number_of : Refusal → ℕ → ℕ
 edit_number_of refusal.NoMemory at = 0
 edit_number_of _ at = at + 1
@@ -77,7 +77,7 @@ abbrev pub list_line : {T : Type 0} → Result T ListRefusal → List ℕ
 list_line (Ok done) = codes "ok\n"
 list_line (Err refused) = list_refused_line refused
 
--- an edit is made and answered so, or is refused and changes nothing
+-- an edit is made, and the answer is `ok`; or it is refused, and changes nothing
 pub data AnswersEdit (s : SessionRead) (made : Edit) (output : List ℕ) (t : SessionRead) :
     Type 0 where
   IsMade : session_refusal s.files s.roles made ≡ None → output ≡ codes "ok\n"
@@ -85,7 +85,7 @@ pub data AnswersEdit (s : SessionRead) (made : Edit) (output : List ℕ) (t : Se
   IsRefused : (refusal : Refusal) → session_refusal s.files s.roles made ≡ Some refusal
       → output ≡ refused_line refusal → t ≡ s → AnswersEdit s made output t
 
--- so is a list of edits, which may also run out of memory, and then changes nothing
+-- the same for a list of edits, which may also run out of memory, and then changes nothing
 pub data AnswersList (s : SessionRead) (made : List Edit) (output : List ℕ) (t : SessionRead) :
     Type 0 where
   IsListMade : list_refusal s.files s.roles made ≡ None → output ≡ codes "ok\n" → AreMade s made t
@@ -94,7 +94,7 @@ pub data AnswersList (s : SessionRead) (made : List Edit) (output : List ℕ) (t
       → output ≡ list_refused_line refused → t ≡ s → AnswersList s made output t
   IsListOutOfMemory : output ≡ list_refused_line list_memory → t ≡ s → AnswersList s made output t
 
--- an edit is made while no list is open, and is held last in the list that is open
+-- an edit is made while no list is open; else it is held, last in the open list
 abbrev pub AnswersIn :
     Option (List Edit) → SessionAndDraft → Edit → List ℕ → SessionAndDraft → Type 0
 AnswersIn None s made output t = AnswersEdit s.session made output t.session × (t.draft ≡ None)
@@ -110,33 +110,33 @@ AnswersRequest s request output t =
 abbrev pub IsBad : SessionAndDraft → List ℕ → SessionAndDraft → Type 0
 IsBad s output t = (output ≡ codes "no BadCommand\n") × (t ≡ s)
 
--- a list is opened, where none is open
+-- a list is opened, unless one is open
 abbrev pub AnswersBegin :
     Option (List Edit) → SessionAndDraft → List ℕ → SessionAndDraft → Type 0
 AnswersBegin None s output t =
     (output ≡ codes "ok\n") × (t ≡ record { session = s.session; draft = Some [] })
 AnswersBegin (Some held) s output t = IsBad s output t
 
--- the edits of the list that is open are made, all or none, and the list is closed
+-- all edits of the open list are made or none, and the list is closed
 abbrev pub AnswersCommit :
     Option (List Edit) → SessionAndDraft → List ℕ → SessionAndDraft → Type 0
 AnswersCommit None s output t = IsBad s output t
 AnswersCommit (Some held) s output t =
     AnswersList s.session held output t.session × (t.draft ≡ None)
 
--- the list that is open is dropped
+-- the open list is dropped
 abbrev pub AnswersCancel :
     Option (List Edit) → SessionAndDraft → List ℕ → SessionAndDraft → Type 0
 AnswersCancel None s output t = IsBad s output t
 AnswersCancel (Some held) s output t =
     (output ≡ codes "ok\n") × (t ≡ record { session = s.session; draft = None })
 
--- an output file of this name as it is shown, or that there is none
+-- the answer that shows the output file of this name, or says that there is none
 abbrev pub shown : List ℕ → Option (List ℕ) → List ℕ
 shown name None = codes "no NoOutput\n"
 shown name (Some bytes) = codes "= " ++ name ++ codes " " ++ decimal (length bytes) ++ codes "\n" ++ bytes
 
--- how many faults there are, and their lines
+-- the answer that has the number of faults, and their lines
 abbrev pub listed_faults : List FaultRead → List ℕ
 listed_faults faults =
     codes "faults " ++ decimal (length faults) ++ codes "\n" ++ fault_lines faults
@@ -146,7 +146,7 @@ abbrev pub ListsFaults : SessionRead → List ℕ → Type 0
 ListsFaults s output =
     (faults : List FaultRead) × AreFaultsOf s.files s.roles faults × (output ≡ listed_faults faults)
 
--- This output answers the request, and the other session, with its open list, is the one after it.
+-- The output answers the request, which takes the session with its open list from `s` to `t`.
 -- Questions are answered from the session, whether a list is open or not, and change nothing.
 abbrev pub answers : SessionAndDraft → Request → List ℕ → SessionAndDraft → Type 0
 answers s (Insert at file text) output t = AnswersRequest s (Insert at file text) output t

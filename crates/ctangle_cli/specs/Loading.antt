@@ -1,4 +1,4 @@
--- Loading: the files that a run reads, and how it ends where one can't be read or is refused.
+-- Loading: the files that a run reads, and how loading ends where one can't be read or is refused.
 use Rattle.std.specs.Prelude.{◌≡◌, ◌⊎◌, ◌<◌, ◌≤◌, ⊤, ℕ, zero, suc, ◌-◌, ◌==◌, ◌||◌, not, nat_lt, length, map, filter, Bool, true, false, List, [], ◌∷◌, ◌++◌, Option, None, Some, IfSome, Result, Ok, Err, if◌then◌else◌, All}
 use Rattle.tangle_files.specs.declared.refusal.Refusal.{Refusal}
 use Rattle.tangle_files.specs.declared.refusal.Refusal.TheVariants.{BadName, NoMemory as RefusalMemory}
@@ -22,7 +22,7 @@ pub data LoadEnd : Type 0 where
   Refused : List ℕ → Refusal → LoadEnd
   NoMemory : LoadEnd
 
--- the files loaded, or why there are none
+-- the loaded files, or why there are none
 abbrev pub Loaded : Type 0
 Loaded = Result FileTable LoadEnd
 
@@ -39,12 +39,12 @@ abbrev pub add_bytes : FileTable → List ℕ → List ℕ → Loaded
 add_bytes files name bytes =
     if nat_lt file_limit (length bytes) then Err (CannotRead name) else unless_refused files name bytes (add_refusal files name bytes)
 
--- a file that has to be there
+-- a file without which loading ends is added
 abbrev pub add_needed : FileTable → List ℕ → Option (List ℕ) → Loaded
 add_needed files name None = Err (CannotRead name)
 add_needed files name (Some bytes) = add_bytes files name bytes
 
--- a file that may be missing
+-- a file is added, if the folder has it
 abbrev pub add_present : FileTable → List ℕ → Option (List ℕ) → Loaded
 add_present files name None = Ok files
 add_present files name (Some bytes) = add_bytes files name bytes
@@ -53,14 +53,14 @@ abbrev pub is_missing_kind : FaultKind → Bool
 is_missing_kind IncludeMissing = true
 is_missing_kind _ = false
 
--- the names that inclusions miss, in the order of the faults of reading
+-- the missing files that inclusions name, in the order of the faults of reading
 abbrev pub missed_in : List FaultRead → List (List ℕ)
 missed_in faults = map (λ f. f.subject) (filter (λ f. is_missing_kind f.kind) faults)
 
 unfoldable pub missing_of : FileTable → RolesRead → List (List ℕ)
 missing_of files roles = missed_in (source_of files roles).faults
 
--- a line that includes a file that isn't in the table
+-- whether a line includes a file that isn't in the table
 abbrev pub misses_name : FileTable → Option (List ℕ) → Bool
 misses_name files None = false
 misses_name files (Some name) = not (has_file files name)
@@ -68,27 +68,29 @@ misses_name files (Some name) = not (has_file files name)
 abbrev pub misses_file : FileTable → List ℕ → Bool
 misses_file files line = misses_name files (included_name line)
 
--- no line of a file includes a file that is missing
+-- no line of a file includes a file that isn't in the table
 abbrev pub IncludesNoMissing : FileTable → Type 0
 IncludesNoMissing files = (n : ℕ) → list_any (misses_file files) (lines_at files n) ≡ false
 
--- A round that adds no file is the last. Each name that it misses was tried, and the folder doesn't change.
+-- The loading after a round, by its result. A round that adds no file is the last: the folder was
+-- asked for each name that is still missing, and the folder doesn't change.
 abbrev pub after_round : FileTable → Loaded → (FileTable → Loaded) → Loaded
 after_round files (Err ending) rest = Err ending
 after_round files (Ok next) rest = if length next == length files then Ok next else rest next
 
--- all are the files of the folder
+-- `all` is the files of the folder
 module _ (all : List File) where
-  -- the web, or the change file
+  -- the web or the change file is added
   abbrev pub with_needed : FileTable → List ℕ → Loaded
   with_needed files name = add_needed files name (file_bytes all name)
 
-  -- no change file, or one that is in the table already
+  -- the change file is added, if one is named and isn't in the table already
   abbrev pub with_change : FileTable → Option (List ℕ) → Loaded
   with_change files None = Ok files
   with_change files (Some name) = if has_file files name then Ok files else with_needed files name
 
-  -- a missing inclusion: the folder isn't asked for a name that is no file name, nor for a file that is in the table
+  -- a missing file is added; the folder isn't asked for a name that is no file name, nor for a file
+  -- in the table
   abbrev pub with_inclusion : FileTable → List ℕ → Loaded
   with_inclusion files name =
       if has_file files name || not (is_name name) then Ok files else add_present files name (file_bytes all name)
@@ -98,16 +100,16 @@ module _ (all : List File) where
   with_inclusions (name ∷ names) files = and_then (with_inclusion files name) (λ next. with_inclusions names next)
 
   module _ (roles : RolesRead) where
-    -- the sources are read, and the files that they miss are added
+    -- a round: the sources are read, and the missing files are added
     abbrev pub with_round : FileTable → Loaded
     with_round files = with_inclusions (missing_of files roles) files
 
-    -- at most so many rounds
+    -- at most this number of rounds
     unfoldable pub rounds_in : ℕ → FileTable → Loaded
     rounds_in zero files = Ok files
     rounds_in (suc n) files = after_round files (with_round files) (λ next. rounds_in n next)
 
-    -- all rounds: each but the last adds a file, and a table has at most 256
+    -- all rounds: each but the last adds a file, and a table has at most 256 files
     abbrev pub rounds_from : FileTable → Loaded
     rounds_from files = rounds_in (suc (256 - length files)) files
 
@@ -125,22 +127,22 @@ load_unless all roles (Some name) = Err (Refused name BadName)
 load_unless all roles None =
     and_then (with_needed all [] roles.web) (λ files. and_then (with_change all files roles.change) (λ more. rounds_from all roles more))
 
--- What loading by these names gives, of a folder with these files: the web, then the change file, and then in
--- rounds the files that inclusions miss.
+-- What loading by these names gives, from a folder with these files: the web, then the change file,
+-- and then, in rounds, the files that inclusions miss.
 abbrev pub load_of : List File → RolesRead → Loaded
 load_of all roles = load_unless all roles (bad_name roles)
 
--- the table has these files, and perhaps others after them, up to its limit
+-- the new table has the old files, and perhaps others after them, up to its limit
 pub record Grows (old new : FileTable) : Type 0 where
   pub more : FileTable
   pub is : new ≡ old ++ more
   pub within : 0 < length more → length new ≤ 256
 
--- the files of a folder that reports them load so, and the folder did not fail
+-- the folder did not fail and, if it reports its files, loading them gives these files
 abbrev pub LoadsTo : Option (List File) → (List File → Loaded) → ℕ → ℕ → FileTable → Type 0
 LoadsTo reported loads failures failures' files = IfSome reported (λ all. loads all ≡ Ok files) × (failures' ≡ failures)
 
--- why a loading stopped: by what the folder has, or because it failed, or for lack of memory
+-- why loading ended: by what the folder has, or because the folder failed, or out of memory
 abbrev pub StopsFor : Option (List File) → (List File → Loaded) → ℕ → ℕ → LoadEnd → Type 0
 StopsFor reported loads failures failures' (CannotRead name) =
     (IfSome reported (λ all. loads all ≡ Err (CannotRead name)) × (failures' ≡ failures)) ⊎ Failed failures failures'
@@ -148,27 +150,27 @@ StopsFor reported loads failures failures' (Refused name refusal) =
     IfSome reported (λ all. loads all ≡ Err (Refused name refusal)) × (failures' ≡ failures)
 StopsFor reported loads failures failures' NoMemory = ⊤
 
--- the name that the folder was asked for last, where it reports what it was asked for
+-- this is the name that the folder was asked for last, if it reports what it was asked for
 abbrev pub IsAskedLast : Option (List (List ℕ)) → List ℕ → Type 0
 IsAskedLast asked name = IfSome asked (λ names. (before : List (List ℕ)) × (names ≡ before ++ name ∷ []))
 
--- A file that can't be read is the one that the folder was asked for last. So where the folder failed, the name is that of
--- the file at which it failed.
+-- A file that can't be read is the one that the folder was asked for last. So where the folder
+-- failed, the name is that of the file at which it failed.
 abbrev pub NamesLastAsked : Option (List (List ℕ)) → LoadEnd → Type 0
 NamesLastAsked asked (CannotRead name) = IsAskedLast asked name
 NamesLastAsked asked (Refused name refusal) = ⊤
 NamesLastAsked asked NoMemory = ⊤
 
--- the folder, where it reports its files, has none of these names
+-- the folder, if it reports its files, has none of these names
 abbrev pub AreAbsent : Option (List File) → List (List ℕ) → Type 0
 AreAbsent reported names = IfSome reported (λ all. All (λ name. file_bytes all name ≡ None) names)
 
--- a refusal ends a loading, and lack of memory does
+-- the ending of a loading in which the table refused a file
 abbrev pub refused_as : List ℕ → Refusal → LoadEnd
 refused_as name RefusalMemory = NoMemory
 refused_as name refusal = Refused name refusal
 
--- loading ends as expected, or because memory ran out
+-- loading ends as expected, or out of memory
 abbrev pub IsLoadEnd : LoadEnd → LoadEnd → Type 0
 IsLoadEnd expected given = (given ≡ expected) ⊎ (given ≡ NoMemory)
 

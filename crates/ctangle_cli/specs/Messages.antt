@@ -28,7 +28,7 @@ refusal_name RoleFile = codes "RoleFile"
 refusal_name NoOutput = codes "NoOutput"
 refusal_name (WriteFault n) = codes "WriteFault"
 
--- the line of a loading that ended without its files, after the program's name
+-- the line that reports why loading ended without files, after the program's name
 abbrev pub ending_line : List ℕ → LoadEnd → List ℕ
 ending_line program (CannotRead name) = program ++ codes ": cannot read " ++ name ++ codes "\n"
 ending_line program (Refused name refusal) = program ++ codes ": " ++ name ++ codes ": " ++ refusal_name refusal ++ codes "\n"
@@ -40,7 +40,7 @@ no_memory_line = ending_line (codes "ctangle") LoadMemory
 abbrev pub cannot_write_line : List ℕ → List ℕ
 cannot_write_line name = codes "ctangle: cannot write " ++ name ++ codes "\n"
 
--- the line of an output that was not written
+-- the line that reports an unwritten output
 abbrev pub unwritten_line : FolderFault → List ℕ → List ℕ
 unwritten_line FolderMemory name = no_memory_line
 unwritten_line Missing name = cannot_write_line name

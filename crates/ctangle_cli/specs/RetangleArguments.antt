@@ -1,4 +1,4 @@
--- The command of retangle, and the names that its arguments give.
+-- The command of `retangle`, and the names that its arguments give.
 use Rattle.std.specs.Prelude.{◌≡◌, true, List, Option, Some, codes, option_map}
 use Rattle.clap.specs.Words.{App, Row, Rule, Text, first_of, matches_of, new_app, new_rule, with_rule}
 use Rattle.clap.specs.declared.builder.action.ArgAction.TheVariants.{Set}
@@ -14,7 +14,8 @@ web_rule = record (new_rule (codes "WEB")) { required = true; action = Some Set 
 abbrev pub file_rule : Text → Rule
 file_rule name = record (new_rule name) { long = Some name; value_names = 1 }
 
--- the command without its arguments: clap adds the flags for help and, since it has one, for the version
+-- the command without its arguments: clap adds the flag for help and, since the command has a
+-- version, the flag for the version
 abbrev pub empty_app : App
 empty_app = let app = new_app (codes "retangle") in record app { top = record app.top { has_version = true } }
 
@@ -22,16 +23,16 @@ empty_app = let app = new_app (codes "retangle") in record app { top = record ap
 abbrev pub retangle_app : App
 retangle_app = with_rule (with_rule (with_rule empty_app web_rule) (file_rule (codes "change"))) (file_rule (codes "out"))
 
--- the names that the values of WEB, --change and --out complete to; there are none without a value of WEB
+-- the values of WEB, `--change` and `--out`, completed to file names; none without a value of WEB
 abbrev pub completed_values : List Row → Option RolesRead
 completed_values rows =
     option_map (λ web. completed_names web (first_of (codes "change") rows) (first_of (codes "out") rows)) (first_of (codes "WEB") rows)
 
--- the names that the arguments give, by clap's matches of this command
+-- the names that the arguments give, by clap's definition of the matches of this command
 unfoldable pub retangle_names_of : List Text → Option RolesRead
 retangle_names_of arguments = completed_values (matches_of retangle_app arguments)
 
--- the matches give these values to WEB, --change and --out
+-- among the matches, WEB, `--change` and `--out` have these values
 pub record GivesValues (rows : List Row) (values : Values) : Type 0 where
   pub web : first_of (codes "WEB") rows ≡ Some values.web.now
   pub change : first_of (codes "change") rows ≡ option_map (λ s. s.now) values.change

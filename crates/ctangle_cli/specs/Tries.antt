@@ -1,4 +1,4 @@
--- What loading has tried so far.
+-- The names that loading has tried so far.
 use Rattle.std.specs.Prelude.{◌≡◌, ⊤, ◌||◌, ℕ, Bool, true, List, ◌++◌, Option, Some, IfSome, All, Contains}
 use Rattle.std.specs.List.{IsDistinct, list_any}
 use Rattle.std.specs.Str.{bytes_eq}
@@ -11,7 +11,8 @@ use Rattle.ctangle_cli.specs.Loading.{LoadEnd}
 use Rattle.ctangle_cli.specs.Loading.LoadEnd.{CannotRead, Refused, NoMemory}
 use Rattle.ctangle_cli.specs.AskedNames.{StopsAmong, with_all_asked, asked_in, files_under}
 
--- the names asked for so far, where the folder reports them, the files in the table, and the names that the folder doesn't have
+-- the names asked for, if the folder reports them; the files in the table; and the names of which
+-- the folder has no file
 pub record Tries : Type 0 where
   pub asked : Option (List (List ℕ))
   pub files : FileTable
@@ -23,7 +24,8 @@ tried asked files absent = record { asked = asked; files = files; absent = absen
 abbrev pub is_tried : Tries → List ℕ → Bool
 is_tried now name = has_file now.files name || list_any (bytes_eq name) now.absent
 
--- what was asked for since, each once, is what was tried, and each is among these
+-- the names asked for since: no two are the same, they are exactly the tried names, and each is one
+-- of the needed names
 pub record TriesSince (names : List (List ℕ)) (now : Tries) (needed : List (List ℕ)) : Type 0 where
   pub asked : List (List ℕ)
   pub after : now.asked ≡ Some (names ++ asked)
@@ -34,12 +36,12 @@ pub record TriesSince (names : List (List ℕ)) (now : Tries) (needed : List (Li
 abbrev pub TriesOnce : Option (List (List ℕ)) → Tries → List (List ℕ) → Type 0
 TriesOnce before now needed = IfSome before (λ names. TriesSince names now needed)
 
--- from one to the other of these names alone some are asked for, and none twice
+-- between the two states some of these names, and no others, are asked for, and none twice
 abbrev pub AsksOn : Tries → Tries → List (List ℕ) → Type 0
 AsksOn old new names =
     (before : Option (List (List ℕ))) (needed : List (List ℕ)) → All (Contains needed) names → TriesOnce before old needed → TriesOnce before new needed
 
--- none was asked for twice where loading ends
+-- no name was asked for twice when loading ends
 abbrev pub StopsAsking : Tries → Option (List (List ℕ)) → Type 0
 StopsAsking old asked = (before : Option (List (List ℕ))) (needed : List (List ℕ)) → TriesOnce before old needed → AsksOnce before asked
 
@@ -49,37 +51,40 @@ IsTriedIn now name = is_name name ≡ true → is_tried now name ≡ true
 abbrev pub TriesStay : Tries → Tries → Type 0
 TriesStay old new = (name : List ℕ) → is_tried old name ≡ true → is_tried new name ≡ true
 
--- what was tried stays so, and each of these names was tried that is a file name
+-- each name that was tried still is, and so is each of these that is a file name
 pub record TriesAll (old new : Tries) (names : List (List ℕ)) : Type 0 where
   pub stay : TriesStay old new
   pub all : All (IsTriedIn new) names
 
--- what was asked for since, each once, was needed, and is what was tried
+-- the names asked for since: no two are the same, they are exactly the tried names, and each was
+-- needed
 abbrev pub RoundsOnce : Option (List (List ℕ)) → Tries → RolesRead → Type 0
 RoundsOnce before now roles = (needed : List (List ℕ)) × All (IsNeeded now.files roles) needed × TriesOnce before now needed
 
--- these names, one after another, were asked for since, and the table has the files that the folder has under them
+-- exactly these names were asked for since, in this order, and the table has the folder's files of
+-- these names
 pub record HasAsked (all : List File) (before : List (List ℕ)) (now : Tries) (names : List (List ℕ)) : Type 0 where
   pub after : now.asked ≡ Some (before ++ names)
   pub same : (name : List ℕ) → list_any (bytes_eq name) names ≡ is_tried now name
   pub files : now.files ≡ files_under all names
 
--- from one to the other these names were asked for, in this order, but for those that were asked for before
+-- between the two states these names were asked for, in this order, except those that were asked
+-- for before
 abbrev pub GoesOn : Option (List File) → Tries → Tries → List (List ℕ) → Type 0
 GoesOn reported old new names =
     IfSome reported (λ all. (before since : List (List ℕ)) → HasAsked all before old since → HasAsked all before new (with_all_asked since names))
 
--- and where loading ends some of them, up to the one that the ending reports
+-- loading ends, and some of these names were asked for, up to the one that the ending reports
 abbrev pub EndsAmong : Option (List File) → Tries → Option (List (List ℕ)) → List (List ℕ) → LoadEnd → Type 0
 EndsAmong reported old asked names ending =
     IfSome reported (λ all. (before since : List (List ℕ)) → HasAsked all before old since → StopsAmong (with_all_asked since names) before asked ending)
 
--- an ending that reports this name, or none
+-- the ending reports this name, or no name
 abbrev pub IsAbout : List ℕ → LoadEnd → Type 0
 IsAbout name (CannotRead reported) = reported ≡ name
 IsAbout name (Refused reported refusal) = reported ≡ name
 IsAbout name NoMemory = ⊤
 
--- since the beginning of loading so many rounds were made
+-- some number of rounds was made since loading began
 abbrev pub InRounds : List File → RolesRead → List (List ℕ) → Tries → Type 0
 InRounds all roles before now = (rounds : ℕ) × HasAsked all before now (asked_in all roles rounds)

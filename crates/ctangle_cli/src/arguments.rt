@@ -11,7 +11,7 @@ ghost use Rattle.ctangle_cli.specs.declared.arguments.WordFault.TheVariants.{NoM
 use bstr::ByteSlice;
 use std::alloc::{AllocError, Global};
 
-// What the arguments of a run give: names that nobody has tested.
+// The file names that the arguments give, not yet tested.
 pub use tangle_lines::Words;
 
 /// Why arguments give no names.
@@ -32,7 +32,6 @@ fn is_flag_argument(argument: &[u8]) -> bool
     }
 }
 
-// The part of a name after its last slash.
 fn after_slash(name: &[u8]) -> &[u8]
     ensures { result.now ≡ base_name name.now }
 {
@@ -42,7 +41,6 @@ fn after_slash(name: &[u8]) -> &[u8]
     }
 }
 
-// The part of a name before its last dot.
 fn before_dot(name: &[u8]) -> &[u8]
     ensures { result.now ≡ before_last (λ b. b == dot) name.now }
 {
@@ -66,7 +64,7 @@ fn joined(alloc: Global, front: &[u8], back: &[u8]) -> Result<Vec<u8>, AllocErro
     Ok(both)
 }
 
-// The name, with this extension if it has none.
+// Adds the extension to a name that has none.
 fn extended(alloc: Global, name: &[u8], extension: &[u8]) -> Result<Vec<u8>, AllocError>
     ensures { IfOk result (λ v. v.items ≡ with_extension name.now extension.now) }
 {
@@ -99,7 +97,7 @@ fn out_for(alloc: Global, web: &[u8], argument: Option<&[u8]>) -> Result<Vec<u8>
     }
 }
 
-/// The names that a web, a change file and a main file complete to.
+/// Completes the names of a web, a change file and a main file, as [`read_words`] says.
 pub fn complete(
     alloc: Global,
     web: &[u8],
@@ -115,7 +113,6 @@ pub fn complete(
     Ok(Words::new(web, change, out))
 }
 
-// The arguments that are no flags.
 fn names_among<'a>(alloc: Global, arguments: &[&'a [u8]]) -> Result<Vec<&'a [u8]>, AllocError>
     ensures { IfOk result (λ names. map (λ n. n.now) names.items
         ≡ filter (λ w. not (is_flag w)) (map (λ w. w.now) arguments.now)) }
@@ -129,7 +126,7 @@ fn names_among<'a>(alloc: Global, arguments: &[&'a [u8]]) -> Result<Vec<&'a [u8]
     Ok(names)
 }
 
-// The names that a web, perhaps a change file, and then perhaps a main file complete to.
+// Completes the names of a web, perhaps a change file, and then perhaps a main file.
 fn complete_all(alloc: Global, names: &[&[u8]]) -> Result<Words, WordFault>
     ensures ok { IfOk result (λ w. named_by (map (λ n. n.now) names.now) ≡ Some w) }
     ensures usage { IfErr result
@@ -150,16 +147,17 @@ fn complete_all(alloc: Global, names: &[&[u8]]) -> Result<Words, WordFault>
 /// The names that the arguments give.
 ///
 /// An argument of two bytes or more that begins with `-` or `+` is a flag, which has no effect. The
-/// others are names: of the web, of the change file (`-` for none) and of the main file. `.w`,
-/// `.ch` and `.c` are added to a name whose part after the last `/` has no dot. Where the main file
-/// isn't named, it is the web's part after the last `/`, cut before its last dot, with `.c`.
+/// other arguments are the names of the web, of the change file (`-` for none) and of the main
+/// file. `.w`, `.ch` and `.c` are added to a name whose part after the last `/` has no dot. If no
+/// main file is named, its name is the part of the web's name after the last `/`, without the last
+/// dot and what follows it, and then `.c`.
 ///
-/// Of CTANGLE's command line it has the three names, their extensions and `-` for no change file;
+/// Of CTANGLE's command line it keeps the three names, their extensions and `-` for no change file;
 /// flags are accepted and have no effect (`docs/programs.md`).
 ///
 /// # Errors
 ///
-/// `Usage` where there is no name among the arguments, or more than three; `NoMemory`, where an
+/// `Usage` where there is no name among the arguments, or more than three; `NoMemory` where an
 /// allocation failed.
 pub fn read_words(alloc: Global, arguments: &[&[u8]]) -> Result<Words, WordFault>
     ensures ok { IfOk result (λ w. names_by_arguments (map (λ v. v.now) arguments.now) ≡ Some w) }

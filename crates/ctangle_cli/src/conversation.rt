@@ -1,4 +1,5 @@
-//! A session answers the requests of a script, with a list of edits that is open at times.
+//! A session answers the requests of a script. Some requests collect edits in a list, which another
+//! request then makes.
 ghost use Rattle.std.specs.Prelude.{◌≡◌, ◌++◌, ◌∷◌, [], ℕ, List, Option, None, Some};
 ghost use Rattle.std.specs.Prelude.{codes, decimal, true, IfErr, IfOk, OnErr, OnOk};
 ghost use Rattle.std.specs.List.{list_any};
@@ -29,7 +30,7 @@ use tangle_lines::{Edit, Fault, Feed, MarkMode, Refusal, Sink, write_after};
 use tangle_script::{Project, Request, SinkFailed, run_script};
 use tangle_session::{ListRefusal, Session};
 
-// Writes the bytes after what was written so far, unless the sink failed in that.
+// Writes the bytes, unless `so_far` is an error.
 fn say<S: Sink>(
     sink: &mut S,
     so_far: Result<(), SinkFailed>,
@@ -47,7 +48,7 @@ fn say<S: Sink>(
     }
 }
 
-// How an edit that was not refused was answered.
+// What happened to an edit that was not refused.
 #[derive(Clone, Copy, Debug, PartialEq, Eq)]
 enum Accepted {
     Made,
@@ -63,7 +64,6 @@ fn accepted_line(accepted: Accepted) -> &'static [u8]
     }
 }
 
-// Writes the answer to an edit.
 fn write_edit_answer<S: Sink>(
     answer: Result<Accepted, Refusal>,
     sink: &mut S,
@@ -80,7 +80,7 @@ fn write_edit_answer<S: Sink>(
     }
 }
 
-// The number of the edit that a list is refused for, from 1; 0 where memory ran out.
+// The number, from 1, of the edit for which the list is refused; 0 where memory ran out.
 fn edit_number(refused: ListRefusal) -> u128
     ensures { result ≡ edit_number refused }
 {
@@ -90,7 +90,6 @@ fn edit_number(refused: ListRefusal) -> u128
     }
 }
 
-// Writes the answer to a list of edits.
 fn write_list_answer<S: Sink>(done: Result<(), ListRefusal>, sink: &mut S) -> Result<(), SinkFailed>
     ensures { WritesAnswer (S.stream sink.old) (S.stream sink.new) (list_line done) result }
 {
@@ -120,7 +119,7 @@ fn write_head<S: Sink>(name: &[u8], size: u128, sink: &mut S) -> Result<(), Sink
     say(sink, sized, b"\n")
 }
 
-// Writes the bytes of the output file of this name after what was written so far.
+// Writes the bytes of the output file of this name, unless `so_far` is an error.
 fn write_bytes<S: Sink>(
     session: &Session,
     name: &[u8],
@@ -141,7 +140,7 @@ fn write_bytes<S: Sink>(
     }
 }
 
-// Shows the output file of this name.
+// Writes the output file of this name, or that there is none.
 fn show<S: Sink>(session: &Session, name: &[u8], sink: &mut S) -> Result<(), SinkFailed>
     ensures { WritesAnswer (S.stream sink.old) (S.stream sink.new)
         (shown name.now (output_at session.now.files session.now.roles name.now)) result }
@@ -155,7 +154,7 @@ fn show<S: Sink>(session: &Session, name: &[u8], sink: &mut S) -> Result<(), Sin
     }
 }
 
-// Writes the lines of the faults after what was written so far.
+// Writes the lines of the faults, unless `so_far` is an error.
 fn write_lines<S: Sink>(
     faults: &[Fault],
     so_far: Result<(), SinkFailed>,
@@ -173,7 +172,7 @@ fn write_lines<S: Sink>(
     }
 }
 
-// Writes how many faults there are, and their lines.
+// Writes the number of faults, and their lines.
 fn list_faults<S: Sink>(faults: &[Fault], sink: &mut S) -> Result<(), SinkFailed>
     ensures { WritesAnswer (S.stream sink.old) (S.stream sink.new)
         (listed_faults faults.now) result }
@@ -185,7 +184,7 @@ fn list_faults<S: Sink>(faults: &[Fault], sink: &mut S) -> Result<(), SinkFailed
     write_lines(faults, line, sink)
 }
 
-// Writes how many nodes were expanded last.
+// Writes the number of nodes that were expanded last.
 fn write_work<S: Sink>(work: u64, sink: &mut S) -> Result<(), SinkFailed>
     ensures { WritesAnswer (S.stream sink.old) (S.stream sink.new)
         (codes "work " ++ decimal work ++ codes "\n") result }
@@ -242,7 +241,6 @@ fn setting(mode: MarkMode) -> Result<Edit, AllocError>
     Ok(Edit::Marks { mode })
 }
 
-// Adds an edit at the end of the list.
 fn hold(held: &mut Vec<Edit>, edit: Edit) -> Result<(), Refusal>
     ensures ok { OnOk result (held.new.items ≡ held.old.items ++ edit ∷ []) }
     ensures err { OnErr result (held.new.items ≡ held.old.items) }
@@ -254,8 +252,8 @@ fn hold(held: &mut Vec<Edit>, edit: Edit) -> Result<(), Refusal>
     }
 }
 
-// Makes the edit that a request asks for, or holds it while a list is open, if there was memory for
-// its bytes.
+// Makes the edit that a request asks for or, while a list is open, holds it in the list. The edit
+// is an error where there was no memory for its bytes.
 fn make_or_hold(
     session: &mut Session,
     draft: &mut Option<Vec<Edit>>,
@@ -281,7 +279,7 @@ fn make_or_hold(
     }
 }
 
-// Does what a request for an edit asks for, and writes the answer.
+// Carries out a request for an edit, and writes the answer.
 fn answer_edit<S: Sink>(
     session: &mut Session,
     draft: &mut Option<Vec<Edit>>,
@@ -299,7 +297,7 @@ fn answer_edit<S: Sink>(
     write_edit_answer(answer, sink)
 }
 
-// Opens a list, if none is open.
+// Opens a list and writes the answer: a bad command where a list is open already.
 fn begin<S: Sink>(
     alloc: Global,
     draft: &mut Option<Vec<Edit>>,
@@ -317,7 +315,7 @@ fn begin<S: Sink>(
     say(sink, Ok(()), b"ok\n")
 }
 
-// Drops the list, if one is open.
+// Drops the open list and writes the answer: a bad command where none is open.
 fn cancel<S: Sink>(draft: &mut Option<Vec<Edit>>, sink: &mut S) -> Result<(), SinkFailed>
     ensures { (session : _) → (output : List ℕ)
         × answers (session_and_draft session draft.old) cancel_request output
@@ -331,7 +329,8 @@ fn cancel<S: Sink>(draft: &mut Option<Vec<Edit>>, sink: &mut S) -> Result<(), Si
     say(sink, Ok(()), b"no BadCommand\n")
 }
 
-// Makes the edits of the list, all or none, and closes it, if one is open.
+// Makes all edits of the open list or none, closes the list, and writes the answer: a bad command
+// where none is open.
 fn commit<S: Sink>(
     session: &mut Session,
     draft: &mut Option<Vec<Edit>>,
@@ -357,7 +356,7 @@ fn is_error_among(faults: &[Fault]) -> bool
     faults.iter().any(|fault| fault.is_error())
 }
 
-// A session as the project that answers a script.
+// The project that answers a script: a session, with the list of edits that is open.
 struct SessionProject;
 
 impl Project for SessionProject {
@@ -413,13 +412,13 @@ impl Project for SessionProject {
     }
 }
 
-/// Answers a script of edits and questions, and returns the status that the program ends with.
-/// While a list of edits is open, edits are held, and questions are answered from the session. At
-/// the end of the run an open list is dropped.
+/// Answers a script of edits and questions, and returns the status with which the program ends.
+/// While a list of edits is open, edits are held, and questions are answered from the session
+/// without them. A list that is still open at the end of the run is dropped.
 ///
-/// The status is 0, or 1 where an error is among the faults at its end. It is 3 where the reader or
-/// the writer failed, the script is longer than `SCRIPT_LIMIT`, or memory ran out for a command of
-/// more than 4,096 bytes.
+/// The status is 0, or 1 where an error is among the faults at the end of the script. It is 3 where
+/// the reader or the writer failed, the script is longer than `SCRIPT_LIMIT`, or memory ran out for
+/// a command of more than 4,096 bytes.
 pub fn run_retangle<R: Feed, S: Sink>(
     alloc: Global,
     session: &mut Session,

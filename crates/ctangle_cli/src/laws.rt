@@ -1,4 +1,4 @@
-//! Laws of loading, which hold of each folder that reports its files, of the names of outputs, and
+//! Laws of loading, which hold for each folder that reports its files, of the names of outputs, and
 //! of scripts.
 ghost use Rattle.std.specs.Prelude.{◌≡◌, ◌≢◌, ◌⊎◌, ◌++◌, ℕ, List, None, Ok, Err, Contains, length};
 ghost use Rattle.std.specs.Prelude.{map, false};
@@ -10,17 +10,19 @@ ghost use Rattle.std.specs.List.{IsDistinct};
 ghost use Rattle.std.specs.Str.{bytes_eq};
 ghost use Rattle.tangle_script.specs.Requests.{Command};
 ghost use Rattle.tangle_script.specs.Script.{Dialogue};
-ghost use Rattle.tangle_session.specs.Headline.{Call, History};
+ghost use Rattle.tangle_session.specs.Headline.{Call, History, accepted, files_after, roles_with};
 ghost use Rattle.tangle_session.specs.Tangle.{outputs_of};
 ghost use Rattle.ctangle_cli.specs.Conversation.{SessionAndDraft, answers};
-ghost use Rattle.ctangle_cli.specs.Histories.{AreCallsOf};
+ghost use Rattle.ctangle_cli.specs.Histories.{AreCallsOf, ShowsPlainOf};
 ghost use Rattle.ctangle_cli.specs.Loading.{LoadEnd, load_of, missing_of, rounds_from, with_round};
 
-use tangle_session::outputs_are_found_by_their_names;
+use tangle_session::{
+    histories_make_the_accepted_edits, outputs_are_found_by_their_names, tangling_is_plain,
+};
 
-/// Loading goes round by round: a round that adds a file is followed by the rounds from there; one
-/// that adds none is the last; one that ends in a fault ends loading. So the bound on the rounds
-/// does not matter for what loading gives.
+/// After a round that adds a file, loading continues as if it began with the new table; a round
+/// that adds none is the last, and a round that ends in a fault ends loading. So the bound on the
+/// number of rounds does not change what loading gives.
 pub fn loading_goes_round_by_round()
     ensures further { (all : List File) (roles : RolesRead) (files next : FileTable)
         → with_round all roles files ≡ Ok next
@@ -32,7 +34,7 @@ pub fn loading_goes_round_by_round()
         → with_round all roles files ≡ Err ending → rounds_from all roles files ≡ Err ending }
 {}
 
-/// After loading, an included name that no loaded file has is no file name, or the folder has no
+/// If an included name is still missing after loading, it is no file name, or the folder has no
 /// file of that name.
 pub fn missing_names_are_not_there()
     ensures { (all : List File) (roles : RolesRead) (files : FileTable) → load_of all roles
@@ -41,7 +43,7 @@ pub fn missing_names_are_not_there()
         → (is_name name ≡ false) ⊎ (file_bytes all name ≡ None) }
 {}
 
-/// No two outputs of files have one name, so none is written over another in a run.
+/// No two outputs have the same name, so a run writes none over another.
 pub fn output_names_differ()
     ensures { (files : FileTable) (roles : RolesRead)
         → IsDistinct bytes_eq (map (λ output. output.0) (outputs_of files roles)) }
@@ -49,10 +51,10 @@ pub fn output_names_differ()
     outputs_are_found_by_their_names();
 }
 
-/// Where commands of a script are answered, one after another, the history of the session goes on:
-/// each edit that is passed, and each list of edits, is one call more, with the answer that
-/// was written; held edits and questions change nothing, nor does an edit for which memory ran out.
-/// So the headline holds at each line of a script.
+/// The commands of a script extend the history of the session: each edit that is passed, and each
+/// list of edits, is one more call, with the answer that was written. Held edits and questions
+/// change nothing, nor does an edit for which memory ran out. So the headline holds after each line
+/// of a script.
 pub fn the_answers_of_a_script_are_a_history()
     ensures { (files : FileTable) (roles : RolesRead) (calls : List Call)
         (old new : SessionAndDraft) (commands : List Command) (output : List ℕ)
@@ -60,3 +62,18 @@ pub fn the_answers_of_a_script_are_a_history()
         → (more : List Call) × AreCallsOf commands output old.draft more new.draft
         × History files roles (calls ++ more) new.session }
 {}
+
+/// After any commands of a script, `show` and `faults` are answered with what plain tangling gives
+/// for the files and the roles of the start in which the accepted edits are made.
+pub fn scripts_show_plain_tangling()
+    ensures { (files : FileTable) (roles : RolesRead) (calls : List Call)
+        (old new : SessionAndDraft) (commands : List Command) (output : List ℕ)
+        → History files roles calls old.session → Dialogue answers old commands output new
+        → (more : List Call) × AreCallsOf commands output old.draft more new.draft
+        × ShowsPlainOf (files_after files (accepted (calls ++ more)))
+        (roles_with roles (accepted (calls ++ more))) new }
+{
+    histories_make_the_accepted_edits();
+    tangling_is_plain();
+    the_answers_of_a_script_are_a_history();
+}

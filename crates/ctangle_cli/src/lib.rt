@@ -1,10 +1,9 @@
-//! What a program does between its `main` and the layers below: arguments, loading, messages, a
+//! What both programs share, between `main` and the session: arguments, loading, messages and a
 //! run.
 //!
 //! [`run_ctangle`] is a whole run of `ctangle` over a [`Folder`] and an error stream: it starts a
-//! session and writes its faults and its outputs. The folders are those of `tangle_folders`,
-//! re-exported.
-//! [`run_retangle`] answers a script of edits and questions over a session.
+//! session and writes the session's faults and outputs. The folders are those of `tangle_folders`,
+//! re-exported. [`run_retangle`] answers a script of edits and questions from a session.
 #![tactic(auto)]
 
 mod arguments;
@@ -21,7 +20,7 @@ pub use arguments::{WordFault, Words, read_words};
 pub use conversation::run_retangle;
 pub use laws::{
     loading_goes_round_by_round, missing_names_are_not_there, output_names_differ,
-    the_answers_of_a_script_are_a_history,
+    scripts_show_plain_tangling, the_answers_of_a_script_are_a_history,
 };
 pub use loading::{LoadFault, load};
 pub use messages::write_load;

@@ -31,11 +31,11 @@ use tangle_lines::{
     read_source,
 };
 
-/// Why the files of a run are not loaded.
+/// Why the files of a run could not be loaded.
 #[derive(Debug, Drop)]
 pub enum LoadFault {
-    /// The file of this name can't be read: a web or change file that is missing, a file over the
-    /// limit, or one at which the folder failed.
+    /// The file of this name can't be read: it is a web or change file that is missing, a file over
+    /// the limit, or one at which the folder failed.
     CannotRead(Vec<u8>),
     /// The table of files refuses this name or its file: `BadName`, `TooManyFiles`, `LineTooLong`
     /// or `TooManyLines`.
@@ -54,7 +54,8 @@ impl From<NoMemory> for LoadFault {
     }
 }
 
-// The names that the folder was asked for and doesn't have, so that each is asked for once.
+// The names for which the folder was asked and has no file. They are kept so that each is asked for
+// once.
 #[derive(Drop)]
 struct Absent {
     names: IndexSet<Vec<u8>>,
@@ -95,7 +96,7 @@ impl Absent {
     }
 }
 
-// `CannotRead` with this name, or `NoMemory` where the name could not be copied.
+// `CannotRead` with a copy of this name, or `NoMemory` where the name could not be copied.
 fn cannot_read(alloc: Global, name: &[u8]) -> LoadFault
     ensures { IsLoadEnd (CannotRead name.now) (ending_of result) }
 {
@@ -105,8 +106,8 @@ fn cannot_read(alloc: Global, name: &[u8]) -> LoadFault
     }
 }
 
-// `Refused` with this name, or `NoMemory` where that is the refusal or the name could not be
-// copied.
+// `Refused` with a copy of this name; `NoMemory` where that is the refusal, or the name could not
+// be copied.
 fn refused(alloc: Global, name: &[u8], refusal: Refusal) -> LoadFault
     ensures { IsLoadEnd (refused_as name.now refusal) (ending_of result) }
 {
@@ -125,7 +126,7 @@ fn has(files: &Files, name: &[u8]) -> bool
     files.lines(name).is_some()
 }
 
-// Adds a file of these bytes.
+// Adds a file with these bytes to the table.
 fn add_file(alloc: Global, files: &mut Files, name: &[u8], bytes: Vec<u8>) -> Result<(), LoadFault>
     requires { length bytes.items ≤ file_limit }
     ensures ok { OnOk result (add_bytes files.old name.now bytes.items ≡ Ok files.new) }
@@ -143,7 +144,7 @@ fn add_file(alloc: Global, files: &mut Files, name: &[u8], bytes: Vec<u8>) -> Re
     }
 }
 
-// Reads a file that has to be there.
+// Reads the web or the change file, without which loading ends.
 fn read_needed<F: Folder>(
     alloc: Global,
     folder: &mut F,
@@ -188,7 +189,7 @@ fn read_needed<F: Folder>(
     }
 }
 
-// Reads the change file, if there is one that isn't in the table already.
+// Reads the change file, if one is named and isn't in the table already.
 fn read_change<F: Folder>(
     alloc: Global,
     folder: &mut F,
@@ -234,8 +235,8 @@ fn read_change<F: Folder>(
     }
 }
 
-// Reads a file that an inclusion misses. It stays missing where the folder has none, or its name is
-// no file name.
+// Reads a file that an inclusion misses. It stays missing where the folder has no such file, or the
+// name is no file name.
 fn read_inclusion<F: Folder>(
     alloc: Global,
     folder: &mut F,
@@ -297,7 +298,7 @@ fn is_missing(kind: FaultKind) -> bool
     }
 }
 
-// Reads the files that the faults of a round's reading name as missing.
+// Reads the missing files that these faults of reading name.
 fn read_inclusions<F: Folder>(
     alloc: Global,
     folder: &mut F,
@@ -344,7 +345,6 @@ fn read_inclusions<F: Folder>(
     Ok(())
 }
 
-// Whether the line includes a file that isn't in the table.
 fn misses(files: &Files, line: &Line) -> bool
     ensures { result ≡ misses_file files.now line.now }
 {
@@ -354,7 +354,6 @@ fn misses(files: &Files, line: &Line) -> bool
     }
 }
 
-// Whether one of the lines includes a file that isn't in the table.
 fn any_misses(files: &Files, lines: &[Line]) -> bool
     ensures { result ≡ list_any (misses_file files.now) lines.now }
 {
@@ -366,7 +365,7 @@ fn any_misses(files: &Files, lines: &[Line]) -> bool
     false
 }
 
-// Whether each file that some line includes is in the table, so that none is missing.
+// Whether each file that a line includes is in the table.
 fn includes_no_missing(files: &Files) -> bool
     ensures { result ≡ true → IncludesNoMissing files.now }
 {
@@ -378,8 +377,8 @@ fn includes_no_missing(files: &Files) -> bool
     true
 }
 
-// The faults of reading these files, of which those for missing inclusions are used. Where each
-// included file is in the table there are none, and the sources are not read.
+// The faults of reading these files, or none where each included file is in the table: only the
+// faults about missing files matter here, so the sources need not be read then.
 fn faults_of(alloc: Global, files: &Files, roles: &Roles) -> Result<Vec<Fault>, NoMemory>
     requires { fits files.now roles.now ≡ true }
     ensures { IfOk result (λ faults. missed_in faults.items ≡ missing_of files.now roles.now) }
@@ -391,7 +390,7 @@ fn faults_of(alloc: Global, files: &Files, roles: &Roles) -> Result<Vec<Fault>, 
     Ok(source.into_faults())
 }
 
-// Reads the files that inclusions miss, until a round adds none.
+// Reads the files that inclusions miss, in rounds, until a round adds none.
 fn read_rounds<F: Folder>(
     alloc: Global,
     folder: &mut F,
@@ -429,6 +428,8 @@ fn read_rounds<F: Folder>(
     ensures files_stay { (F.state folder.new).files ≡ (F.state folder.old).files }
     ensures created_stay { (F.state folder.new).created ≡ (F.state folder.old).created }
 {
+    // A folder stays as it is during a run, so a round that adds no file is the last. A chain of
+    // inclusions costs one reading of the sources for each link, and there are at most 256.
     let mut absent = Absent::new(alloc);
     loop {
         let count = files.count();
@@ -440,7 +441,7 @@ fn read_rounds<F: Folder>(
     }
 }
 
-// The first of the names that is no file name.
+// The first of the three names that is no file name.
 fn first_bad(names: &Words) -> Option<&[u8]>
     ensures { option_copied result ≡ bad_name names.now }
 {
@@ -457,7 +458,7 @@ fn first_bad(names: &Words) -> Option<&[u8]>
     None
 }
 
-// Loads the files of roles whose names are all file names.
+// Loads the files of roles whose three names are file names.
 fn load_files<F: Folder>(alloc: Global, roles: &Roles, folder: &mut F) -> Result<Files, LoadFault>
     ensures ok { IfOk result (λ files. LoadsTo (F.state folder.old).files
         (λ all. load_unless all roles.now None)
@@ -490,24 +491,24 @@ fn load_files<F: Folder>(alloc: Global, roles: &Roles, folder: &mut F) -> Result
     Ok(files)
 }
 
-/// Loads the files of a run: the web, then the change file, and then in rounds those that
+/// Loads the files of a run: the web, then the change file, and then, in rounds, the files that
 /// inclusions miss.
 ///
-/// The three names are tested first, the web's, the change file's, the main file's. In a round the
-/// sources are read, and each file that an inclusion misses is read, in the order of the faults;
-/// the last round adds none. A file that the folder calls missing, or whose name is no file name,
-/// stays missing and keeps its fault; the folder is asked once for each name. A web or change file
-/// that is missing, and any other failure, is a fault of loading.
+/// The names of the web, the change file and the main file are tested first, in this order. A round
+/// reads the sources and loads each file that an inclusion misses, in the order of the faults; the
+/// last round adds no file. A file that the folder does not have, or whose name is no file name,
+/// stays missing and keeps its fault; the folder is asked once for each name. A missing web or
+/// change file, and any other failure, is a fault of loading.
 ///
-/// The names are those of `read_words`: of CTANGLE's command line there are the three names, their
-/// extensions and `-` for no change file, and no flag has an effect (`docs/programs.md`).
+/// The names are those of `read_words`. Of CTANGLE's command line it keeps the three names, their
+/// extensions and `-` for no change file; flags have no effect (`docs/programs.md`).
 ///
 /// # Errors
 ///
 /// `CannotRead` with the name of a web or change file that is missing, of a file over the limit, or
 /// of one at which the folder failed. `Refused` with a name and `BadName` where one of the three
 /// names is no file name, and with `TooManyFiles`, `LineTooLong` or `TooManyLines` where the table
-/// of files refuses a file. `NoMemory`, where an allocation failed.
+/// of files refuses a file. `NoMemory` where an allocation failed.
 pub fn load<F: Folder>(
     alloc: Global,
     names: &Words,

@@ -10,7 +10,7 @@ use crate::loading::LoadFault;
 use tangle_folders::FolderFault;
 use tangle_lines::{Fault, Refusal, Sink, WriteFault, write_after, write_fault};
 
-/// A refusal's name.
+/// The name of a refusal, as the programs print it.
 pub fn name_of(refusal: Refusal) -> &'static [u8]
     ensures { result.now ≡ refusal_name refusal }
 {
@@ -67,8 +67,8 @@ fn write_no_memory<E: Sink>(program: &[u8], err: &mut E) -> Result<u128, WriteFa
     write_after(err, front, b": NoMemory\n")
 }
 
-/// Writes the line of a loading that ended without its files, after the program's name, and returns
-/// its length.
+/// Writes why loading ended without files, in one line after the program's name. Returns the length
+/// of the line.
 ///
 /// # Errors
 ///
@@ -88,7 +88,7 @@ pub fn write_load<E: Sink>(
     }
 }
 
-/// Writes the line that says how `ctangle` is used, and returns its length.
+/// Writes the line that shows how `ctangle` is used. Returns its length.
 ///
 /// # Errors
 ///
@@ -107,7 +107,7 @@ fn write_cannot_write<E: Sink>(name: &[u8], err: &mut E) -> Result<u128, WriteFa
     write_after(err, named, b"\n")
 }
 
-/// Writes the line of an output that was not written, and returns its length.
+/// Writes the line that reports an unwritten output. Returns its length.
 ///
 /// # Errors
 ///
@@ -128,15 +128,15 @@ pub fn write_unwritten<E: Sink>(
     }
 }
 
-/// The error stream failed before it took all bytes.
+/// The error stream failed before it took all the bytes.
 #[derive(Clone, Copy, Debug)]
 pub struct StreamFailed;
 
-/// Writes the lines of the faults.
+/// Writes the line of each fault.
 ///
 /// # Errors
 ///
-/// The stream failed, or took no byte, before it had all of them.
+/// `StreamFailed` where the stream failed, or took no byte, before it had all the lines.
 pub fn write_faults<E: Sink>(faults: &[Fault], err: &mut E) -> Result<(), StreamFailed>
     ensures whole { OnOk result
         (TakesAll (E.stream err.old) (E.stream err.new) (fault_lines faults.now)) }

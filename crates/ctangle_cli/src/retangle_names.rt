@@ -1,4 +1,4 @@
-//! The arguments of a run of `retangle`, which `clap` reads.
+//! The arguments of a run of `retangle`, which are read by `clap`.
 ghost use Rattle.std.specs.Prelude.{◌≡◌, [], Some, codes, false, is_some, map, true, IfErr, IfOk};
 ghost use Rattle.std.specs.Option.{option_copied, option_map};
 ghost use Rattle.clap.specs.Built.{TakesValue};
@@ -19,8 +19,8 @@ use std::convert::AsStr;
 /// Why the arguments of `retangle` give no names.
 #[derive(Debug, Drop)]
 pub enum RetangleFault {
-    /// `clap` refuses the arguments, or they ask for help or for the version. The error is to be
-    /// shown.
+    /// `clap` refuses the arguments, or they ask for help or for the version. The error is the text
+    /// to print.
     Parse(Error),
     /// An allocation failed.
     NoMemory,
@@ -51,7 +51,7 @@ impl From<Error> for RetangleFault {
     }
 }
 
-// The values of WEB, and of `--change` and `--out` where they are there.
+// The values of WEB, `--change` and `--out`; the options may be missing.
 #[derive(Clone, Copy, Debug)]
 struct Values<'a> {
     web: &'a str,
@@ -59,7 +59,7 @@ struct Values<'a> {
     out: Option<&'a str>,
 }
 
-// WEB, which has to be there.
+// The argument WEB, which is required.
 fn web_argument<'a>(alloc: Global) -> Arg<'a>
     ensures rule { rule_of result ≡ web_rule }
     ensures plain { IsPlainArg result × (result.global ≡ false) }
@@ -71,7 +71,7 @@ fn web_argument<'a>(alloc: Global) -> Arg<'a>
         .help("The web")
 }
 
-// An option whose value is a file's name.
+// An option whose value is the name of a file.
 fn file_option<'a>(alloc: Global, name: &'a str, help: &'a str) -> Arg<'a>
     ensures rule { rule_of result ≡ file_rule name.entry.now }
     ensures plain { IsPlainArg result × (result.global ≡ false) }
@@ -82,7 +82,7 @@ fn file_option<'a>(alloc: Global, name: &'a str, help: &'a str) -> Arg<'a>
         .help(help)
 }
 
-// The command without its arguments.
+// The command, before its arguments are added.
 fn empty_command<'a>(alloc: Global) -> Command<'a>
     ensures app { app_of result ≡ empty_app }
     ensures empty { (args_of result ≡ []) × (groups_of result ≡ []) }
@@ -94,7 +94,7 @@ fn empty_command<'a>(alloc: Global) -> Command<'a>
     )
 }
 
-// The command. Where it takes the arguments, WEB has a value.
+// The command with its arguments. If it accepts a command line, WEB has a value.
 fn retangle_command<'a>(alloc: Global) -> Result<Command<'a>, AllocError>
     ensures app { IfOk result (λ c. app_of c ≡ retangle_app) }
     ensures web { IfOk result (λ c. (m : ArgMatches) → IsParsedFrom c m
@@ -111,7 +111,7 @@ fn retangle_command<'a>(alloc: Global) -> Result<Command<'a>, AllocError>
     empty.arg(web)?.arg(change)?.arg(out)
 }
 
-// The values that the command gives its arguments on these arguments.
+// Reads the values of WEB, `--change` and `--out` from the command line.
 fn read_values<'a, S: AsStr>(alloc: Global, arguments: &'a [S]) -> Result<Values<'a>, RetangleFault>
     ensures ok { IfOk result (λ values. GivesValues
         (matches_of retangle_app (map S.text arguments.entry.now)) values) }
@@ -135,21 +135,21 @@ fn value_bytes(value: Option<&str>) -> Option<&[u8]>
     }
 }
 
-/// The names that the arguments of `retangle WEB [--change FILE] [--out FILE]` give, the program's
-/// name first among them.
+/// Reads the names that the arguments of `retangle WEB [--change FILE] [--out FILE]` give. The
+/// first argument is the program's name.
 ///
-/// `clap` reads the arguments, with `--help` and `--version` as it has them. The values of WEB,
-/// `--change` and `--out` are completed as the names of `ctangle` are: `.w`, `.ch` and `.c` are
-/// added to a name whose part after the last `/` has no dot, `-` as the change file means none, and
-/// where the main file isn't named, it is the web's part after the last `/`, cut before its last
-/// dot, with `.c`.
+/// `clap` reads the arguments, and adds `--help` and `--version`. The values of WEB, `--change` and
+/// `--out` are completed as the names of `ctangle` are: `.w`, `.ch` and `.c` are added to a name
+/// whose part after the last `/` has no dot, and `-` means no change file. If no main file is
+/// named, its name is the part of the web's name after the last `/`, without the last dot and what
+/// follows it, and then `.c`.
 ///
 /// CWEB has no such program (`docs/sessions.md`).
 ///
 /// # Errors
 ///
-/// `Parse` where `clap` refuses the arguments or they ask for its help or the version; never where
-/// its definition of a command's matches takes them. `NoMemory`, where an allocation failed.
+/// `Parse` where `clap` refuses the arguments or they ask for help or the version; never where
+/// clap's definition of the command's matches accepts them. `NoMemory` where an allocation failed.
 pub fn read_retangle<S: AsStr>(alloc: Global, arguments: &[S]) -> Result<Words, RetangleFault>
     ensures ok { IfOk result (λ w. retangle_names_of (map S.text arguments.now) ≡ Some w) }
     ensures accepted { IfErr result

@@ -25,7 +25,7 @@ fn status(faults: &[Fault]) -> u8
     0
 }
 
-// Writes the lines of the session's faults, and then its outputs.
+// Writes the lines of the session's faults, and then the outputs.
 fn run_session<F: Folder, E: Sink>(
     alloc: Global,
     session: &Session,
@@ -50,8 +50,8 @@ fn run_session<F: Folder, E: Sink>(
     }
 }
 
-// A session of these files. They have the web and the change file that is named, so only an
-// allocation can fail.
+// Starts a session of these files. They have the web and the change file, if one is named, so only
+// an allocation can fail.
 fn started(alloc: Global, files: Files, roles: Roles) -> Result<Session, NoMemory>
     ensures files { IfOk result (λ session. session.files ≡ files) }
     ensures roles { IfOk result (λ session. session.roles ≡ roles) }
@@ -62,16 +62,16 @@ fn started(alloc: Global, files: Files, roles: Roles) -> Result<Session, NoMemor
     }
 }
 
-/// What a run of `ctangle` leaves.
+/// The result of a run of `ctangle`.
 #[derive(Drop)]
 pub struct Ended {
-    /// The status that the program ends with.
+    /// The status with which the program ends.
     pub status: u8,
-    /// The session that was started, unless the run ended before.
+    /// The session, unless the run ended before one was started.
     pub session: Option<Session>,
 }
 
-// A run that ended before its session was started, with status 3.
+// The result of a run that ended with status 3 before a session was started.
 fn unstarted() -> Ended
     ensures { result.status ≡ 3 }
 {
@@ -81,7 +81,7 @@ fn unstarted() -> Ended
     }
 }
 
-// Starts a session of the files that were loaded, and runs it.
+// Starts a session of the loaded files, and writes its faults and outputs.
 fn run_loaded<F: Folder, E: Sink>(
     alloc: Global,
     files: Files,
@@ -107,7 +107,7 @@ fn run_loaded<F: Folder, E: Sink>(
     }
 }
 
-// Loads the files of these names, and starts a session of them.
+// Loads the files of these names, starts a session of them, and writes its faults and outputs.
 fn run_named<F: Folder, E: Sink>(alloc: Global, names: &Words, folder: &mut F, err: &mut E) -> Ended
     ensures { NamedEnds names.now
         (moment (F.state folder.old) (E.stream err.old))
@@ -122,8 +122,8 @@ fn run_named<F: Folder, E: Sink>(alloc: Global, names: &Words, folder: &mut F, e
     }
 }
 
-/// Runs `ctangle` as [`run_ctangle`] does, and returns the session besides. A program that ends
-/// after the run need not free it: the system takes all memory back at once.
+/// Runs `ctangle` as [`run_ctangle`] does, and also returns the session. A program that ends after
+/// the run need not free it: the system takes all memory back at once.
 pub fn run_keeping_session<F: Folder, E: Sink>(
     alloc: Global,
     arguments: &[&[u8]],
@@ -150,16 +150,15 @@ pub fn run_keeping_session<F: Folder, E: Sink>(
     }
 }
 
-/// Runs `ctangle` with these arguments, in a folder and with an error stream, and returns its
-/// status.
+/// Runs `ctangle` with these arguments, in a folder and with an error stream. Returns the status.
 ///
 /// It loads the files, starts a session of them, writes the line of each fault on the error stream,
 /// and then each output into the folder, the main file first. The status is 0, or 1 where an error
-/// is among the faults. It is 2 where the arguments give no names, with the usage line. It is 3,
+/// is among the faults. It is 2, with the usage line, where the arguments give no names. It is 3,
 /// with a line that says why, where a file can't be read or written or is refused, or memory runs
-/// out, and where the error stream fails.
+/// out; and 3 where the error stream fails.
 ///
-/// Of CTANGLE's command line it has the three names, their extensions and `-` for no change file;
+/// Of CTANGLE's command line it keeps the three names, their extensions and `-` for no change file;
 /// flags are accepted and have no effect (`docs/programs.md`).
 pub fn run_ctangle<F: Folder, E: Sink>(
     alloc: Global,
@@ -176,7 +175,7 @@ pub fn run_ctangle<F: Folder, E: Sink>(
 }
 
 /// A run that reads and writes nothing, and in which nothing fails, does not end with status 3. So
-/// a body that always ends so, without a line, is refused.
+/// the contract refuses a body that always returns 3 without writing a line.
 pub fn status_3_needs_a_failure()
     ensures { (arguments : List (List ℕ)) → RunEnds arguments nothing_done nothing_done 3 → ⊥ }
 {}

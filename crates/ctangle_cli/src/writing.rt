@@ -1,4 +1,4 @@
-//! The writing of files.
+//! Writing the output files.
 ghost use Rattle.std.specs.Prelude.{◌≡◌, ◌≢◌, ◌∷◌, [], IsSome, IfErr, OnErr, OnOk, map};
 ghost use Rattle.std.specs.List.{IsDistinct};
 ghost use Rattle.std.specs.Str.{bytes_eq};
@@ -13,8 +13,8 @@ use std::alloc::Global;
 use tangle_folders::{Folder, FolderFault};
 use tangle_session::Session;
 
-// Creates the output of this name, at this index among the names. Its writer is closed also where
-// it failed.
+// Creates the output of this name, which is at this index among the names. Its writer is closed
+// even where it failed.
 fn create_output<F: Folder>(
     alloc: Global,
     session: &Session,
@@ -49,19 +49,19 @@ fn create_output<F: Folder>(
     }
 }
 
-/// The name of the output that was not written whole, and why.
+/// An output that was not written whole.
 #[derive(Clone, Copy, Debug)]
 pub struct UnwrittenOutput<'a> {
     pub name: &'a [u8],
     pub fault: FolderFault,
 }
 
-/// Creates the outputs in order, up to the first that can't be written. No two of them have one
-/// name, so none is written over another, and each is found where its name is.
+/// Creates the outputs in order, up to the first that can't be written. No two outputs have the
+/// same name, so none is written over another, and each is found at the index of its name.
 ///
 /// # Errors
 ///
-/// The name of the output that can't be written, and why.
+/// The name of the output that can't be written, and the fault of the folder.
 pub fn create_outputs<'a, F: Folder>(
     alloc: Global,
     session: &'a Session,

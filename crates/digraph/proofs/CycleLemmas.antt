@@ -1,4 +1,4 @@
--- What flags say of nodes that contain themselves.
+-- What the flags of a search mean for nodes that contain themselves.
 use Rattle.std.proofs.Common.{◌≡◌, ◌<◌, ◌+◌, ◌∙◌, ◌↔◌, ℕ, Bool, true, false, List, [], ◌∷◌, ◌++◌, length, get_or, set, Vec, sym, subst, arith, get_or-set_other, replicate, Contains, All}
 use Rattle.std.proofs.Math.Decide.{ℕ_discrete}
 use Rattle.std.proofs.lemmas.List.{get_or_push, get_or_append_left}
@@ -10,7 +10,7 @@ use Rattle.digraph.specs.Flags.{IsFlagged, ReachesFlagged, FlagsJust}
 use Rattle.digraph.proofs.GraphLemmas.{use_at, in_row, node_in}
 use Rattle.digraph.proofs.ReachLemmas.{flagged_in, none_flagged, true_unless}
 
--- one node flagged alone
+-- only this node is flagged
 pub flagged_alone : (size n m : ℕ) → IsFlagged (set (replicate size false) n true) m → m ≡ n
 flagged_alone size n m f = elim (ℕ_discrete m n) [
   | yes e ↦ e
@@ -18,7 +18,7 @@ flagged_alone size n m f = elim (ℕ_discrete m n) [
       let both : true ≡ false = sym none ∙ none_flagged size m in absurd (cc))
 ]
 
--- a search from n alone, which found what reaches n
+-- a search for the nodes that reach `n` alone decides whether `n` contains itself
 pub search_says : (graph : Graph) (flags found : List Bool) (n : ℕ) (row : Vec ℕ Global) (result : Bool) → InRange graph → n < length graph → row ≡ get_or graph n row
     → ((m : ℕ) → IsFlagged flags m → m ≡ n) → IsFlagged flags n → FlagsJust graph found (ReachesFlagged graph flags)
     → (result ≡ true → (m : ℕ) × Contains row.items m × IsFlagged found m) → (result ≡ false → (m : ℕ) → Contains row.items m → ¬ (IsFlagged found m)) → (result ≡ true) ↔ ContainsItself (HasUse graph) n
@@ -31,14 +31,14 @@ search_says graph flags found n row result range h e only flagged exact yes_when
     small : (m : ℕ) → Contains row.items m → m < length graph
     small m inside = All-contains (λ k. k < length graph) row.items m (subst (λ r. All (λ k. k < length graph) r.items) (sym e) (range n row h)) inside
 
--- a node that reaches one that contains itself, by flags that say which do
+-- a node reaches one that contains itself, where the flags say which nodes do
 pub cycles_reached : (graph : Graph) (flags found : List Bool) → length flags ≡ length graph → FlagsJust graph flags (ContainsItself (HasUse graph)) → FlagsJust graph found (ReachesFlagged graph flags) → FlagsJust graph found (ReachesCycle (HasUse graph))
 cycles_reached graph flags found size exact reported = λ n h. (
   λ f. (let r = (reported n h).0 f in (r.0, r.1, (exact r.0 (omega (arith, size, flagged_in flags r.0 r.2))).0 r.2)),
   λ c. (reported n h).1 (c.0, c.1, (exact c.0 (node_in graph c.0 c.2.0 c.2.1)).1 c.2),
 )
 
--- one more flag that says whether P holds
+-- one more flag, which says whether `P` holds
 pub flags_more : (P : ℕ → Type 0) (flags : List Bool) (n : ℕ) (flag : Bool) → length flags ≡ n → ((k : ℕ) → k < n → IsFlagged flags k ↔ P k) → ((flag ≡ true) ↔ P n)
     → (k : ℕ) → k < n + 1 → IsFlagged (flags ++ flag ∷ []) k ↔ P k
 flags_more P flags n flag size old says k h = elim (ℕ_discrete k n) [

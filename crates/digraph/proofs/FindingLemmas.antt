@@ -1,4 +1,4 @@
--- One more node is found, and what was found says once nothing changes.
+-- One more node is found, and the nodes are all found once nothing changes.
 use Rattle.std.proofs.Common.{◌≡◌, ◌<◌, ◌≤◌, ◌+◌, ◌∙◌, ℕ, Bool, true, false, List, length, set, sym, subst, inl, inr, arith, length-set}
 use Rattle.std.proofs.Math.Decide.{ℕ_discrete}
 use Rattle.digraph.specs.Graph.{Graph, HasUse}
@@ -15,7 +15,7 @@ finding_set graph flags found n p r = record {
   sound = flagged_set (ReachesFlagged graph flags) found n p.sound r;
 }
 
--- what a node uses reaches, the node reaches
+-- a node reaches whatever a node that it uses reaches
 pub reaches_by_use : (graph : Graph) (flags : List Bool) (n m : ℕ) → HasUse graph n m → ReachesFlagged graph flags m → ReachesFlagged graph flags n
 reaches_by_use graph flags n m u r = (r.0, on u r.1, r.2)
 
@@ -38,7 +38,7 @@ decided_more graph flags found i below here_too k h = elim (ℕ_discrete k i) [
   | no other ↦ below k (omega (arith, h))
 ]
 
--- the state after each node below i was tried once
+-- the state after each node below `i` was tried once
 pub record Passed (graph : Graph) (flags before found : List Bool) (any : Bool) (i : ℕ) : Type 0 where
   pub finding : IsFinding graph flags found
   pub fewer : unflagged found ≤ unflagged before

@@ -1,4 +1,4 @@
--- Rows of a graph as the code reads them.
+-- The rows of a graph, as the code reads them.
 use Rattle.std.proofs.Common.{◌≡◌, ◌<◌, ◌∙◌, ℕ, [], ◌∷◌, length, get_or, Vec, ap, sym, subst, arith, Contains}
 use Rattle.std.proofs.Math.Decide.{dec_lt}
 use Rattle.std.proofs.lemmas.List.{get_or-map, get_or_past, length-map}

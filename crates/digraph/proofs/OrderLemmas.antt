@@ -1,4 +1,4 @@
--- Induction along an order, and on the fuel for what is left out.
+-- Induction along an order for its nodes, and on the fuel for the nodes that are left out.
 use Rattle.std.proofs.Common.{◌≡◌, ◌<◌, ◌∙◌, ℕ, zero, suc, List, length, take, get_or, sym, subst, arith, Contains, length-take}
 use Rattle.std.proofs.lemmas.List.{get_or_default, get_or-take}
 use Rattle.digraph.specs.Graph.{Graph, HasUse, InRange}
@@ -6,7 +6,7 @@ use Rattle.digraph.specs.Reach.{Reaches, here, on, ContainsItself, ReachesCycle,
 use Rattle.digraph.specs.Order.{IsAfterUses, IsOrder}
 use Rattle.digraph.proofs.GraphLemmas.{use_in}
 
--- what is among the first k is at a position below k
+-- an item among the first `k` is at a position below `k`
 earlier : (order : List ℕ) (k m : ℕ) → Contains (take k order) m → (j : ℕ) × (j < k) × (j < length order) × (get_or order j 0 ≡ m)
 earlier order k m c =
     let short : c.0 < length (take k order) = c.1 in
@@ -22,11 +22,11 @@ module _ (graph : Graph) (order : List ℕ) (after_uses : IsAfterUses graph orde
       let low : at.0 < bound = omega (arith, h, at.1) in
       subst P at.3 (below bound at.0 low at.2))
 
-  -- what follows from the uses holds of each node in the order
+  -- a property that a node has if all nodes that it uses have it holds for each node in the order
   pub along : (n : ℕ) → Contains order n → P n
   along n c = subst P (get_or_default order c.0 0 n c.1 ∙ c.2) (below (suc c.0) c.0 (omega arith) c.1)
 
--- what a node has of one that it uses, with one more fuel, holds of each node that is left out
+-- if a node has a property with one more fuel than a node that it uses, each node that is left out has it with any fuel
 pub left_out_deep : (graph : Graph) (order : List ℕ) → IsOrder graph order → InRange graph → (P : ℕ → ℕ → Type 0) → ((n : ℕ) → P zero n)
     → ((fuel n m : ℕ) → HasUse graph n m → P fuel m → P (suc fuel) n) → (fuel n : ℕ) → n < length graph → (Contains order n → ⊥) → P fuel n
 left_out_deep graph order is range P start up zero n h out = start n
@@ -34,7 +34,7 @@ left_out_deep graph order is range P start up (suc fuel) n h out =
     let next = is.rest n h out in
     up fuel n next.0 next.1 (left_out_deep graph order is range P start up fuel next.0 (use_in graph range n next.0 next.1) next.2)
 
--- what reaches a cycle uses what reaches it
+-- a node that reaches a cycle uses a node that reaches it
 cycle_used : (graph : Graph) (n k : ℕ) → Reaches (HasUse graph) n k → ContainsItself (HasUse graph) k → (m : ℕ) × HasUse graph n m × ReachesCycle (HasUse graph) m
 cycle_used graph n k here c = (c.0, c.1, (n, c.2, c))
 cycle_used graph n k (on {b = m} u r) c = (m, u, (k, r, c))

@@ -10,7 +10,7 @@ use Rattle.digraph.specs.Order.{IsAfterUses, IsOrder}
 use Rattle.digraph.specs.OrderSoFar.{IsOrderSoFar, IsStuck, unflagged}
 use Rattle.digraph.proofs.GraphLemmas.{use_at, in_row}
 
--- all that n uses is in the list
+-- all nodes that `n` uses are in the list
 abbrev pub UsesListed : Graph → List ℕ → ℕ → Type 0
 UsesListed graph order n = (m : ℕ) → HasUse graph n m → Contains order m
 
@@ -72,7 +72,7 @@ order_push graph flags order n p in_graph free listed = record {
       ]
     ]
 
--- the uses of n by its row
+-- the uses of `n`, by its row
 pub listed_row : (graph : Graph) (flags : List Bool) (order : List ℕ) (n : ℕ) (row : Vec ℕ Global) → IsOrderSoFar graph flags order → n < length graph → row ≡ get_or graph n row
     → All (λ m. IsFlagged flags m) row.items → UsesListed graph order n
 listed_row graph flags order n row p h e all m u = (p.flagged m).0 (All-contains (λ k. IsFlagged flags k) row.items m all (in_row graph n m row h e u))
@@ -93,7 +93,7 @@ stuck_more graph order i below here k h = elim (ℕ_discrete k i) [
   | no other ↦ below k (omega (arith, h))
 ]
 
--- the state after each node below i was tried once
+-- the state after each node below `i` was tried once
 pub record Passed (graph : Graph) (before flags : List Bool) (first order : List ℕ) (any : Bool) (i : ℕ) : Type 0 where
   pub so_far : IsOrderSoFar graph flags order
   pub fewer : unflagged flags ≤ unflagged before

@@ -1,4 +1,4 @@
--- A path of as many steps as there are nodes comes to one of them again.
+-- A path with as many steps as there are nodes comes to one of them twice.
 use Rattle.std.proofs.Common.{◌≡◌, ◌⊎◌, ◌<◌, ◌↔◌, ◌||◌, ℕ, zero, suc, Bool, true, false, eqb, List, [], ◌∷◌, length, refl, ap, sym, subst, inl, inr, arith, Contains, ◌∙◌}
 use Rattle.std.specs.List.{list_any, AllByRecursion, IsDistinct}
 use Rattle.std.proofs.lemmas.Bool.Decides.{Decides-eqb}
@@ -24,7 +24,7 @@ none_equal q (x ∷ xs) h = by (eqb q x) refl h (none_equal q xs)
     by false e is rest = (e, rest is)
 
 module _ (graph : Graph) (range : InRange graph) where
-  -- the nodes that a path goes through
+  -- the nodes on a path
   abbrev through : (steps n : ℕ) → HasPath (HasUse graph) steps n → List ℕ
   through zero n path = n ∷ []
   through (suc steps) n path = n ∷ through steps path.0 path.2
@@ -47,7 +47,7 @@ module _ (graph : Graph) (range : InRange graph) where
   reached_in n q here h = h
   reached_in n q (on {b = m} u r) h = reached_in m q r (use_in graph range n m u)
 
-  -- the path goes through no node twice, or there is a cycle
+  -- the path comes to no node twice, or it leads to a cycle
   again : (steps n : ℕ) (path : HasPath (HasUse graph) steps n) → IsDistinct eqb (through steps n path) ⊎ ReachesCycle (HasUse graph) n
   unfolding IsDistinct
   again zero n path = inl (tt, tt)

@@ -1,4 +1,4 @@
--- What is reached along several uses, and what ranks that never fall rule out.
+-- Reaching along several uses, and what ranks that never fall exclude.
 use Rattle.std.proofs.Common.{◌≡◌, ◌<◌, ◌≤◌, ◌∙◌, ℕ, Bool, true, false, List, length, get_or, set, Vec, refl, sym, subst, arith, All, get_or-set_other, replicate}
 use Rattle.std.proofs.Math.Decide.{ℕ_discrete, dec_lt}
 use Rattle.std.proofs.lemmas.List.{get_or_past, get_or-replicate, length-replicate}
@@ -18,7 +18,7 @@ pub ranks_rise : (graph : Graph) (ranks : List ℕ) → NeverFalls graph ranks �
 ranks_rise graph ranks rising a b here = omega arith
 ranks_rise graph ranks rising a b (on {b = m} u r) = omega (arith, rising a m u, ranks_rise graph ranks rising m b r)
 
--- where the rank rises along each use of the node
+-- a node whose rank is below those of all nodes that it uses does not contain itself
 pub not_itself : (graph : Graph) (ranks : List ℕ) (n low : ℕ) (row : Vec ℕ Global) → NeverFalls graph ranks → n < length graph → row ≡ get_or graph n row
     → All (λ m. low ≤ get_or ranks m 0) row.items → get_or ranks n 0 < low → ContainsItself (HasUse graph) n → ⊥
 not_itself graph ranks n low row rising h e above less c =
@@ -26,7 +26,7 @@ not_itself graph ranks n low row rising h e above less c =
     let back : get_or ranks c.0 0 ≤ get_or ranks n 0 = ranks_rise graph ranks rising c.0 n c.2 in
     absurd (omega arith)
 
--- what holds of each flagged node holds after one more is flagged
+-- a property of all flagged nodes still holds when one more node with it is flagged
 pub flagged_set : (P : ℕ → Type 0) (flags : List Bool) (n : ℕ) → ((m : ℕ) → IsFlagged flags m → P m) → P n → (m : ℕ) → IsFlagged (set flags n true) m → P m
 flagged_set P flags n old p m f = elim (ℕ_discrete m n) [
   | yes e ↦ subst P (sym e) p

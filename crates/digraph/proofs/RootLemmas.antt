@@ -1,4 +1,4 @@
--- Flags of what roots reach and of what reaches them, and what both say of a node.
+-- Flags of the nodes that roots reach, and of those that reach roots, and what both together mean for a node.
 use Rattle.std.proofs.Common.{◌≡◌, ◌⊎◌, ◌<◌, ◌∙◌, ℕ, Bool, true, List, length, get_or, set, Vec, sym, subst, inl, inr, length-set, Contains}
 use Rattle.std.specs.Global.{Global}
 use Rattle.digraph.specs.Graph.{Graph, HasUse}
@@ -31,7 +31,7 @@ to_roots_set graph roots flags n p r = record {
   sound = flagged_set (λ m. Reaches (HasUse graph) m (get_or roots m 0)) flags n p.sound r;
 }
 
--- a node of the row that has the root and reaches it
+-- a node of the row that has this root and reaches it
 abbrev pub LeadsTo : List ℕ → List Bool → List ℕ → ℕ → Type 0
 LeadsTo roots flags row root = (m : ℕ) × Contains row m × (get_or roots m 0 ≡ root) × IsFlagged flags m
 
@@ -40,7 +40,7 @@ pub root_is_reached : (graph : Graph) (roots : List ℕ) (flags : List Bool) (n 
 root_is_reached graph roots flags n row p h e leads =
     subst (λ r. Reaches (HasUse graph) n r) leads.2 (on (use_at graph n leads.0 row h e leads.1) (p.sound leads.0 leads.3))
 
--- by way of the root
+-- the node reaches itself through its root
 pub by_root : (graph : Graph) (roots : List ℕ) (from to : List Bool) (n : ℕ) (row : Vec ℕ Global) → FromRoots graph roots from → ToRoots graph roots to → n < length graph → row ≡ get_or graph n row
     → IsFlagged from n → LeadsTo roots to row.items (get_or roots n 0) → ContainsItself (HasUse graph) n
 by_root graph roots from to n row p q h e flagged leads = (

@@ -1,4 +1,4 @@
--- Rows that grow, and rows in which each number is left once.
+-- Rows that grow, and rows in which each number remains once.
 use Rattle.std.proofs.Common.{◌≡◌, ◌≢◌, ◌≤◌, ◌<◌, ◌+◌, ◌∙◌, ℕ, cond, eqb, true, false, List, [], ◌++◌, length, get_or, set, refl, ap, sym, subst, arith, append_assoc, append-nil, length-set, get_or-set_same, get_or-set_other, Vec, Contains, All}
 use Rattle.std.specs.Global.{Global}
 use Rattle.std.proofs.Math.Decide.{ℕ_discrete}
@@ -16,7 +16,7 @@ same_eqb n m e = (Decides-eqb n m).1 e
 other_eqb : (n m : ℕ) → n ≢ m → eqb n m ≡ false
 other_eqb n m apart = grind (arith, nat_tests)
 
--- a number pushed to one row
+-- a number is pushed to one row
 pub grows_set : (rows : List (List ℕ)) (n : ℕ) (extra : List ℕ) → n < length rows → GrowsBy (λ m. cond (eqb n m) extra []) rows (set rows n (row_at rows n ++ extra))
 grows_set rows n extra within = record {
   size = length-set rows n (row_at rows n ++ extra);
@@ -51,7 +51,7 @@ rows_of-set rows n old new extra within read e =
     map-set (λ (v : Vec ℕ Global). v.items) rows n new
     ∙ ap (set (rows_of rows) n) (e ∙ ap (λ r. r ++ extra) (ap (λ (v : Vec ℕ Global). v.items) read ∙ sym (get_or-map (λ (v : Vec ℕ Global). v.items) rows n old [] within)))
 
--- the rows below n have each number once, and the others stay
+-- the rows below `n` have each number once, and the others have not changed
 pub record OnceBelow (before rows : List (List ℕ)) (n : ℕ) : Type 0 where
   pub size : length rows ≡ length before
   pub done : (k : ℕ) → k < n → IsOnceEach (row_at before k) (row_at rows k)
@@ -68,7 +68,7 @@ once_more before rows n row is within once = record {
   left = λ k h. get_or-set_other rows n k row [] (let apart : k ≢ n = omega arith in apart) ∙ is.left k (omega arith);
 }
 
--- after the last row
+-- the last row was done
 module _ (before after : Graph) (n : ℕ) (is : OnceBelow (rows_of before) (rows_of after) n) (last : length before ≤ n) where
   size : length after ≡ length before
   size = sym (rows_size after) ∙ (is.size ∙ rows_size before)

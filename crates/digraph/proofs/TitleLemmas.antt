@@ -1,4 +1,4 @@
--- What numbers reach is what their titles reach.
+-- Numbers reach each other exactly if their titles do.
 use Rattle.std.proofs.Common.{◌≡◌, ◌<◌, ◌↔◌, ℕ, length, refl, sym, subst}
 use Rattle.digraph.specs.Graph.{Graph, HasUse}
 use Rattle.digraph.specs.Reach.{Reaches, here, on, ContainsItself, ReachesCycle}
@@ -9,7 +9,7 @@ module _ {X : Type 0} (graph : Graph) (Uses : X → X → Type 0) (title : ℕ �
   reaches_up a b here = here
   reaches_up a b (on {b = m} u r) = on (titled.sound a m u) (reaches_up m b r)
 
-  -- from a title that is that of a
+  -- from a title that is the title of `a`
   pub reaches_down : (t k : X) → Reaches Uses t k → (a : ℕ) → a < length graph → title a ≡ t → (b : ℕ) × Reaches (HasUse graph) a b × (b < length graph) × (title b ≡ k)
   reaches_down t k here a h e = (a, here, h, e)
   reaches_down t k (on {b = used} u r) a h e =

@@ -1,4 +1,4 @@
--- The users of each node: the positions of the rows that have it.
+-- The nodes that use a node: the positions of the rows that have it.
 use Rattle.std.proofs.Common.{◌≡◌, ◌≤◌, ◌<◌, ◌+◌, ◌∙◌, ◌||◌, ℕ, zero, suc, Bool, true, false, cond, eqb, List, [], ◌∷◌, ◌++◌, length, take, get_or, refl, ap, sym, subst, inl, inr, arith, append_assoc, append-nil, add-zero, zero-add, Vec, Contains, All}
 use Rattle.std.specs.Global.{Global}
 use Rattle.std.specs.List.{list_any}
@@ -27,7 +27,7 @@ positions_more p k (x ∷ xs) (suc i) d h =
     ∙ (ap (λ r. cond (p x) (k ∷ []) [] ++ r) (positions_more p (k + 1) xs i d low ∙ ap (λ n. positions p (k + 1) (take i xs) ++ cond (p (get_or xs i d)) (n ∷ []) []) position)
     ∙ sym (append_assoc (cond (p x) (k ∷ []) []) (positions p (k + 1) (take i xs)) (cond (p (get_or xs i d)) ((k + suc i) ∷ []) [])))
 
--- a number of a row that rises doesn't come twice
+-- a number is not twice in a row that increases
 pub not_before : (row : List ℕ) (j m : ℕ) → IsStrictlyIncreasing row → j < length row → get_or row j 0 ≡ m → list_any (λ x. eqb x m) (take j row) ≡ false
 not_before row j m up h e = by (list_any (λ x. eqb x m) (take j row)) refl
   where
@@ -71,7 +71,7 @@ user_more before after next row j n up h first second =
     before after next first second (λ m. added_more row j n m up h)
 
 module _ {X : Type 0} (p : X → Bool) (d : X) where
-  -- j is a position from k on of an element that passes
+  -- `j` is the position of an item that passes, where the first item has the position `k`
   abbrev pub Passes : ℕ → List X → ℕ → Type 0
   Passes k xs j = (i : ℕ) × (j ≡ k + i) × (i < length xs) × (p (get_or xs i d) ≡ true)
 

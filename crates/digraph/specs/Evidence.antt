@@ -1,4 +1,5 @@
--- When proposed ranks and roots, with the flags that were found for them, are evidence for a graph.
+-- When proposed ranks and roots, with the flags that were found from them, are evidence for a
+-- graph.
 use Rattle.std.specs.Prelude.{◌≡◌, true, length}
 use Rattle.digraph.specs.Graph.{Graph}
 use Rattle.digraph.specs.Roots.{FromRoots, ToRoots, NeverFalls}

@@ -6,10 +6,10 @@ use Rattle.digraph.specs.Reach.{Reaches}
 abbrev pub IsFlagged : List Bool → ℕ → Type 0
 IsFlagged flags n = slice_index_or flags n false ≡ true
 
--- just the nodes with the property are flagged
+-- exactly the nodes with this property are flagged
 abbrev pub FlagsJust : Graph → List Bool → (ℕ → Type 0) → Type 0
 FlagsJust graph flags HasIt = (n : ℕ) → n < length graph → (IsFlagged flags n ↔ HasIt n)
 
--- the node reaches one that is flagged, in no step or more
+-- the node reaches a flagged node; a flagged node reaches itself
 abbrev pub ReachesFlagged : Graph → List Bool → ℕ → Type 0
 ReachesFlagged graph flags n = (k : ℕ) × Reaches (HasUse graph) n k × IsFlagged flags k

@@ -1,4 +1,4 @@
--- An order that is being made, with a flag for each node that is in it.
+-- An order while it is made, with a flag for each node that is in it.
 use Rattle.std.specs.Prelude.{◌≡◌, ◌⊎◌, ◌↔◌, ℕ, Bool, not, List, length, count_by, Contains}
 use Rattle.digraph.specs.Graph.{Graph, HasUse}
 use Rattle.digraph.specs.Flags.{IsFlagged}
@@ -13,6 +13,6 @@ pub record IsOrderSoFar (graph : Graph) (flags : List Bool) (order : List ℕ) :
 abbrev pub IsStuck : Graph → List ℕ → ℕ → Type 0
 IsStuck graph order n = Contains order n ⊎ ((m : ℕ) × HasUse graph n m × (¬ (Contains order m)))
 
--- how many nodes aren't flagged
+-- the number of nodes without a flag
 abbrev pub unflagged : List Bool → ℕ
 unflagged flags = count_by not flags

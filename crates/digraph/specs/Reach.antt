@@ -1,7 +1,7 @@
--- What is reached along the uses of any relation: of numbers, or of what they represent.
+-- Reaching along the uses of any relation: of numbers, or of what the numbers represent.
 use Rattle.std.specs.Prelude.{ℕ, zero, suc}
 
--- from a the other one is reached in no step, one step or more
+-- the first reaches the second in any number of steps: each reaches itself in none
 pub data Reaches {X : Type 0} (Uses : X → X → Type 0) : X → X → Type 0 where
   here : {a : X} → Reaches Uses a a
   on : {a b c : X} → Uses a b → Reaches Uses b c → Reaches Uses a c
@@ -14,7 +14,7 @@ ContainsItself {X} Uses a = (b : X) × Uses a b × Reaches Uses b a
 abbrev pub ReachesCycle : {X : Type 0} → (X → X → Type 0) → X → Type 0
 ReachesCycle {X} Uses a = (b : X) × Reaches Uses a b × ContainsItself Uses b
 
--- so many steps lead on from it, one after another
+-- from it there is a path of this number of steps
 abbrev pub HasPath : {X : Type 0} → (X → X → Type 0) → ℕ → X → Type 0
 HasPath Uses zero a = Unit {0}
 HasPath {X} Uses (suc steps) a = (b : X) × Uses a b × HasPath Uses steps b

@@ -1,4 +1,4 @@
-//! Which nodes contain themselves, and which ones reach such a node.
+//! Finds the nodes that contain themselves, and those that reach such a node.
 ghost use Rattle.std.specs.Prelude.{◌≡◌, ◌<◌, ◌↔◌, IfOk, true, length, vec_len};
 ghost use Rattle.digraph.specs.Graph.{InRange, HasUse};
 ghost use Rattle.digraph.specs.Reach.{ContainsItself, ReachesCycle};
@@ -11,11 +11,12 @@ use std::alloc::{AllocError, Global};
 
 /// A flag for each node: whether it contains itself, that is, reaches itself in one step or more.
 ///
-/// `users` has for each node those that use it; it only makes this fast.
+/// `users` has, for each node, the nodes that use it; the result does not depend on it, only the
+/// speed.
 ///
 /// # Errors
 ///
-/// `AllocError`, where an allocation failed.
+/// `AllocError` where an allocation failed.
 pub fn self_containing(
     alloc: Global,
     uses: &[Vec<usize>],
@@ -35,13 +36,15 @@ pub fn self_containing(
     Ok(flags)
 }
 
-/// A flag for each node: whether it reaches one that contains itself, given flags of those that do.
+/// A flag for each node: whether it reaches a node that contains itself. The given flags say which
+/// nodes contain themselves.
 ///
-/// `users` has for each node those that use it; it only makes this fast.
+/// `users` has, for each node, the nodes that use it; the result does not depend on it, only the
+/// speed.
 ///
 /// # Errors
 ///
-/// `AllocError`, where an allocation failed.
+/// `AllocError` where an allocation failed.
 pub fn reaching_cycles(
     alloc: Global,
     uses: &[Vec<usize>],
@@ -58,7 +61,7 @@ pub fn reaching_cycles(
     reaching(alloc, uses, users, flags)
 }
 
-/// Whether the node contains itself: by the evidence, or else by a search.
+/// Whether the node contains itself: by the evidence or, where that does not decide, by a search.
 fn contains_itself(
     alloc: Global,
     uses: &[Vec<usize>],
@@ -77,7 +80,7 @@ fn contains_itself(
     }
 }
 
-/// Whether the node contains itself, by a search for it alone.
+/// Whether the node contains itself, by a search from this node alone.
 fn search(
     alloc: Global,
     uses: &[Vec<usize>],

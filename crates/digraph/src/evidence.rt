@@ -1,5 +1,5 @@
-//! Evidence of which nodes contain themselves: ranks that never fall, and flags of what roots reach
-//! and of what reaches them.
+//! Evidence by which most nodes are decided to contain themselves or not: ranks that never fall
+//! along a use, and flags of the nodes that their roots reach, and that reach their roots.
 ghost use Rattle.std.specs.Prelude.{◌≡◌, ◌<◌, ◌↔◌, IfOk, IfSome, true, length};
 ghost use Rattle.digraph.specs.Graph.{InRange, HasUse};
 ghost use Rattle.digraph.specs.Reach.{ContainsItself};
@@ -10,7 +10,7 @@ use crate::ranks::{lowest, never_falls};
 use crate::roots::{flag_reached, flag_reaching, leads_to_root};
 use std::alloc::{AllocError, Global};
 
-/// Ranks and roots that were proposed, and what was found of them.
+/// Proposed ranks and roots, and the results of checking them.
 #[derive(Drop)]
 pub struct Evidence {
     ranks: Vec<usize>,
@@ -21,7 +21,7 @@ pub struct Evidence {
 }
 
 impl Evidence {
-    /// Proposes components, each with its rank and its root, and checks them.
+    /// Proposes components, with a rank and a root for each node, and checks them.
     pub fn gather(
         alloc: Global,
         uses: &[Vec<usize>],
@@ -48,7 +48,7 @@ impl Evidence {
         })
     }
 
-    /// Whether the node contains itself; `None`, where the evidence does not say.
+    /// Whether the node contains itself; `None` where the evidence does not decide.
     pub fn conclusion(&self, uses: &[Vec<usize>], n: usize) -> Option<bool>
         requires range { InRange uses.now }
         requires evidence { IsEvidence uses.now self.now }

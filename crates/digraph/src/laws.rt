@@ -1,11 +1,11 @@
-//! Laws of the definitions.
+//! A law of orders.
 ghost use Rattle.std.specs.Prelude.{◌<◌, ◌↔◌, ℕ, List, Contains, length};
 ghost use Rattle.digraph.specs.Graph.{Graph, HasUse, InRange};
 ghost use Rattle.digraph.specs.Reach.{ReachesCycle, HasPath};
 ghost use Rattle.digraph.specs.Order.{IsOrder};
 
-/// A node is in an order just if it reaches no cycle. From each node that is left out there is a
-/// path of any length.
+/// A node is in an order exactly if it reaches no cycle. From each other node there is a path of
+/// any length.
 pub fn order_holds_what_reaches_no_cycle()
     ensures held { (graph : Graph) (order : List ℕ) (n : ℕ) → IsOrder graph order → InRange graph
         → n < length graph

@@ -1,6 +1,6 @@
-//! Directed graphs as rows of numbers: row n holds the nodes that node n uses.
+//! Directed graphs as rows of numbers: row `n` has the nodes that node `n` uses.
 //!
-//! What is proposed in `proposals` is only a hint: no result depends on it, only the running time,
+//! The searches in `proposals` only give hints: no result depends on them, only the running time,
 //! which is linear after a good hint.
 #![tactic(auto)]
 

@@ -10,11 +10,12 @@ use std::alloc::{AllocError, Global};
 
 /// The nodes that reach no cycle, each after those that it uses.
 ///
-/// `users` has for each node those that use it; it only makes this fast.
+/// `users` has, for each node, the nodes that use it; the result does not depend on it, only the
+/// speed.
 ///
 /// # Errors
 ///
-/// `AllocError`, where an allocation failed.
+/// `AllocError` where an allocation failed.
 pub fn order(
     alloc: Global,
     uses: &[Vec<usize>],
@@ -34,7 +35,7 @@ pub fn order(
     Ok(order)
 }
 
-/// Adds each node that can be added to the order, and returns whether there was one.
+/// Goes once over the nodes and adds each that can be added. Returns whether any was.
 fn add_each(
     uses: &[Vec<usize>],
     flags: &mut Vec<bool>,
@@ -57,8 +58,8 @@ fn add_each(
     Ok(any)
 }
 
-/// Adds the node to the order if it isn't there and all that it uses is, and returns whether it was
-/// added now.
+/// Adds the node if it isn't in the order and all nodes that it uses are. Returns whether it was
+/// added.
 fn add_to_order(
     uses: &[Vec<usize>],
     n: usize,
@@ -84,7 +85,7 @@ fn add_to_order(
     Ok(true)
 }
 
-/// Each node of the row is flagged.
+/// Whether each node of the row is flagged.
 fn all_flagged(row: &[usize], flags: &[bool]) -> bool
     requires { All (λ m. m < length flags.now) row.now }
     ensures all { result ≡ true → All (λ m. IsFlagged flags.now m) row.now }

@@ -1,9 +1,9 @@
-//! Proposals: orders, and strongly connected components, by searches. No result depends on them,
-//! only the running time.
+//! Searches that propose orders and strongly connected components. No result depends on them, only
+//! the running time.
 
 use std::alloc::{AllocError, Global};
 
-/// Visits the node, and returns whether for the first time.
+/// Visits the node. Returns whether this is its first visit.
 fn visit(visited: &mut [bool], n: usize) -> bool {
     match visited.get_mut(n) {
         Some(flag) => {
@@ -79,10 +79,10 @@ pub fn postorder(alloc: Global, uses: &[Vec<usize>]) -> Result<Vec<usize>, Alloc
 }
 
 /// The strongly connected components, by Kosaraju's second search: a rank and a root for each node.
-/// A root is the node of its component that the first search visited first.
+/// The root of a component is the node of the component that this search visits first.
 ///
-/// Returns the nodes in the order of these visits, each but a root after one of its component that
-/// it uses.
+/// Returns the nodes in the order of these visits. Each node that is no root comes after one of its
+/// component that it uses.
 pub fn rank_components(
     alloc: Global,
     users: &[Vec<usize>],
@@ -120,7 +120,8 @@ pub fn rank_components(
     Ok(visits)
 }
 
-/// The flagged nodes and those that lead to them, each of these after one that it uses.
+/// The flagged nodes and the nodes that reach them. Each node that is not flagged comes after one
+/// that it uses.
 pub fn backward(
     alloc: Global,
     users: &[Vec<usize>],

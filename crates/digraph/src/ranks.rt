@@ -3,7 +3,7 @@ ghost use Rattle.std.specs.Prelude.{◌≡◌, ◌<◌, ◌≤◌, true, All, le
 ghost use Rattle.digraph.specs.Graph.{InRange};
 ghost use Rattle.digraph.specs.Roots.{NeverFalls};
 
-/// Along no use the rank falls.
+/// Whether the rank falls along no use.
 pub fn never_falls(uses: &[Vec<usize>], ranks: &[usize]) -> bool
     requires range { InRange uses.now }
     requires ranks { length ranks.now ≡ length uses.now }
@@ -17,7 +17,7 @@ pub fn never_falls(uses: &[Vec<usize>], ranks: &[usize]) -> bool
     true
 }
 
-/// No rank in the row is below this.
+/// A number that exceeds no rank in the row.
 pub fn lowest(row: &[usize], ranks: &[usize]) -> usize
     requires { All (λ m. m < length ranks.now) row.now }
     ensures { All (λ m. result ≤ slice_index ranks.now m) row.now }

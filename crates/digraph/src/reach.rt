@@ -1,4 +1,4 @@
-//! The nodes that reach a flagged one.
+//! Finds the nodes that reach a flagged one.
 ghost use Rattle.std.specs.Prelude.{◌≡◌, ◌<◌, ℕ, IfOk, true, false, All, Contains, length, vec_len};
 ghost use Rattle.digraph.specs.Graph.{InRange};
 ghost use Rattle.digraph.specs.Flags.{FlagsJust, IsFlagged, ReachesFlagged};
@@ -8,13 +8,14 @@ ghost use Rattle.digraph.specs.OrderSoFar.{unflagged};
 use crate::proposals::backward;
 use std::alloc::{AllocError, Global};
 
-/// A flag for each node: whether it reaches a node that is flagged, in no step or more.
+/// A flag for each node: whether it reaches a flagged node. A flagged node reaches itself.
 ///
-/// `users` has for each node those that use it; it only makes this fast.
+/// `users` has, for each node, the nodes that use it; the result does not depend on it, only the
+/// speed.
 ///
 /// # Errors
 ///
-/// `AllocError`, where an allocation failed.
+/// `AllocError` where an allocation failed.
 pub fn reaching(
     alloc: Global,
     uses: &[Vec<usize>],
@@ -31,7 +32,7 @@ pub fn reaching(
     found_by_uses(alloc, uses, flags, &order)
 }
 
-/// The same, found first in the given order, and then until nothing changes.
+/// The same flags: the nodes are tried in the given order first, and then until nothing changes.
 fn found_by_uses(
     alloc: Global,
     uses: &[Vec<usize>],
@@ -54,7 +55,7 @@ fn found_by_uses(
     Ok(found)
 }
 
-/// Tries each node once, and returns whether one was found.
+/// Tries each node once. Returns whether any was found.
 fn find_each(uses: &[Vec<usize>], flags: &[bool], found: &mut [bool]) -> bool
     requires range { InRange uses.now }
     requires size { length flags.now ≡ length uses.now }
@@ -73,8 +74,8 @@ fn find_each(uses: &[Vec<usize>], flags: &[bool], found: &mut [bool]) -> bool
     any
 }
 
-/// Finds the node if it is flagged or uses one that was found, and returns whether it was found
-/// now.
+/// Finds the node if it is flagged or uses one that was found. Returns whether it was found by this
+/// call.
 fn find(uses: &[Vec<usize>], n: usize, flags: &[bool], found: &mut [bool]) -> bool
     requires range { InRange uses.now }
     requires node { n < length uses.now }
@@ -92,7 +93,7 @@ fn find(uses: &[Vec<usize>], n: usize, flags: &[bool], found: &mut [bool]) -> bo
     true
 }
 
-/// Some node of the row is flagged.
+/// Whether some node of the row is flagged.
 pub fn any_flagged(row: &[usize], flags: &[bool]) -> bool
     requires { All (λ m. m < length flags.now) row.now }
     ensures one { result ≡ true → (m : ℕ) × Contains row.now m × IsFlagged flags.now m }

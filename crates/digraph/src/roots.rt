@@ -1,13 +1,14 @@
-//! Flags of nodes that their roots reach, and of nodes that reach their roots: each is right,
-//! whatever order the nodes are tried in.
+//! Flags the nodes that their roots reach, and the nodes that reach their roots. The flags are
+//! right in whatever order the nodes are tried; a bad order leaves some nodes without a flag.
 ghost use Rattle.std.specs.Prelude.{◌≡◌, ◌<◌, ◌⊎◌, ℕ, true, All, Contains, length};
 ghost use Rattle.std.specs.Prelude.{slice_index};
 ghost use Rattle.digraph.specs.Graph.{InRange};
 ghost use Rattle.digraph.specs.Flags.{IsFlagged};
 ghost use Rattle.digraph.specs.Roots.{FromRoots, ToRoots};
 
-/// Flags further nodes that their roots reach, tried from the end of `backwards`: all of them if
-/// each comes there after the next one on a path from its root.
+/// Flags nodes that their roots reach; they are tried from the end of `backwards` to its front. All
+/// such nodes are flagged if, in `backwards`, each comes after the next one on a path from its
+/// root.
 pub fn flag_reached(uses: &[Vec<usize>], roots: &[usize], backwards: &[usize], flags: &mut [bool])
     requires range { InRange uses.now }
     requires roots { length roots.now ≡ length uses.now }
@@ -21,7 +22,8 @@ pub fn flag_reached(uses: &[Vec<usize>], roots: &[usize], backwards: &[usize], f
     }
 }
 
-/// Flags the node if it is a root, and where it is flagged, those of its root that it uses.
+/// Flags the node if it is a root. If it is flagged then, flags the nodes with the same root that
+/// it uses.
 fn flag_from_root(uses: &[Vec<usize>], n: usize, roots: &[usize], flags: &mut [bool])
     requires range { InRange uses.now }
     requires node { n < length uses.now }
@@ -38,7 +40,7 @@ fn flag_from_root(uses: &[Vec<usize>], n: usize, roots: &[usize], flags: &mut [b
     }
 }
 
-/// Flags those of the row that have this root.
+/// Flags the nodes of the row that have this root.
 fn flag_row(row: &[usize], root: usize, roots: &[usize], flags: &mut [bool])
     requires range { All (λ m. m < length roots.now) row.now }
     requires flags { length flags.old ≡ length roots.now }
@@ -52,8 +54,8 @@ fn flag_row(row: &[usize], root: usize, roots: &[usize], flags: &mut [bool])
     }
 }
 
-/// Flags further nodes that reach their roots, tried in this order: all of them if each comes after
-/// the next one on a path to its root.
+/// Flags nodes that reach their roots; they are tried in this order. All such nodes are flagged if
+/// each comes after the next one on a path to its root.
 pub fn flag_reaching(uses: &[Vec<usize>], roots: &[usize], order: &[usize], flags: &mut [bool])
     requires range { InRange uses.now }
     requires roots { length roots.now ≡ length uses.now }
@@ -67,7 +69,7 @@ pub fn flag_reaching(uses: &[Vec<usize>], roots: &[usize], order: &[usize], flag
     }
 }
 
-/// Flags the node if it is a root or uses a flagged one of its root.
+/// Flags the node if it is a root, or uses a flagged node with the same root.
 fn flag_to_root(uses: &[Vec<usize>], n: usize, roots: &[usize], flags: &mut [bool])
     requires range { InRange uses.now }
     requires node { n < length uses.now }
@@ -81,7 +83,7 @@ fn flag_to_root(uses: &[Vec<usize>], n: usize, roots: &[usize], flags: &mut [boo
     }
 }
 
-/// Some node of the row has this root and is flagged.
+/// Whether some node of the row has this root and is flagged.
 pub fn leads_to_root(row: &[usize], root: usize, roots: &[usize], flags: &[bool]) -> bool
     requires range { All (λ m. m < length roots.now) row.now }
     requires flags { length flags.now ≡ length roots.now }

@@ -9,11 +9,11 @@ ghost use Rattle.digraph.specs.Users.{users_of};
 
 use std::alloc::{AllocError, Global};
 
-/// So many empty rows.
+/// This number of empty rows.
 ///
 /// # Errors
 ///
-/// `AllocError`, where an allocation failed.
+/// `AllocError` where an allocation failed.
 pub fn empty_rows(alloc: Global, count: usize) -> Result<Vec<Vec<usize>>, AllocError>
     ensures { IfOk result (λ rows. IsRowsOf count (λ _. []) (rows_of rows.items)) }
 {
@@ -28,7 +28,7 @@ pub fn empty_rows(alloc: Global, count: usize) -> Result<Vec<Vec<usize>>, AllocE
 ///
 /// # Errors
 ///
-/// `AllocError`, where an allocation failed.
+/// `AllocError` where an allocation failed.
 pub fn push_to(rows: &mut Vec<Vec<usize>>, n: usize, number: usize) -> Result<(), AllocError>
     requires { n < length rows.old.items }
     ensures { OnOk result (GrowsBy (λ m. if n == m then number ∷ [] else [])
@@ -38,7 +38,7 @@ pub fn push_to(rows: &mut Vec<Vec<usize>>, n: usize, number: usize) -> Result<()
     Ok(())
 }
 
-/// Leaves each number of the row once, in increasing order.
+/// Sorts the numbers of the row, and leaves each once.
 fn once_each(row: &mut Vec<usize>)
     ensures { IsOnceEach row.old.items row.new.items }
 {
@@ -46,7 +46,7 @@ fn once_each(row: &mut Vec<usize>)
     row.dedup();
 }
 
-/// Leaves each number once in each row, in increasing order.
+/// Sorts the numbers of each row, and leaves each once.
 pub fn all_once(rows: &mut Vec<Vec<usize>>)
     ensures size { length rows.new.items ≡ length rows.old.items }
     ensures rows { (n : ℕ) → n < length rows.old.items
@@ -59,12 +59,12 @@ pub fn all_once(rows: &mut Vec<Vec<usize>>)
     }
 }
 
-/// The users of each node: the nodes that use it, each once, in increasing order. Each row of
-/// `uses` has to be so already, as `all_once` leaves it.
+/// For each node, the nodes that use it, each once and in increasing order. The rows of `uses` must
+/// already be like this, as [`all_once`] leaves them.
 ///
 /// # Errors
 ///
-/// `AllocError`, where an allocation failed.
+/// `AllocError` where an allocation failed.
 pub fn users(alloc: Global, uses: &[Vec<usize>]) -> Result<Vec<Vec<usize>>, AllocError>
     requires range { InRange uses.now }
     requires increasing { All (λ row. IsStrictlyIncreasing row.items) uses.now }
@@ -74,7 +74,7 @@ pub fn users(alloc: Global, uses: &[Vec<usize>]) -> Result<Vec<Vec<usize>>, Allo
     reversed(alloc, uses)
 }
 
-/// For each node the rows that have it, in their order.
+/// For each node, the numbers of the rows that have it, in increasing order.
 fn reversed(alloc: Global, uses: &[Vec<usize>]) -> Result<Vec<Vec<usize>>, AllocError>
     requires range { InRange uses.now }
     requires increasing { All (λ row. IsStrictlyIncreasing row.items) uses.now }

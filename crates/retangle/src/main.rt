@@ -1,5 +1,5 @@
-//! `retangle WEB [--change FILE] [--out FILE]`: tangles a web, and again after each edit that
-//! standard input asks for.
+//! `retangle WEB [--change FILE] [--out FILE]`: tangles a web, and again after each edit on
+//! standard input.
 #![tactic(auto)]
 
 use ctangle_cli::{
@@ -11,7 +11,7 @@ use std::process::ExitCode;
 use tangle_lines::{IoFeed, Sink};
 use tangle_session::Session;
 
-// Writes the line of a fault of loading, or that memory ran out, and returns status 3.
+// Writes why loading failed, and returns status 3.
 fn report<E: Sink>(fault: &LoadFault, err: &mut E) -> u8 {
     let _ = write_load(b"retangle", fault, err);
     3
@@ -32,8 +32,8 @@ fn run_named<E: Sink>(rt: &HostRuntime, names: &Words, err: &mut E) -> u8 {
     }
 }
 
-// Runs `retangle`, and returns its status. With an argument that is not UTF-8 it has no arguments,
-// and `clap` reports its usage.
+// Runs `retangle`, and returns its status. If an argument is not UTF-8, all arguments are left out,
+// so `clap` reports its usage.
 fn run<E: Sink>(rt: &HostRuntime, err: &mut E) -> u8 {
     let arguments = match command_line(rt) {
         Ok(arguments) => arguments,
@@ -53,6 +53,7 @@ fn run<E: Sink>(rt: &HostRuntime, err: &mut E) -> u8 {
     }
 }
 
+// It has no `?`: an error that `main` returned would be status 1.
 fn main(rt: HostRuntime) -> ExitCode {
     let mut err = lines_to(&rt, rt.stderr());
     let status = run(&rt, &mut err);

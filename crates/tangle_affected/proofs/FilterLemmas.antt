@@ -1,10 +1,10 @@
--- Where the elements of a filter are.
+-- The positions of a filter's items in the list.
 use Rattle.std.proofs.Common.{◌≡◌, ◌∙◌, ◌<◌, ℕ, zero, suc, Bool, true, false, cond, List, [], ◌∷◌, length, take, get_or, refl, ap, sym, subst, arith, Contains, length-take}
 use Rattle.std.specs.List.{filter}
 use Rattle.std.proofs.lemmas.List.{get_or-take}
 use Rattle.std.proofs.lemmas.List.Elements.{All-contains, All-filter, All-contains_itself, filter_passes}
 
--- where the element at a position of a filter is in the list, and what is before it
+-- the item at a position of a filter: where it is in the list, and which items come before it
 pub record Position {X : Type 0} (p : X → Bool) (xs F : List X) (k : ℕ) (d : X) : Type 0 where
   pub at : ℕ
   pub inside : at < length xs
@@ -54,7 +54,7 @@ passed p (y ∷ xs) x (suc k) h e t = one_more (p y) y (filter p xs) x (passed p
 pub into_filter : {X : Type 0} (p : X → Bool) (xs : List X) (x : X) → Contains xs x → p x ≡ true → Contains (filter p xs) x
 into_filter p xs x c t = passed p xs x c.0 c.1 c.2 t
 
--- what is among the first is in the list, at a position before the end of these
+-- an item among the first `i` of a list is at a position before `i`
 pub in_front : {X : Type 0} (xs : List X) (i : ℕ) (x : X) → Contains (take i xs) x → (k : ℕ) × (k < i) × (k < length xs) × (get_or xs k x ≡ x)
 in_front xs i x c =
     let low : c.0 < i = omega (arith, c.1, length-take i xs) in

@@ -1,4 +1,4 @@
--- One more node along the order is flagged or not.
+-- One more node of the order is flagged or not.
 use Rattle.std.proofs.Common.{◌≡◌, ◌≢◌, ◌∙◌, ◌+◌, ◌<◌, ◌↔◌, ℕ, Bool, true, false, List, [], ◌∷◌, ◌++◌, length, take, get_or, refl, ap, sym, subst, inl, inr, arith, Contains}
 use Rattle.std.proofs.lemmas.List.{get_or_default, take_more}
 use mathlib.Core.HLevel.{Discrete}
@@ -16,7 +16,7 @@ use Rattle.tangle_graph.proofs.FlagLemmas.{flag_set, flag_stays}
 use Rattle.tangle_affected.specs.Flags.{ReachesNewShape, AreFlagged, FlagsJustListed}
 use Rattle.tangle_affected.proofs.FilterLemmas.{in_front, out_of_take}
 
--- nodes are the same or not
+-- equality of nodes can be decided
 pub node_discrete : Discrete Node
 node_discrete Program Program = yes refl
 node_discrete Program (Name id) = no (λ e. let both : Program ≡ Name id = e in absurd (cc))
@@ -34,7 +34,7 @@ step_on shapes a title.Program c u r = absurd u
 step_on shapes a (Named name) c u r = on u r
 
 module _ (store : StoreRead) (order : List Node) (ordered : IsOrderIn store order) where
-  -- the node at a position of the order, and another one before it
+  -- the node at a position of the order, and one before it
   pub at_position : (i : ℕ) → i < length order → IsNodeIn store (get_or order i Program)
   at_position i h = ordered.inside (get_or order i Program) (Contains-get_or order i Program h)
 
@@ -57,7 +57,7 @@ module _ (store : StoreRead) (order : List Node) (ordered : IsOrderIn store orde
               ((λ f. reached (sym is_set ∙ f)), (λ r. is_set ∙ true_unless b (λ off. not off r)))
         ]
 
-    -- a use that is flagged
+    -- the node uses a flagged one
     pub reached_by_use : (m : Node) → Contains (uses_at store (get_or order i Program)) m → flag_at store flags m ≡ true
         → ReachesNewShape old new (title_in_store store (get_or order i Program))
     reached_by_use m used is_flagged =
@@ -65,7 +65,7 @@ module _ (store : StoreRead) (order : List Node) (ordered : IsOrderIn store orde
         let u = (is.uses (get_or order i Program) m (at_position i inside)).0 used in
         (r.0, step_on new (title_in_store store (get_or order i Program)) (title_in_store store m) r.0 u.1 r.1, r.2)
 
-    -- its shape is not new, and no use is flagged
+    -- its shape is not new, and it uses no flagged node
     pub not_reached : (is_new : Bool) → ((is_new ≡ true) ↔ (new (title_in_store store (get_or order i Program)) ≢ old (title_in_store store (get_or order i Program)))) → is_new ≡ false
         → ((m : Node) → Contains (uses_at store (get_or order i Program)) m → flag_at store flags m ≡ false) → ReachesNewShape old new (title_in_store store (get_or order i Program)) → ⊥
     not_reached is_new reported same none r = from (title_in_store store (get_or order i Program)) r.0 r.1 r.2 refl

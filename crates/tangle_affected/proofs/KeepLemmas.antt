@@ -1,4 +1,4 @@
--- One more node is kept, and what is kept in the end.
+-- The expansion of one more node is kept, and what is kept at the end.
 use Rattle.std.proofs.Common.{◌≡◌, ◌≢◌, ◌∙◌, ◌+◌, ◌<◌, ◌≤◌, ℕ, Bool, true, false, List, [], length, take, get_or, refl, ap, sym, subst, inl, inr, arith, Contains}
 use Rattle.std.specs.Prelude.{Some, None, IsSome}
 use Rattle.std.specs.List.{filter}
@@ -29,7 +29,7 @@ expandable_in store node e = node_in store.names store.expandable node e
 pub true_false : (b : Bool) → b ≡ true → b ≡ false → ⊥
 true_false b t f = absurd (let both : true ≡ false = sym t ∙ f in cc)
 
--- the nodes that an expandable node's plan uses are kept
+-- the expansions that the plan of an expandable node uses are kept
 pub plan_kept : (shapes : Shapes) (store : StoreRead) (kept : Kept) (node : Node) (id : ℕ) → KeepsUsed shapes store kept node → UsesPiece shapes store node id → IsSome (kept_at kept (Name id))
 plan_kept shapes store kept node id keeps u = subst IsSome (sym (keeps id u)) refl
 
@@ -38,7 +38,7 @@ module _ (shapes : Shapes) (store : StoreRead) (list : List Node) (is : IsStoreO
   pub next_expandable : (i : ℕ) → i < length list → is_expandable_at store (get_or list i Program) ≡ true
   next_expandable i h = lists.expandable (get_or list i Program) (Contains-get_or list i Program h)
 
-  -- the names with a piece that it uses are kept
+  -- the expansions of the names with a piece that it uses are kept
   pub next_kept : (i : ℕ) (kept : Kept) → i < length list → KeepsDone shapes store list i kept
       → ((l h : ℕ) (any : Shapes) (title : Title) (name : List ℕ) → IsExpandable l h any title → Uses any title name → any (Named name) ≢ [] → IsExpandable l h any (Named name))
       → KeepsUsed shapes store kept (get_or list i Program)
@@ -80,7 +80,7 @@ nothing_first : (list : List Node) (node : Node) → Contains (take 0 list) node
 nothing_first list node c = absurd (omega (arith, c.1))
 
 module _ (shapes : Shapes) (store : StoreRead) (order : List Node) (ordered : IsOrderIn store order) where
-  -- nothing is kept, and all expandable nodes are to come
+  -- nothing is kept, and all expandable nodes remain to be expanded
   pub none_done : (kept : Kept) → ((node : Node) → kept_at kept node ≡ None) → KeepsDone shapes store (filter (is_expandable_at store) order) 0 kept
   none_done kept none = record {
     expandable = λ node e listed. absurd (nothing_first (filter (is_expandable_at store) order) node
@@ -88,7 +88,7 @@ module _ (shapes : Shapes) (store : StoreRead) (order : List Node) (ordered : Is
     others = λ node e. none node;
   }
 
-  -- the unflagged nodes are kept, and those of the list, which are flagged, are to come
+  -- the expansions of unflagged nodes are kept, and the flagged nodes, those of the list, remain to be expanded
   pub unflagged_done : (flags : List Bool) (list : List Node) (kept : Kept) → FlagsJustListed store flags list
       → KeepsUnflagged shapes store (flag_at store flags) order kept → KeepsDone shapes store list 0 kept
   unflagged_done flags list kept are keeps = record {
@@ -129,7 +129,7 @@ module _ (shapes : Shapes) (store : StoreRead) (order : List Node) (ordered : Is
     others = keeps.others;
   }
 
-  -- a list of all expandable nodes, and one of the affected ones, can be expanded
+  -- the list of all expandable nodes can be expanded, and so can that of the affected ones
   pub all_ready : (list : List Node) (kept : Kept) → IsStoreOf shapes store → list ≡ filter (is_expandable_at store) order → ((node : Node) → kept_at kept node ≡ None) → CanExpand shapes store list kept
   all_ready list kept is same none = record {
     store_is = is;

@@ -1,4 +1,4 @@
--- What is listed along the order is what is affected.
+-- The nodes that are listed along the order are the affected ones.
 use Rattle.std.proofs.Common.{◌≡◌, ◌≢◌, ◌<◌, ℕ, zero, Bool, true, List, [], ◌∷◌, length, take, get_or, refl, sym, subst, arith, Contains}
 use Rattle.std.specs.List.{filter}
 use Rattle.std.proofs.lemmas.Bool.{and_parts, and_from}
@@ -19,7 +19,7 @@ use Rattle.tangle_affected.proofs.FlagLemmas.{at_position}
 use Rattle.tangle_affected.proofs.NameLemmas.{node_with_piece}
 
 module _ (shapes : Shapes) (store : StoreRead) (order : List Node) (is : IsStoreOf shapes store) (ordered : IsOrderIn store order) where
-  -- a node of a filter comes after those of the filter that it uses
+  -- a node of a filter of the order comes after those of the filter that it uses
   filtered_after : (p : Node → Bool) (k : ℕ) (used : Node) → k < length (filter p order) → Contains (filter p order) used
       → UsesTitle shapes (title_in_store store (get_or (filter p order) k Program)) (title_in_store store used) → Contains (take k (filter p order)) used
   filtered_after p k used h c u =
@@ -79,7 +79,7 @@ module _ (shapes : Shapes) (store : StoreRead) (order : List Node) (is : IsStore
             let both = and_parts (is_expandable_at store a) (flag_at store flags a) there.1 in
             (ordered.inside a there.0, is_affected a there.0 both.0 both.1)
 
--- where the nodes of such a list are flagged, each affected one is
+-- if the nodes of such a list are flagged, each affected node is
 pub listed_flagged : (old new : Shapes) (store : StoreRead) (nodes : List Node) (flags : List Bool) → IsStoreOf new store → ListsAffected old new store nodes
     → FlagsJustListed store flags nodes → FlagsAffected old new store flags
 listed_flagged old new store nodes flags is lists are node inside affected =

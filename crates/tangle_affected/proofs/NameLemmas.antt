@@ -39,7 +39,7 @@ name_absent names text (Name id) none e =
     let same = named_injective text (get_or names id []) (sym e ∙ title_inside names id low) in
     none_found (bytes_eq text) names id [] none low ((bytes_eq-Decides text (get_or names id [])).1 same)
 
--- a title with a piece is that of a node
+-- a title with a piece is the title of a node
 pub node_with_piece : (shapes : Shapes) (store : StoreRead) (node : Title) → IsStoreOf shapes store → shapes node ≢ [] → (a : Node) × IsNodeIn store a × (title_in_store store a ≡ node)
 node_with_piece shapes store title.Program is has = (Program, tt, refl)
 node_with_piece shapes store (Named name) is has = is.known name has
@@ -52,7 +52,7 @@ empty_unless (x ∷ xs) h = absurd (h (λ e. let no : x ∷ xs ≡ [] = e in abs
 pub no_shape : (shapes : Shapes) (store : StoreRead) (node : Title) → IsStoreOf shapes store → ((a : Node) → IsNodeIn store a → title_in_store store a ≢ node) → shapes node ≡ []
 no_shape shapes store node is none = empty_unless (shapes node) (λ has. let at = node_with_piece shapes store node is has in none at.0 at.1 at.2)
 
--- whether two shapes are not the same
+-- whether two shapes differ
 pub differ : (s t x y : Shape) (b : Bool) → ((b ≡ true) ↔ (s ≡ t)) → s ≡ x → t ≡ y → (not b ≡ true → y ≢ x) × (y ≢ x → not b ≡ true)
 differ s t x y true reported sx ty = (
   (λ e. absurd (let both : false ≡ true = e in cc)),

@@ -13,8 +13,9 @@ pub record EditedShapes : Type 0 where
   pub old : Shapes
   pub new : Shapes
 
--- Just the affected nodes, as nodes of the new store: each once, and a node after those of the list that it uses. Which are affected is said
--- of titles, since these are the same in both shapes.
+-- Exactly the affected nodes, as nodes of the new store: each once, and after those listed nodes
+-- that it uses. Whether a node is affected is said of its title, which names the same node in both
+-- shapes.
 pub record ListsAffected (old new : Shapes) (store : StoreRead) (nodes : List Node) : Type 0 where
   pub all : (title : Title) → IsAffected levels heaviest old new title → (node : Node) × (title_in_store store node ≡ title) × Contains nodes node
   pub only : (node : Node) → Contains nodes node → IsNodeIn store node × IsAffected levels heaviest old new (title_in_store store node)
@@ -22,6 +23,6 @@ pub record ListsAffected (old new : Shapes) (store : StoreRead) (nodes : List No
   pub after : (k : ℕ) (used : Node) → k < length nodes → Contains nodes used
       → UsesTitle new (title_in_store store (slice_index_or nodes k Program)) (title_in_store store used) → Contains (take k nodes) used
 
--- these are listed after what was listed before
+-- exactly the affected nodes were added to the end of the list
 abbrev pub ListsAffectedAfter : Shapes → Shapes → StoreRead → List Node → List Node → Type 0
 ListsAffectedAfter old new store before after = (nodes : List Node) × (after ≡ before ++ nodes) × ListsAffected old new store nodes

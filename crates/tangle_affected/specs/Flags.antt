@@ -1,4 +1,4 @@
--- What flags of a store's nodes say. These definitions are cited by private contracts alone.
+-- What flags of a store's nodes mean. Only private contracts cite these definitions.
 use Rattle.std.specs.Prelude.{◌≡◌, ◌≢◌, ◌↔◌, ◌&&◌, Bool, true, List, Contains}
 use Rattle.tangle_expansion.specs.Affected.{IsAffected}
 use Rattle.tangle_expansion.specs.Limits.{levels, heaviest}
@@ -6,11 +6,11 @@ use Rattle.tangle_plans.specs.Shapes.{Title, Shapes, Reaches}
 use Rattle.tangle_plans.specs.declared.nodes.Node.{Node}
 use Rattle.tangle_graph.specs.Stores.{StoreRead, IsNodeIn, flag_at, is_expandable_at, title_in_store}
 
--- the node with this title reaches one whose shape is not the old one
+-- the node with this title reaches one whose shape differs from its old shape
 abbrev pub ReachesNewShape : Shapes → Shapes → Title → Type 0
 ReachesNewShape old new title = (cause : Title) × Reaches new title cause × (new cause ≢ old cause)
 
--- of these nodes just those are flagged that reach one with a new shape
+-- exactly those of these nodes are flagged that reach one with a new shape
 abbrev pub AreFlagged : Shapes → Shapes → StoreRead → List Bool → List Node → Type 0
 AreFlagged old new store flags nodes =
     (node : Node) → Contains nodes node → ((flag_at store flags node ≡ true) ↔ ReachesNewShape old new (title_in_store store node))
@@ -19,7 +19,7 @@ AreFlagged old new store flags nodes =
 abbrev pub is_expandable_and_flagged : StoreRead → List Bool → Node → Bool
 is_expandable_and_flagged store flags node = is_expandable_at store node && flag_at store flags node
 
--- of the store's nodes just those of the list are flagged
+-- exactly the listed nodes of the store are flagged
 abbrev pub FlagsJustListed : StoreRead → List Bool → List Node → Type 0
 FlagsJustListed store flags nodes = (node : Node) → IsNodeIn store node → ((flag_at store flags node ≡ true) ↔ Contains nodes node)
 

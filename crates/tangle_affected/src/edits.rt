@@ -14,13 +14,14 @@ use tangle_graph::{Store, keeps_shape, same_shape};
 use tangle_lines::NoMemory;
 use tangle_plans::{Node, PiecesByNode};
 
-/// The nodes that an edit affects: those that are expandable in the new store and reach, in it, a
-/// node whose shape in the old one isn't the same. Each comes once, and after those of the list
-/// that it uses. Nodes are matched by name, the program by the program.
+/// The nodes that an edit affects: each that is expandable in the new store, and reaches there a
+/// node whose shape differs from its shape in the old store. Each is listed once, after those
+/// listed nodes that it uses. Nodes of the two stores are matched by name, and the program with the
+/// program.
 ///
 /// # Errors
 ///
-/// `NoMemory`, where an allocation failed.
+/// `NoMemory` where an allocation failed.
 pub fn affected(alloc: Global, old: &Store, new: &Store) -> Result<Vec<Node>, NoMemory>
     ensures { (old_shapes new_shapes : Shapes) → IsStoreOf old_shapes old.now
         → IsStoreOf new_shapes new.now
@@ -29,8 +30,8 @@ pub fn affected(alloc: Global, old: &Store, new: &Store) -> Result<Vec<Node>, No
     affected_over(alloc, old, new, &[])
 }
 
-/// The same nodes, where the flags say which nodes have the old body, and use names as before.
-/// Their shapes are not compared.
+/// The same nodes, without comparing shapes: the flags say which nodes keep their old body and the
+/// names that it uses.
 pub(crate) fn affected_over(
     alloc: Global,
     old: &Store,
@@ -47,7 +48,7 @@ pub(crate) fn affected_over(
     listed_nodes(alloc, new, &flags, order)
 }
 
-/// Flags, along the order, the nodes that reach one with a new shape.
+/// Flags, along the order, each node that reaches one with a new shape.
 fn reaching_new_shapes(
     alloc: Global,
     old: &Store,
@@ -61,6 +62,7 @@ fn reaching_new_shapes(
         → IsStoreOf new_shapes new.now
         → IfOk result (λ flags. AreFlagged old_shapes new_shapes new.now flags.items order.now) }
 {
+    // `digraph::reaching` would search, and takes rows of numbers, which a store does not give.
     let mut flags = new.no_flags(alloc)?;
     for node in order {
         let is_flagged = has_new_shape(old, new, are_as_before, *node)
@@ -70,8 +72,8 @@ fn reaching_new_shapes(
     Ok(flags)
 }
 
-/// Whether the shape of the node is not the old one. A node without an old one has a new shape if
-/// it has a piece.
+/// Whether the shape of the node differs from its old shape. A node that the old store does not
+/// have has a new shape if it has a piece.
 fn has_new_shape(old: &Store, new: &Store, are_as_before: &[bool], node: Node) -> bool
     requires bodies { KeepsBodies old.now new.now are_as_before.now }
     requires node { IsNodeIn new.now node }
@@ -89,7 +91,7 @@ fn has_new_shape(old: &Store, new: &Store, are_as_before: &[bool], node: Node) -
     }
 }
 
-/// The node of the old store that has the title of this one of the new store, if there is one.
+/// The node of the old store that has the title of this node of the new store, if there is one.
 pub(crate) fn node_before(old: &Store, new: &Store, node: Node) -> Option<Node>
     requires { IsNodeIn new.now node }
     ensures some { IfSome result (λ before. IsNodeIn old.now before
@@ -108,7 +110,6 @@ pub(crate) fn node_before(old: &Store, new: &Store, node: Node) -> Option<Node>
     }
 }
 
-/// Whether some node of the row is flagged.
 fn any_flagged(store: &Store, flags: &[bool], row: &[Node]) -> bool
     ensures one { result ≡ true → (m : Node) × Contains row.now m
         × (flag_at store.now flags.now m ≡ true) }
@@ -123,7 +124,7 @@ fn any_flagged(store: &Store, flags: &[bool], row: &[Node]) -> bool
     false
 }
 
-/// The expandable and flagged nodes, in the order.
+/// The nodes that are expandable and flagged, in the order of the store.
 fn listed_nodes(
     alloc: Global,
     store: &Store,

@@ -1,5 +1,5 @@
-//! The expansions of a web: all of them anew, or after an edit, where those that it doesn't affect
-//! are shared.
+//! Keeps the expansions of a web: all are made, or after an edit those of the affected nodes, and
+//! the others are shared.
 ghost use Rattle.std.specs.Prelude.{◌≡◌, ◌++◌, ◌∷◌, [], true, filter, IfOk};
 ghost use Rattle.std.specs.Prelude.{OnOk, None, Contains};
 ghost use Rattle.tangle_expansion.specs.Kept.{kept_at, PutsKept};
@@ -20,12 +20,12 @@ use tangle_graph::{Store, expand_one};
 use tangle_lines::NoMemory;
 use tangle_plans::Node;
 
-/// Expands each expandable node of the store, and keeps what it expands to. The nodes go last in
-/// the work's list.
+/// Expands each expandable node of the store, and keeps its expansion. The nodes are added to the
+/// end of the work's list.
 ///
 /// # Errors
 ///
-/// `NoMemory`, where an allocation failed.
+/// `NoMemory` where an allocation failed.
 pub fn expand_all(alloc: Global, store: &Store, work: &mut Work) -> Result<Kept, NoMemory>
     requires { (shapes : Shapes) × IsStoreOf shapes store.now }
     ensures kept { (shapes : Shapes) → IsStoreOf shapes store.now
@@ -38,13 +38,13 @@ pub fn expand_all(alloc: Global, store: &Store, work: &mut Work) -> Result<Kept,
     Ok(kept)
 }
 
-/// Shares the old expansion of each expandable node that the edit doesn't affect, and expands the
-/// affected ones, each after those that it uses. The affected nodes go last in the work's list. The
-/// flags say which nodes have the old body, and use names as before.
+/// Shares the old expansion of each unaffected expandable node, and expands the affected nodes,
+/// each after those that it uses. The affected nodes are added to the end of the work's list. The
+/// flags say which nodes keep their old body and the names that it uses.
 ///
 /// # Errors
 ///
-/// `NoMemory`, where an allocation failed. The old expansions stay as they are.
+/// `NoMemory` where an allocation failed. The old expansions do not change.
 pub fn expand_again(
     alloc: Global,
     old: &Store,
@@ -61,6 +61,7 @@ pub fn expand_again(
         → OnOk result (ListsAffectedAfter shapes.old shapes.new new.now work.old work.new) }
 {
     let list = affected_over(alloc, old, new, are_as_before)?;
+    // The clause of `affected_over` is about its list, not about the flags that it was made of.
     let flags = flags_of(alloc, new, &list)?;
     let order = new.order();
     let mut kept = Kept::new(alloc);
@@ -69,7 +70,7 @@ pub fn expand_again(
     Ok(kept)
 }
 
-/// The expandable nodes, in the order.
+/// The expandable nodes, in the order of the store.
 fn expandable_nodes(alloc: Global, store: &Store, order: &[Node]) -> Result<Vec<Node>, NoMemory>
     ensures { IfOk result (λ nodes. nodes.items ≡ filter (is_expandable_at store.now) order.now) }
 {
@@ -82,7 +83,6 @@ fn expandable_nodes(alloc: Global, store: &Store, order: &[Node]) -> Result<Vec<
     Ok(nodes)
 }
 
-/// Flags the nodes of the list.
 fn flags_of(alloc: Global, store: &Store, list: &[Node]) -> Result<Vec<bool>, NoMemory>
     requires { (node : Node) → Contains list.now node → IsNodeIn store.now node }
     ensures { IfOk result (λ flags. FlagsJustListed store.now flags.items list.now) }
@@ -94,7 +94,7 @@ fn flags_of(alloc: Global, store: &Store, list: &[Node]) -> Result<Vec<bool>, No
     Ok(flags)
 }
 
-/// A share of the old expansion of the node, which is matched by name.
+/// Shares the old expansion of the node, which is found by its name.
 fn share_old(old: &Store, old_kept: &Kept, new: &Store, node: Node) -> Result<Expansion, NoMemory>
     requires node { IsNodeIn new.now node }
     requires edit { (shapes : EditedShapes) × IsEditOf old.now new.now old_kept.now shapes
@@ -108,7 +108,7 @@ fn share_old(old: &Store, old_kept: &Kept, new: &Store, node: Node) -> Result<Ex
     old_kept.get(before).unwrap().share()
 }
 
-/// Keeps a share of the old expansion of an expandable node that isn't affected.
+/// Shares and keeps the old expansion of an unaffected expandable node.
 fn keep_share(
     old: &Store,
     old_kept: &Kept,
@@ -128,7 +128,7 @@ fn keep_share(
     kept.put(node, share)
 }
 
-/// Keeps a share of the old expansion of each expandable node without a flag.
+/// Shares and keeps the old expansion of each expandable node without a flag.
 fn share_unflagged(
     old: &Store,
     old_kept: &Kept,
@@ -175,7 +175,7 @@ fn expand_next(
     kept.put(node, expansion)
 }
 
-/// Expands the nodes of the list in its order, each with the expansions kept so far.
+/// Expands the nodes of the list in its order, each from the expansions kept so far.
 fn expand_list(
     alloc: Global,
     store: &Store,

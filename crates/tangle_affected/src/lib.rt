@@ -1,5 +1,5 @@
-//! What an edit affects: the nodes to be expanded again, and the expansions of a web after an edit,
-//! kept ones and new ones.
+//! The nodes that an edit affects, and the expansions of a web after an edit: those that are shared
+//! and those that are made again.
 #![tactic(auto)]
 
 mod edits;

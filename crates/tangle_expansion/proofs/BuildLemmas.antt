@@ -4,7 +4,7 @@ use Rattle.std.proofs.lemmas.List.{map-append}
 use Rattle.std.proofs.Math.Seq.{take-suc}
 use Rattle.tangle_expansion.specs.Numbers.{PieceNumbersRead}
 
--- one more row goes last
+-- one more row is added at the end
 pub rows_next : (f : List ℕ → List PieceNumbersRead) (names : List (List ℕ)) (id : ℕ) (rows : List (List PieceNumbersRead)) (row : List PieceNumbersRead) → id < length names
     → rows ≡ map f (take id names) → row ≡ f (get_or names id [])
     → rows ++ row ∷ [] ≡ map f (take (id + 1) names)

@@ -1,4 +1,4 @@
--- A name is escaped by two replacements: to replace a needle of one byte is to replace each such byte.
+-- A name is escaped by two replacements; replacing a needle of one byte means replacing each such byte.
 use Rattle.std.proofs.Common.{◌≡◌, ℕ, zero, suc, ◌+◌, ◌-◌, ◌<◌, ◌≤◌, Bool, true, false, ◌&&◌, ◌||◌, ◌==◌, List, [], ◌∷◌, ◌++◌, length, get_or, take, drop, flat_map, refl, ap, sym, subst, ◌∙◌, arith, ⊎_elim, cond, take_all, append_assoc, append-nil, length-drop, get_or-drop, bytes_eq, if◌then◌else◌}
 use Rattle.std.proofs.lemmas.Bool.{cases_Bool, eqb-true, le-leb, lt-leb, cases_lt}
 use Rattle.std.proofs.lemmas.List.{drop_more, drop_all, take_more}
@@ -9,7 +9,7 @@ use Rattle.tangle_lines.specs.Bytes.{double_quote}
 use Rattle.tangle_text.specs.Bytes.{backslash}
 use Rattle.tangle_expansion.specs.Numbers.{escaped_byte, escaped}
 
--- what a byte becomes where others replace the byte c
+-- the replacement of a byte, where the byte `c` is replaced by `others`
 abbrev replaced_byte : ℕ → List ℕ → ℕ → List ℕ
 replaced_byte c others b = if b == c then others else b ∷ []
 
@@ -27,7 +27,7 @@ module _ (hay : List ℕ) (c : ℕ) (others : List ℕ) where
   occurs-past : (i : ℕ) → length hay ≤ i → occurs_at hay (c ∷ []) i ≡ false
   occurs-past i past = ap (λ t. t && bytes_eq (take 1 (drop i hay)) (c ∷ [])) (lt-leb (i + 1) (length hay) (omega (arith, past)))
 
-  -- what the bytes from a position on become
+  -- the bytes from a position on, with replacements
   abbrev replaced_from : ℕ → List ℕ
   replaced_from i = flat_map (replaced_byte c others) (drop i hay)
 
@@ -52,7 +52,7 @@ module _ (hay : List ℕ) (c : ℕ) (others : List ℕ) where
       let none : i - i ≡ 0 = omega arith in
       ap (λ n. take n (drop i hay)) none
 
-  -- the bytes from the position `last` on, of which those below i match nothing
+  -- the bytes from the position `last` on, of which those below `i` match nothing
   replaced_at-is : (n last i : ℕ) → last ≤ i → i + n ≡ length hay + 1
       → replaced_at hay 1 others last (matches_from hay (c ∷ []) 0 i n) ≡ part last i hay ++ replaced_from i
   unfolding replaced_at matches_from
@@ -116,7 +116,7 @@ bytes-by_two (b ∷ name) =
     ∙ ap (λ l. l ++ flat_map with_quotes (flat_map with_slashes name)) (byte-by_two b)
     ∙ ap (λ l. escaped_byte b ++ l) (bytes-by_two name)
 
--- backslashes are replaced first: replacing the quotes adds some
+-- backslashes are replaced first, since replacing the quotes adds some
 pub escaped-by_two : (name slashed quoted : List ℕ)
     → slashed ≡ replaced_at name 1 (backslash ∷ backslash ∷ []) 0 (matches name (backslash ∷ []) 0)
     → quoted ≡ replaced_at slashed 1 (backslash ∷ double_quote ∷ []) 0 (matches slashed (double_quote ∷ []) 0)

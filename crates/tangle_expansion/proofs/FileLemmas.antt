@@ -1,4 +1,4 @@
--- The bytes of a file, and that they are not too many.
+-- The bytes of a file, and how many there are at most.
 use Rattle.std.proofs.Common.{◌≡◌, ◌∙◌, ℕ, ◌^◌, ◌<◌, ◌≤◌, Bool, true, false, List, [], ◌∷◌, ◌++◌, length, ap, sym, subst, append_assoc, append-nil, arith, length-append}
 use Rattle.std.specs.Prelude.{Result, Ok, if◌then◌else◌}
 use Rattle.tangle_streams.specs.declared.failures.WriteFault.{WriteFault}
@@ -15,7 +15,7 @@ front_fits : (numbers : NumbersRead) → SymbolsAreShort numbers → (t : Bool) 
 front_fits numbers h true = macros_fit numbers h
 front_fits numbers h false = omega arith
 
--- a file without a piece
+-- a file whose node has no piece
 pub front_written : (a b : Stream) (r : Result ℕ WriteFault) (numbers : NumbersRead) (has_macros has_piece : Bool) (symbols : List Symbol) (front : List ℕ)
     → SymbolsAreShort numbers → has_piece ≡ false → front ≡ front_bytes numbers has_macros → IsWrittenAfter a b (Ok 0) front r
     → IsWritten a b (output_file_bytes numbers has_macros has_piece symbols) r
@@ -25,7 +25,7 @@ front_written a b r numbers has_macros has_piece symbols front short none is put
     ∙ ap (λ t. front_bytes numbers has_macros ++ (if t then expansion_bytes numbers symbols ++ 10 ∷ [] else [])) (sym none) in
     subst (λ l. IsWritten a b l r) whole (puts a [] (writes_at_first a) (omega (arith, ap length is, front_fits numbers short has_macros)))
 
--- a file with one
+-- a file whose node has a piece
 pub file_written : (a b c d : Stream) (r s t : Result ℕ WriteFault) (numbers : NumbersRead) (has_macros has_piece : Bool) (symbols kept : List Symbol) (front : List ℕ)
     → SymbolsAreShort numbers → has_piece ≡ true → front ≡ front_bytes numbers has_macros → symbols ≡ kept → length kept ≤ heaviest
     → IsWrittenAfter a b (Ok 0) front r → IsWrittenAfter b c r (expansion_bytes numbers symbols) s → IsWrittenAfter c d s (10 ∷ []) t

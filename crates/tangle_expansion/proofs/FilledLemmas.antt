@@ -1,4 +1,4 @@
--- The slots of pieces, filled with the symbols of the names, are what the pieces expand to.
+-- The slots of pieces, filled with the symbols of the used names, are the expansion of the pieces.
 use Rattle.std.proofs.Common.{◌<◌, ◌≡◌, ◌∙◌, ℕ, ◌+◌, Bool, true, false, List, [], ◌∷◌, ◌++◌, map, length, refl, ap, sym, append-nil, inl, inr}
 use Rattle.std.specs.Prelude.{if◌then◌else◌, slice_index_or, decimal}
 use Rattle.std.proofs.lemmas.Grind.{flat_map-append}
@@ -84,7 +84,7 @@ module _ (texts : List (List ℕ)) (table : TableRead) (has_piece : ℕ → Bool
       ∙ ap (λ l. l ++ filled symbols (pieces_slots texts table has_piece node (piece + 1) pieces)) (items_filled piece 0 p.items (λ id low u. fit id low (inl u)))
       ∙ ap (λ l. items_flat used node piece 0 (map (shape_item texts table) p.items) ++ l) (pieces_filled (piece + 1) pieces (λ id low u. fit id low (inr u))))
 
--- the slots of a node, filled with what the names that it uses expand to, are what it expands to
+-- the slots of a node, filled with the expansions of the names that it uses, are its expansion
 pub node_filled : (web : WebRead) (table : TableRead) (has_piece : ℕ → Bool) (symbols : ℕ → List Symbol) (levels : ℕ) (node : Title) → ResolvesInside table
     → depth levels (shapes web table) node < levels
     → ((id : ℕ) → id < length table.names → Uses (shapes web table) node (slice_index_or table.names id [])

@@ -1,4 +1,4 @@
--- Each byte of an item is at its own origin, over a whole output.
+-- In a whole output, each byte of an item is at its own origin.
 use Rattle.std.proofs.Common.{◌≡◌, ◌∙◌, ℕ, ◌+◌, zero, suc, Bool, true, false, List, [], ◌∷◌, ◌++◌, map, drop, get_or, Option, None, Some, refl, ap, subst, arith}
 use Rattle.std.specs.Prelude.{filter, flat_map, if◌then◌else◌, slice_index_or}
 use Rattle.std.specs.List.{AllZip}
@@ -19,7 +19,7 @@ use Rattle.tangle_expansion.specs.Numbers.{NumbersRead, PieceNumbersRead, no_ori
 use Rattle.tangle_expansion.specs.Location.{OfItem, Other, LocatedItem, LocatedSymbol, origin_after, AreAtTheirOrigins, located_items, located_pieces, located_shapes, located_item, items_located, pieces_located, located}
 use Rattle.tangle_files.specs.declared.marks.MarkMode.TheVariants.{Full}
 
--- where the first origin is known, the second is the same
+-- if the first origin is known, the second is the same
 abbrev pub Agrees : Option Origin → Option Origin → Type 0
 Agrees None q = Unit {0}
 Agrees (Some origin) q = q ≡ Some origin
@@ -114,7 +114,7 @@ module _ (numbers : NumbersRead) (full : numbers.marks ≡ Full) (texts : List (
   items_are_located node piece marks p q agrees (item.Defs ∷ items) ss origins own =
       (tt, items_are_located node piece marks None None tt items ss origins own)
 
-  -- the pieces of a node, from the one on that has this number among them
+  -- the pieces of a node, from the one with this number on
   pieces_are_located : (node : Title) (piece : ℕ) (pieces : List PieceRead) (locations : List (List Location))
       → drop piece (node_numbers numbers node) ≡ map numbers_of_piece (filter (is_piece_of table node) pieces)
       → AllZip (λ p e. IsAtItsLine lines p.origin p.items e) pieces locations
@@ -144,7 +144,7 @@ module _ (numbers : NumbersRead) (full : numbers.marks ≡ Full) (texts : List (
           )
       by false is more = more piece is q
 
--- what a node expands to, with any fuel and from any origin of the compiler on
+-- the expansion of a node, with any fuel and from any counted origin on
 pub node_is_located : (source : SourceRead) (web : WebRead) (table : TableRead) → ResolvesInside table → PiecesAreAtTheirLines source web
     → (fuel : ℕ) (node : Title) (q : Option Origin)
     → AreAtTheirOrigins (numbers_of web table Full) q (located fuel (located_shapes source web table) node)

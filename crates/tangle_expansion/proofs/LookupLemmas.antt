@@ -1,4 +1,4 @@
--- A look-up of a name in rows, one for each name.
+-- Looking up a name in rows, of which each name has one.
 use Rattle.std.proofs.Common.{◌≡◌, ◌∙◌, ◌+◌, ◌≤◌, ℕ, zero, suc, Bool, true, false, cond, not, List, [], ◌∷◌, map, length, None, Some, refl, ap, sym, arith, All}
 use Rattle.std.specs.Prelude.{nat_lt, unwrap_or, slice_get}
 use Rattle.std.specs.List.{position, position_or_len, zip}
@@ -38,7 +38,7 @@ found_row name names rows size = by (nat_lt k (length names)) refl ∙ ap (λ o.
         let high : length names ≤ k = ltb-false k (length names) e in
         sym (ap (λ o. unwrap_or o []) (slice_get_past rows k (omega (arith, high, size))))
 
--- the rows of short pieces are short entries
+-- rows of short pieces give short entries
 pub zip_short : (names : List (List ℕ)) (rows : List (List PieceNumbersRead)) → All (All IsShort) rows → All EntryIsShort (zip names rows)
 zip_short [] rows h = λ i d none. absurd (omega (arith, none))
 zip_short (name ∷ names) [] h = λ i d none. absurd (omega (arith, none))
@@ -48,7 +48,7 @@ zip_short (name ∷ names) (row ∷ rows) h = at (zip_short names rows (λ i d l
     at rest zero d within = h zero row (omega arith)
     at rest (suc i) d within = rest i d (omega (arith, within))
 
--- each name beside what is made of it
+-- each name beside the row that is made for it
 pub zip_made : (f : List ℕ → List PieceNumbersRead) (names : List (List ℕ)) → zip names (map f names) ≡ map (λ name. (name, f name)) names
 zip_made f [] = refl
 zip_made f (name ∷ names) = ap (λ l. (name, f name) ∷ l) (zip_made f names)

@@ -24,7 +24,7 @@ module _ (texts : List (List ℕ)) where
   front_by x xs [] n false dropped is = (1, rw dropped)
   front_by x xs (y ∷ ys) n u dropped is = (suc n, ap (λ t. x ∷ t) is)
 
-  -- they are a prefix of the items
+  -- they are a prefix of all items
   is_front : (xs : List Item) → (n : ℕ) × (without_end texts xs ≡ take n xs)
   is_front [] = (0, refl)
   is_front (x ∷ xs) = front_by x xs (without_end texts xs) (is_front xs).0 (is_dropped_at_end texts x) refl (is_front xs).1
@@ -44,12 +44,12 @@ module _ (texts : List (List ℕ)) where
       let one : take n xs ≡ take m xs ++ get_or xs m d ∷ [] = ap (λ k. take k xs) is ∙ take-suc xs m d (omega arith) in
       ap (without_end texts) one ∙ (written_last (take m xs) (get_or xs m d) written ∙ sym one)
 
-  -- a front whose last item is dropped
+  -- a prefix whose last item is dropped
   pub dropped_at : (xs : List Item) (n : ℕ) (d : Item) → 0 < n → n ≤ length xs → is_dropped_at_end texts (get_or xs (n - 1) d) ≡ true
       → without_end texts (take n xs) ≡ without_end texts (take (n - 1) xs)
   dropped_at xs n d some within dropped = dropped_by xs n (n - 1) d (omega arith) within dropped
 
-  -- a front whose last item is written
+  -- a prefix whose last item is written
   pub written_at : (xs : List Item) (n : ℕ) (d : Item) → 0 < n → n ≤ length xs → is_dropped_at_end texts (get_or xs (n - 1) d) ≡ false
       → without_end texts (take n xs) ≡ take n xs
   written_at xs n d some within written = written_by xs n (n - 1) d (omega arith) within written

@@ -1,4 +1,4 @@
--- The bytes that are written for a node are those of its pieces.
+-- The bytes of a node are those of its pieces.
 use Rattle.std.proofs.Common.{◌≡◌, ◌∙◌, ℕ, ◌+◌, List, [], ◌∷◌, ◌++◌, map, drop, get_or, refl, ap, sym, append_assoc, append-nil}
 use Rattle.std.specs.Prelude.{decimal, flat_map, slice_index_or}
 use Rattle.tangle_files.specs.Bytes.{space, line_feed}
@@ -53,7 +53,7 @@ module _ (numbers : NumbersRead) where
     use_then piece marks items NoFullName = refl
     use_then piece marks items Ambiguous = refl
 
-    -- the items of a piece, after so many of its marks
+    -- the items of a piece, after this number of its marks
     items_written : (piece marks : ℕ) (items : List Item) → drop (marks + 1) (numbers_at numbers node piece).origins ≡ flat_map item_origins items
         → expansion_bytes numbers (items_flat used node piece marks (map (shape_item texts table) items))
         ≡ items_bytes numbers table used texts items ++ closing_bytes (numbers_at numbers node piece).section
@@ -74,7 +74,7 @@ module _ (numbers : NumbersRead) where
         (items_written piece marks items origins)
     items_written piece marks (item.Defs ∷ items) origins = then (line_feed ∷ numbers.macros) _ _ _ _ refl (items_written piece marks items origins)
 
-    -- the pieces of a node, from the one on that has this number among them
+    -- the pieces of a node, from the one with this number on
     pub pieces_written : (piece : ℕ) (pieces : List PieceRead) → drop piece (node_numbers numbers node) ≡ map numbers_of_piece pieces
         → expansion_bytes numbers (pieces_flat used node piece (map (λ (p : PieceRead). map (shape_item texts table) p.items) pieces))
         ≡ flat_map (piece_bytes numbers table used texts) pieces

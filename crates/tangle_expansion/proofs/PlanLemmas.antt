@@ -1,4 +1,4 @@
--- How the writing of a plan goes on by a step.
+-- One more step of a plan is written.
 use Rattle.std.proofs.Common.{◌≡◌, ◌∙◌, ℕ, ◌+◌, ◌<◌, ◌≤◌, true, false, List, [], ◌∷◌, ◌++◌, map, drop, length, get_or, refl, ap, sym, append_assoc, arith}
 use Rattle.std.specs.Prelude.{if◌then◌else◌}
 use Rattle.tangle_plans.specs.Shapes.{Title}
@@ -72,7 +72,7 @@ stops_at_end numbers node bytes plan piece marks start i h =
       rest = ap (after_use piece marks start) none ∙ ap (λ l. record { piece = piece; marks = marks; start = start; plan = l }) (sym none);
     }
 
--- what a plan means without shared expansions
+-- the meaning of a plan without shared expansions
 pub plan_none : (node : Title) (bytes : List ℕ) (piece marks start : ℕ) (plan : List Step) → plan_flat node bytes piece marks start plan [] ≡ before_use node bytes piece marks start plan
 plan_none node bytes piece marks start [] = refl
 plan_none node bytes piece marks start (step.Open ∷ plan) = ap (λ l. Opening node piece ∷ MarkOf node piece 0 ∷ l) (plan_none node bytes piece 0 start plan)
@@ -83,7 +83,7 @@ plan_none node bytes piece marks start (step.Space ∷ plan) = ap (λ l. Byte sp
 plan_none node bytes piece marks start (step.Use id ∷ plan) = refl
 plan_none node bytes piece marks start (step.Close ∷ plan) = ap (λ l. Closing node piece ∷ l) (plan_none node bytes (piece + 1) 0 start plan)
 
--- what it means with one more
+-- its meaning with one more shared expansion
 abbrev pub rest_flat : Title → List ℕ → PlanCursor → List (List Symbol) → List Symbol
 rest_flat node bytes r used = plan_flat node bytes r.piece r.marks r.start r.plan used
 
@@ -101,7 +101,7 @@ plan_some node bytes piece marks start (step.Space ∷ plan) symbols used = ap (
 plan_some node bytes piece marks start (step.Use id ∷ plan) symbols used = refl
 plan_some node bytes piece marks start (step.Close ∷ plan) symbols used = ap (λ l. Closing node piece ∷ l) (plan_some node bytes (piece + 1) 0 start plan symbols used)
 
--- what is written for it, where one of the shared expansions comes next
+-- the bytes of a plan whose next use is one of the shared expansions
 pub written_with : (numbers : NumbersRead) (node : Title) (bytes : List ℕ) (piece marks start : ℕ) (plan : List Step) (used seen : List (List Symbol)) (i : ℕ) (symbols : List Symbol) (r : PlanCursor)
     → seen ≡ used → i < length seen → symbols ≡ get_or seen i symbols → after_use piece marks start plan ≡ r
     → expansion_bytes numbers (plan_flat node bytes piece marks start plan (drop i used))

@@ -1,10 +1,10 @@
--- What a node expands to follows from the shapes that it reaches.
+-- The expansion of a node follows from the shapes that the node reaches.
 use Rattle.std.proofs.Common.{◌≡◌, ◌∙◌, ℕ, ◌+◌, ◌<◌, ◌≤◌, zero, suc, min, List, [], ◌∷◌, ◌++◌, refl, ap, sym, inl, inr, arith}
 use Rattle.tangle_files.specs.Bytes.{space}
 use Rattle.tangle_plans.specs.Shapes.{Title, Named, ShapeItem, Written, Mark, AllMacros, Use, NoUse, Shape, Shapes, IsUseOf, UsesInPiece, UsesInShape, Uses, Reaches, here, on, ContainsItself}
 use Rattle.tangle_plans.specs.Flat.{Symbol, Byte, Opening, MarkOf, marks_after_shape_item, item_flat, items_flat, pieces_flat, flat, item_weight, items_weight, pieces_weight, weight, item_depth, items_depth, pieces_depth, depth}
 
--- what is said of an item, of a piece and of a shape by what is said of the names that it uses
+-- values of an item, of a piece and of a shape are equal if the values of the used names are
 
 item_flat-same : (f g : List ℕ → List Symbol) (node : Title) (piece marks : ℕ) (item : ShapeItem) → ((name : List ℕ) → IsUseOf item name → f name ≡ g name)
     → item_flat f node piece marks item ≡ item_flat g node piece marks item
@@ -28,7 +28,7 @@ pieces_flat-same f g node piece (items ∷ pieces) same =
     ap (λ l. Opening node piece ∷ MarkOf node piece 0 ∷ l ++ pieces_flat f node (piece + 1) pieces) (items_flat-same f g node piece 0 items (λ name u. same name (inl u)))
     ∙ ap (λ l. Opening node piece ∷ MarkOf node piece 0 ∷ items_flat g node piece 0 items ++ l) (pieces_flat-same f g node (piece + 1) pieces (λ name u. same name (inr u)))
 
--- two weights of names that agree up to a cap, with the space in front of a use
+-- two weights of names that agree up to a cap, each with the space before a use
 item_weight-alike : (cap : ℕ) (f g : List ℕ → ℕ) (item : ShapeItem) → ((name : List ℕ) → IsUseOf item name → min cap (1 + f name) ≡ min cap (1 + g name))
     → min cap (item_weight f item) ≡ min cap (item_weight g item)
 item_weight-alike cap f g (Written kind bytes) same = refl
@@ -69,7 +69,7 @@ pieces_depth-alike cap f g [] same = refl
 pieces_depth-alike cap f g (items ∷ pieces) same =
     omega (arith, items_depth-alike cap f g items (λ name u. same name (inl u)), pieces_depth-alike cap f g pieces (λ name u. same name (inr u)))
 
--- a use is one level below, and weighs less
+-- a used name is one level less deep, and weighs less
 
 item_depth-use : (f : List ℕ → ℕ) (item : ShapeItem) (name : List ℕ) → IsUseOf item name → f name ≤ item_depth f item
 item_depth-use f (Written kind bytes) name u = elim u [ ]
@@ -113,7 +113,7 @@ pieces_weight-use f (items ∷ pieces) name u = elim u [
   | inr v ↦ omega (arith, pieces_weight-use f pieces name v)
 ]
 
--- no depth is above the fuel
+-- no depth exceeds the fuel
 
 item_depth-bound : (cap : ℕ) (f : List ℕ → ℕ) (item : ShapeItem) → ((name : List ℕ) → f name ≤ cap) → item_depth f item ≤ cap
 item_depth-bound cap f (Written kind bytes) h = omega arith
@@ -134,7 +134,7 @@ pub depth-bound : (fuel : ℕ) (shapes : Shapes) (node : Title) → depth fuel s
 depth-bound zero shapes node = omega arith
 depth-bound (suc fuel) shapes node = pieces_depth-bound fuel (λ name. depth fuel shapes (Named name)) (shapes node) (λ name. depth-bound fuel shapes (Named name))
 
--- the shapes that the node reaches in the new shapes are those of the old one
+-- in the old shapes, each node that the node reaches in the new ones has the same shape
 abbrev pub SameReached : Shapes → Shapes → Title → Type 0
 SameReached old new node = (other : Title) → Reaches new node other → new other ≡ old other
 
@@ -160,7 +160,7 @@ depth-same (suc fuel) old new node same =
     equal)
     ∙ ap (pieces_depth (λ name. depth fuel old (Named name))) (same node here)
 
--- More fuel changes nothing where the depth is below it.
+-- More fuel changes nothing where it exceeds the depth.
 
 below_use : (fuel : ℕ) (shapes : Shapes) (node : Title) (name : List ℕ) → depth (suc fuel) shapes node < suc fuel → Uses shapes node name → depth fuel shapes (Named name) < fuel
 below_use fuel shapes node name h u = omega (arith, h, pieces_depth-use (λ other. depth fuel shapes (Named other)) (shapes node) name u)
@@ -171,7 +171,7 @@ flat_settles (suc fuel) shapes node h =
     pieces_flat-same (λ name. flat (suc fuel) shapes (Named name)) (λ name. flat fuel shapes (Named name)) node 0 (shapes node)
     (λ name u. flat_settles fuel shapes (Named name) (below_use fuel shapes node name h u))
 
--- what a node that is not too deep expands to, by what the names that it uses expand to, with the same fuel
+-- the expansion of a node that is not too deep, from those of the used names with the same fuel
 pub flat_by_uses : (fuel : ℕ) (shapes : Shapes) (node : Title) → depth fuel shapes node < fuel
     → flat fuel shapes node ≡ pieces_flat (λ name. flat fuel shapes (Named name)) node 0 (shapes node)
 flat_by_uses zero shapes node h = absurd (omega (arith, h))
@@ -185,7 +185,7 @@ weight_settles (suc cap) shapes node =
     pieces_weight-alike (suc cap) (λ name. weight (suc cap) shapes (Named name)) (λ name. weight cap shapes (Named name)) (shapes node)
     (λ name u. omega (arith, weight_settles cap shapes (Named name)))
 
--- the capped weight, by the capped weights of the names that are used: also of a node that reaches a cycle
+-- the capped weight, from the capped weights of the used names: also for a node that reaches a cycle
 pub weight_by_uses : (cap : ℕ) (shapes : Shapes) (node : Title)
     → min cap (weight cap shapes node) ≡ min cap (pieces_weight (λ name. min cap (weight cap shapes (Named name))) (shapes node))
 weight_by_uses cap shapes node =
@@ -199,7 +199,7 @@ depth_settles (suc fuel) shapes node =
     (λ name u. omega (arith, depth_settles fuel shapes (Named name), depth-bound fuel shapes (Named name)))
     ∙ (let b : depth (suc fuel) shapes node ≤ suc fuel = depth-bound (suc fuel) shapes node in omega (arith, b))
 
--- the capped depth, by those of the names that are used
+-- the capped depth, from those of the used names
 pub depth_by_uses : (fuel : ℕ) (shapes : Shapes) (node : Title)
     → depth fuel shapes node ≡ min fuel (pieces_depth (λ name. depth fuel shapes (Named name)) (shapes node))
 depth_by_uses fuel shapes node = sym (depth_settles fuel shapes node)

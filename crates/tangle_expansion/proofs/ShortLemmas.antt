@@ -1,4 +1,4 @@
--- Few bytes are written for a symbol.
+-- Few bytes are written for each symbol.
 use Rattle.std.proofs.Common.{◌≡◌, ℕ, ◌+◌, ◌^◌, ◌<◌, ◌≤◌, zero, suc, Bool, true, false, List, [], ◌∷◌, ◌++◌, map, length, arith, length-append, get_or, All, Some}
 use Rattle.std.specs.Global.{Global}
 use Rattle.std.specs.Prelude.{Vec, vec_len, codes, decimal, unwrap_or, if◌then◌else◌}
@@ -44,7 +44,7 @@ unfolding longest_symbol
 mark_short Full file line h low = full_mark_short file line h low
 mark_short Bare file line h low = omega arith
 
--- what holds of all of a list and of the default holds wherever it is read
+-- what holds of each item of a list, and of the default, holds of whatever is read from the list
 all_or : {X : Type 0} (P : X → Type 0) (xs : List X) (d : X) → P d → All P xs → (i : ℕ) → P (get_or xs i d)
 all_or P [] d none h i = none
 all_or P (x ∷ xs) d none h zero = h zero d (omega arith)
@@ -97,7 +97,7 @@ all_symbols : (numbers : NumbersRead) → SymbolsAreShort numbers → (symbols :
 all_symbols numbers h [] = tt
 all_symbols numbers h (symbol ∷ symbols) = (h symbol, all_symbols numbers h symbols)
 
--- at most 2 ^ 90 bytes are written for symbols that are within the limit of weight
+-- at most 2 ^ 90 bytes are written for symbols within the limit of weight
 pub light_fits : (numbers : NumbersRead) → SymbolsAreShort numbers → (symbols : List Symbol) → length symbols ≤ heaviest → length (expansion_bytes numbers symbols) ≤ 2 ^ 90
 unfolding longest_symbol heaviest
 light_fits numbers h symbols light =

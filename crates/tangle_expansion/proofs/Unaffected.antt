@@ -1,4 +1,4 @@
--- A node that is expandable now and is not affected was expandable before, with the same symbols.
+-- A node that is expandable after an edit, and not affected by it, was expandable before, with the same symbols.
 use Rattle.std.proofs.Common.{◌≡◌, ◌∙◌, ℕ, ◌<◌, ◌≤◌, zero, suc, List, [], length, refl, ap, sym, subst, arith}
 use mathlib.Core.HLevel.{Discrete, ×_discrete}
 use mathlib.Core.List.{List-discrete}
@@ -10,7 +10,7 @@ use Rattle.tangle_expansion.specs.Affected.{IsExpandable, IsAffected}
 use Rattle.tangle_expansion.proofs.SameShapes.{SameReached, flat-same, depth-same, ReachesCycle, cycle_deep}
 use Rattle.tangle_expansion.proofs.Weights.{weight-length}
 
--- shapes can be distinguished
+-- equality of shapes can be decided
 
 kind_number : Kind → ℕ
 kind_number Word = 0
@@ -95,6 +95,6 @@ stays levels limit old new node expandable unaffected =
       symbols,
     )
 
--- what is expandable reaches no name that contains itself
+-- an expandable node reaches no name that contains itself
 pub no_cycle : (levels limit : ℕ) (shapes : Shapes) (node : Title) → IsExpandable levels limit shapes node → ReachesCycle shapes node → ⊥
 no_cycle levels limit shapes node expandable c = absurd (omega (arith, cycle_deep levels shapes node c, expandable.shallow))

@@ -42,7 +42,7 @@ pub bytes_filled : (symbols : ℕ → List Symbol) (bytes : List ℕ) → filled
 bytes_filled symbols [] = refl
 bytes_filled symbols (b ∷ bytes) = ap (λ l. Byte b ∷ l) (bytes_filled symbols bytes)
 
--- where each use has a share, in order, the plan means its slots filled
+-- if each use has its shared expansion, in order, the meaning of a plan is its filled slots
 pub plan_filled : (symbols : ℕ → List Symbol) (node : Title) (bytes : List ℕ) (piece marks start : ℕ) (plan : List Step)
     → plan_flat node bytes piece marks start plan (map symbols (uses_of plan)) ≡ filled symbols (slots node bytes piece marks start plan)
 plan_filled symbols node bytes piece marks start [] = refl

@@ -1,4 +1,4 @@
--- What a used name expands to is shorter and less deep than what its user does.
+-- The expansion of a used name is shorter and less deep than that of its user.
 use Rattle.std.proofs.Common.{◌+◌, ◌<◌, ◌≤◌, ℕ, List, [], ◌∷◌, length, ap, inl, inr, arith, length-append}
 use Rattle.tangle_plans.specs.Shapes.{Title, ShapeItem, Written, Mark, AllMacros, Use, NoUse, Shape, IsUseOf, UsesInPiece, UsesInShape}
 use Rattle.tangle_plans.specs.Flat.{Symbol, marks_after_shape_item, item_flat, items_flat, pieces_flat, item_depth, items_depth, pieces_depth}

@@ -1,4 +1,4 @@
--- Without their classes, the symbols of a node with origins are what the node expands to.
+-- Without their classes, the located symbols of a node are its expansion.
 use Rattle.std.proofs.Common.{◌≡◌, ◌∙◌, ℕ, ◌+◌, zero, suc, Bool, true, false, List, [], ◌∷◌, ◌++◌, map, drop, refl, ap}
 use Rattle.std.specs.Prelude.{filter, if◌then◌else◌}
 use Rattle.std.proofs.lemmas.List.{map-append}
@@ -77,7 +77,7 @@ module _ (texts : List (List ℕ)) (table : TableRead) (lines : List SourceLine)
           ∙ ap (λ t. map (shape_item texts table) piece.items ∷ t) rest
       by false rest = rest
 
--- of a web, for any source
+-- for a web and any source
 pub without_classes : (source : SourceRead) (web : WebRead) (table : TableRead) (fuel : ℕ) (node : Title)
     → map (λ p. p.symbol) (located fuel (located_shapes source web table) node) ≡ flat fuel (shapes web table) node
 without_classes source web table fuel node =

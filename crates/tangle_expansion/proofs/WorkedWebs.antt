@@ -13,7 +13,7 @@ use Rattle.tangle_expansion.specs.Numbers.{numbers_of, expansion_bytes}
 use Rattle.tangle_expansion.specs.Location.{ByteClass, OfItem, LineFeed, Other, located, located_shapes}
 use Rattle.tangle_files.specs.declared.marks.MarkMode.TheVariants.{Full}
 
--- the source lines of the file a.w from a line number on
+-- the source lines of the file `a.w`, from a line number on
 abbrev numbered_lines : ℕ → List (List ℕ) → List SourceLine
 numbered_lines n [] = []
 numbered_lines n (line ∷ lines) = record { bytes = line; origin = record { file = 0; line = n }; changed = false } ∷ numbered_lines (n + 1) lines
@@ -21,7 +21,7 @@ numbered_lines n (line ∷ lines) = record { bytes = line; origin = record { fil
 abbrev source : List (List ℕ) → SourceRead
 source lines = record { files = (codes "a.w", lines) ∷ []; lines = numbered_lines 1 lines; faults = [] }
 
--- the web that has these lines
+-- the web with these lines
 abbrev web : List (List ℕ) → WebRead
 web lines = web_of (source lines)
 
@@ -83,7 +83,7 @@ one_use_name_depth : depth_in one_use (Named (codes "v")) ≡ 1
 unfolding lexeme tokens_from occurrences_from
 one_use_name_depth = refl
 
--- with a line in front, all origins go on by one line
+-- one more line at the top adds 1 to each line number
 shifted_output : output (codes "% top" ∷ one_use) ≡ written_lines (
     codes "/*1:*/" ∷ codes "#line 3 \"a.w\"" ∷ [] ∷ codes "int x= /*2:*/" ∷ codes "#line 5 \"a.w\"" ∷ [] ∷ codes "1" ∷ codes "/*:2*/"
     ∷ codes "#line 4 \"a.w\"" ∷ codes ";" ∷ codes "/*:1*/" ∷ [])
@@ -108,7 +108,7 @@ joined_output : output joined ≡ written_lines (
 unfolding lexeme tokens_from occurrences_from digits
 joined_output = refl
 
--- An abbreviation that resolves to two names: the uses have no symbols of a name, and both definitions are pieces of names that nothing uses.
+-- An abbreviation that resolves to two names: its uses give no symbols of a name, and no other name is used.
 abbrev ambiguous : List (List ℕ)
 ambiguous = codes "@ A." ∷ codes "@c" ∷ codes "@<Ini...@>" ∷ codes "@ @<Initialize@>=" ∷ codes "x=0;" ∷ codes "@ @<Init table@>=" ∷ []
 
@@ -117,7 +117,7 @@ ambiguous_output : output ambiguous ≡ written_lines (
 unfolding lexeme tokens_from occurrences_from digits
 ambiguous_output = refl
 
--- An abbreviation that is in front of the one name that it resolves to.
+-- An abbreviation that comes before the one name to which it resolves.
 abbrev early : List (List ℕ)
 early = codes "@ A." ∷ codes "@c" ∷ codes "@<Ini...@>" ∷ codes "@ @<Initialize@>=" ∷ codes "x=0;" ∷ []
 
@@ -127,7 +127,7 @@ early_output : output early ≡ written_lines (
 unfolding lexeme tokens_from occurrences_from digits
 early_output = refl
 
--- with a section in front, section numbers and origins go on
+-- one more section at the top adds 1 to each section number and to each line number
 renumbered_output : output (codes "@ Z." ∷ one_use) ≡ written_lines (
     codes "/*2:*/" ∷ codes "#line 3 \"a.w\"" ∷ [] ∷ codes "int x= /*3:*/" ∷ codes "#line 5 \"a.w\"" ∷ [] ∷ codes "1" ∷ codes "/*:3*/"
     ∷ codes "#line 4 \"a.w\"" ∷ codes ";" ∷ codes "/*:2*/" ∷ [])
@@ -161,7 +161,7 @@ acyclic_output : output acyclic ≡ written_lines (
 unfolding lexeme tokens_from occurrences_from digits
 acyclic_output = refl
 
--- names that each use the next one twice: the j-th before the last weighs 15 * 2 ^ j - 9
+-- names that each use the next one twice: the `j`-th before the last weighs 15 * 2 ^ j - 9
 abbrev doubling : List (List ℕ)
 doubling =
     codes "@ @<a@>=" ∷ codes "@<b@>@<b@>" ∷ codes "@ @<b@>=" ∷ codes "@<d@>@<d@>" ∷ codes "@ @<d@>=" ∷ codes "@<e@>@<e@>" ∷ codes "@ @<e@>=" ∷ codes "1" ∷ []
@@ -202,7 +202,7 @@ ended_macro_bytes : (numbers_of (web ended_macro) (table_of (web ended_macro)) F
 unfolding lexeme tokens_from occurrences_from digits
 ended_macro_bytes = refl
 
--- where the joined lines are: the b and the sign after it are in a stretch, and after the mark it is over
+-- the classes of a join over a line end: the `b` and the sign after it are in a stretch, which ends at the next mark
 abbrev class_byte : ByteClass → ℕ
 class_byte (OfItem origin false) = 48 + origin.line
 class_byte (OfItem origin true) = 97 + origin.line

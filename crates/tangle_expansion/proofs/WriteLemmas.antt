@@ -1,4 +1,4 @@
--- One writing after another.
+-- Several writes, one after another.
 use Rattle.std.proofs.Common.{◌≡◌, ◌∙◌, ℕ, List, [], ◌++◌, Option, refl, ap, sym, subst, append_assoc, append-nil, arith, length-append}
 use Rattle.std.specs.Prelude.{Result, Ok, None, Some}
 use Rattle.std.specs.Io.KnownBytes.{Appends}
@@ -18,7 +18,7 @@ writes_nothing a r = λ old done so_far fits. subst (λ l. IsWritten old a l r) 
 pub writes_same : (a b : Stream) (r s : Result ℕ WriteFault) (xs ys : List ℕ) → xs ≡ ys → IsWrittenAfter a b r xs s → IsWrittenAfter a b r ys s
 writes_same a b r s xs ys e h = subst (λ l. IsWrittenAfter a b r l s) e h
 
--- what was written so far, and what is left of the whole
+-- the bytes that were written, and those of the whole that remain
 pub record Wrote (a b : Stream) (r s : Result ℕ WriteFault) (rest whole : List ℕ) : Type 0 where
   pub done : List ℕ
   pub writes : IsWrittenAfter a b r done s
@@ -44,7 +44,7 @@ pub wrote_whole : (a b : Stream) (r s : Result ℕ WriteFault) (left whole : Lis
 wrote_whole a b r s left whole w e =
     writes_same a b r s w.done whole (sym (append-nil w.done) ∙ ap (λ l. w.done ++ l) (sym e) ∙ w.split) w.writes
 
--- before anything is written
+-- nothing is written yet
 pub writes_at_first : (a : Stream) → IsWritten a a [] (Ok 0)
 writes_at_first a = (refl, keeps a.taken, refl)
   where

@@ -1,4 +1,4 @@
--- The bytes that are written for lists of symbols.
+-- The bytes of lists of symbols.
 use Rattle.std.proofs.Common.{◌*◌, arith, length-append, ◌≡◌, ◌∙◌, ℕ, ◌≤◌, List, [], ◌∷◌, ◌++◌, map, length, get_or, refl, ap, sym, append_assoc, append-nil}
 use native.Mathlib.Nat.{suc-mul}
 use Rattle.std.specs.List.{AllByRecursion}
@@ -16,7 +16,7 @@ pub written-bytes : (numbers : NumbersRead) (bytes : List ℕ) → expansion_byt
 written-bytes numbers [] = refl
 written-bytes numbers (b ∷ bytes) = ap (λ t. b ∷ t) (written-bytes numbers bytes)
 
--- what is written for a symbol
+-- the bytes of a symbol
 pub mark_written : (numbers : NumbersRead) (node : Title) (pieces : List PieceNumbersRead) (piece mark : ℕ) (origin : Origin) → pieces ≡ node_numbers numbers node
     → origin ≡ get_or (get_or pieces piece no_numbers).origins mark no_origin → mark_bytes_at numbers origin ≡ expansion_bytes numbers (MarkOf node piece mark ∷ [])
 mark_written numbers node pieces piece mark origin ours is =
@@ -30,7 +30,7 @@ closing_written numbers node pieces piece section ours is =
 pub macros_written : (numbers : NumbersRead) (macros : List ℕ) → macros ≡ numbers.macros → (10 ∷ []) ++ macros ≡ expansion_bytes numbers (AllMacros ∷ [])
 macros_written numbers macros is = ap (λ m. 10 ∷ m) (is ∙ sym (append-nil numbers.macros))
 
--- no more is written than so many bytes for each symbol
+-- if at most `b` bytes are written for each symbol, at most `b` times the length are written for the list
 pub written-short : (numbers : NumbersRead) (b : ℕ) (symbols : List Symbol) → AllByRecursion (λ p. length (symbol_bytes numbers p) ≤ b) symbols → length (expansion_bytes numbers symbols) ≤ length symbols * b
 written-short numbers b [] h = omega arith
 written-short numbers b (p ∷ symbols) h =

@@ -1,17 +1,18 @@
--- Which nodes are expanded, and which of them an edit affects.
+-- Which nodes are expandable, and which of them an edit affects.
 use Rattle.std.specs.Prelude.{◌≢◌, ℕ, ◌≤◌, ◌<◌, []}
 use Rattle.tangle_plans.specs.Shapes.{Title, Shapes, Reaches}
 use Rattle.tangle_plans.specs.Flat.{weight, depth}
 
--- It has a piece and is within both limits: levels is one more than the greatest depth. So it
--- reaches no name that contains itself, since what reaches one is deeper and heavier than any
--- number: expandable_nodes_reach_no_cycle states both.
+-- The node has a piece and is within both limits; `levels` is one more than the greatest allowed
+-- depth. So it reaches no name that contains itself: a node that reaches one is deeper and heavier
+-- than any number, by `expandable_nodes_reach_no_cycle`.
 pub record IsExpandable (levels limit : ℕ) (shapes : Shapes) (node : Title) : Type 0 where
   pub has_piece : shapes node ≢ []
   pub shallow : depth levels shapes node < levels
   pub light : weight levels shapes node ≤ limit
 
--- it is expandable in the new shapes and reaches there a node whose shape is not the old one
+-- the node is expandable in the new shapes, and reaches there a node whose shape differs from its
+-- old shape
 pub record IsAffected (levels limit : ℕ) (old new : Shapes) (node : Title) : Type 0 where
   pub expandable : IsExpandable levels limit new node
   pub cause : Title

@@ -1,4 +1,5 @@
--- The symbols of an expansion as it is held in memory, and that they are more than those of each expansion that it shares.
+-- The symbols of an expansion as it is in memory: there are more of them than in each expansion
+-- that it shares.
 use Rattle.std.specs.Prelude.{ℕ, ◌+◌, ◌≤◌, List, [], ◌∷◌, length, map}
 use Rattle.std.proofs.Common.{arith, length-append}
 use denote.Param.Weighed.{most}

@@ -5,12 +5,12 @@ use Rattle.tangle_plans.specs.declared.nodes.Node.{Node}
 use Rattle.tangle_plans.specs.declared.nodes.Node.TheVariants.{Program, Name}
 use Rattle.tangle_expansion.specs.declared.kept.Kept.{Kept}
 
--- the expansion that is kept of the node
+-- the expansion that is kept for the node, if there is one
 abbrev pub kept_at : Kept → Node → Option (List Symbol)
 kept_at kept Program = kept.program
 kept_at kept (Name id) = slice_index_or kept.names.items id None
 
--- the node has this expansion now, and each other one what it had
+-- the node gets this expansion, and the others keep theirs
 pub record PutsKept (old new : Kept) (node : Node) (symbols : List Symbol) : Type 0 where
   pub put : kept_at new node ≡ Some symbols
   pub others : (other : Node) → other ≢ node → kept_at new other ≡ kept_at old other
@@ -18,6 +18,6 @@ pub record PutsKept (old new : Kept) (node : Node) (symbols : List Symbol) : Typ
 abbrev pub SameKept : Kept → Kept → Type 0
 SameKept old new = (node : Node) → kept_at new node ≡ kept_at old node
 
--- the symbols that are kept of the name with this number
+-- the symbols that are kept for the name with this number
 abbrev pub used_symbols : Kept → ℕ → List Symbol
 used_symbols kept id = unwrap_or (kept_at kept (Name id)) []

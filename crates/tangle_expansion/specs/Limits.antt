@@ -1,18 +1,19 @@
--- The limits of weight and depth, and what a node expands to within them.
+-- The limits of weight and depth, and the expansion of a node within them.
 use Rattle.std.specs.Prelude.{ℕ, List, min}
 use Rattle.tangle_plans.specs.Shapes.{Title, Shapes}
 use Rattle.tangle_plans.specs.Flat.{Symbol, flat, weight, depth}
 use Rattle.tangle_expansion.specs.Affected.{IsExpandable}
 
--- one more than the greatest depth
+-- one more than the greatest depth of an expandable node
 unfoldable pub levels : ℕ
 levels = 1001
 
--- the greatest weight
+-- the greatest weight of an expandable node
 unfoldable pub heaviest : ℕ
 heaviest = 16777216
 
--- one more than the greatest weight: each level of uses weighs more than 1, so this fuel reaches the cap
+-- one more than the greatest weight; each level of uses adds at least 1 to the weight, so with this
+-- fuel a cycle reaches the cap
 unfoldable pub weight_cap : ℕ
 weight_cap = 16777217
 

@@ -1,5 +1,5 @@
--- Line truth over a whole output: each byte of a word, sign, quoted or verbatim text or ASCII constant is at the counted origin that is its
--- own line's.
+-- The lines of a whole output: at each byte of a word, sign, quoted or verbatim text or ASCII
+-- constant, the counted origin is that of the byte's source line.
 use Rattle.std.specs.Prelude.{◌≡◌, ℕ, ◌+◌, zero, suc, Bool, false, List, [], ◌∷◌, ◌++◌, map, drop, if◌then◌else◌, Option, Some, None}
 use Rattle.tangle_files.specs.Bytes.{space}
 use Rattle.tangle_faults.specs.declared.faults.Origin.{Origin}
@@ -17,14 +17,14 @@ use Rattle.tangle_plans.specs.WebShapes.{is_piece_of, shape_item}
 use Rattle.tangle_files.specs.declared.marks.MarkMode.{MarkMode}
 use Rattle.tangle_files.specs.declared.marks.MarkMode.TheVariants.{Full, Bare}
 
--- what a byte is to the counted origin
+-- the class of a byte, by which the counted origin is found and compared
 pub data ByteClass : Type 0 where
-  -- of a source item, which is a word, a sign, a quoted or verbatim text or an ASCII constant: the origin of the source line on which that is, and whether it is
-  -- in a stretch
+  -- a byte of a source item (a word, a sign, a quoted or verbatim text or an ASCII constant): the
+  -- origin of the source line with the item, and whether the item is in a stretch
   OfItem : Origin → Bool → ByteClass
-  -- the line feed of a line end, or of one inside a quoted text
+  -- the line feed of a line end, or one inside a quoted text
   LineFeed : ByteClass
-  -- a space, and what is no byte
+  -- a space, or a symbol that is no byte
   Other : ByteClass
 
 -- an item of a shape with the class of its bytes, and a symbol with its class
@@ -36,9 +36,9 @@ pub record LocatedSymbol : Type 0 where
   pub symbol : Symbol
   pub class : ByteClass
 
--- The source items of a piece, from where they are in the source: see tangle_scan's LineTruth.
+-- The source items of a piece, by their locations in the source: see `tangle_scan`'s LineTruth.
 
--- no source item is without a line; one that were would be nowhere
+-- each source item has a location; without one, its class would have no real origin
 abbrev pub class_at : List SourceLine → List Location → ByteClass
 class_at lines [] = OfItem no_origin false
 class_at lines (s ∷ ss) = OfItem (origin_at lines s.line) s.in_stretch
@@ -56,7 +56,7 @@ class_of lines ss (item.LineMark origin) = Other
 class_of lines ss (item.UseOf occurrence) = Other
 class_of lines ss item.Defs = Other
 
--- where the source items after an item are
+-- the locations that remain after an item
 abbrev pub locations_after : List Location → Item → List Location
 locations_after ss (item.Word span) = drop 1 ss
 locations_after ss (item.Sign span) = drop 1 ss
@@ -75,13 +75,13 @@ first_locations [] = []
 first_locations (ss ∷ rest) = ss
 
 module _ (texts : List (List ℕ)) (table : TableRead) (lines : List SourceLine) where
-  -- the items of a piece, whose source items are there
+  -- the items of a piece whose source items have these locations
   abbrev pub located_items : List Location → List Item → List LocatedItem
   located_items ss [] = []
   located_items ss (x ∷ items) =
       record { item = shape_item texts table x; class = class_of lines ss x } ∷ located_items (locations_after ss x) items
 
-  -- the pieces of a node, of pieces whose source items are there, one after another
+  -- the pieces of a node, among the pieces whose source items have these locations
   abbrev pub located_pieces : Title → List PieceRead → List (List Location) → List (List LocatedItem)
   located_pieces node [] locations = []
   located_pieces node (piece ∷ pieces) locations =
@@ -89,11 +89,11 @@ module _ (texts : List (List ℕ)) (table : TableRead) (lines : List SourceLine)
       then located_items (first_locations locations) piece.items ∷ located_pieces node pieces (drop 1 locations)
       else located_pieces node pieces (drop 1 locations)
 
--- the shapes of a web, with where its source items are
+-- the shapes of a web, with the origins of its source items
 abbrev pub located_shapes : SourceRead → WebRead → TableRead → Title → List (List LocatedItem)
 located_shapes source web table node = located_pieces web.texts table source.lines node web.pieces (piece_locations source.lines)
 
--- What a node expands to, with the classes of its symbols: otherwise the same as Flat.
+-- The expansion of a node, with the classes of its symbols. Otherwise this is as in Flat.
 
 abbrev pub other : Symbol → LocatedSymbol
 other symbol = record { symbol = symbol; class = Other }
@@ -126,19 +126,20 @@ origin_after_byte origin (OfItem own in_stretch) = origin
 origin_after_byte origin LineFeed = with_line_end origin
 origin_after_byte origin Other = origin
 
--- a mark sets the origin where it is written in full
+-- a mark that is written in full sets the origin
 abbrev pub origin_set : MarkMode → Option Origin → Origin → Option Origin
 origin_set Full origin own = Some own
 origin_set Bare origin own = origin
 
--- A byte of a source item that is in no stretch is at this origin.
+-- A byte of a source item outside stretches is at this origin.
 abbrev pub IsOwnOrigin : Option Origin → ByteClass → Type 0
 IsOwnOrigin origin (OfItem own in_stretch) = in_stretch ≡ false → origin ≡ Some own
 IsOwnOrigin origin LineFeed = Unit {0}
 IsOwnOrigin origin Other = Unit {0}
 
 module _ (numbers : NumbersRead) where
-  -- the counted origin after a symbol: a mark that is written in full sets it to what the mark says, and after the macros it is not known until the next mark
+  -- the counted origin after a symbol: a mark that is written in full sets it, and after the macros
+  -- it is unknown until the next mark
   abbrev pub origin_after : Option Origin → Symbol → ByteClass → Option Origin
   origin_after origin (Byte b) class = origin_after_byte origin class
   origin_after origin (Opening node piece) class = origin
@@ -146,7 +147,7 @@ module _ (numbers : NumbersRead) where
   origin_after origin (Closing node piece) class = origin
   origin_after origin AllMacros class = None
 
-  -- each is at its own origin, from this counted origin on
+  -- each symbol is at its own origin, where this is the counted origin before the first
   abbrev pub AreAtTheirOrigins : Option Origin → List LocatedSymbol → Type 0
   AreAtTheirOrigins origin [] = Unit {0}
   AreAtTheirOrigins origin (p ∷ symbols) = IsOwnOrigin origin p.class × AreAtTheirOrigins (origin_after origin p.symbol p.class) symbols

@@ -1,4 +1,4 @@
--- An expansion is longer than each one that it shares.
+-- An expansion has more symbols than each one that it shares.
 use Rattle.std.specs.Prelude.{◌≤◌, length}
 use Rattle.std.proofs.Common.{arith}
 use Rattle.tangle_plans.specs.Meaning.{title_of}

@@ -1,4 +1,4 @@
--- The numbers of a node's pieces as they are held in memory.
+-- The numbers of a node's pieces, as they are in memory.
 use Rattle.std.specs.Prelude.{◌∷◌, List, []}
 use Rattle.tangle_expansion.specs.Numbers.{PieceNumbersRead}
 use Rattle.tangle_expansion.specs.declared.node_numbers.PieceNumbersRow.{PieceNumbersRow}

@@ -1,4 +1,5 @@
--- The section numbers and origins of a web and the bytes of its macros, and the bytes that are written for an expansion by them.
+-- The section numbers and origins of a web, the bytes of its macros, and the bytes that an
+-- expansion gives with them.
 use Rattle.std.specs.Prelude.{ℕ, ◌==◌, ◌||◌, List, [], ◌∷◌, ◌++◌, map, flat_map, get_or, codes, decimal, unwrap_or, if◌then◌else◌}
 use Rattle.std.specs.Map.{lookup}
 use Rattle.std.specs.Str.{bytes_eq}
@@ -17,14 +18,14 @@ use Rattle.tangle_files.specs.declared.marks.MarkMode.{MarkMode}
 use Rattle.tangle_files.specs.declared.marks.MarkMode.TheVariants.{Full, Bare}
 use Rattle.tangle_scan.specs.MacroBytes.{macro_bytes}
 
--- of a piece the number of its section and the origins of its marks, the opening mark's first
+-- the section number of a piece, and the origins of its marks, that of the opening mark first
 pub record PieceNumbersRead : Type 0 where
   pub section : ℕ
   pub origins : List Origin
 
--- what the bytes of a web's expansions depend on besides their symbols
+-- what the bytes of a web's expansions depend on, besides the symbols
 pub record NumbersRead : Type 0 where
-  -- as line marks have them
+  -- escaped, as line marks have them
   pub file_names : List (List ℕ)
   pub program : List PieceNumbersRead
   pub names : List (List ℕ × List PieceNumbersRead)
@@ -32,10 +33,11 @@ pub record NumbersRead : Type 0 where
   -- how line marks are written
   pub marks : MarkMode
 
+-- Within the quotes of a line mark a C compiler reads these two bytes alone in another way.
 abbrev pub escaped_byte : ℕ → List ℕ
 escaped_byte b = if b == backslash || b == double_quote then backslash ∷ b ∷ [] else b ∷ []
 
--- a file's name as a line mark has it
+-- the escaped name of a file, as a line mark has it
 abbrev pub escaped : List ℕ → List ℕ
 escaped name = flat_map escaped_byte name
 
@@ -59,7 +61,7 @@ module _ (web : WebRead) (table : TableRead) where
     marks = marks;
   }
 
--- the bytes that are written for an expansion
+-- the bytes of an expansion
 
 abbrev pub opening_bytes : ℕ → List ℕ
 opening_bytes section = codes "/*" ++ decimal section ++ codes ":*/"
@@ -71,7 +73,7 @@ closing_bytes section = codes "/*:" ++ decimal section ++ codes "*/"
 abbrev pub full_mark_bytes : List ℕ → ℕ → List ℕ
 full_mark_bytes file line = codes "\n#line " ++ decimal line ++ codes " \"" ++ file ++ codes "\"\n"
 
--- the bytes of a line mark: bare it is a line feed
+-- the bytes of a line mark; a bare one is a line feed
 abbrev pub mark_bytes : MarkMode → List ℕ → ℕ → List ℕ
 mark_bytes Full file line = full_mark_bytes file line
 mark_bytes Bare file line = line_feed ∷ []
@@ -94,7 +96,7 @@ module _ (numbers : NumbersRead) where
   abbrev pub origin_of_mark : Title → ℕ → ℕ → Origin
   origin_of_mark node piece mark = get_or (numbers_at node piece).origins mark no_origin
 
-  -- the bytes of a line mark of this origin
+  -- the bytes of a line mark with this origin
   abbrev pub mark_bytes_at : Origin → List ℕ
   mark_bytes_at origin = mark_bytes numbers.marks (get_or numbers.file_names origin.file []) origin.line
 

@@ -1,4 +1,4 @@
--- The numbers as they are held in memory.
+-- The numbers, as they are in memory.
 use Rattle.std.specs.Prelude.{◌≡◌, ℕ, List, [], Option, None, Some, length, map, slice_index_or}
 use Rattle.std.specs.List.{zip}
 use Rattle.tangle_expansion.specs.Numbers.{PieceNumbersRead, NumbersRead}
@@ -14,12 +14,12 @@ numbers_read n = record {
   marks = n.marks;
 }
 
--- each name has its row, and few bytes are written for each symbol
+-- each name has a row, and few bytes are written for each symbol
 pub record NumbersInvariant (n : Inside) : Type 0 where
   pub rows : length n.of_names.items ≡ length n.names
   pub short : SymbolsAreShort (numbers_read n)
 
--- the row of the name that was found
+-- the row that was found; an empty one where none was
 abbrev pub row_found : List (List PieceNumbersRead) → Option ℕ → List PieceNumbersRead
 row_found rows None = []
 row_found rows (Some id) = slice_index_or rows id []

@@ -1,4 +1,5 @@
--- The bytes that are written for the pieces of a node, and that of two items of a piece that the source keeps apart a C compiler reads both.
+-- The bytes of the pieces of a node; where the source keeps two items of a piece apart, a C
+-- compiler reads both in these bytes.
 use Rattle.std.specs.Prelude.{◌≡◌, ℕ, false, List, [], ◌∷◌, ◌++◌, None, drop, flat_map, slice_index_or}
 use Rattle.std.specs.List.{AllZip}
 use Rattle.tangle_files.specs.Bytes.{space, line_feed}
@@ -17,12 +18,12 @@ use Rattle.tangle_plans.specs.WebShapes.{resolved_at}
 use Rattle.tangle_expansion.specs.Numbers.{NumbersRead, closing_bytes, expansion_bytes, mark_bytes_at, opening_bytes}
 
 module _ (numbers : NumbersRead) where
-  -- what is written for a mark after its first line feed
+  -- the bytes of a mark after its first line feed
   abbrev pub bytes_after_mark : Origin → List ℕ
   bytes_after_mark origin = drop 1 (mark_bytes_at numbers origin)
 
   module _ (table : TableRead) (used : List ℕ → List Symbol) where
-    -- what is written for a name that is resolved to, where a name has these symbols
+    -- the bytes of the name to which an occurrence resolves, where a name has these symbols
     abbrev pub resolved_bytes : Resolved → List ℕ
     resolved_bytes (Name id) = expansion_bytes numbers (used (slice_index_or table.names id []))
     resolved_bytes NoFullName = []
@@ -40,13 +41,13 @@ module _ (numbers : NumbersRead) where
       abbrev pub piece_bytes : PieceRead → List ℕ
       piece_bytes piece = opening_bytes piece.section ++ mark_bytes_at numbers piece.origin ++ items_bytes piece.items ++ closing_bytes piece.section
 
-      -- what is written for the items of a piece that has these tokens is read apart
+      -- the bytes of the items of a piece with these tokens are read apart
       abbrev pub IsWrittenApart : List Token → PieceRead → Type 0
       IsWrittenApart tokens piece =
           AreReadApart texts (λ occurrence. space ∷ used_bytes occurrence) (line_feed ∷ numbers.macros) (EndsPiece texts) false false None (read_tokens texts false tokens) (items_bytes piece.items)
 
--- What is written for the macros is that of each in turn, and of two items of a macro or piece that the source keeps apart, a C compiler reads
--- both in what is written.
+-- The bytes of the macros are those of each macro in turn. Where the source keeps two items of a
+-- macro or a piece apart, a C compiler reads both in these bytes.
 pub record AreWrittenApart (source : SourceRead) (web : WebRead) (table : TableRead) (used : List ℕ → List Symbol) (numbers : NumbersRead) : Type 0 where
   pub macros_written : numbers.macros ≡ flat_map (macro_bytes web.texts) web.macros
   pub macros : AllZip (λ items tokens. IsMacroReadApart web.texts tokens (macro_bytes web.texts items)) web.macros (all_macro_tokens source.lines)

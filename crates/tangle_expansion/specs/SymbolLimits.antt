@@ -1,11 +1,12 @@
--- How many bytes are written for a symbol.
+-- The greatest number of bytes that are written for one symbol.
 use Rattle.std.specs.Prelude.{◌<◌, ◌≤◌, ◌^◌, ℕ, List, length}
 use Rattle.std.specs.List.{All}
 use Rattle.tangle_faults.specs.declared.faults.Origin.{Origin}
 use Rattle.tangle_plans.specs.Flat.{Symbol}
 use Rattle.tangle_expansion.specs.Numbers.{PieceNumbersRead, NumbersRead, symbol_bytes}
 
--- at most so many bytes are written for a symbol: a file name and the macros have less than 2 ^ 64
+-- no more bytes than this are written for one symbol: a file name and the macros have fewer than 2
+-- ^ 64
 unfoldable pub longest_symbol : ℕ
 longest_symbol = 2 ^ 66
 
@@ -22,7 +23,7 @@ pub record IsShort (piece : PieceNumbersRead) : Type 0 where
 abbrev pub EntryIsShort : (List ℕ × List PieceNumbersRead) → Type 0
 EntryIsShort e = All IsShort e.1
 
--- what numbers are made of
+-- the lengths and the numbers from which the bytes of a symbol are made are bounded
 pub record AreShort (numbers : NumbersRead) : Type 0 where
   pub file_names : All (λ (name : List ℕ). length name < 2 ^ 64) numbers.file_names
   pub program : All IsShort numbers.program

@@ -1,4 +1,4 @@
-//! Taking the numbers of a web: of each node's pieces the section numbers and the origins of the
+//! Reads the numbers of a web: for each node's pieces the section numbers and the origins of the
 //! marks.
 ghost use Rattle.std.specs.Prelude.{◌≡◌, ◌<◌, ◌^◌, ◌++◌, length, map, flat_map, vec_len};
 ghost use Rattle.std.specs.Prelude.{IfOk, OnOk};
@@ -21,7 +21,7 @@ use tangle_lines::{MarkMode, NoMemory, Origin};
 use tangle_plans::{Node, PiecesByNode};
 use tangle_scan::{Item, Piece, Web};
 
-/// The same origin. Its clause says that the line, a `u32`, is below 2^32.
+/// Returns the origin unchanged. The contract adds that its line, a `u32`, is below 2^32.
 fn low_origin(origin: Origin) -> Origin
     ensures same { result ≡ origin }
     ensures low { IsLow result }
@@ -33,7 +33,7 @@ fn low_origin(origin: Origin) -> Origin
     }
 }
 
-/// Adds the origin of a mark, if the item is one.
+/// Adds the origin of the item, if it is a mark.
 fn add_origin(origins: &mut Vec<Origin>, item: Item) -> Result<(), NoMemory>
     requires { All IsLow origins.old.items }
     ensures added { OnOk result (origins.new.items ≡ origins.old.items ++ item_origins item) }
@@ -45,7 +45,7 @@ fn add_origin(origins: &mut Vec<Origin>, item: Item) -> Result<(), NoMemory>
     Ok(())
 }
 
-/// The origins of the marks in a piece.
+/// The origins of all marks in a piece, in order.
 fn mark_origins(alloc: Global, piece: &Piece) -> Result<Vec<Origin>, NoMemory>
     ensures origins { IfOk result
         (λ origins. origins.items ≡ flat_map item_origins piece.now.items) }
@@ -61,7 +61,7 @@ fn mark_origins(alloc: Global, piece: &Piece) -> Result<Vec<Origin>, NoMemory>
     Ok(origins)
 }
 
-/// The section number of a piece and the origins of its marks.
+/// The section number of a piece, with the origins of its opening mark and of the marks in it.
 fn numbers_of_piece(alloc: Global, piece: &Piece) -> Result<PieceNumbers, NoMemory>
     ensures numbers { IfOk result (λ numbers. numbers ≡ numbers_of_piece piece.now) }
     ensures short { IfOk result IsShort }
@@ -71,7 +71,7 @@ fn numbers_of_piece(alloc: Global, piece: &Piece) -> Result<PieceNumbers, NoMemo
     Ok(PieceNumbers::new(piece.section(), opening, origins))
 }
 
-/// The section and the origins of the marks of each of these pieces of the web.
+/// The numbers of each of these pieces of the web.
 fn numbers_of_pieces(alloc: Global, web: &Web, pieces: &[usize]) -> Result<NodeNumbers, NoMemory>
     requires { All (λ n. n < length web.now.pieces) pieces.now }
     ensures numbers { IfOk result
@@ -90,8 +90,8 @@ fn numbers_of_pieces(alloc: Global, web: &Web, pieces: &[usize]) -> Result<NodeN
     Ok(NodeNumbers::several(all))
 }
 
-/// The name of a file, as line marks have it: backslashes and double quotes are escaped.
-// Backslashes first: those that the quotes get are not escaped.
+/// Escapes backslashes and double quotes in the name of a file, as its line marks need.
+// Backslashes come first, so that those which escape quotes are not escaped again.
 fn escaped_name(alloc: Global, name: &[u8]) -> Result<Vec<u8>, NoMemory>
     ensures { IfOk result (λ bytes. bytes.items ≡ escaped name.now) }
 {
@@ -100,7 +100,7 @@ fn escaped_name(alloc: Global, name: &[u8]) -> Result<Vec<u8>, NoMemory>
     Ok(quoted)
 }
 
-/// The names of the files, as line marks have them.
+/// The escaped names of all files of the web.
 fn escaped_names(alloc: Global, web: &Web) -> Result<Vec<Vec<u8>>, NoMemory>
     ensures names { IfOk result
         (λ names. map (λ n. n.items) names.items ≡ map escaped web.now.file_names) }
@@ -140,13 +140,13 @@ fn numbers_of_names<S: PiecesByNode>(
 }
 
 impl Numbers {
-    /// What the bytes of a web's expansions depend on besides their symbols: section numbers, the
-    /// origins of marks and the bytes of the macros, with line marks written as `marks` says. The
-    /// store is that of the web.
+    /// Reads from a web what its outputs need besides the symbols: section numbers, the origins of
+    /// marks and the bytes of the macros. Line marks are written as `marks` says. The store must be
+    /// that of the web.
     ///
     /// # Errors
     ///
-    /// `NoMemory`, where an allocation failed.
+    /// `NoMemory` where an allocation failed.
     pub fn build<S: PiecesByNode>(
         alloc: Global,
         web: &Web,

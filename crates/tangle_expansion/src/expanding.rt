@@ -1,4 +1,4 @@
-//! The expansion of a node, by those of the names that it uses.
+//! Makes the expansion of a node from those of the names that it uses.
 ghost use Rattle.std.specs.Prelude.{◌≡◌, ◌++◌, ℕ, map, Contains, IfOk, OnOk, OnErr, IsSome, Some};
 ghost use Rattle.std.specs.Prelude.{◌∷◌, []};
 ghost use Rattle.tangle_expansion.specs.Kept.{kept_at, used_symbols};
@@ -16,7 +16,7 @@ use std::rc::Rc;
 use tangle_lines::NoMemory;
 use tangle_plans::{Node, NodeBody, PiecesByNode, Step};
 
-/// Shares the expansion of the name that a step uses, if it uses one.
+/// Shares the expansion of the name that the step uses, if the step is a use.
 fn share_used(used: &mut Vec<Expansion>, step: Step, kept: &Kept) -> Result<(), NoMemory>
     requires { (id : ℕ) → Contains (step_uses step) id
         → IsSome (kept_at kept.now (node_kind.Name id)) }
@@ -34,8 +34,8 @@ fn share_used(used: &mut Vec<Expansion>, step: Step, kept: &Kept) -> Result<(), 
     }
 }
 
-/// The expansion of a node: it shares the node's body and the kept expansions of the names that the
-/// node uses.
+/// Makes the expansion of a node, which shares the node's body and the kept expansions of the names
+/// that the node uses.
 fn expansion_of(alloc: Global, body: &Rc<NodeBody>, kept: &Kept) -> Result<Expansion, NoMemory>
     requires { (id : ℕ) → Contains (uses_of body.now.value.plan.items) id
         → IsSome (kept_at kept.now (node_kind.Name id)) }
@@ -58,12 +58,12 @@ fn expansion_of(alloc: Global, body: &Rc<NodeBody>, kept: &Kept) -> Result<Expan
     }
 }
 
-/// Expands a node of a store: its own symbols, with the expansions that are kept of the names with
-/// a piece that it uses where it uses them. The node goes last in the work's list.
+/// Expands a node of a store: its own symbols, with each use of a name with a piece replaced by
+/// that name's kept expansion. The node is added to the end of the work's list.
 ///
 /// # Errors
 ///
-/// `NoMemory`, where an allocation failed; the work is then as before.
+/// `NoMemory` where an allocation failed; the work does not change then.
 pub fn expand<S: PiecesByNode>(
     alloc: Global,
     store: &S,
@@ -79,6 +79,7 @@ pub fn expand<S: PiecesByNode>(
     ensures listed { OnOk result (work.new ≡ work.old ++ node ∷ []) }
     ensures err { OnErr result (work.new ≡ work.old) }
 {
+    // The store gives the body, so that the node in the work's list is the one that is expanded.
     let stored = store.node_body(node).unwrap();
     let expansion = expansion_of(alloc, stored, kept)?;
     work.add(node)?;

@@ -1,4 +1,4 @@
-//! Expansions, which share the bodies of their nodes and the expansions of the names that they use.
+//! Expansions, which share the bodies of their nodes and the expansions of the used names.
 ghost use Rattle.std.specs.Prelude.{◌≡◌, IfOk};
 
 use std::marker::Model;
@@ -6,7 +6,7 @@ use std::rc::Rc;
 use tangle_lines::NoMemory;
 use tangle_plans::NodeBody;
 
-/// What a node expands to: a list of symbols.
+/// The expansion of a node: a list of symbols.
 #[cycle(expansion)]
 #[derive(Drop)]
 pub struct Expansion {
@@ -38,11 +38,11 @@ impl Model for Expansion {
 }
 
 impl Expansion {
-    /// The same symbols, shared.
+    /// Shares the expansion.
     ///
     /// # Errors
     ///
-    /// `NoMemory`, where no more shares can be counted.
+    /// `NoMemory` where the counter of shares is full.
     pub fn share(&self) -> Result<Expansion, NoMemory>
         ensures { IfOk result (λ e. e ≡ self.now) }
     {

@@ -1,4 +1,4 @@
-//! Output files, and their writing.
+//! Output files, and how they are written.
 ghost use Rattle.std.specs.Prelude.{◌≡◌, length, IsSome};
 ghost use Rattle.tangle_streams.specs.Streams.{IsWritten};
 ghost use Rattle.tangle_expansion.specs.Kept.{kept_at};
@@ -12,8 +12,9 @@ use std::marker::Model;
 use tangle_lines::{Sink, WriteFault, write_after};
 use tangle_plans::Node;
 
-/// An output file of a web: what a node expands to, written, with all macros in front where it is
-/// the main file and no C part has `@h`.
+/// An output file of a web: the expansion of a node. Where the file is the main file and no C part
+/// has `@h`, all macros come before it.
+// It has a copy of its name, since the main file's is no section name.
 #[derive(Drop)]
 pub struct Output {
     name: Vec<u8>,
@@ -37,8 +38,8 @@ impl Model for Output {
 }
 
 impl Output {
-    /// The file of this name with the output of a node: whether all macros begin it, and whether
-    /// the node has a piece.
+    /// An output file with this name, which is written from a node. The flags say whether all
+    /// macros begin the file, and whether the node has a piece.
     pub fn new(name: Vec<u8>, node: Node, has_macros: bool, has_piece: bool) -> Output
         ensures { result ≡ record {
           name = name.items;
@@ -56,7 +57,7 @@ impl Output {
         }
     }
 
-    /// The node whose output it has.
+    /// The node from which the file is written.
     pub fn node(&self) -> Node
         ensures { result ≡ self.now.node }
     {
@@ -70,14 +71,14 @@ impl Output {
         self.name.as_slice()
     }
 
-    /// Whether all macros begin it.
+    /// Whether all macros begin the file.
     pub fn has_macros(&self) -> bool
         ensures { result ≡ self.now.has_macros }
     {
         self.has_macros
     }
 
-    /// Whether its node has a piece; a file without one has nothing but the macros.
+    /// Whether the node has a piece; without one, the file has nothing but the macros.
     pub fn has_piece(&self) -> bool
         ensures { result ≡ self.now.has_piece }
     {
@@ -85,7 +86,7 @@ impl Output {
     }
 }
 
-/// What is in front of the output of a file's node: the macros, or nothing.
+/// The bytes that come before those of the node: the macros, or nothing.
 fn front_of<'a>(output: &Output, numbers: &'a Numbers) -> &'a [u8]
     ensures { result.now ≡ front_bytes numbers.now output.now.has_macros }
 {
@@ -96,7 +97,6 @@ fn front_of<'a>(output: &Output, numbers: &'a Numbers) -> &'a [u8]
     }
 }
 
-/// The expansion that is kept of the node.
 fn kept_expansion(kept: &Kept, node: Node) -> &Expansion
     requires { IsSome (kept_at kept.now node) }
     ensures { result.now ≡ node_symbols kept.now node }
@@ -104,8 +104,8 @@ fn kept_expansion(kept: &Kept, node: Node) -> &Expansion
     kept.get(node).unwrap()
 }
 
-/// Writes an output file: the macros, if they begin it, and what its node expands to and a line
-/// feed, if the node has a piece. It returns how many bytes the file has.
+/// Writes an output file: the macros, if they begin it, and the expansion of its node and a line
+/// feed, if the node has a piece. Returns the size of the file in bytes.
 ///
 /// # Errors
 ///
@@ -130,7 +130,7 @@ pub fn write_file<S: Sink>(
     write_after(sink, written, b"\n")
 }
 
-/// A sink that takes all bytes and keeps none.
+/// A sink that takes all bytes and stores none.
 #[derive(Drop)]
 struct Discarding {}
 
@@ -148,7 +148,7 @@ impl Sink for Discarding {
     }
 }
 
-/// How many bytes an output file has. It takes no memory.
+/// The size of an output file in bytes. Nothing is allocated.
 pub fn file_size(output: &Output, kept: &Kept, numbers: &Numbers) -> u128
     requires { IsReady output.now kept.now }
     ensures { result ≡ length (kept_output_bytes numbers.now kept.now output.now) }

@@ -9,7 +9,7 @@ use std::alloc::Global;
 use tangle_lines::NoMemory;
 use tangle_plans::Node;
 
-/// Expansions by node.
+/// The kept expansions, by node.
 #[derive(Drop)]
 pub struct Kept {
     program: Option<Expansion>,
@@ -18,7 +18,7 @@ pub struct Kept {
 }
 
 impl Kept {
-    /// No expansion. It takes no memory yet.
+    /// No expansions. Nothing is allocated yet.
     pub fn new(alloc: Global) -> Kept
         ensures { (node : Node) → kept_at result node ≡ None }
     {
@@ -28,11 +28,12 @@ impl Kept {
         }
     }
 
-    /// Makes an entry for the name with this number, if there is none.
+    /// Makes room for the name with this number, if there is none.
     fn make_entry(&mut self, id: usize) -> Result<(), NoMemory>
         ensures { SameKept self.old self.new }
     {
         let size = id.saturating_add(1);
+        // All memory is asked for at once, so that a number far beyond the table's makes no entry.
         self.names.reserve(size.saturating_sub(self.names.len()))?;
         for _entry in self.names.len()..size {
             self.names.push(None)?;
@@ -40,12 +41,12 @@ impl Kept {
         Ok(())
     }
 
-    /// Keeps this expansion of the node.
+    /// Keeps this expansion for the node, instead of an older one.
     ///
     /// # Errors
     ///
-    /// `NoMemory`, where an allocation failed; all expansions are then as before, and this one is
-    /// dropped.
+    /// `NoMemory` where an allocation failed; the kept expansions do not change then, and the new
+    /// one is dropped.
     pub fn put(&mut self, node: Node, expansion: Expansion) -> Result<(), NoMemory>
         ensures ok { OnOk result (PutsKept self.old self.new node expansion) }
         ensures err { OnErr result (SameKept self.old self.new) }
@@ -66,7 +67,7 @@ impl Kept {
         }
     }
 
-    /// The expansion that is kept of the node.
+    /// The expansion that is kept for the node, if there is one.
     pub fn get(&self, node: Node) -> Option<&Expansion>
         ensures { option_copied result ≡ kept_at self.now node }
     {

@@ -1,4 +1,4 @@
-//! Laws of the definitions.
+//! Laws of the definitions of expansions and of their bytes.
 ghost use Rattle.std.specs.Prelude.{◌*◌, Bool, List, [], if◌then◌else◌, slice_index_or, ◌≡◌, ◌≢◌};
 ghost use Rattle.std.specs.Prelude.{◌<◌, ◌≤◌, ℕ, min, length, map, flat_map, Option};
 ghost use Rattle.tangle_faults.specs.declared.faults.Origin.{Origin};
@@ -28,15 +28,15 @@ ghost use Rattle.tangle_expansion.specs.Location.{AreAtTheirOrigins};
 use tangle_plans::names_resolve_inside;
 use tangle_scan::what_is_apart_stays_apart;
 
-/// The weight of a node is the number of the symbols that it expands to.
+/// The weight of a node is the number of symbols in its expansion.
 pub fn the_weight_is_the_length()
     ensures { (fuel : ℕ) (shapes : Shapes) (node : Title) → weight fuel shapes node
         ≡ length (flat fuel shapes node) }
 {}
 
-/// Without their classes, the located symbols of a node are what the node expands to. Where the
-/// source items of each piece are at their lines, each byte of a source item that is in no stretch
-/// is at the counted origin that is its own line's, in the whole of an output.
+/// Without their classes, the located symbols of a node are its expansion. If the source items of
+/// each piece are at their lines, then in a whole output the counted origin at each byte of a
+/// source item outside stretches is that of the byte's source line.
 pub fn bytes_are_at_their_origins()
     ensures symbols { (source : SourceRead) (web : WebRead) (table : TableRead) (fuel : ℕ)
         (node : Title)
@@ -51,7 +51,7 @@ pub fn bytes_are_at_their_origins()
     names_resolve_inside();
 }
 
-/// The output of each node is true to the lines of the source.
+/// In the output of each node, each byte is at its line of the source.
 pub fn outputs_are_true_to_lines()
     ensures { (source : SourceRead) (web : WebRead) (node : Title)
         → PiecesAreAtTheirLines source web
@@ -62,15 +62,16 @@ pub fn outputs_are_true_to_lines()
     bytes_are_at_their_origins();
 }
 
-/// A node that is expandable now and is not affected was expandable before, with the same symbols:
-/// whatever was redefined, resolved otherwise or renumbered, and whatever cycles came or went.
+/// A node that is expandable after an edit, and not affected by it, was expandable before, with the
+/// same symbols. This holds whatever the edit redefines, resolves otherwise or renumbers, and
+/// whatever cycles it makes or removes.
 pub fn unaffected_nodes_stay()
     ensures { (levels limit : ℕ) (old new : Shapes) (node : Title)
         → IsExpandable levels limit new node → ¬ (IsAffected levels limit old new node)
         → IsExpandable levels limit old node × (flat levels new node ≡ flat levels old node) }
 {}
 
-/// What is expandable reaches no name that contains itself, and a node that reaches one is deeper
+/// An expandable node reaches no name that contains itself, since a node that reaches one is deeper
 /// and heavier than any number.
 pub fn expandable_nodes_reach_no_cycle()
     ensures none { (levels limit : ℕ) (shapes : Shapes) (node other : Title)
@@ -82,8 +83,8 @@ pub fn expandable_nodes_reach_no_cycle()
         → Reaches shapes node other → ContainsItself shapes other → fuel ≤ weight fuel shapes node }
 {}
 
-/// What a node expands to, its capped weight and its capped depth, by those of the names that it
-/// uses.
+/// The expansion of a node, its capped weight and its capped depth follow from those of the names
+/// that the node uses.
 pub fn nodes_expand_by_uses()
     ensures symbols { (levels : ℕ) (shapes : Shapes) (node : Title)
         → depth levels shapes node < levels
@@ -97,8 +98,8 @@ pub fn nodes_expand_by_uses()
         (pieces_depth (λ name. depth levels shapes (Named name)) (shapes node)) }
 {}
 
-/// A name with a piece that an expandable node uses is expandable too: so what the node expands to
-/// is made of what expandable names do.
+/// A name with a piece that an expandable node uses is expandable too. So the expansion of the node
+/// is made from those of expandable names.
 pub fn used_names_are_expandable()
     ensures { (levels limit : ℕ) (shapes : Shapes) (node : Title) (name : List ℕ)
         → IsExpandable levels limit shapes node → Uses shapes node name → shapes (Named name) ≢ []
@@ -108,8 +109,8 @@ pub fn used_names_are_expandable()
     the_weight_is_the_length();
 }
 
-/// What an expandable node expands to has no more symbols than the limit of weight, as writing it
-/// requires.
+/// The expansion of an expandable node has no more symbols than the limit of weight, which
+/// `write_text` requires.
 pub fn expandable_nodes_are_light()
     ensures { (shapes : Shapes) (node : Title) → IsExpandableNode shapes node
         → length (flat_of shapes node) ≤ heaviest }
@@ -117,8 +118,7 @@ pub fn expandable_nodes_are_light()
     the_weight_is_the_length();
 }
 
-/// A node expands to its own symbols, with what the names that it uses expand to where it uses
-/// them: what a plan says, filled.
+/// A plan whose uses are replaced by the expansions of the used names is the expansion of its node.
 pub fn filled_plans_are_right()
     ensures { (web : WebRead) (table : TableRead) (has_piece : ℕ → Bool) (symbols : ℕ → List Symbol)
         (levels : ℕ) (node : Title)
@@ -131,8 +131,8 @@ pub fn filled_plans_are_right()
         ≡ flat levels (shapes web table) node }
 {}
 
-/// At most so many bytes are written for each symbol of a node, and the node has no more symbols
-/// than it weighs.
+/// If at most `most` bytes are written for each symbol of a node, at most `most` times the limit of
+/// its weight are written for the node.
 pub fn outputs_are_short()
     ensures { (numbers : NumbersRead) (shapes : Shapes) (node : Title) (fuel limit most : ℕ)
         → weight fuel shapes node ≤ limit → AllByRecursion
@@ -140,9 +140,9 @@ pub fn outputs_are_short()
         → length (expansion_bytes numbers (flat fuel shapes node)) ≤ limit * most }
 {}
 
-/// What is written for a node is written for its pieces, one after another: of each its opening,
-/// its mark, its items and its closing, where the items that are uses are written as what the names
-/// that they use expand to.
+/// The bytes of a node are those of its pieces, one after another: for each piece its opening, its
+/// mark, its items and its closing. An item that is a use gives the bytes of the used name's
+/// expansion.
 pub fn nodes_are_written_by_pieces()
     ensures pieces { (web : WebRead) (table : TableRead) (marks : MarkMode)
         (used : List ℕ → List Symbol) (node : Title)
@@ -163,8 +163,9 @@ pub fn nodes_are_written_by_pieces()
     nodes_expand_by_uses();
 }
 
-/// Whatever the names that are used expand to, and however line marks are written: of two items of
-/// a macro or of a piece that the source keeps apart, a C compiler reads both in what is written.
+/// In what is written, a C compiler reads as two any two items of a macro or of a piece that the
+/// source keeps apart. This holds whatever the used names expand to, and however line marks are
+/// written.
 pub fn what_is_apart_is_written_apart()
     ensures { (source : SourceRead) (marks : MarkMode) (used : List ℕ → List Symbol)
         → AreWrittenApart source (web_of source) (table_of (web_of source)) used

@@ -1,7 +1,7 @@
-//! What nodes of a web expand to: expansions, which share, and their writing.
+//! Expansions of the nodes of a web, which share parts, and how they are written.
 //!
 //! [`expand`] makes the expansion of a node from its body and the kept expansions of the names that
-//! it uses. [`write_text`] writes an expansion, with the section numbers and origins of a web, its
+//! it uses. [`write_text`] writes an expansion, with the section numbers and origins of a web: its
 //! [`Numbers`].
 #![tactic(auto)]
 

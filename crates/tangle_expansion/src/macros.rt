@@ -1,4 +1,4 @@
-//! The bytes of the macros of a web.
+//! The bytes of a web's macros.
 ghost use Rattle.std.specs.Prelude.{◌≡◌, ◌++◌, IfOk, OnOk, decimal, flat_map};
 ghost use Rattle.std.specs.List.{All};
 ghost use Rattle.tangle_scan.specs.Rules.{first_byte};
@@ -12,7 +12,7 @@ use std::alloc::Global;
 use tangle_lines::NoMemory;
 use tangle_scan::{Item, Span, Web};
 
-/// Adds the value of an ASCII constant.
+/// Adds the value of an ASCII constant, as a decimal number.
 fn push_value(bytes: &mut Vec<u8>, value: u8) -> Result<(), NoMemory>
     ensures { OnOk result (bytes.new.items ≡ bytes.old.items ++ decimal value) }
 {
@@ -21,7 +21,7 @@ fn push_value(bytes: &mut Vec<u8>, value: u8) -> Result<(), NoMemory>
     Ok(())
 }
 
-/// Adds an item of a macro. A macro has no marks and uses.
+/// Adds the bytes of an item of a macro. A macro has neither marks nor uses.
 fn push_item(bytes: &mut Vec<u8>, web: &Web, item: Item) -> Result<(), NoMemory>
     requires { IsInRange web.now.texts item }
     ensures { OnOk result (bytes.new.items ≡ bytes.old.items ++ bytes_in web.now.texts item) }
@@ -38,7 +38,7 @@ fn push_item(bytes: &mut Vec<u8>, web: &Web, item: Item) -> Result<(), NoMemory>
     Ok(())
 }
 
-/// Adds an item of a macro, a line end with a backslash before it.
+/// Adds the bytes of an item of a macro. A line end gets a backslash before it.
 fn push_macro_item(bytes: &mut Vec<u8>, web: &Web, item: Item) -> Result<(), NoMemory>
     requires { IsInRange web.now.texts item }
     ensures { OnOk result (bytes.new.items
@@ -50,7 +50,7 @@ fn push_macro_item(bytes: &mut Vec<u8>, web: &Web, item: Item) -> Result<(), NoM
     push_item(bytes, web, item)
 }
 
-/// The byte at the start of a span of the web, or 0.
+/// The first byte of a span of the web, or 0 where the span is empty.
 fn first_byte(web: &Web, span: Span) -> u8
     ensures { result ≡ first_byte web.now.texts span }
 {
@@ -60,8 +60,9 @@ fn first_byte(web: &Web, span: Span) -> u8
     }
 }
 
-/// Whether the item is a blank, a line end or a backslash. At the end of a macro these are not
-/// written: a C compiler would read the next macro as a part of one that ends in a backslash.
+/// Whether the item is a blank, a line end or a backslash. These are not written at the end of a
+/// macro: after a macro that ends in a backslash, a C compiler would read the next macro as a part
+/// of it.
 fn is_dropped_at_end(web: &Web, item: Item) -> bool
     ensures { result ≡ is_dropped_at_end web.now.texts item }
 {
@@ -72,7 +73,7 @@ fn is_dropped_at_end(web: &Web, item: Item) -> bool
     }
 }
 
-/// The items without the blanks, line ends and backslashes at their end.
+/// The items up to the last one that is no blank, line end or backslash.
 fn without_end<'i>(web: &Web, items: &'i [Item]) -> &'i [Item]
     ensures { result.now ≡ without_end web.now.texts items.now }
 {
@@ -86,7 +87,7 @@ fn without_end<'i>(web: &Web, items: &'i [Item]) -> &'i [Item]
     &[]
 }
 
-/// Adds a macro.
+/// Adds the bytes of a macro, as a line that begins with `#define`.
 fn push_macro(bytes: &mut Vec<u8>, web: &Web, items: &[Item]) -> Result<(), NoMemory>
     requires { All (IsInRange web.now.texts) items.now }
     ensures { OnOk result (bytes.new.items

@@ -1,4 +1,4 @@
-//! The section numbers and origins of a node's pieces.
+//! The section numbers of a node's pieces, and the origins of their marks.
 ghost use Rattle.std.specs.Prelude.{◌≡◌, ◌∷◌, [], get_or};
 ghost use Rattle.tangle_expansion.specs.Numbers.{no_numbers, no_origin};
 
@@ -7,7 +7,7 @@ use std::slice::from_ref;
 use tangle_lines::Origin;
 
 /// The section number of a piece, and the origins of its opening mark and of the marks in it. Most
-/// pieces have none in them, and take no memory for it.
+/// pieces have only the opening mark, and allocate nothing for the others.
 #[derive(Drop)]
 pub(crate) struct PieceNumbers {
     section: usize,
@@ -37,7 +37,7 @@ impl PieceNumbers {
         }
     }
 
-    /// The origin of the mark with this number, the opening one first.
+    /// The origin of the mark with this number; the opening mark has the number 0.
     fn mark(&self, number: usize) -> Origin
         ensures { result ≡ get_or self.now.origins number no_origin }
     {
@@ -51,8 +51,7 @@ impl PieceNumbers {
     }
 }
 
-/// The numbers of a node's pieces: one, which takes no memory of its own, as most nodes have, or
-/// several.
+/// The numbers of a node's pieces. Most nodes have one piece, for which nothing is allocated.
 #[derive(Drop)]
 pub(crate) enum PieceNumbersRow {
     One(PieceNumbers),
@@ -76,7 +75,6 @@ impl Model for NodeNumbers {
 }
 
 impl NodeNumbers {
-    /// The numbers of a node with one piece.
     pub(crate) fn one(piece: PieceNumbers) -> Self
         ensures { result ≡ piece ∷ [] }
     {
@@ -85,7 +83,6 @@ impl NodeNumbers {
         }
     }
 
-    /// The numbers of a node with these pieces.
     pub(crate) fn several(pieces: Vec<PieceNumbers>) -> Self
         ensures { result ≡ pieces.items }
     {
@@ -94,7 +91,7 @@ impl NodeNumbers {
         }
     }
 
-    /// The pieces.
+    /// The numbers of each piece.
     pub(crate) fn as_slice(&self) -> &[PieceNumbers]
         ensures { result.now ≡ self.now }
     {
@@ -105,7 +102,6 @@ impl NodeNumbers {
     }
 }
 
-/// The number of the section of a piece.
 pub(crate) fn section_at(pieces: &[PieceNumbers], piece: usize) -> usize
     ensures { result ≡ (get_or pieces.now piece no_numbers).section }
 {
@@ -115,7 +111,6 @@ pub(crate) fn section_at(pieces: &[PieceNumbers], piece: usize) -> usize
     }
 }
 
-/// The origin of a mark of a piece.
 pub(crate) fn mark_origin_at(pieces: &[PieceNumbers], piece: usize, mark: usize) -> Origin
     ensures { result ≡ get_or (get_or pieces.now piece no_numbers).origins mark no_origin }
 {

@@ -11,14 +11,14 @@ use std::marker::Model;
 use tangle_lines::{MarkMode, Origin};
 use tangle_names::Names;
 
-/// What the bytes of a web's expansions depend on besides their symbols: section numbers, origins
-/// and the bytes of the macros.
+/// What the outputs of a web need besides the symbols of its expansions: section numbers, origins
+/// of marks and the bytes of the macros.
 #[derive(Drop)]
 pub struct Numbers {
     file_names: Vec<Vec<u8>>,
     program: NodeNumbers,
     names: Names,
-    // Of the node of each name.
+    // For each name, the numbers of its pieces.
     of_names: Vec<NodeNumbers>,
     macros: Vec<u8>,
     marks: MarkMode,
@@ -36,8 +36,7 @@ impl Model for Numbers {
 }
 
 impl Numbers {
-    /// Numbers of these file names, of the program's and the names' pieces, of these macros, with
-    /// marks written so.
+    /// Assembles the numbers from their parts.
     pub(crate) fn new(
         file_names: Vec<Vec<u8>>,
         program: NodeNumbers,
@@ -59,7 +58,7 @@ impl Numbers {
           marks = marks;
         } }
     {
-        // A length is below 2^64: that bounds the macros.
+        // A length is below 2^64, which bounds the bytes of the macros.
         let _bytes = macros.len();
         Numbers {
             file_names,
@@ -71,7 +70,7 @@ impl Numbers {
         }
     }
 
-    /// Called for its clause, which follows from the invariant: few bytes are written for each
+    /// Does nothing: its contract says, by the invariant, that few bytes are written for each
     /// symbol.
     pub(crate) fn symbols_are_short(&self)
         ensures { SymbolsAreShort self.now }
@@ -79,7 +78,7 @@ impl Numbers {
         let _bytes = self.macros.len();
     }
 
-    /// The numbers of a node's pieces.
+    /// The numbers of the pieces of the name, or of the program where there is no name.
     pub(crate) fn of_node(&self, name: &Option<Vec<u8>>) -> &[PieceNumbers]
         ensures { result.now ≡ node_numbers self.now (title_of name.now) }
     {
@@ -89,7 +88,7 @@ impl Numbers {
         }
     }
 
-    /// The name of a file, as line marks have it.
+    /// The escaped name of the file at this origin, as line marks have it.
     pub(crate) fn file_name(&self, origin: Origin) -> &[u8]
         ensures { result.now ≡ get_or self.now.file_names origin.file [] }
     {
@@ -99,14 +98,12 @@ impl Numbers {
         }
     }
 
-    /// How line marks are written.
     pub(crate) fn marks(&self) -> MarkMode
         ensures { result ≡ self.now.marks }
     {
         self.marks
     }
 
-    /// The bytes of the macros.
     pub(crate) fn macros(&self) -> &[u8]
         ensures { result.now ≡ self.now.macros }
     {
@@ -114,7 +111,7 @@ impl Numbers {
     }
 }
 
-/// The row of the name that was found; it is empty where none was.
+/// The row that was found; an empty one where none was.
 fn row_at(rows: &[NodeNumbers], found: Option<usize>) -> &[PieceNumbers]
     ensures { result.now ≡ row_found rows.now found }
 {

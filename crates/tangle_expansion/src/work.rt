@@ -22,7 +22,7 @@ impl Model for Work {
 }
 
 impl Work {
-    /// No node. It takes no memory yet.
+    /// An empty list. Nothing is allocated yet.
     pub fn new(alloc: Global) -> Work
         ensures { result ≡ [] }
     {
@@ -31,14 +31,14 @@ impl Work {
         }
     }
 
-    /// How many nodes were expanded.
+    /// The number of nodes that were expanded.
     pub fn made(&self) -> u64
         ensures { result ≡ length self.now }
     {
         self.nodes.len() as u64
     }
 
-    /// Adds a node that was expanded.
+    /// Adds an expanded node to the end of the list.
     pub(crate) fn add(&mut self, node: Node) -> Result<(), NoMemory>
         ensures ok { OnOk result (self.new ≡ self.old ++ node ∷ []) }
         ensures err { OnErr result (self.new ≡ self.old) }

@@ -15,8 +15,8 @@ use itoa::Buffer;
 use tangle_lines::{MarkMode, Origin, Sink, WriteFault, write_after};
 use tangle_plans::{NodeBody, Step, bytes_after_step, marks_after_step, pieces_after_step};
 
-/// Where the writing of a plan is: after so many steps, so many pieces, so many marks of this
-/// piece, and so many of the body's bytes.
+/// A position in a plan that is being written: the numbers of steps written, of pieces closed, of
+/// marks written in the current piece, and of bytes of the body written.
 #[derive(Clone, Copy, Debug)]
 struct Cursor {
     step: usize,
@@ -27,7 +27,7 @@ struct Cursor {
     ghost marks_low: { marks ≤ step },
 }
 
-/// Where the writing of a plan begins.
+/// The cursor at the start of a plan.
 fn first_cursor() -> Cursor
     ensures step { result.step ≡ 0 }
     ensures piece { result.piece ≡ 0 }
@@ -42,7 +42,7 @@ fn first_cursor() -> Cursor
     }
 }
 
-/// Writes a number with these bytes before and after it.
+/// Writes a number between these bytes, unless `so_far` is an error.
 #[inline(always)]
 fn write_between<S: Sink>(
     before: &[u8],
@@ -60,7 +60,7 @@ fn write_between<S: Sink>(
     write_after(sink, numbered, after)
 }
 
-/// Writes the opening of a piece.
+/// Writes the comment that opens a piece.
 fn write_opening<S: Sink>(
     section: usize,
     sink: &mut S,
@@ -72,7 +72,7 @@ fn write_opening<S: Sink>(
     write_between(b"/*", section, b":*/", sink, so_far)
 }
 
-/// Writes the closing of a piece.
+/// Writes the comment that closes a piece.
 fn write_closing<S: Sink>(
     section: usize,
     sink: &mut S,
@@ -84,7 +84,7 @@ fn write_closing<S: Sink>(
     write_between(b"/*:", section, b"*/", sink, so_far)
 }
 
-/// Writes a line mark in full.
+/// Writes a line mark as a `#line` directive.
 fn write_full_mark<S: Sink>(
     file: &[u8],
     line: u32,
@@ -102,7 +102,7 @@ fn write_full_mark<S: Sink>(
     write_after(sink, named, b"\"\n")
 }
 
-/// Writes a line mark.
+/// Writes a line mark: in full, or as a line feed.
 fn write_mark<S: Sink>(
     numbers: &Numbers,
     origin: Origin,
@@ -118,7 +118,7 @@ fn write_mark<S: Sink>(
     }
 }
 
-/// The bytes from one position up to another.
+/// The bytes from `start` up to `end`, or up to the last one if `end` is beyond it.
 fn bytes_between(bytes: &[u8], start: usize, end: usize) -> &[u8]
     ensures { result.now ≡ bytes_between bytes.now start end }
 {
@@ -126,7 +126,6 @@ fn bytes_between(bytes: &[u8], start: usize, end: usize) -> &[u8]
     if start < end { &bytes[start..end] } else { &[] }
 }
 
-/// Whether a step is a use of a name with a piece.
 fn is_use_step(step: Step) -> bool
     ensures { result ≡ is_use_step step }
 {
@@ -175,7 +174,7 @@ fn write_step<S: Sink>(
     }
 }
 
-/// Where the writing is after a step.
+/// The cursor after a step.
 fn cursor_after(at: Cursor, step: Step) -> Cursor
     requires { at.step + 1 < 2 ^ 64 }
     ensures step { result.step ≡ at.step + 1 }
@@ -191,7 +190,7 @@ fn cursor_after(at: Cursor, step: Step) -> Cursor
     }
 }
 
-/// Writes the symbols up to the next use, or to the end: where the writing then is.
+/// Writes the symbols up to the next use, or to the end. Returns the cursor there.
 fn write_to_use<S: Sink>(
     numbers: &Numbers,
     body: &NodeBody,
@@ -227,13 +226,13 @@ fn write_to_use<S: Sink>(
 }
 
 impl Expansion {
-    /// Writes the text of the expansion after what was written so far, unless that failed. It
-    /// returns how many bytes were written in all.
+    /// Writes the text of the expansion, unless `so_far` is an error. Returns the number of bytes
+    /// written in all, with those of `so_far`.
     ///
     /// # Errors
     ///
-    /// The fault so far, or `WriteFault(n)` where the sink failed, or took no byte, after `n` bytes
-    /// in all.
+    /// `so_far` if it is an error, else `WriteFault(n)` where the sink failed, or took no byte,
+    /// after `n` bytes in all.
     pub fn write_text_after<S: Sink>(
         &self,
         numbers: &Numbers,
@@ -259,7 +258,7 @@ impl Expansion {
     }
 }
 
-/// Writes the text of an expansion. It returns how many bytes that has.
+/// Writes the text of an expansion. Returns its length in bytes.
 ///
 /// # Errors
 ///

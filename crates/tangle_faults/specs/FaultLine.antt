@@ -6,7 +6,7 @@ use Rattle.tangle_faults.specs.declared.fault_line.Ending.{Ending}
 use Rattle.tangle_faults.specs.declared.fault_line.Ending.TheVariants.{Nothing, FileName, Count, SectionName, NameOrProgram}
 use Rattle.tangle_faults.specs.Faults.{PlaceRead, FaultRead, is_error_kind}
 
--- the message of a fault of this kind, and what it ends with
+-- the message of a fault of this kind, and the kind of its ending
 abbrev pub wording : FaultKind → List ℕ × Ending
 wording StrayMark = (codes "@y or @z out of place", Nothing)
 wording MissingY = (codes "change without @y", Nothing)
@@ -39,11 +39,12 @@ wording TooLarge = (codes "too large: ", NameOrProgram)
 wording FileClash = (codes "file name is the main file's: ", SectionName)
 wording NoProgram = (codes "no program text", Nothing)
 
--- a section's name as a fault shows it
+-- the name of a section, as a fault shows it
 abbrev pub bracketed : List ℕ → List ℕ
 bracketed name = codes "<" ++ name ++ codes ">"
 
--- the program has no name, and a fault of it no place
+-- the name; the unnamed program has none, and its fault has no place
+-- A section may have the empty name, so an empty subject would not show the program.
 abbrev pub name_or_program : Option PlaceRead → List ℕ → List ℕ
 name_or_program None name = codes "the unnamed program"
 name_or_program (Some place) name = bracketed name
@@ -55,7 +56,7 @@ ending_bytes Count fault = decimal fault.count
 ending_bytes SectionName fault = bracketed fault.subject
 ending_bytes NameOrProgram fault = name_or_program fault.place fault.subject
 
--- a place in front of a fault
+-- the place that comes before the message of a fault
 abbrev pub place_bytes : PlaceRead → List ℕ
 place_bytes place = place.file ++ codes ":" ++ decimal place.line ++ codes ": "
 

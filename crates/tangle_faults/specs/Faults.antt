@@ -8,7 +8,7 @@ pub record PlaceRead : Type 0 where
   pub file : List ℕ
   pub line : ℕ
 
--- a fault as the list of faults has it
+-- a fault, as it is in the list of faults
 pub record FaultRead : Type 0 where
   pub kind : FaultKind
   pub place : Option PlaceRead
@@ -27,7 +27,7 @@ fault_counting kind place count = record { kind = kind; place = Some place; subj
 abbrev pub fault_unplaced : FaultKind → FaultRead
 fault_unplaced kind = record { kind = kind; place = None; subject = []; count = 0 }
 
--- all kinds but three are errors: those are warnings
+-- all kinds are errors but three, which are warnings
 abbrev pub is_error_kind : FaultKind → Bool
 is_error_kind PrefixName = false
 is_error_kind Unused = false

@@ -10,20 +10,20 @@ use crate::faults::{Fault, FaultKind, Place};
 use itoa::Buffer;
 use tangle_streams::{Sink, WriteFault, write_after};
 
-/// What the message of a fault ends with.
+/// The kind of text that ends the message of a fault.
 #[derive(Clone, Copy, Debug, PartialEq, Eq)]
 pub enum Ending {
     Nothing,
-    /// The name of a file, as it is.
+    /// The name of a file, unchanged.
     FileName,
     Count,
     /// The name of a section, in angle brackets.
     SectionName,
-    /// The name of a section, or the program where the fault has no place.
+    /// The name of a section, or that the program is meant, where the fault has no place.
     NameOrProgram,
 }
 
-/// The message of a fault of this kind up to its ending, and what that is.
+/// The message of a fault of this kind without its ending, and the kind of the ending.
 fn wording(kind: FaultKind) -> (&'static [u8], Ending)
     ensures message { result.0.now ≡ (wording kind).0 }
     ensures ending { result.1 ≡ (wording kind).1 }
@@ -65,8 +65,8 @@ fn wording(kind: FaultKind) -> (&'static [u8], Ending)
     }
 }
 
-/// Writes the line of a fault: how many bytes it has. CWEB's programs word their faults otherwise:
-/// see docs/faults.md.
+/// Writes the line of a fault. Returns its length in bytes. The wording differs from that of CWEB's
+/// programs: see docs/faults.md.
 ///
 /// # Errors
 ///
@@ -83,7 +83,7 @@ pub fn write_fault<S: Sink>(fault: &Fault, sink: &mut S) -> Result<u128, WriteFa
     write_after(sink, ended, b"\n")
 }
 
-/// What is in front of the message of a fault of this kind.
+/// The word that comes before the message of a fault of this kind.
 fn severity(kind: FaultKind) -> &'static [u8]
     ensures { result.now ≡ severity_of kind }
 {
@@ -106,7 +106,7 @@ fn write_place_if_any<S: Sink>(place: Option<&Place>, sink: &mut S) -> Result<u1
     }
 }
 
-/// Writes a place.
+/// Writes a place, which comes before the message of a fault.
 fn write_place<S: Sink>(place: &Place, sink: &mut S) -> Result<u128, WriteFault>
     ensures written { IsWritten (S.stream sink.old) (S.stream sink.new) (place_bytes place.now)
         result }
@@ -119,7 +119,7 @@ fn write_place<S: Sink>(place: &Place, sink: &mut S) -> Result<u128, WriteFault>
     write_after(sink, line, b": ")
 }
 
-/// Writes the ending of a fault's message after what was written so far.
+/// Writes the ending of a fault's message, unless `so_far` is an error.
 fn write_ending<S: Sink>(
     sink: &mut S,
     so_far: Result<u128, WriteFault>,
@@ -142,7 +142,7 @@ fn write_ending<S: Sink>(
     }
 }
 
-/// Writes a number after what was written so far.
+/// Writes a number, unless `so_far` is an error.
 fn write_count<S: Sink>(
     sink: &mut S,
     so_far: Result<u128, WriteFault>,
@@ -156,7 +156,7 @@ fn write_count<S: Sink>(
     write_after(sink, so_far, digits.format(count).as_bytes())
 }
 
-/// Writes a name in angle brackets after what was written so far.
+/// Writes a name in angle brackets, unless `so_far` is an error.
 fn write_bracketed<S: Sink>(
     sink: &mut S,
     so_far: Result<u128, WriteFault>,

@@ -8,11 +8,11 @@ use std::alloc::Global;
 use std::marker::Model;
 use tangle_streams::NoMemory;
 
-/// What a fault is. The first ten are of change files and reading, those from `CodeInC` on of
-/// scanning, and those from `NoFullName` on of names and outputs.
+/// The kind of a fault. The first ten kinds belong to change files and reading, those from
+/// `CodeInC` on to scanning, and those from `NoFullName` on to names and outputs.
 #[derive(Clone, Copy, Debug, PartialEq, Eq)]
 pub enum FaultKind {
-    /// A `@y` or `@z` where none may be.
+    /// An `@y` or `@z` out of place.
     StrayMark,
     /// A change that ends without its `@y`.
     MissingY,
@@ -22,19 +22,19 @@ pub enum FaultKind {
     EmptyOld,
     /// An inclusion without the name of a file.
     IncludeNoName,
-    /// An inclusion of a file that is not in the table. It has the name.
+    /// An inclusion of a file that is not in the table. The fault has the file's name.
     IncludeMissing,
-    /// An inclusion in the tenth file that is open.
+    /// An inclusion in the tenth open file.
     IncludeTooDeep,
-    /// Old lines of a change that the lines there do not match. It says how many.
+    /// Old lines of a change that differ from the lines of the web. The fault has their number.
     ChangeMismatch,
     /// A line after the 2,000,000 that are read.
     SourceTooLong,
-    /// A change that was never used: the first of them.
+    /// A change that was never used. Only the first one is reported.
     ChangeUnused,
     /// A control code that begins a definition, in C text.
     CodeInC,
-    /// A `@h` in a macro.
+    /// An `@h` in a macro.
     MisplacedH,
     /// A macro that does not start with an identifier.
     MacroName,
@@ -52,31 +52,31 @@ pub enum FaultKind {
     CommentEnd,
     /// A section name that did not end.
     NameEnd,
-    /// What looks like a definition, without a section start before it.
+    /// Text that looks like a definition, without a section start before it.
     NameEquals,
-    /// An abbreviation that begins no full name. It has the abbreviation.
+    /// An abbreviation that begins no full name. The fault has the abbreviation.
     NoFullName,
-    /// An abbreviation that begins several full names. It has the abbreviation.
+    /// An abbreviation that begins several full names. The fault has the abbreviation.
     Ambiguous,
-    /// A full name that begins another one. This is a warning, and has the name.
+    /// A full name that begins another one. This is a warning; it has the name.
     PrefixName,
-    /// A section that is used and never defined. It has the name.
+    /// A section that is used and never defined. The fault has its name.
     Undefined,
-    /// A section that is never used. This is a warning, and has the name.
+    /// A section that is never used. This is a warning; it has the name.
     Unused,
-    /// A section that contains itself. It has the name.
+    /// A section that contains itself. The fault has its name.
     SelfContaining,
-    /// A section that weighs too much or is too deep; the unnamed program where the fault has no
-    /// place.
+    /// A section that is too heavy or too deep. The fault has its name, or no place where it is
+    /// about the unnamed program.
     TooLarge,
-    /// A file to be written that has the main file's name. It has the name.
+    /// A file with `@(` that has the name of the main file. The fault has the name.
     FileClash,
     /// A web without program text. This is a warning.
     NoProgram,
 }
 
 impl FaultKind {
-    /// Whether a fault of this kind is an error, and no warning.
+    /// Whether a fault of this kind is an error; otherwise it is a warning.
     pub fn is_error(self) -> bool
         ensures { result ≡ is_error_kind self }
     {
@@ -87,15 +87,16 @@ impl FaultKind {
     }
 }
 
-/// Where a line is: the number of its file in the table of files, from 0, and its own number there,
-/// from 1.
+/// The origin of a line: the number of its file in the table of files, from 0, and the number of
+/// the line in the file, from 1.
+// A number is copied, and no proof maps numbers to names: only faults have the names of files.
 #[derive(Clone, Copy, Debug, PartialEq, Eq)]
 pub struct Origin {
     pub file: u16,
     pub line: u32,
 }
 
-/// A line of a file, by the file's name.
+/// The place of a line: the name of its file, and the number of the line in it.
 #[derive(Drop)]
 pub struct Place {
     file: Vec<u8>,
@@ -111,7 +112,7 @@ impl Model for Place {
 }
 
 impl Place {
-    /// The line of this number, from 1, of the file of this name.
+    /// The place of the line with this number, from 1, of the file with this name.
     fn new(alloc: Global, file: &[u8], line: u32) -> Result<Self, NoMemory>
         ensures { IfOk result (λ p. p ≡ record { file = file.now; line = line }) }
     {
@@ -134,7 +135,8 @@ impl Place {
     }
 }
 
-/// A fault of the sources: what it is, its place, and the name or the number that its message has.
+/// A fault of the sources: its kind, its place, and the name or number that its message has.
+// It has copies of the names: a shared table of files would have to be passed by every caller.
 #[derive(Drop)]
 pub struct Fault {
     kind: FaultKind,
@@ -162,7 +164,7 @@ impl Fault {
     ///
     /// # Errors
     ///
-    /// `NoMemory`, where an allocation failed.
+    /// `NoMemory` where an allocation failed.
     pub fn at(alloc: Global, kind: FaultKind, file: &[u8], line: u32) -> Result<Self, NoMemory>
         ensures { IfOk result (λ f. f ≡ fault_at kind (record { file = file.now; line = line })) }
     {
@@ -177,7 +179,7 @@ impl Fault {
     ///
     /// # Errors
     ///
-    /// `NoMemory`, where an allocation failed.
+    /// `NoMemory` where an allocation failed.
     pub fn about(
         alloc: Global,
         kind: FaultKind,
@@ -195,11 +197,11 @@ impl Fault {
         })
     }
 
-    /// A fault at a line, with a number.
+    /// A fault at a line, with a number in its message.
     ///
     /// # Errors
     ///
-    /// `NoMemory`, where an allocation failed.
+    /// `NoMemory` where an allocation failed.
     pub fn counting(
         alloc: Global,
         kind: FaultKind,
@@ -216,7 +218,7 @@ impl Fault {
         })
     }
 
-    /// A fault without a place. It takes no memory.
+    /// A fault without a place. Nothing is allocated.
     pub fn unplaced(alloc: Global, kind: FaultKind) -> Self
         ensures { result ≡ fault_unplaced kind }
     {
@@ -228,35 +230,35 @@ impl Fault {
         }
     }
 
-    /// What it is.
+    /// The kind of the fault.
     pub fn kind(&self) -> FaultKind
         ensures { result ≡ self.now.kind }
     {
         self.kind
     }
 
-    /// Where it is, if it has a place.
+    /// The place of the fault, if it has one.
     pub fn place(&self) -> Option<&Place>
         ensures { option_copied result ≡ self.now.place }
     {
         self.place.as_ref()
     }
 
-    /// The file or the name that it is about: no bytes where its message has none.
+    /// The file or the name that the fault is about; empty if its message has none.
     pub fn subject(&self) -> &[u8]
         ensures { result.now ≡ self.now.subject }
     {
         self.subject.as_slice()
     }
 
-    /// The number that its message has, or 0.
+    /// The number in the fault's message, or 0 if it has none.
     pub fn count(&self) -> usize
         ensures { result ≡ self.now.count }
     {
         self.count
     }
 
-    /// Whether it is an error, and no warning.
+    /// Whether the fault is an error; otherwise it is a warning.
     pub fn is_error(&self) -> bool
         ensures { result ≡ is_error self.now }
     {
@@ -264,11 +266,11 @@ impl Fault {
     }
 }
 
-/// Adds a fault at a line to the others.
+/// Adds a fault at a line to the list.
 ///
 /// # Errors
 ///
-/// `NoMemory`, where an allocation failed.
+/// `NoMemory` where an allocation failed.
 pub fn add_fault(
     alloc: Global,
     kind: FaultKind,

@@ -1,7 +1,8 @@
-//! Faults: what each is, where it is and what it is about, and the line that reports it.
+//! Faults: the kind, the place and the subject of each, and the line that reports it.
 //!
-//! While a web is read, an [`Origin`] says which line of which file a line is. A fault has a
-//! [`Place`], which names the file. [`write_fault`] writes the line of a fault to a writer.
+//! While a web is read, the [`Origin`] of a line is the number of its file, and its own number in
+//! the file. The [`Place`] of a fault has the name of the file. [`write_fault`] writes the line
+//! that reports a fault.
 #![tactic(auto)]
 
 mod fault_line;

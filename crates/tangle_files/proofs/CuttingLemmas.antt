@@ -56,7 +56,7 @@ length-raw_lines (b ∷ bs) = by (b == 10) (length-raw_lines bs)
         grow [] h = omega arith
         grow (l ∷ ls) h = omega arith
 
--- a line without its trailing spaces is a beginning of it
+-- a trimmed line is a prefix of the line
 pub trimmed_is_front : (bs : List ℕ) → take (length (trimmed bs)) bs ≡ trimmed bs
 trimmed_is_front [] = refl
 trimmed_is_front (b ∷ bs) = by (trimmed bs) (trimmed_is_front bs) (b == 32) refl
@@ -66,7 +66,7 @@ trimmed_is_front (b ∷ bs) = by (trimmed bs) (trimmed_is_front bs) (b == 32) re
     by [] e false is = ap (λ l. take (length l) (b ∷ bs)) (ap (λ t. cond t [] (b ∷ [])) is) ∙ sym (ap (λ t. cond t [] (b ∷ [])) is)
     by (c ∷ cs) e s is = ap (λ l. b ∷ l) e
 
--- the first line after a position, with its line feed and without one
+-- the first line after a position, ended by a line feed or by the end of the text
 pub line_with_feed : (bs rest : List ℕ) (start n : ℕ) → rest ≡ drop start bs → n < length rest → ((k : ℕ) → k < n → (get_or rest k 0 == 10) ≡ false)
     → (get_or rest n 0 == 10) ≡ true
     → raw_lines (drop start bs) ≡ take (start + n - start) (drop start bs) ∷ raw_lines (drop (start + n + 1) bs)
@@ -82,20 +82,20 @@ line_without_feed bs rest start is h none =
     ∙ ap (λ l. l ∷ []) (sym (take_all (length bs - start) (drop start bs) (omega (arith, length-drop start bs))))
     ∙ ap (λ l. take (length bs - start) (drop start bs) ∷ raw_lines l) (sym (drop_all (length bs + 1) bs (omega arith)))
 
--- the rest of a text
+-- taking all bytes after a position changes nothing
 pub whole_rest : (bs : List ℕ) (start : ℕ) → take (length bs - start) (drop start bs) ≡ drop start bs
 whole_rest bs start = take_all (length bs - start) (drop start bs) (omega (arith, length-drop start bs))
 
 trimmed_shorter : (bs : List ℕ) → length (trimmed bs) ≤ length bs
 trimmed_shorter bs = omega (arith, ap length (trimmed_is_front bs), length-take (length (trimmed bs)) bs)
 
--- a line without its trailing spaces ends where the line does, or before
+-- a trimmed line ends within the text
 pub line_fits : (text line : List ℕ) (start end : ℕ) → line ≡ trimmed (take (end - start) (drop start text)) → start ≤ end → end ≤ length text
     → start + length line ≤ length text
 line_fits text line start end is low high =
     omega (arith, ap length is, trimmed_shorter (take (end - start) (drop start text)), length-take (end - start) (drop start text))
 
--- the lines of a text up to a position
+-- `lines` are the lines of the text before `start`, and they keep the limits
 pub record IsCutUpTo (text : List ℕ) (start : ℕ) (lines : List (List ℕ)) : Type 0 where
   pub made : lines ++ cut (drop start text) ≡ cut text
   pub short : list_any is_too_long (cut (drop start text)) ≡ list_any is_too_long (cut text)

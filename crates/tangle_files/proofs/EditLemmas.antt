@@ -27,11 +27,11 @@ pub lines_of-found : (t : Table) (name : List ℕ) (v : SharedLines)
     → Some v ≡ lookup (λ k. bytes_eq name k.items) t.entries → lines_of (files_of t) name ≡ Some v.value.items
 lines_of-found t name v found = rw (lines_of-entries, ← found) refl
 
--- and one that finds none finds none there
+-- a look-up in the table that finds nothing finds nothing among the files
 pub lines_of-absent : (t : Table) (name : List ℕ) → None ≡ lookup (λ k. bytes_eq name k.items) t.entries → lines_of (files_of t) name ≡ None
 lines_of-absent t name found = rw (lines_of-entries, ← found) refl
 
--- lines that replace others in the table are the lines of their file
+-- replacing the lines of a table entry replaces the lines of its file
 pub files_of-written : (old new : Table) (name : List ℕ) (v w : SharedLines) (splice : List (List ℕ) → List (List ℕ))
     → Some v ≡ lookup (λ k. bytes_eq name k.items) old.entries → w.value.items ≡ splice v.value.items
     → new.entries ≡ set_value (λ k. bytes_eq name k.items) old.entries w → files_of new ≡ with_lines_edited (files_of old) name splice
@@ -53,12 +53,12 @@ spliced-set lines start line inside =
     sym (take-append-drop start (set lines start line)) ∙ (λ i. take-set lines start line i ++ drop-set lines start line inside i)
     ∙ sym (append_assoc (take start lines) (line ∷ []) _)
 
--- what holds of the lines of a file holds of those that were found
+-- a property of the lines of a file holds of the lines that a look-up found
 pub of-found : (t : Table) (name : List ℕ) (v : SharedLines) (P : List (List ℕ) → Type 0)
     → Some v ≡ lookup (λ k. bytes_eq name k.items) t.entries → IfSome (lines_of (files_of t) name) P → P v.value.items
 of-found t name v P found h = subst (λ o. IfSome o P) (lines_of-found t name v found) h
 
--- a file that is taken out of the table is taken out of the files
+-- removing an entry of the table removes its file
 map-remove_entry : (name : List ℕ) (es : List (Vec ℕ Global × SharedLines))
     → map file_of (remove_entry (λ k. bytes_eq name k.items) es) ≡ remove_entry (bytes_eq name) (map file_of es)
 map-remove_entry name [] = refl

@@ -12,17 +12,12 @@ use Rattle.std.proofs.lemmas.Map.{length-set_value, keys-set_value}
 use Rattle.tangle_files.specs.declared.edits.Edit.{Edit}
 use Rattle.tangle_files.specs.declared.edits.Edit.TheVariants.{Insert, Remove, Replace, Create, Discard, Marks}
 use Rattle.tangle_files.specs.declared.refusal.Refusal.{Refusal}
-use Rattle.tangle_files.specs.declared.refusal.Refusal.TheVariants.{BadName, FileExists, TooManyFiles, TooManyLines, UnknownFile, NoSuchLine}
+use Rattle.tangle_files.specs.declared.refusal.Refusal.TheVariants.{BadName, TooManyLines, UnknownFile, NoSuchLine}
 use Rattle.tangle_files.specs.Lines.{FileTable, lines_of, trimmed}
-use Rattle.tangle_files.specs.Adding.{is_name, has_file, most_files, most_lines, HasDistinctNames, IsWithinLimits}
-use Rattle.tangle_files.specs.Edits.{create_refusal, edit_refusal, insert_refusal, is_line_number, or_else, refusal_if, refusal_in, replace_refusal, text_refusal}
+use Rattle.tangle_files.specs.Adding.{is_name, most_files, most_lines, name_refusal, HasDistinctNames, IsWithinLimits}
+use Rattle.tangle_files.specs.Edits.{edit_refusal, insert_refusal, is_line_number, refusal_if, refusal_in, replace_refusal, text_refusal}
 use Rattle.tangle_files.specs.Edited.{edited, spliced, with_lines_edited}
-use Rattle.tangle_files.proofs.TableLemmas.{distinct-with_file, last_few, none_from_is_some}
-
--- where neither of two refusals applies
-both_none : (a b : Option Refusal) → None ≡ or_else a b → (a ≡ None) × (None ≡ b)
-both_none None b h = (refl, h)
-both_none (Some e) b h = absurd (cc)
+use Rattle.tangle_files.proofs.TableLemmas.{both_none, distinct-with_file, last_few, new_name}
 
 not_refused : (b : Bool) (e : Refusal) → refusal_if b e ≡ None → b ≡ false
 not_refused true e h = absurd (cc)
@@ -42,7 +37,7 @@ numbered at last h =
     let parts = and_parts (nat_le 1 at) (nat_le at last) (from_not _ (not_refused _ NoSuchLine h)) in
     (leb-true 1 at parts.0, leb-true at last parts.1)
 
--- the lines of a file of which an edit is not refused
+-- if an edit of lines is not refused, there are lines, and `of_lines` does not refuse the edit
 found : (o : Option (List (List ℕ))) (of_lines : List (List ℕ) → Option Refusal) → None ≡ option_map_or of_lines o (Some UnknownFile)
     → (lines : List (List ℕ)) × ((o ≡ Some lines) × (None ≡ of_lines lines))
 found None of_lines h = absurd (cc)
@@ -69,7 +64,7 @@ few-set_value (f ∷ fs) name lines few h = by (bytes_eq name f.0) rest (few-set
     by false old changed zero d l = h 0 d (omega arith)
     by false old changed (suc k) d l = changed k d (omega arith)
 
--- a splicing that leaves few enough lines keeps the limits
+-- splicing keeps the limits, if the lines that it leaves are within their limit
 within-spliced : (files : FileTable) (name : List ℕ) (splice : List (List ℕ) → List (List ℕ)) (lines : List (List ℕ))
     → lines_of files name ≡ Some lines → length (splice lines) ≤ most_lines → IsWithinLimits files → IsWithinLimits (with_lines_edited files name splice)
 within-spliced files name splice lines is few within =
@@ -96,7 +91,7 @@ length-spliced lines start new_lines end within =
     length-append (take start lines ++ new_lines) (drop end lines)
     ∙ rw (length-append (take start lines) new_lines, length-take-le start lines within, length-drop end lines) refl
 
--- the files without one
+-- removing a file keeps the limit of lines
 few-remove_entry : (files : FileTable) (name : List ℕ) → All HasFewLines files → All HasFewLines (remove_entry (bytes_eq name) files)
 few-remove_entry [] name h = h
 few-remove_entry (f ∷ fs) name h = by (bytes_eq name f.0) (few-remove_entry fs name rest)
@@ -138,7 +133,7 @@ distinct-remove_entry (f ∷ fs) name h =
     by true others later = h.1
     by false others later = (others, later)
 
--- the lengths that edits of lines leave
+-- an edit of lines that is not refused keeps the limit of lines
 few_after_insert : (lines : List (List ℕ)) (at : ℕ) (text : List ℕ) → None ≡ insert_refusal lines at text
     → length (spliced lines (at - 1) (trimmed text ∷ []) (at - 1)) ≤ most_lines
 few_after_insert lines at text h =
@@ -161,15 +156,13 @@ few_after_replace lines at text few h =
     let number = numbered at (length lines) first.0 in
     omega (arith, number, few, length-spliced lines (at - 1) (trimmed text ∷ []) at (omega (arith, number)))
 
-within-created : (files : FileTable) (name : List ℕ) → None ≡ create_refusal files name → IsWithinLimits files → IsWithinLimits (files ++ (name, []) ∷ [])
+within-created : (files : FileTable) (name : List ℕ) → None ≡ name_refusal files name → IsWithinLimits files → IsWithinLimits (files ++ (name, []) ∷ [])
 within-created files name h within =
-    let first = both_none (refusal_if (not (is_name name)) BadName) _ h in
-    let second = both_none (refusal_if (has_file files name) FileExists) _ first.1 in
-    let absent = none_from_is_some (lines_of files name) (not_refused _ FileExists second.0) in
-    let below_limit = leb-false most_files (length files) (not_refused _ TooManyFiles (sym second.1)) in
+    let new = new_name files name (sym h) in
+    let below_limit = leb-false most_files (length files) new.below_limit in
     record {
       count = omega (arith, below_limit, length-append files ((name, []) ∷ []));
-      names = distinct-with_file files name [] absent within.names;
+      names = distinct-with_file files name [] new.absent within.names;
       lines = All-append HasFewLines files _ within.lines (last_few (name, []) (omega arith));
     }
 

@@ -1,9 +1,9 @@
 -- A look-up in the table is a look-up among the files.
 use Rattle.std.proofs.Common.{◌≡◌, ℕ, zero, suc, ◌+◌, ◌||◌, Bool, true, false, cond, not, List, [], ◌∷◌, ◌++◌, map, refl, sym, ap, subst, ◌∙◌, Option, None, Some, is_some, true≢false, arith, length-append}
 use Rattle.indexmap.specs.IndexMap.{insert_entry}
-use Rattle.tangle_files.specs.Adding.{is_name, has_file, most_files, most_lines, is_too_long, add_refusal, name_refusal, cut_refusal, with_file, HasDistinctNames, IsWithinLimits}
+use Rattle.tangle_files.specs.Adding.{is_name, has_file, most_files, most_lines, is_too_long, add_refusal, name_refusal, cut_refusal, or_else, with_file, HasDistinctNames, IsWithinLimits}
 use Rattle.std.specs.Option.{option_map}
-use Rattle.tangle_files.specs.declared.refusal.Refusal.TheVariants.{BadName, FileExists, TooManyFiles}
+use Rattle.tangle_files.specs.declared.refusal.Refusal.{Refusal}
 use Rattle.std.specs.Prelude.{position, nat_lt, nat_le, length, slice_get, ◌≤◌}
 use Rattle.std.specs.List.{position_or_len, list_any, All, AllZip, IsDistinct}
 use Rattle.std.specs.Vec.{vec_len}
@@ -19,7 +19,7 @@ use Rattle.std.specs.Global.{Global}
 use Rattle.tangle_files.specs.Lines.{FileTable, file_number, lines_of, lines_at, cut}
 use Rattle.tangle_files.specs.Table.{SharedLines, Table, file_of, files_of}
 
--- a choice goes through option_map
+-- `option_map` distributes over `cond`
 option_map-cond : {X Y : Type 0} (f : X → Y) (b : Bool) (x : X) (o : Option X) (p : Option Y) → p ≡ option_map f o → cond b (Some (f x)) p ≡ option_map f (cond b (Some x) o)
 option_map-cond f true x o p e = refl
 option_map-cond f false x o p e = e
@@ -29,7 +29,7 @@ pub lines_of-entries : (name : List ℕ) (es : List (Vec ℕ Global × SharedLin
 lines_of-entries name [] = refl
 lines_of-entries name (e ∷ es) = option_map-cond (λ v. v.value.items) (bytes_eq name e.0.items) e.1 _ _ (lines_of-entries name es)
 
--- what a choice without a value says
+-- if `cond` gives `None`, its condition is false and its other branch is `None`
 none_from_cond : {X : Type 0} (b : Bool) (x : X) (o : Option X) → cond b (Some x) o ≡ None → (b ≡ false) × (o ≡ None)
 none_from_cond true x o h = absurd (cc)
 none_from_cond false x o h = (refl, h)
@@ -38,45 +38,54 @@ pub none_from_is_some : {X : Type 0} (o : Option X) → is_some o ≡ false → 
 none_from_is_some None h = refl
 none_from_is_some (Some x) h = absurd (true≢false h)
 
--- what is known of an accepted file
+-- what holds of a file that is not refused
 pub record IsAccepted (files : FileTable) (name bytes : List ℕ) : Type 0 where
   pub absent : lines_of files name ≡ None
   pub below_limit : nat_le most_files (length files) ≡ false
   pub short : list_any is_too_long (cut bytes) ≡ false
   pub few : nat_lt most_lines (length (cut bytes)) ≡ false
 
-pub accepted : (files : FileTable) (name bytes : List ℕ) → None ≡ add_refusal files name bytes → IsAccepted files name bytes
-accepted files name bytes h =
-    let named = none_from_cond (not (is_name name)) _ _ (sym h) in
+-- if `or_else` gives `None`, neither of the two refusals applies
+pub both_none : (a b : Option Refusal) → None ≡ or_else a b → (a ≡ None) × (None ≡ b)
+both_none None b h = (refl, h)
+both_none (Some e) b h = absurd (cc)
+
+-- what holds of a name that is not refused
+pub record IsNew (files : FileTable) (name : List ℕ) : Type 0 where
+  pub absent : lines_of files name ≡ None
+  pub below_limit : nat_le most_files (length files) ≡ false
+
+pub new_name : (files : FileTable) (name : List ℕ) → name_refusal files name ≡ None → IsNew files name
+new_name files name h =
+    let named = none_from_cond (not (is_name name)) _ _ h in
     let new = none_from_cond (has_file files name) _ _ named.1 in
     let below_limit = none_from_cond (nat_le most_files (length files)) _ _ new.1 in
-    let short = none_from_cond (list_any is_too_long (cut bytes)) _ _ below_limit.1 in
+    record { absent = none_from_is_some (lines_of files name) new.0; below_limit = below_limit.0 }
+
+pub accepted : (files : FileTable) (name bytes : List ℕ) → None ≡ add_refusal files name bytes → IsAccepted files name bytes
+accepted files name bytes h =
+    let refusals = both_none (name_refusal files name) (cut_refusal bytes) h in
+    let new = new_name files name refusals.0 in
+    let short = none_from_cond (list_any is_too_long (cut bytes)) _ _ (sym refusals.1) in
     let few = none_from_cond (nat_lt most_lines (length (cut bytes))) _ _ short.1 in
-    record { absent = none_from_is_some (lines_of files name) new.0; below_limit = below_limit.0; short = short.0; few = few.0 }
+    record { absent = new.absent; below_limit = new.below_limit; short = short.0; few = few.0 }
 
--- where its name does not refuse a file, its lines may
+-- if a name is not refused, only the lines of the file can be
 pub refused_by_lines : (files : FileTable) (name bytes : List ℕ) → name_refusal files name ≡ None → add_refusal files name bytes ≡ cut_refusal bytes
-refused_by_lines files name bytes h = by (not (is_name name)) (has_file files name) (nat_le most_files (length files)) h
-  where
-    by : (bad there full : Bool) → cond bad (Some BadName) (cond there (Some FileExists) (cond full (Some TooManyFiles) None)) ≡ None
-        → cond bad (Some BadName) (cond there (Some FileExists) (cond full (Some TooManyFiles) (cut_refusal bytes))) ≡ cut_refusal bytes
-    by true there full h = absurd (cc)
-    by false true full h = absurd (cc)
-    by false false true h = absurd (cc)
-    by false false false h = refl
+refused_by_lines files name bytes h = ap (λ refusal. or_else refusal (cut_refusal bytes)) h
 
--- one file
+-- the limit of lines, for a list of one file
 pub last_few : (f : List ℕ × List (List ℕ)) → length f.1 ≤ most_lines → All (λ (file : List ℕ × List (List ℕ)). length file.1 ≤ most_lines) (f ∷ [])
 last_few f few zero d h = few
 last_few f few (suc k) d h = absurd (omega arith)
 
--- a file of a table has few enough lines, and one that isn't there has none
+-- the lines at each number are within the limit; a number that no file has gives none
 few_lines : (files : FileTable) (n : ℕ) → All (λ (file : List ℕ × List (List ℕ)). length file.1 ≤ most_lines) files → length (lines_at files n) ≤ most_lines
 few_lines [] n h = omega arith
 few_lines (f ∷ fs) zero h = h 0 ([], []) (omega arith)
 few_lines (f ∷ fs) (suc n) h = few_lines fs n (λ k d l. h (suc k) d (omega arith))
 
--- an entry of the table is the file of its number
+-- the lines of a table entry are those of the file with its number
 lines_at-entries : (es : List (Vec ℕ Global × SharedLines)) (n : ℕ) (e : Vec ℕ Global × SharedLines) → Some e ≡ slice_get es n → e.1.value.items ≡ lines_at (map file_of es) n
 lines_at-entries [] n e h = absurd (cc)
 lines_at-entries (f ∷ es) zero e h = let same : e ≡ f = cc in ap (λ x. x.1.value.items) same
@@ -85,7 +94,7 @@ lines_at-entries (f ∷ es) (suc n) e h = lines_at-entries es n e h
 pub entry-limit : (t : Table) (n : ℕ) (e : Vec ℕ Global × SharedLines) → IsWithinLimits (files_of t) → Some e ≡ slice_get t.entries n → length e.1.value.items ≤ most_lines
 entry-limit t n e within h = rw (lines_at-entries t.entries n e h) (few_lines (files_of t) n within.lines)
 
--- no file has the name of an accepted one
+-- if a look-up of a name finds no file, no file has the name
 other_names : (files : FileTable) (name : List ℕ) → lines_of files name ≡ None → list_any (bytes_eq name) (map (λ file. file.0) files) ≡ false
 other_names [] name none = refl
 other_names (f ∷ fs) name none =
@@ -97,7 +106,7 @@ distinct-with_file files name lines none distinct =
     subst (IsDistinct bytes_eq) (sym (map-append (λ file. file.0) files ((name, lines) ∷ [])))
     (IsDistinct-push nat_list_eq_equiv (map (λ file. file.0) files) name distinct (other_names files name none))
 
--- no files keep the limits
+-- a table without files keeps the limits
 pub IsWithinLimits-none : IsWithinLimits []
 unfolding IsDistinct
 IsWithinLimits-none = record { count = omega arith; names = tt; lines = λ k d h. absurd (omega arith) }
@@ -114,7 +123,7 @@ IsWithinLimits-with_file files name bytes h within =
       lines = All-append (λ file. length file.1 ≤ most_lines) files _ within.lines (last_few (name, cut bytes) few);
     }
 
--- lists whose items are equal, one by one
+-- lists whose items are equal one by one are equal
 AllZip-same : {X : Type 0} (xs ys : List X) → AllZip (λ x y. y ≡ x) xs ys → ys ≡ xs
 AllZip-same [] [] h = refl
 AllZip-same [] (y ∷ ys) h = absurd h
@@ -131,7 +140,7 @@ files_of-clone (e ∷ es) [] h = absurd h
 files_of-clone (e ∷ es) (f ∷ fs) h =
     λ i. (AllZip-same e.0.items f.0.items h.0.0.0 i, (h.0.1 i).items) ∷ files_of-clone es fs h.1 i
 
--- a new file is the last
+-- inserting a file with a new name appends it
 pub map-insert_entry : (es : List (Vec ℕ Global × SharedLines)) (k : Vec ℕ Global) (v : SharedLines)
     → lines_of (map file_of es) k.items ≡ None
     → map file_of (insert_entry (λ x y. bytes_eq x.items y.items) es k v) ≡ map file_of es ++ (k.items, v.value.items) ∷ []

@@ -30,7 +30,12 @@ has_file files name = is_some (lines_of files name)
 abbrev pub is_too_long : List ℕ → Bool
 is_too_long line = nat_lt longest_line (length line)
 
--- why a file of this name is refused, and why its lines are
+-- the first of two refusals
+abbrev pub or_else : Option Refusal → Option Refusal → Option Refusal
+or_else None second = second
+or_else (Some refusal) second = Some refusal
+
+-- why no new file may have this name, and why no file may have the lines of these bytes
 abbrev pub name_refusal : FileTable → List ℕ → Option Refusal
 name_refusal files name =
     if not (is_name name) then Some BadName
@@ -46,23 +51,17 @@ cut_refusal bytes =
 
 -- the first refusal that applies to adding a file
 abbrev pub add_refusal : FileTable → List ℕ → List ℕ → Option Refusal
-add_refusal files name bytes =
-    if not (is_name name) then Some BadName
-    else if has_file files name then Some FileExists
-    else if nat_le most_files (length files) then Some TooManyFiles
-    else if list_any is_too_long (cut bytes) then Some LineTooLong
-    else if nat_lt most_lines (length (cut bytes)) then Some TooManyLines
-    else None
+add_refusal files name bytes = or_else (name_refusal files name) (cut_refusal bytes)
 
--- no two files have one name
+-- no two files have the same name
 abbrev pub HasDistinctNames : FileTable → Type 0
 HasDistinctNames files = IsDistinct bytes_eq (map (λ file. file.0) files)
 
--- the files with one more at the end
+-- the files, with a new one appended
 abbrev pub with_file : FileTable → List ℕ → List ℕ → FileTable
 with_file files name bytes = files ++ (name, cut bytes) ∷ []
 
--- what holds of every table: not too many files, no two of one name, and none with too many lines
+-- the limits of every table: of the number of files, of their names, of the lines of each file
 pub record IsWithinLimits (files : FileTable) : Type 0 where
   pub count : length files ≤ most_files
   pub names : HasDistinctNames files

@@ -1,4 +1,4 @@
--- The bytes that the rules of files name.
+-- The two bytes that cutting into lines treats specially.
 use Rattle.std.specs.Prelude.{ℕ}
 
 abbrev pub line_feed : ℕ

@@ -12,12 +12,12 @@ use Rattle.tangle_files.specs.Roles.{RolesRead}
 abbrev pub spliced : List (List ℕ) → ℕ → List (List ℕ) → ℕ → List (List ℕ)
 spliced lines start new_lines end = take start lines ++ new_lines ++ drop end lines
 
--- the files, with the lines of the one of this name spliced
+-- the files, with `splice` applied to the lines of the file of this name
 abbrev pub with_lines_edited : FileTable → List ℕ → (List (List ℕ) → List (List ℕ)) → FileTable
 with_lines_edited files name splice = option_map_or (λ lines. set_value (bytes_eq name) files (splice lines)) (lines_of files name) files
 
--- the files after an edit: a text becomes the line of its number or replaces it, or that line is removed; a new file
--- has no lines and is the last; those after a discarded one move up by one
+-- the files after an edit: line `at` is inserted, removed or replaced; a new file has no lines and
+-- is the last; the number of each file after a discarded one decreases by one
 abbrev pub edited : FileTable → Edit → FileTable
 edited files (Insert file at text) = with_lines_edited files file.items (λ lines. spliced lines (at - 1) (trimmed text.items ∷ []) (at - 1))
 edited files (Remove file at) = with_lines_edited files file.items (λ lines. spliced lines (at - 1) [] at)
@@ -26,12 +26,12 @@ edited files (Create file) = files ++ (file.items, []) ∷ []
 edited files (Discard file) = remove_entry (bytes_eq file.items) files
 edited files (Marks mode) = files
 
--- the files after a list of edits, each made on what the earlier ones left
+-- the files after a list of edits, made in order
 abbrev pub edited_all : FileTable → List Edit → FileTable
 edited_all files [] = files
 edited_all files (edit ∷ edits) = edited_all (edited files edit) edits
 
--- the roles after an edit: the one that sets how line marks are written changes that alone
+-- the roles after an edit: `Marks` sets how line marks are written, and no edit changes a name
 abbrev pub edited_roles : RolesRead → Edit → RolesRead
 edited_roles roles (Marks mode) = record roles { marks = mode }
 edited_roles roles _ = roles

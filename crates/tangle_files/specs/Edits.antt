@@ -5,15 +5,10 @@ use Rattle.std.specs.Option.{option_map_or}
 use Rattle.tangle_files.specs.declared.edits.Edit.{Edit}
 use Rattle.tangle_files.specs.declared.edits.Edit.TheVariants.{Insert, Remove, Replace, Create, Discard, Marks}
 use Rattle.tangle_files.specs.declared.refusal.Refusal.{Refusal}
-use Rattle.tangle_files.specs.declared.refusal.Refusal.TheVariants.{BadName, FileExists, TooManyFiles, LineTooLong, TooManyLines, UnknownFile, NoSuchLine, BadLine}
+use Rattle.tangle_files.specs.declared.refusal.Refusal.TheVariants.{BadName, LineTooLong, TooManyLines, UnknownFile, NoSuchLine, BadLine}
 use Rattle.tangle_files.specs.Bytes.{line_feed}
 use Rattle.tangle_files.specs.Lines.{FileTable, lines_of, trimmed}
-use Rattle.tangle_files.specs.Adding.{has_file, is_name, is_too_long, most_files, most_lines}
-
--- the first of two refusals
-abbrev pub or_else : Option Refusal → Option Refusal → Option Refusal
-or_else None second = second
-or_else (Some refusal) second = Some refusal
+use Rattle.tangle_files.specs.Adding.{is_name, is_too_long, most_lines, name_refusal, or_else}
 
 abbrev pub refusal_if : Bool → Refusal → Option Refusal
 refusal_if b refusal = if b then Some refusal else None
@@ -22,7 +17,7 @@ refusal_if b refusal = if b then Some refusal else None
 abbrev pub is_line_number : ℕ → ℕ → Bool
 is_line_number at last = nat_le 1 at && nat_le at last
 
--- a text that is no line
+-- why a text cannot be a line
 abbrev pub text_refusal : List ℕ → Option Refusal
 text_refusal text =
     if list_any (λ b. b == line_feed) text then Some BadLine
@@ -38,12 +33,7 @@ insert_refusal lines at text =
 abbrev pub replace_refusal : List (List ℕ) → ℕ → List ℕ → Option Refusal
 replace_refusal lines at text = or_else (refusal_if (not (is_line_number at (length lines))) NoSuchLine) (text_refusal text)
 
-abbrev pub create_refusal : FileTable → List ℕ → Option Refusal
-create_refusal files name =
-    or_else (refusal_if (not (is_name name)) BadName)
-    (or_else (refusal_if (has_file files name) FileExists) (refusal_if (nat_le most_files (length files)) TooManyFiles))
-
--- the refusals of a name, then of a file that isn't there, then those among its lines
+-- the first refusal that applies: for the name, for a missing file, or by `of_lines` for its lines
 abbrev pub refusal_in : FileTable → List ℕ → (List (List ℕ) → Option Refusal) → Option Refusal
 refusal_in files name of_lines = or_else (refusal_if (not (is_name name)) BadName) (option_map_or of_lines (lines_of files name) (Some UnknownFile))
 
@@ -52,6 +42,6 @@ abbrev pub edit_refusal : FileTable → Edit → Option Refusal
 edit_refusal files (Insert file at text) = refusal_in files file.items (λ lines. insert_refusal lines at text.items)
 edit_refusal files (Remove file at) = refusal_in files file.items (λ lines. refusal_if (not (is_line_number at (length lines))) NoSuchLine)
 edit_refusal files (Replace file at text) = refusal_in files file.items (λ lines. replace_refusal lines at text.items)
-edit_refusal files (Create file) = create_refusal files file.items
+edit_refusal files (Create file) = name_refusal files file.items
 edit_refusal files (Discard file) = refusal_in files file.items (λ lines. None)
 edit_refusal files (Marks mode) = None

@@ -1,4 +1,4 @@
-//! The cutting of bytes into lines.
+//! Cutting bytes into lines.
 ghost use Rattle.std.specs.Prelude.{◌≡◌, ◌+◌, ◌-◌, ◌<◌, ◌≤◌, ◌^◌, [], ◌∷◌, ◌++◌, length, take};
 ghost use Rattle.std.specs.Prelude.{drop, None, unwrap_or, IfErr, IfOk, IfSome, OnOk};
 ghost use Rattle.std.specs.List.{list_any};
@@ -30,6 +30,7 @@ pub(crate) fn measure_lines(bytes: &[u8]) -> LineMeasure
     ensures long { result.is_too_long ≡ list_any is_too_long (cut bytes.now) }
     ensures count { result.count ≡ length (cut bytes.now) }
 {
+    // No early exit: a line that is too long decides the refusal, even after too many lines.
     let mut rest = bytes;
     let mut is_too_long = false;
     let mut count = 0;
@@ -44,7 +45,7 @@ pub(crate) fn measure_lines(bytes: &[u8]) -> LineMeasure
     LineMeasure { is_too_long, count }
 }
 
-/// Cuts the bytes into their lines, which share them, so that a line takes no memory of its own.
+/// Cuts the bytes into lines, which share the bytes, so that no line needs an allocation.
 ///
 /// # Errors
 ///
@@ -64,7 +65,7 @@ pub(crate) fn cut_lines(alloc: Global, bytes: Vec<u8>) -> Result<Vec<Line>, Refu
     }
 }
 
-/// Why the bytes were not cut: `NoMemory`, if their lines are within the limits.
+/// Why cutting the bytes failed: `NoMemory`, if the lines are within the limits.
 fn why_not_cut(bytes: &[u8]) -> Refusal
     ensures { result ≡ unwrap_or (cut_refusal bytes.now) Refusal.NoMemory }
 {
@@ -78,8 +79,8 @@ fn why_not_cut(bytes: &[u8]) -> Refusal
     Refusal::NoMemory
 }
 
-/// The lines of a text, which share it: `None`, if one is too long, if they are too many, or if an
-/// allocation failed.
+/// Cuts a text into lines that share it. `None` if a line is too long, there are too many lines,
+/// or an allocation fails.
 fn share_lines(alloc: Global, text: &Rc<Vec<u8>>) -> Option<Vec<Line>>
     ensures lines { IfSome result (λ lines. lines.items ≡ cut text.now.value.items) }
     ensures within { IfSome result (λ lines. cut_refusal text.now.value.items ≡ None) }
@@ -101,15 +102,14 @@ fn share_lines(alloc: Global, text: &Rc<Vec<u8>>) -> Option<Vec<Line>>
     Some(lines)
 }
 
-/// The bytes of a text.
-// Separate for its clause, which the proof of the loop over the bytes uses.
+// A function of its own for its clause, which the proof of the loop in `share_lines` uses.
 fn bytes_of(text: &Rc<Vec<u8>>) -> &[u8]
     ensures { result.now ≡ text.now.value.items }
 {
     text.as_slice()
 }
 
-/// Adds the line of so many bytes from this position of the text on.
+/// Adds the line that has `size` bytes from position `start` of the text.
 fn add_line(
     lines: &mut Vec<Line>,
     text: &Rc<Vec<u8>>,
@@ -125,7 +125,7 @@ fn add_line(
     Ok(())
 }
 
-/// Where the line ends that begins at this position.
+/// The position of the first line feed from `start` on, or the length of the bytes.
 fn end_of_line(bytes: &[u8], start: usize) -> usize
     requires { start < length bytes.now }
     ensures low { start ≤ result }
@@ -139,7 +139,7 @@ fn end_of_line(bytes: &[u8], start: usize) -> usize
     }
 }
 
-/// The first line of some bytes, and the bytes after its line feed.
+/// The bytes before the first line feed, and those after it.
 fn first_line(bytes: &[u8]) -> (&[u8], &[u8])
     requires { 0 < length bytes.now }
     ensures lines { raw_lines bytes.now ≡ result.0.now ∷ raw_lines result.1.now }
@@ -155,6 +155,7 @@ fn first_line(bytes: &[u8]) -> (&[u8], &[u8])
 pub(crate) fn without_trailing_spaces(line: &[u8]) -> &[u8]
     ensures { result.now ≡ trimmed line.now }
 {
+    // A search for a set of bytes would build a table for each line; few lines end in a space.
     let mut end = line.len();
     while 0 < end {
         if line[end - 1] != b' ' {

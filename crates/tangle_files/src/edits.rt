@@ -1,13 +1,12 @@
 //! Edits of files, and why they are refused.
 ghost use Rattle.std.specs.Prelude.{◌≡◌, ℕ, List, Option, Some, not, IfOk, IfErr};
-ghost use Rattle.tangle_files.specs.Edits.{create_refusal, edit_refusal, insert_refusal};
-ghost use Rattle.tangle_files.specs.Edits.{is_line_number, refusal_if, refusal_in, replace_refusal};
-ghost use Rattle.tangle_files.specs.Edits.{text_refusal};
+ghost use Rattle.tangle_files.specs.Edits.{edit_refusal, insert_refusal, is_line_number};
+ghost use Rattle.tangle_files.specs.Edits.{refusal_if, refusal_in, replace_refusal, text_refusal};
 ghost use Rattle.tangle_files.specs.declared.refusal.Refusal.{Refusal};
 ghost use Rattle.tangle_files.specs.declared.refusal.Refusal.TheVariants.{NoSuchLine};
 
 use crate::cutting::{LONGEST_LINE, without_trailing_spaces};
-use crate::files::{Files, MOST_FILES, MOST_LINES, is_file_name};
+use crate::files::{Files, MOST_LINES, is_file_name};
 use crate::line::Line;
 use crate::marks::MarkMode;
 use crate::refusal::Refusal;
@@ -15,28 +14,28 @@ use crate::refusal::Refusal;
 /// An edit of the files. Lines are counted from 1. The trailing spaces of a text are dropped.
 #[derive(Drop)]
 pub enum Edit {
-    /// The text becomes line `at`, which may be one after the last.
+    /// Inserts the text as line `at`, which may be one after the last line.
     Insert {
         file: Vec<u8>,
         at: usize,
         text: Vec<u8>,
     },
-    /// Line `at` is removed.
+    /// Removes line `at`.
     Remove {
         file: Vec<u8>,
         at: usize,
     },
-    /// The text replaces line `at`.
+    /// Replaces line `at` by the text.
     Replace {
         file: Vec<u8>,
         at: usize,
         text: Vec<u8>,
     },
-    /// A file without lines, as the last one.
+    /// Adds a file without lines, as the last one.
     Create {
         file: Vec<u8>,
     },
-    /// The file is removed, and those after it move up by one.
+    /// Removes the file. The number of each later file decreases by one.
     Discard {
         file: Vec<u8>,
     },
@@ -47,16 +46,17 @@ pub enum Edit {
 }
 
 impl Files {
-    /// Why an edit is refused, except for `NoMemory`: the first of these that applies. `BadName`
-    /// for what is no file's name; `FileExists` where a file to be created is there, `UnknownFile`
-    /// where another isn't; `NoSuchLine`; `BadLine` for a text with a line feed; `TooManyFiles` at
-    /// 256 files; `LineTooLong` for a text of more than 65,535 bytes without its trailing spaces;
-    /// `TooManyLines` at 1,000,000 lines.
+    /// Why the edit is refused, apart from `NoMemory`: the first of these that applies. `BadName`
+    /// for bytes that are not a file name; `FileExists` if a file to be created exists;
+    /// `UnknownFile` if a file to be edited or removed does not; `NoSuchLine`; `BadLine` for a text
+    /// with a line feed; `TooManyFiles` for one file more than 256; `LineTooLong` for a text of
+    /// more than 65,535 bytes without its trailing spaces; `TooManyLines` for one line more than
+    /// 1,000,000.
     pub fn refusal_to_edit(&self, edit: &Edit) -> Option<Refusal>
         ensures { result ≡ edit_refusal self.now edit.now }
     {
         match edit {
-            Edit::Create { file } => self.refusal_to_create(file),
+            Edit::Create { file } => self.refusal_of_name(file),
             Edit::Insert { file, at, text } => match self.lines_to_edit(file) {
                 Ok(lines) => refusal_to_insert(lines, *at, text),
                 Err(refusal) => Some(refusal),
@@ -77,7 +77,7 @@ impl Files {
         }
     }
 
-    /// The lines of the file of this name, or why there are none to edit.
+    /// The lines of the file of this name. The error is `BadName` or `UnknownFile`.
     fn lines_to_edit(&self, file: &[u8]) -> Result<&[Line], Refusal>
         ensures ok { (of_lines : List (List ℕ) → Option Refusal)
             → IfOk result (λ lines. refusal_in self.now file.now of_lines ≡ of_lines lines.now) }
@@ -92,25 +92,9 @@ impl Files {
             Some(lines) => Ok(lines),
         }
     }
-
-    /// Why a file without lines is not to be created.
-    fn refusal_to_create(&self, file: &[u8]) -> Option<Refusal>
-        ensures { result ≡ create_refusal self.now file.now }
-    {
-        if !is_file_name(file) {
-            return Some(Refusal::BadName);
-        }
-        if self.has(file) {
-            return Some(Refusal::FileExists);
-        }
-        if self.count() >= MOST_FILES {
-            return Some(Refusal::TooManyFiles);
-        }
-        None
-    }
 }
 
-/// Why there is no line of this number, where the last one has that.
+/// `NoSuchLine`, unless `at` is from 1 to `last`.
 fn refusal_of_number(at: usize, last: usize) -> Option<Refusal>
     ensures { result ≡ refusal_if (not (is_line_number at last)) NoSuchLine }
 {
@@ -121,7 +105,7 @@ fn refusal_of_number(at: usize, last: usize) -> Option<Refusal>
     }
 }
 
-/// Why a text is no line.
+/// Why a text cannot be a line.
 fn refusal_of_text(text: &[u8]) -> Option<Refusal>
     ensures { result ≡ text_refusal text.now }
 {
@@ -134,7 +118,7 @@ fn refusal_of_text(text: &[u8]) -> Option<Refusal>
     None
 }
 
-/// Why a line is not to be inserted into these.
+/// Why the text cannot be inserted as line `at` of these lines.
 fn refusal_to_insert(lines: &[Line], at: usize, text: &[u8]) -> Option<Refusal>
     ensures { result ≡ insert_refusal lines.now at text.now }
 {
@@ -150,7 +134,7 @@ fn refusal_to_insert(lines: &[Line], at: usize, text: &[u8]) -> Option<Refusal>
     None
 }
 
-/// Why a line of these is not to be replaced.
+/// Why the text cannot replace line `at` of these lines.
 fn refusal_to_replace(lines: &[Line], at: usize, text: &[u8]) -> Option<Refusal>
     ensures { result ≡ replace_refusal lines.now at text.now }
 {

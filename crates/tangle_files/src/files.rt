@@ -20,11 +20,13 @@ use std::marker::Model;
 use std::rc::Rc;
 use tangle_streams::NoMemory;
 
+// With these limits an origin fits into a `u16` and a `u32`, and a span into eight bytes.
+
 /// The most bytes of a file's name.
 const LONGEST_NAME: usize = 255;
 
 /// The most files of a table.
-pub(crate) const MOST_FILES: usize = 256;
+const MOST_FILES: usize = 256;
 
 /// The most lines of a file.
 pub(crate) const MOST_LINES: usize = 1_000_000;
@@ -50,7 +52,7 @@ impl Model for Files {
 }
 
 impl Files {
-    /// A table without files. It takes no memory yet.
+    /// A table without files. It allocates nothing.
     pub fn new(alloc: Global) -> Self
         ensures { result ≡ [] }
     {
@@ -59,15 +61,16 @@ impl Files {
         }
     }
 
-    /// Adds a file as the last one. Its bytes are cut at line feeds: a last line without one is a
-    /// line, and no bytes give no lines. CWEB drops trailing blanks of a line, and so does this.
+    /// Adds a file as the last one. Its bytes are cut into lines at line feeds; the last line may
+    /// lack its line feed, and an empty file has no lines. Trailing spaces of a line are dropped,
+    /// as CWEB drops them.
     ///
     /// # Errors
     ///
-    /// The first of these that applies, and then the table stays as it was: `BadName` for a name
-    /// that is empty, longer than 255 bytes or has a line feed; `FileExists`; `TooManyFiles` at 256
-    /// files; `LineTooLong` for a line of more than 65,535 bytes; `TooManyLines` for more than
-    /// 1,000,000 lines; `NoMemory`.
+    /// The first of these that applies; the table is then unchanged. `BadName` for a name that is
+    /// empty, longer than 255 bytes or has a line feed; `FileExists`; `TooManyFiles` for one file
+    /// more than 256; `LineTooLong` for a line of more than 65,535 bytes; `TooManyLines` for more
+    /// than 1,000,000 lines; `NoMemory`.
     pub fn add(&mut self, name: &[u8], bytes: &[u8]) -> Result<(), Refusal>
         ensures ok { OnOk result (self.new ≡ with_file self.old name.now bytes.now) }
         ensures refused { IfSome (add_refusal self.old name.now bytes.now) (λ e. result ≡ Err e) }
@@ -83,12 +86,12 @@ impl Files {
         self.add_owned(name, bytes)
     }
 
-    /// Adds a file as [`Files::add`] does, but takes the bytes: they are cut in one pass and not
-    /// copied, and the lines share them.
+    /// Adds a file as [`Files::add`] does, but takes ownership of the bytes: they are cut in one
+    /// pass, and the lines share them without a copy.
     ///
     /// # Errors
     ///
-    /// Those of [`Files::add`], and then the table stays as it was, and the bytes are freed.
+    /// Those of [`Files::add`]; the table is then unchanged, and the bytes are freed.
     pub fn add_owned(&mut self, name: &[u8], bytes: Vec<u8>) -> Result<(), Refusal>
         ensures ok { OnOk result (self.new ≡ with_file self.old name.now bytes.items) }
         ensures refused { IfSome (add_refusal self.old name.now bytes.items) (λ e. result ≡ Err e) }
@@ -107,11 +110,11 @@ impl Files {
         Ok(())
     }
 
-    /// The same names with the same lines in the same order. The lines are shared and not copied.
+    /// A copy of the table, with the same files in the same order. The two tables share the lines.
     ///
     /// # Errors
     ///
-    /// `NoMemory`, where an allocation failed.
+    /// `NoMemory` if an allocation fails.
     pub fn copy(&self) -> Result<Files, NoMemory>
         ensures { IfOk result (λ copy. copy ≡ self.now) }
     {
@@ -119,14 +122,14 @@ impl Files {
         Ok(Files { table })
     }
 
-    /// Makes an edit. The files keep their order; those after a discarded one move up by one. An
-    /// edit of lines changes the list of the lines of its file alone: in place where no other table
-    /// shares it, else a new list is made. [`Edit::Marks`] changes no file.
+    /// Makes an edit. The files keep their order; the number of each file after a discarded one
+    /// decreases by one. An edit of a line changes only the list of lines of that file: in place,
+    /// or in a new list if another table shares it. [`Edit::Marks`] changes no file.
     ///
     /// # Errors
     ///
-    /// That of [`Files::refusal_to_edit`] if there is one, else `NoMemory`; and then the table
-    /// stays as it was.
+    /// The refusal of [`Files::refusal_to_edit`] if there is one, else `NoMemory` if an allocation
+    /// fails; the table is then unchanged.
     pub fn edit(&mut self, edit: &Edit) -> Result<(), Refusal>
         ensures ok { OnOk result (self.new ≡ edited self.old edit.now) }
         ensures refused { IfSome (edit_refusal self.old edit.now) (λ e. result ≡ Err e) }
@@ -141,8 +144,8 @@ impl Files {
         Ok(())
     }
 
-    /// Why a file of this name is not to be added, whatever its bytes.
-    fn refusal_of_name(&self, name: &[u8]) -> Option<Refusal>
+    /// Why no new file may have this name, whatever its bytes.
+    pub(crate) fn refusal_of_name(&self, name: &[u8]) -> Option<Refusal>
         ensures { result ≡ name_refusal self.now name.now }
     {
         if !is_file_name(name) {
@@ -157,7 +160,7 @@ impl Files {
         None
     }
 
-    /// Why a file is not to be added, except for `NoMemory`.
+    /// Why the file cannot be added, apart from `NoMemory`.
     fn refusal_to_add(&self, name: &[u8], bytes: &[u8]) -> Option<Refusal>
         ensures { result ≡ add_refusal self.now name.now bytes.now }
     {
@@ -174,7 +177,7 @@ impl Files {
         None
     }
 
-    /// How many files there are: at most 256, no two of which have one name.
+    /// The number of files, at most 256. No two files have the same name.
     pub fn count(&self) -> usize
         ensures count { result ≡ length self.now }
         ensures limit { result ≤ most_files }
@@ -183,7 +186,7 @@ impl Files {
         self.table.len()
     }
 
-    /// The name of the file of this number, from 0 on: `None` if there are not so many files.
+    /// The name of the file of this number, counted from 0: `None` if no file has the number.
     pub fn name(&self, number: usize) -> Option<&[u8]>
         ensures { option_copied result ≡ option_map (λ f. f.0) (slice_get self.now number) }
     {
@@ -210,7 +213,7 @@ impl Files {
         self.lines(name).is_some()
     }
 
-    /// The number of the file of this name, from 0 on: `None` if there is no such file.
+    /// The number of the file of this name, counted from 0: `None` if there is no such file.
     pub fn find(&self, name: &[u8]) -> Option<u16>
         ensures { result ≡ file_number self.now name.now }
     {
@@ -220,7 +223,7 @@ impl Files {
         }
     }
 
-    /// The name of the file of this number: no bytes if there is none.
+    /// The name of the file of this number, counted from 0: empty if no file has the number.
     pub fn name_at(&self, number: u16) -> &[u8]
         ensures { result.now ≡ name_in_table self.now number }
     {
@@ -230,7 +233,7 @@ impl Files {
         }
     }
 
-    /// The lines of the file of this number: none if there is none.
+    /// The lines of the file of this number, counted from 0: empty if no file has the number.
     pub fn lines_at(&self, number: u16) -> &[Line]
         ensures lines { result.now ≡ lines_in_table self.now number }
         ensures limit { length result.now ≤ most_lines }

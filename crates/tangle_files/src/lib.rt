@@ -1,4 +1,4 @@
-//! Files cut into lines, edits of them, and the names of those that have roles.
+//! Files cut into lines, edits of files, and the names of the files that have roles.
 //!
 //! [`Files`] is the table of files, an [`Edit`] changes it, and [`Roles`] names the web, the change
 //! file and the main file.

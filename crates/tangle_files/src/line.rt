@@ -10,12 +10,13 @@ use std::rc::Rc;
 /// A position is `low + high * LOW_POSITIONS`.
 const LOW_POSITIONS: usize = 4_294_967_296;
 
-/// Positions are below this, 2^48: no memory has so many bytes.
+/// Positions in a text are below this limit, 2^48; no text in memory is that long.
 pub(crate) const MOST_POSITIONS: usize = 281_474_976_710_656;
 
-/// A line without its trailing spaces and its line feed: at most 65,535 bytes. It is in a text that
-/// the lines of its file share. Its position there is two numbers, so that a line takes 16 bytes
-/// though a text may pass 4 GiB.
+/// A line without its trailing spaces and its line feed: at most 65,535 bytes. The lines of a file
+/// share the text of the file. The position of a line in the text is stored in two parts, so that a
+/// line takes 16 bytes, although a text may be longer than 4 GiB.
+// An inserted or replaced line has a text of its own. A text is freed with its last line.
 #[derive(Drop)]
 pub struct Line {
     text: Rc<Vec<u8>>,
@@ -36,7 +37,7 @@ impl Model for Line {
 }
 
 impl Line {
-    /// The line of so many bytes from this position of the text on.
+    /// The line that has `size` bytes from `position` of the text.
     pub(crate) fn new(text: Rc<Vec<u8>>, position: usize, size: u16) -> Self
         requires near { position < 2 ^ 48 }
         requires within { position + size ≤ length text.value.items }
@@ -50,7 +51,7 @@ impl Line {
         }
     }
 
-    /// The same line, which shares its text with this one.
+    /// A copy of the line, which shares the text.
     pub(crate) fn share(&self) -> Result<Line, AllocError>
         ensures { IfOk result (λ line. line ≡ self.now) }
     {

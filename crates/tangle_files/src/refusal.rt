@@ -5,16 +5,16 @@ use std::alloc::{AllocError, AllocFailed};
 use tangle_streams::NoMemory;
 use thiserror::Error;
 
-/// Why a call is refused. This crate returns the first nine; the crates above it return the others.
+/// Why a call is refused. This crate returns the first nine; crates that use it return the others.
 #[derive(Clone, Copy, Debug, PartialEq, Eq, Error)]
 pub enum Refusal {
     /// The name is empty, longer than 255 bytes, or has a line feed.
     #[error("a bad file name")]
     BadName,
-    /// There is a file of this name.
+    /// There is already a file of this name.
     #[error("the file exists")]
     FileExists,
-    /// There are 256 files.
+    /// There are already 256 files.
     #[error("too many files")]
     TooManyFiles,
     /// A line has more than 65,535 bytes.
@@ -41,13 +41,13 @@ pub enum Refusal {
     /// No file has the role of the change file.
     #[error("no change file")]
     NoChange,
-    /// The file has a role, and so it has to stay.
+    /// The file has a role, so it cannot be removed.
     #[error("the file has a role")]
     RoleFile,
     /// There is no output of this name.
     #[error("no such output")]
     NoOutput,
-    /// The writer failed or took no byte, after so many bytes.
+    /// The writer failed or took no byte. The number counts the bytes already written.
     #[error("the writer failed after {0} bytes")]
     WriteFault(u128),
 }

@@ -13,8 +13,8 @@ use std::alloc::Global;
 use std::marker::Model;
 use tangle_streams::NoMemory;
 
-/// The names of the web, of the change file if there is one, and of the main file that is written,
-/// and how line marks are written. CWEB's programs take the three names from the command line.
+/// The names of the web, of the change file if there is one, and of the main output file, and how
+/// line marks are written. CWEB's programs take the three names from the command line.
 #[derive(Drop)]
 pub struct Roles {
     names: Words,
@@ -29,13 +29,13 @@ impl Model for Roles {
 }
 
 impl Roles {
-    /// The roles of these names. Line marks are written in full until [`Roles::set_marks`] changes
-    /// that.
+    /// Roles with these names. Line marks are written in full until [`Roles::set_marks`] changes
+    /// the mode.
     ///
     /// # Errors
     ///
-    /// `BadName` where one of the names is empty, longer than 255 bytes or has a line feed; else
-    /// `NoMemory`.
+    /// `BadName` if one of the names is empty, longer than 255 bytes or has a line feed; else
+    /// `NoMemory` if an allocation fails.
     pub fn new(
         alloc: Global,
         web: &[u8],
@@ -76,7 +76,7 @@ impl Roles {
         self.names.change()
     }
 
-    /// The name of the main file.
+    /// The name of the main output file.
     pub fn out(&self) -> &[u8]
         ensures { result.now ≡ self.now.out }
     {
@@ -90,14 +90,14 @@ impl Roles {
         self.names.marks()
     }
 
-    /// Sets how line marks are written from here on.
+    /// Sets how line marks are written from now on.
     pub fn set_marks(&mut self, marks: MarkMode)
         ensures { self.new ≡ record self.old { marks = marks } }
     {
         self.names.set_marks(marks);
     }
 
-    /// Whether the web, and the change file that is named, are in the table.
+    /// Whether the table has the web and, if one is named, the change file.
     pub fn fits(&self, files: &Files) -> bool
         ensures { result ≡ roles_fit files.now self.now }
     {
@@ -105,7 +105,7 @@ impl Roles {
     }
 }
 
-/// Whether the bytes are a file's name, if there are any.
+/// Whether the name, if there is one, is a file name.
 fn is_file_name_if_any(name: Option<&[u8]>) -> bool
     ensures { result ≡ is_name_if_any (option_copied name.entry) }
 {
@@ -115,7 +115,6 @@ fn is_file_name_if_any(name: Option<&[u8]>) -> bool
     }
 }
 
-/// A copy of the name, if there is one.
 fn copy_if_any(alloc: Global, name: Option<&[u8]>) -> Result<Option<Vec<u8>>, NoMemory>
     ensures { IfOk result (λ copy. option_map (λ c. c.items) copy ≡ option_copied name.entry) }
 {
@@ -125,14 +124,13 @@ fn copy_if_any(alloc: Global, name: Option<&[u8]>) -> Result<Option<Vec<u8>>, No
     }
 }
 
-/// Whether the file is in the table.
 fn is_in(files: &Files, name: &[u8]) -> bool
     ensures { result ≡ has_file files.now name.now }
 {
     files.has(name)
 }
 
-/// Whether the file is in the table, if one is named.
+/// Whether the table has the file, if one is named.
 fn is_in_if_any(files: &Files, name: Option<&[u8]>) -> bool
     ensures { result ≡ has_file_if_any files.now (option_copied name.entry) }
 {

@@ -17,8 +17,8 @@ use indexmap::IndexMap;
 use std::alloc::{AllocError, Global};
 use std::rc::Rc;
 
-/// Makes an edit that is not refused. A list of lines that another table shares is made anew for
-/// the edited file, and one that no other has is changed where it is.
+/// Makes an edit that is not refused. The lines of the edited file are changed in place, or in a
+/// new list if another table shares the list.
 pub(crate) fn make_edit(
     table: &mut IndexMap<Vec<u8>, Rc<Vec<Line>>>,
     edit: &Edit,
@@ -57,8 +57,7 @@ fn line_of_text(alloc: Global, text: &[u8]) -> Result<Line, AllocError>
     Ok(Line::new(shared, 0, bytes.len() as u16))
 }
 
-/// Replaces the lines between two positions, one at most, by a line or by none, in the file of this
-/// name.
+/// Replaces lines `start..end` of the file, at most one, by `line` or by nothing.
 fn splice_lines(
     table: &mut IndexMap<Vec<u8>, Rc<Vec<Line>>>,
     file: &[u8],
@@ -80,8 +79,8 @@ fn splice_lines(
     }
 }
 
-/// Replaces the lines between two positions, one at most, by a line or by none. A list that another
-/// table shares stays as it is, and a new one is made.
+/// Replaces lines `start..end`, at most one, by `line` or by nothing. A list that another table
+/// shares is not changed, but replaced by a new one.
 fn splice_shared(
     shared: &mut Rc<Vec<Line>>,
     start: usize,
@@ -105,7 +104,7 @@ fn splice_shared(
     }
 }
 
-/// The same in a list that has no other owner.
+/// Replaces lines `start..end`, at most one, in a list that no other table shares.
 fn splice_in_place(
     lines: &mut Vec<Line>,
     start: usize,
@@ -135,7 +134,7 @@ fn splice_in_place(
     Ok(())
 }
 
-/// The lines, with those between two positions replaced by one or by none.
+/// A new list of the lines, with `start..end` replaced by `line` or by nothing.
 fn splice(
     alloc: Global,
     lines: &[Line],
@@ -156,7 +155,7 @@ fn splice(
     Ok(made)
 }
 
-/// Adds lines after those that are there. They share the texts of the given ones.
+/// Appends copies of the lines, which share the texts.
 fn append_shares(made: &mut Vec<Line>, lines: &[Line]) -> Result<(), AllocError>
     ensures { OnOk result (made.new.items ≡ made.old.items ++ lines.now) }
 {
@@ -179,7 +178,7 @@ fn create_file(table: &mut IndexMap<Vec<u8>, Rc<Vec<Line>>>, file: &[u8]) -> Res
     Ok(())
 }
 
-/// Removes the file of this name. Those after it move up by one.
+/// Removes the file of this name. The number of each later file decreases by one.
 fn discard_file(table: &mut IndexMap<Vec<u8>, Rc<Vec<Line>>>, file: &[u8])
     ensures { files_of table.new ≡ remove_entry (bytes_eq file.now) (files_of table.old) }
 {

@@ -6,9 +6,9 @@ ghost use Rattle.tangle_files.specs.Roles.{roles_of};
 use crate::marks::MarkMode;
 use std::marker::Model;
 
-/// The names of the web, of the change file if there is one, and of the main file, as they were
-/// given and not tested, and how line marks are written. [`Roles`](crate::Roles) has names that are
-/// files' names.
+/// The names of the web, of the change file if there is one, and of the main output file, and how
+/// line marks are written. The names are not checked; those in [`Roles`](crate::Roles) are known
+/// to be file names.
 #[derive(Drop)]
 pub struct Words {
     web: Vec<u8>,
@@ -33,7 +33,7 @@ impl Model for Words {
 }
 
 impl Words {
-    /// These names. Line marks are written in full.
+    /// Keeps these names, unchecked. Line marks are written in full.
     pub fn new(web: Vec<u8>, change: Option<Vec<u8>>, out: Vec<u8>) -> Self
         ensures { result ≡ roles_of web.items (option_map (λ c. c.items) change) out.items }
     {
@@ -62,7 +62,7 @@ impl Words {
         }
     }
 
-    /// The name of the main file.
+    /// The name of the main output file.
     pub fn out(&self) -> &[u8]
         ensures { result.now ≡ self.now.out }
     {
@@ -76,7 +76,7 @@ impl Words {
         self.marks
     }
 
-    /// Sets how line marks are written from here on.
+    /// Sets how line marks are written from now on.
     pub(crate) fn set_marks(&mut self, marks: MarkMode)
         ensures { self.new ≡ record self.old { marks = marks } }
     {

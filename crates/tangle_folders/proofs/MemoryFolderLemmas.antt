@@ -30,7 +30,7 @@ pub file_bytes-entries : (name : List ℕ) (es : List (Vec ℕ Global × Vec ℕ
 file_bytes-entries name [] = refl
 file_bytes-entries name (e ∷ es) = option_map-cond (λ v. v.items) (bytes_eq name e.0.items) e.1 _ _ (file_bytes-entries name es)
 
--- a file that is added to the folder is found
+-- a look-up finds the file that was put
 pub put_found : (es : List (Vec ℕ Global × Vec ℕ Global)) (k v : Vec ℕ Global)
     → file_bytes (map stored_file (insert_entry (λ a b. bytes_eq a.items b.items) es k v)) k.items ≡ Some v.items
 put_found [] k v = ap (λ b. cond b (Some v.items) None) ((bytes_eq-Decides k.items k.items).1 refl)
@@ -45,7 +45,7 @@ unequal : (a b : List ℕ) (t : Bool) → bytes_eq a b ≡ t → a ≢ b → t �
 unequal a b true same other = absurd (other ((bytes_eq-Decides a b).0 same))
 unequal a b false same other = refl
 
--- a file of another name stays as it was, or stays away
+-- putting a file changes no look-up of another name
 pub put_leaves : (es : List (Vec ℕ Global × Vec ℕ Global)) (k v : Vec ℕ Global) (name : List ℕ) → name ≢ k.items
     → file_bytes (map stored_file (insert_entry (λ a b. bytes_eq a.items b.items) es k v)) name ≡ file_bytes (map stored_file es) name
 put_leaves [] k v name other = ap (λ b. cond b (Some v.items) None) (unequal name k.items _ refl other)

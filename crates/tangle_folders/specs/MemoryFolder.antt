@@ -27,12 +27,12 @@ stored_file e = (e.0.items, e.1.items)
 abbrev pub stored_files : StoredFiles → List File
 stored_files table = map stored_file table.entries
 
--- with so many calls before the one that fails, this call is that one
+-- this call fails; the number is that of the calls that pass before the failing one
 abbrev pub fails_now : Option ℕ → Bool
 fails_now None = false
 fails_now (Some n) = n == 0
 
--- the calls before the one that fails, after one call more; a folder fails once
+-- the number of calls before the failing one, after one call; a folder fails once
 abbrev pub after_call : Option ℕ → Option ℕ
 after_call None = None
 after_call (Some n) = if n == 0 then None else Some (n - 1)

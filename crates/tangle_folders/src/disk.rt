@@ -1,4 +1,4 @@
-//! The real folder: the files of the system.
+//! The folder of the file system.
 ghost use Rattle.std.specs.Prelude.{◌≡◌, None};
 ghost use Rattle.tangle_streams.specs.Streams.{one_more_failure};
 
@@ -9,9 +9,9 @@ use std::rt::Files;
 use std::{fs, io, str};
 use tangle_streams::{IoSink, Sink};
 
-/// The folder that the program runs in. It does not report its files.
+/// The current folder of the program. It reports no files to contracts.
 ///
-/// Outputs are buffered, and are flushed when they are closed, so `close` reports a full disk.
+/// Outputs are buffered until `close` flushes them, so a full disk may be found only there.
 #[derive(Drop)]
 pub struct Disk<'r, R: Files> {
     rt: &'r R,
@@ -19,7 +19,7 @@ pub struct Disk<'r, R: Files> {
 }
 
 impl<'r, R: Files> Disk<'r, R> {
-    /// The folder that the program runs in; it has not failed.
+    /// The current folder of the program, with no failure counted.
     pub fn new(rt: &'r R) -> Self
         ensures { result.failures ≡ 0 }
     {
@@ -33,7 +33,8 @@ impl<'r, R: Files> Disk<'r, R> {
     }
 }
 
-// The path of this name. The system has no file whose name is not UTF-8 or has a zero byte.
+// The path of a name: `None` if it is not UTF-8, which the library's paths have to be, or has a
+// zero byte, which the system's names cannot have.
 fn path_of(name: &[u8]) -> Option<&str> {
     if name.contains(&0) {
         return None;
@@ -49,7 +50,7 @@ fn fault_of(error: &io::Error) -> FolderFault {
     }
 }
 
-// The bytes of a file; of one over the limit, one byte more than the limit.
+// The bytes of a file. One byte more than the limit is enough to see that a file is too big.
 fn read_at<R: Files>(rt: &R, alloc: Global, path: &str) -> io::Result<Vec<u8>> {
     let mut bytes = Vec::new(alloc);
     let file = fs::open(rt, path)?;
@@ -57,8 +58,8 @@ fn read_at<R: Files>(rt: &R, alloc: Global, path: &str) -> io::Result<Vec<u8>> {
     Ok(bytes)
 }
 
-// The buffered writer of a new file. Where there is no memory for a buffer it has none, since a
-// call that is refused creates nothing.
+// Creates a file and its buffered writer. If no buffer can be allocated, the file is there by then:
+// the writer has no buffer, since a refused `create` may leave no file.
 fn create_at<R: Files>(rt: &R, alloc: Global, path: &str) -> io::Result<BufWriter<R::File>> {
     match BufWriter::new(alloc, fs::create(rt, path)?) {
         Err(error) if error.kind() == ErrorKind::OutOfMemory => {

@@ -1,4 +1,4 @@
-//! What a program reads its files from and writes its outputs to.
+//! The trait of folders, which programs read files from and create outputs in.
 ghost use Rattle.std.specs.Prelude.{◌≡◌, ◌≢◌, ◌∷◌, ◌≤◌, [], IfErr, IfOk, OnErr, OnOk, vec_len};
 ghost use Rattle.tangle_folders.specs.Folder.{AddsAsked, Begins, Closes, ClosesWithin, FolderRead};
 ghost use Rattle.tangle_folders.specs.Folder.{IsFileAnswer, after_close, after_read, after_refusal};
@@ -8,15 +8,15 @@ ghost use Rattle.tangle_folders.specs.declared.folder.FolderFault.TheVariants.{N
 use std::alloc::Global;
 use tangle_streams::Sink;
 
-/// The most bytes of a file that a program reads.
+/// The largest size of a file that a program reads, in bytes: 64 MiB.
 pub const FILE_LIMIT: usize = 67_108_864;
 
 /// Why a folder refuses a call.
 #[derive(Clone, Copy, Debug, PartialEq, Eq)]
 pub enum FolderFault {
-    /// It has no file of this name.
+    /// The folder has no file of this name.
     Missing,
-    /// It failed.
+    /// The folder failed for another reason.
     Failed,
     /// The file is larger than [`FILE_LIMIT`].
     TooBig,
@@ -24,22 +24,22 @@ pub enum FolderFault {
     NoMemory,
 }
 
-/// A folder: files that a program reads, and others that it creates. It may report both; clauses on
-/// them hold where it does.
+/// A folder, which a program reads files from and creates files in. If it reports these files to
+/// contracts, the clauses about them apply.
 pub trait Folder {
-    /// The writer of a file that was created.
+    /// The writer of a created file.
     type Out: Sink + Drop;
 
-    // Its files, those that it created, the names that it was asked for and those of them at which
-    // it failed, where it reports them; and how often it failed.
+    // The files to read, the created files, the names passed to `read_file` and those at which it
+    // failed, each if the folder reports them; and the count of failures.
     ghost state: { Self → FolderRead };
 
-    /// The bytes of its file of this name.
+    /// Returns the bytes of the file of this name.
     ///
     /// # Errors
     ///
-    /// `Missing` where it has no such file, `TooBig` where the file is larger than [`FILE_LIMIT`],
-    /// `NoMemory` where an allocation fails, and `Failed` where the folder failed, which it counts.
+    /// `Missing` if there is no such file, `TooBig` if the file is larger than [`FILE_LIMIT`],
+    /// `NoMemory` if an allocation fails, and `Failed` for any other failure, which is counted.
     fn read_file(&mut self, alloc: Global, name: &[u8]) -> Result<Vec<u8>, FolderFault>
         ensures answer { IsFileAnswer (state self.old).files name.now result }
         ensures small { IfOk result (λ bytes. vec_len bytes ≤ file_limit) }
@@ -50,13 +50,12 @@ pub trait Folder {
         ensures files_stay { (state self.new).files ≡ (state self.old).files }
         ensures created_stay { (state self.new).created ≡ (state self.old).created };
 
-    /// Creates a file without bytes, and returns its writer. Where this is refused, nothing is
-    /// created.
+    /// Creates an empty file, and returns its writer. A refused call creates nothing.
     ///
     /// # Errors
     ///
-    /// `NoMemory` where an allocation fails. Any other fault is a failure of the folder, which it
-    /// counts.
+    /// `NoMemory` if an allocation fails. Any other fault is a failure of the folder, and is
+    /// counted.
     fn create(&mut self, alloc: Global, name: &[u8]) -> Result<Self::Out, FolderFault>
         ensures added { OnOk result ((state self.new).created
             ≡ with_created (state self.old).created ((name.now, []) ∷ [])) }
@@ -70,13 +69,13 @@ pub trait Folder {
         ensures failed_stay { (state self.new).failed ≡ (state self.old).failed }
         ensures files_stay { (state self.new).files ≡ (state self.old).files };
 
-    /// Gives the file created last the bytes of its writer; where this is refused, a prefix of
-    /// them.
+    /// Closes the writer of the file created last. The file then has all bytes of the writer; after
+    /// an error it has a prefix of them.
     ///
     /// # Errors
     ///
-    /// Any fault but `NoMemory`, where the folder failed, which it counts. It counts a writer that
-    /// had failed too, also where this is `Ok`.
+    /// Any fault but `NoMemory`. The count of failures grows by one at an error, and also at `Ok`
+    /// if the writer had failed before.
     fn close(&mut self, out: Self::Out) -> Result<(), FolderFault>
         ensures whole { OnOk result
             (Closes (state self.old).created (state self.new).created (Self.Out.stream out).taken) }

@@ -1,6 +1,6 @@
 //! Where a program reads its files and creates its outputs.
 //!
-//! [`Disk`] is the real folder, [`MemoryFolder`] one in memory.
+//! [`Disk`] is the current folder of the program; [`MemoryFolder`] is one in memory, for tests.
 #![tactic(auto)]
 
 mod disk;

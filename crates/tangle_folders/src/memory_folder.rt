@@ -9,12 +9,12 @@ ghost use Rattle.tangle_folders.specs.Folder.{after_refusal, file_bytes, file_li
 ghost use Rattle.tangle_folders.specs.Folder.{with_last};
 ghost use Rattle.tangle_folders.specs.MemoryFolder.{after_call, bytes_of_each, created_file};
 ghost use Rattle.tangle_folders.specs.MemoryFolder.{fails_now, stored_files};
-ghost use Rattle.tangle_folders.specs.declared.folder.FolderFault.TheVariants.{Failed, NoMemory};
+ghost use Rattle.tangle_folders.specs.declared.folder.FolderFault.TheVariants.{Failed};
 
 use crate::folder::{FILE_LIMIT, Folder, FolderFault};
 use indexmap::IndexMap;
-use std::alloc::{AllocError, Global};
-use tangle_streams::Sink;
+use std::alloc::Global;
+use tangle_streams::{NoMemory, Sink};
 
 /// A file that was created.
 #[derive(Debug, Drop)]
@@ -23,7 +23,7 @@ pub struct CreatedFile {
     pub bytes: Vec<u8>,
 }
 
-/// A writer in memory, which takes as many bytes as its capacity; then it fails.
+/// A writer in memory, which fails when it has taken as many bytes as its capacity.
 #[derive(Debug, Drop)]
 pub struct MemorySink {
     bytes: Vec<u8>,
@@ -32,7 +32,7 @@ pub struct MemorySink {
 }
 
 impl MemorySink {
-    /// A writer of this capacity, which has no bytes and has not failed.
+    /// An empty writer that takes at most `capacity` bytes, with no failure counted.
     pub fn new(alloc: Global, capacity: usize) -> Self
         ensures bytes { result.bytes.items ≡ [] }
         ensures remaining { result.remaining ≡ capacity }
@@ -45,7 +45,7 @@ impl MemorySink {
         }
     }
 
-    /// The bytes that it has taken.
+    /// The bytes that the writer has taken.
     pub fn bytes(&self) -> &[u8]
         ensures { result.now ≡ self.now.bytes.items }
     {
@@ -56,7 +56,7 @@ impl MemorySink {
 impl Sink for MemorySink {
     ghost stream = { λ sink. record { taken = Some sink.bytes.items; failures = sink.failures } };
 
-    // The clauses of the trait, and that it takes as many bytes as its capacity allows.
+    // The clauses of the trait, and that the writer takes all bytes for which it has capacity.
     fn take(&mut self, bytes: &[u8]) -> Option<usize>
         ensures within { IfSome result (λ n. n ≤ length bytes.now) }
         ensures reported { Takes (Some self.old.bytes.items) (Some self.new.bytes.items) bytes.now
@@ -82,8 +82,8 @@ impl Sink for MemorySink {
     }
 }
 
-/// A folder in memory, whose writers have the same capacity. It records the names that it was asked
-/// for, and can be made to fail once, at a later call.
+/// A folder in memory, whose writers all have the same capacity. It records the names passed to
+/// `read_file`, and can be made to fail at one later call.
 #[derive(Drop)]
 pub struct MemoryFolder {
     files: IndexMap<Vec<u8>, Vec<u8>>,
@@ -96,7 +96,7 @@ pub struct MemoryFolder {
 }
 
 impl MemoryFolder {
-    /// A folder without files. Each writer of a file that is created has this capacity.
+    /// A folder without files. Each writer that `create` returns takes at most `capacity` bytes.
     pub fn new(alloc: Global, capacity: usize) -> Self
         ensures files { stored_files result.files ≡ [] }
         ensures created { result.created.items ≡ [] }
@@ -105,6 +105,13 @@ impl MemoryFolder {
         ensures capacity { result.capacity ≡ capacity }
         ensures sound { result.calls_to_failure ≡ None }
         ensures failures { result.failures ≡ 0 }
+        ensures reports { ⟦<MemoryFolder as Folder>⟧.state result ≡ record {
+          files = Some [];
+          created = Some [];
+          asked = Some [];
+          failed = Some [];
+          failures = 0;
+        } }
     {
         MemoryFolder {
             files: IndexMap::new(alloc),
@@ -117,12 +124,13 @@ impl MemoryFolder {
         }
     }
 
-    /// Adds a file of these bytes, or replaces the one of the same name. Files of other names stay.
+    /// Adds a file with these bytes, or replaces the file of the same name. Other files are
+    /// unchanged.
     ///
     /// # Errors
     ///
-    /// `AllocError` where an allocation fails; the files are then what they were.
-    pub fn put(&mut self, alloc: Global, name: &[u8], bytes: &[u8]) -> Result<(), AllocError>
+    /// `NoMemory` if an allocation fails; the files are then unchanged.
+    pub fn put(&mut self, alloc: Global, name: &[u8], bytes: &[u8]) -> Result<(), NoMemory>
         ensures ok { OnOk result (file_bytes (stored_files self.new.files) name.now
             ≡ Some bytes.now) }
         ensures others { OnOk result ((other : List ℕ) → other ≢ name.now
@@ -135,12 +143,12 @@ impl MemoryFolder {
         let bytes = Vec::from_slice(alloc, bytes)?;
         match self.files.insert(name, bytes) {
             Ok(_) => Ok(()),
-            Err(_) => Err(AllocError),
+            Err(_) => Err(NoMemory),
         }
     }
 
-    /// Makes the call after this many further ones fail, once: each `read_file`, `create` and
-    /// `close` is a call.
+    /// Makes one call of `read_file`, `create` or `close` fail: the one after the next `calls` of
+    /// them.
     pub fn fail_after(&mut self, calls: u64)
         ensures { self.new ≡ record self.old { calls_to_failure = Some calls } }
     {
@@ -154,14 +162,14 @@ impl MemoryFolder {
         self.created.as_slice()
     }
 
-    /// The names that it was asked for, in order.
+    /// The names passed to `read_file`, in order.
     pub fn asked(&self) -> &[Vec<u8>]
         ensures { result.now ≡ self.now.asked.items }
     {
         self.asked.as_slice()
     }
 
-    // Whether the call is the one that fails.
+    // Whether this call has to fail. Each call of `read_file`, `create` and `close` asks once.
     fn fails_now(&mut self) -> bool
         ensures fails { result ≡ fails_now self.old.calls_to_failure }
         ensures after { self.new ≡ record self.old
@@ -176,8 +184,7 @@ impl MemoryFolder {
         left == Some(0)
     }
 
-    // Records the name that it was asked for.
-    fn record_name(&mut self, alloc: Global, name: &[u8]) -> Result<(), AllocError>
+    fn record_name(&mut self, alloc: Global, name: &[u8]) -> Result<(), NoMemory>
         ensures ok { OnOk result (bytes_of_each self.new.asked.items
             ≡ bytes_of_each self.old.asked.items ++ name.now ∷ []) }
         ensures err { OnErr result (self.new.asked.items ≡ self.old.asked.items) }
@@ -188,8 +195,7 @@ impl MemoryFolder {
         Ok(())
     }
 
-    // Fails at a file that it was asked for, and records the name.
-    fn fail_at(&mut self, alloc: Global, name: &[u8]) -> Result<(), AllocError>
+    fn fail_at(&mut self, alloc: Global, name: &[u8]) -> Result<(), NoMemory>
         ensures ok { OnOk result (bytes_of_each self.new.failed.items
             ≡ bytes_of_each self.old.failed.items ++ name.now ∷ []) }
         ensures counted { OnOk result (self.new.failures ≡ one_more_failure self.old.failures) }
@@ -204,7 +210,6 @@ impl MemoryFolder {
         Ok(())
     }
 
-    // The bytes of its file of this name.
     fn bytes(&self, name: &[u8]) -> Option<&[u8]>
         ensures { option_copied result ≡ file_bytes (stored_files self.now.files) name.now }
     {
@@ -215,7 +220,6 @@ impl MemoryFolder {
     }
 }
 
-// Gives the file created last these bytes.
 fn set_last(files: &mut Vec<CreatedFile>, bytes: Vec<u8>)
     ensures { map created_file files.new.items
         ≡ with_last (map created_file files.old.items) bytes.items }
@@ -247,7 +251,7 @@ impl Folder for MemoryFolder {
         ensures fails { Some (bytes_of_each self.new.failed.items)
             ≡ with_failed (Some (bytes_of_each self.old.failed.items)) name.now result }
         ensures failing { fails_now self.old.calls_to_failure ≡ true → (result ≡ Err Failed)
-            ⊎ (result ≡ Err NoMemory) }
+            ⊎ (result ≡ Err FolderFault.NoMemory) }
         ensures only_failing { result ≡ Err Failed → fails_now self.old.calls_to_failure ≡ true }
         ensures kept { self.new ≡ record self.old {
           asked = self.new.asked;
@@ -291,7 +295,8 @@ impl Folder for MemoryFolder {
             (map created_file self.new.created.items ≡ map created_file self.old.created.items) }
         ensures counted { self.new.failures ≡ after_refusal result self.old.failures }
         ensures failing { fails_now self.old.calls_to_failure ≡ true → result ≡ Err Failed }
-        ensures only_failing { result ≡ Err Failed → fails_now self.old.calls_to_failure ≡ true }
+        ensures only_failing { IfErr result (λ fault. (fault ≡ FolderFault.NoMemory)
+            ⊎ ((fault ≡ Failed) × (fails_now self.old.calls_to_failure ≡ true))) }
         ensures kept { self.new ≡ record self.old {
           created = self.new.created;
           calls_to_failure = after_call self.old.calls_to_failure;
@@ -321,10 +326,10 @@ impl Folder for MemoryFolder {
             ≡ with_last (map created_file self.old.created.items) out.bytes.items) }
         ensures prefix { OnErr result (map created_file self.new.created.items
             ≡ with_last (map created_file self.old.created.items) out.bytes.items) }
-        ensures needs_no_memory { IfErr result (λ fault. fault ≢ NoMemory) }
+        ensures needs_no_memory { IfErr result (λ fault. fault ≢ FolderFault.NoMemory) }
         ensures counted { self.new.failures ≡ after_close result out.failures self.old.failures }
         ensures failing { fails_now self.old.calls_to_failure ≡ true → result ≡ Err Failed }
-        ensures only_failing { result ≡ Err Failed → fails_now self.old.calls_to_failure ≡ true }
+        ensures only_failing { OnErr result (fails_now self.old.calls_to_failure ≡ true) }
         ensures kept { self.new ≡ record self.old {
           created = self.new.created;
           calls_to_failure = after_call self.old.calls_to_failure;

@@ -34,7 +34,7 @@ names_below web table rows bodies count inside are size k d h =
     subst (λ (body : NodeBody). All (λ id. id < count) (body_uses body)) (sym (get_or_from_slice_get bodies k reported.0 d reported.1))
     (subst (All (λ id. id < count)) (sym (reported.2.names ∙ names_same table pieces)) below)
 
--- the body with one number is that of the pieces with the numbers of its row
+-- the body with a number is that of the pieces in the row with this number
 pub body_given : (web : WebRead) (table : TableRead) (rows : List (List ℕ)) (bodies : List (Rc NodeBody Global)) (n : ℕ) (body : Rc NodeBody Global) → AreBodies web table rows (node_bodies bodies)
     → n < length rows → body ≡ get_or bodies n body → IsBodyOf web table (get_or rows n []) body.value
 body_given web table rows bodies n body are low read =
@@ -50,7 +50,7 @@ names_inside web table numbers body inside reported =
     let pieces = pieces_at web.pieces numbers in
     subst (All (λ id. id < length table.names)) (sym (reported.names ∙ names_same table pieces)) (pieces_below table inside pieces)
 
--- the body of a node that is read by its number
+-- a body that is read by its number
 module _ (bodies : List (Rc NodeBody Global)) (n : ℕ) where
   pub names_of_read : (names count : ℕ) (body : Rc NodeBody Global) → All (λ (t : NodeBody). All (λ id. id < names) (body_uses t)) (node_bodies bodies) → names ≡ count
       → true ≡ nat_lt n (length bodies) → body ≡ get_or bodies n body → All (λ id. id < count) (body_uses body.value)
@@ -66,7 +66,7 @@ module _ (bodies : List (Rc NodeBody Global)) (n : ℕ) where
       let past : length bodies ≤ n = (let t = sym test in grind (arith, nat_tests)) in
       slice_get_past (node_bodies bodies) n (omega (arith, past, length-map bodies (λ (t : Rc NodeBody Global). t.value)))
 
--- what has the shape, the uses and the plan of pieces has their weight too
+-- a body with the shape, the uses and the plan of pieces also has their weight
 pub is_body_of : (web : WebRead) (table : TableRead) (has : ℕ → Bool) (node : Title) (numbers : List ℕ) (body : NodeBody)
     → HoldsShape table.names (shape_of web.texts table (pieces_at web.pieces numbers)) body → body_uses body ≡ pieces_uses table (pieces_at web.pieces numbers)
     → plan_slots body ≡ pieces_slots web.texts table has node 0 (pieces_at web.pieces numbers) → IsBodyOf web table numbers body
@@ -104,7 +104,7 @@ module _ (names : List (List ℕ)) (has : ℕ → Bool) (before : List (Rc NodeB
       let low = below h.0 in
       subst (IsPlanned has) (same_read x.now low h.1) (is.planned n x.now.value (mapped low))
 
--- the body that is read at a number is there
+-- a body that is read at a number is in the list
 pub body_read : (before : List (Rc NodeBody Global)) (n : ℕ) (o : Option (Bor (Rc NodeBody Global))) → IsItemAt before n o → IfSome o (λ body. slice_get (node_bodies before) n ≡ Some body.now.value)
 body_read before n None h = tt
 body_read before n (Some x) h =

@@ -1,4 +1,4 @@
--- What is filled in is what an expandable node expands to.
+-- A plan with its uses filled in is the expansion of its node.
 use Rattle.std.proofs.Common.{◌≡◌, ◌∙◌, ◌<◌, ℕ, Bool, true, false, List, [], ◌∷◌, length, map, get_or, refl, ap, sym, inl, inr, arith}
 use Rattle.std.specs.Global.{Global}
 use Rattle.std.specs.declared.rc.Rc.{Rc}
@@ -19,7 +19,7 @@ use Rattle.tangle_graph.specs.Nodes.{IsNodeOf, number_in, entry, entry_if}
 use Rattle.tangle_graph.specs.Stores.{StoreRead, IsStoreOf, KeepsUsed, is_expandable_at, slots_at, plan_uses_at, body_at, title_in_store}
 use Rattle.tangle_graph.specs.Plans.{node_bodies, slots_of, uses_of_plans}
 
--- a node that has a flag is the store's
+-- a node whose flag is set is a node of the store
 pub node_in : (names : List (List ℕ)) (flags : List Bool) (node : Node) → entry false flags (number_in (length names) node) ≡ true → IsNodeOf names node
 node_in names flags Program e = tt
 node_in names flags (Name id) e = by (nat_lt id (length names)) refl e
@@ -49,7 +49,7 @@ mapped : {X Y Z : Type 0} (f : Y → Z) (g : X → Y) (xs : List X) → map f (m
 mapped f g [] = refl
 mapped f g (x ∷ xs) = ap (λ l. f (g x) ∷ l) (mapped f g xs)
 
--- what is read of a body is the entry of the same number in the list of what is read of all bodies
+-- a part of a body, read from the list of this part of all bodies, is the entry with the same number
 read_at : {Y : Type 0} (f : NodeBody → List Y) (bodies : List (Rc NodeBody Global)) (entries : List (List Y)) (o : Option ℕ) (body : NodeBody)
     → map (λ (t : Rc NodeBody Global). f t.value) bodies ≡ entries → entry_if (node_bodies bodies) o ≡ Some body → entry [] entries o ≡ f body
 read_at f bodies entries None body same e = absurd (let both : None ≡ Some body = e in cc)
@@ -61,7 +61,7 @@ read_at f bodies entries (Some n) body same e =
     ∙ ap f (get_or_from_slice_get (node_bodies bodies) n body body e)
 
 module _ (store : StoreRead) (bodies : List (Rc NodeBody Global)) (node : Node) (body : NodeBody) (same : node_bodies bodies ≡ store.bodies) (there : body_at store node ≡ Some body) where
-  -- the body of a node says what the store says of the node
+  -- the uses and slots of a node's body are those that the store has for the node
   pub plan_uses_read : uses_of_plans bodies ≡ store.plan_uses → plan_uses body ≡ plan_uses_at store node
   plan_uses_read is = sym (read_at plan_uses bodies store.plan_uses (number_in (length store.names) node) body is (ap (λ ts. entry_if ts (number_in (length store.names) node)) same ∙ there))
 

@@ -31,7 +31,7 @@ use Rattle.tangle_graph.specs.Plans.{ArePieceFlags}
 use Rattle.tangle_graph.specs.Stores.{row_has_piece}
 use Rattle.tangle_graph.proofs.ReachLemmas.{contains_by_titles, cycle_by_titles}
 
--- the first uses, counted over the occurrences that were read from the web
+-- the first uses, counted over the occurrences of the web
 pub uses_of_web : (web : WebRead) (table : TableRead) (os : List OccurrenceRead) (counted numbers : List ℕ) → table ≡ record (table_of web) { faults = table.faults } → os ≡ web.occurrences → numbers ≡ counted
     → ((f : OccurrenceRead → Resolved) → table.resolved ≡ map f os → (id : ℕ) → id < length table.names → get_or counted id 0 ≡ first_by_number f Uses os id)
     → (id : ℕ) → id < length table.names → get_or numbers id 0 ≡ first_by_number (resolve web.occurrences) Uses web.occurrences id
@@ -40,7 +40,7 @@ uses_of_web web table os counted numbers is read same known id h =
     ∙ known (resolve web.occurrences) (ap (λ (t : TableRead). t.resolved) is ∙ ap (map (resolve web.occurrences)) (sym read)) id h
     ∙ ap (λ l. first_by_number (resolve web.occurrences) Uses l id) read
 
--- the faults of one name more
+-- the faults of one more name
 pub range_more : (g : ℕ → List FaultRead) (a n : ℕ) → flat_map g (range_with_len a (n + 1)) ≡ flat_map g (range_with_len a n) ++ g (a + n)
 range_more g a zero = append-nil (g a) ∙ ap g (sym (add-zero a))
 range_more g a (suc n) =
@@ -55,7 +55,7 @@ listed_step g names i before now next h sofar is =
     is ∙ ap (λ l. l ++ g (get_or names i 0)) sofar ∙ append_assoc before (flat_map g (take i names)) (g (get_or names i 0))
     ∙ ap (λ l. before ++ l) (flat_map_more g [] (take i names) (get_or names i 0) ∙ ap (flat_map g) (sym (take_more names i 0 h)))
 
--- one number more of a list that may leave out what has no fault
+-- one more number of a list, from which numbers without a fault may be left out
 pub candidates_step : (g : ℕ → List FaultRead) (n : ℕ) (names : List ℕ) (needed : Bool) → (needed ≡ false → g n ≡ []) → flat_map g names ≡ flat_map g (range_with_len 0 n)
     → flat_map g (names ++ cond needed (n ∷ []) []) ≡ flat_map g (range_with_len 0 (n + 1))
 candidates_step g n names true none sofar =
@@ -63,7 +63,7 @@ candidates_step g n names true none sofar =
 candidates_step g n names false none sofar =
     ap (flat_map g) (append-nil names) ∙ sofar ∙ sym (append-nil (flat_map g (range_with_len 0 n))) ∙ ap (λ l. flat_map g (range_with_len 0 n) ++ l) (sym (ap g (zero-add n) ∙ none refl)) ∙ sym (range_more g 0 n)
 
--- the faults of one kind more
+-- the faults of one more kind
 pub kinds_step : (f : FaultKind → List FaultRead) (ks : List FaultKind) (i : ℕ) (d : FaultKind) (before now : List FaultRead) → i < length ks
     → before ≡ flat_map f (take i ks) → now ≡ before ++ f (get_or ks i d) → now ≡ flat_map f (take (i + 1) ks)
 kinds_step f ks i d before now h sofar is =
@@ -72,7 +72,7 @@ kinds_step f ks i d before now h sofar is =
 pub kinds_whole : (f : FaultKind → List FaultRead) (ks : List FaultKind) (i : ℕ) (now : List FaultRead) → length ks ≤ i → now ≡ flat_map f (take i ks) → now ≡ flat_map f ks
 kinds_whole f ks i now h is = is ∙ ap (flat_map f) (take_all i ks h)
 
--- a node has a piece where there is a number of one
+-- a node has a piece if its row has a number
 module _ (web : WebRead) (table : TableRead) (rows uses : Graph) (is : IsGraphOf web table rows uses) where
   below : (n : ℕ) → n ≤ length table.names → n < length uses
   below n h = omega (arith, h, is.uses_size)
@@ -109,7 +109,7 @@ module _ (web : WebRead) (table : TableRead) (rows uses : Graph) (is : IsGraphOf
       let flag = just n (below n h) in
       (λ e. titles.0 (alike.0 (flag.0 e)), λ c. flag.1 (alike.1 (titles.1 c)))
 
--- lists that grow one after the other, the first four at once
+-- lists that are appended one after another, the first four at once
 pub joined : {X : Type 0} (now a b c d e f g : List X) (l0 l1 l2 : List X) → l0 ≡ a ++ (b ++ (c ++ (d ++ []))) → l1 ≡ l0 ++ e → l2 ≡ l1 ++ f → now ≡ l2 ++ g
     → now ≡ a ++ (b ++ (c ++ (d ++ (e ++ (f ++ g)))))
 joined now a b c d e f g l0 l1 l2 h0 h1 h2 h3 =
@@ -123,7 +123,7 @@ pub unless : {X : Type 0} (b : Bool) (xs : List X) → cond (not b) xs [] ≡ co
 unless true xs = refl
 unless false xs = refl
 
--- The faults of a graph are one list.
+-- The faults of a graph are determined: two such lists are equal.
 
 same_flag : {P : Type 0} (a b : Bool) → ((a ≡ true) ↔ P) → ((b ≡ true) ↔ P) → a ≡ b
 same_flag true true p q = refl

@@ -1,4 +1,4 @@
--- Each number where it comes first.
+-- Lists of numbers without repetitions, each number where it comes first.
 use Rattle.std.proofs.Common.{◌≡◌, ◌≢◌, ◌∙◌, ◌<◌, ◌+◌, ◌||◌, ℕ, Bool, true, false, eqb, List, [], ◌∷◌, ◌++◌, length, map, take, get_or, set, refl, ap, sym, arith, append-nil, length-set, get_or-set_same, get_or-set_other}
 use Rattle.std.specs.Prelude.{not, filter, if◌then◌else◌}
 use Rattle.std.specs.List.{list_any}
@@ -25,14 +25,14 @@ filter_first p zs x true false e = ap (filter p) (append-nil zs) ∙ sym (append
 filter_first p zs x false true e = filter_push p zs x ∙ ap (λ b. filter p zs ++ (if b then x ∷ [] else [])) e
 filter_first p zs x false false e = filter_push p zs x ∙ ap (λ b. filter p zs ++ (if b then x ∷ [] else [])) e
 
--- one number more is a first one unless it came before
+-- one more number is kept unless it came before
 pub firsts_push : (xs : List ℕ) (x : ℕ) → firsts (xs ++ x ∷ []) ≡ firsts xs ++ (if not (list_any (eqb x) xs) then x ∷ [] else [])
 firsts_push [] x = refl
 firsts_push (y ∷ xs) x =
     ap (λ l. y ∷ filter (λ m. not (eqb m y)) l) (firsts_push xs x)
     ∙ ap (λ l. y ∷ l) (filter_first (λ m. not (eqb m y)) (firsts xs) x (list_any (eqb x) xs) (eqb x y) refl)
 
--- a flag for each number: whether it came yet
+-- a flag for each number: whether it came already
 pub record IsSeen (count : ℕ) (seen : List Bool) (numbers : List ℕ) : Type 0 where
   pub size : length seen ≡ count
   pub flag : (m : ℕ) → m < count → get_or seen m false ≡ list_any (eqb m) numbers
@@ -64,7 +64,7 @@ pub firsts_more : (numbers : List ℕ) (i : ℕ) → i < length numbers → firs
     ≡ firsts (take i numbers) ++ (if not (list_any (eqb (get_or numbers i 0)) (take i numbers)) then get_or numbers i 0 ∷ [] else [])
 firsts_more numbers i h = ap firsts (take_more numbers i 0 h) ∙ firsts_push (take i numbers) (get_or numbers i 0)
 
--- one element more of a list that is filtered and mapped
+-- one more item of a list that is filtered and mapped
 pub mapped_more : {X Y : Type 0} (p : X → Bool) (f : X → Y) (xs : List X) (i : ℕ) (d : X) → i < length xs
     → map f (filter p (take (i + 1) xs)) ≡ map f (filter p (take i xs)) ++ (if p (get_or xs i d) then f (get_or xs i d) ∷ [] else [])
 mapped_more p f xs i d h =

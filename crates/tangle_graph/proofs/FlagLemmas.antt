@@ -14,14 +14,14 @@ module _ (store : StoreRead) where
   pub flag_size : (flags : List Bool) (node : Node) (b : Bool) → length (with_flag store flags node b) ≡ length flags
   flag_size flags node b = length_with flags (number_in (length store.names) node) b
 
-  -- the node has the flag that is set
+  -- the node has the flag that was set
   pub flag_set : (flags : List Bool) (node : Node) (b : Bool) → IsNodeIn store node → length flags ≡ length store.names + 1 → flag_at store (with_flag store flags node b) node ≡ b
   flag_set flags node b inside size =
       let number = numbered store.names node inside in
       let low = number.1 in
       ap (λ o. entry false (with_entry flags o b) o) number.3 ∙ get_or-set_same flags number.0 b false (omega (arith, low, size))
 
-  -- the others have their old ones
+  -- the other nodes keep their flags
   pub flag_stays : (flags : List Bool) (node other : Node) (b : Bool) → IsNodeIn store node → IsNodeIn store other → other ≢ node
       → flag_at store (with_flag store flags node b) other ≡ flag_at store flags other
   flag_stays flags node other b inside also apart =

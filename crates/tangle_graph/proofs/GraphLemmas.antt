@@ -1,4 +1,4 @@
--- The rows that grouping leaves are the pieces and the uses of each node.
+-- The rows that grouping makes are the pieces and the uses of each node.
 use Rattle.std.proofs.Common.{◌≡◌, ◌∙◌, ◌<◌, ◌≤◌, ◌+◌, ℕ, List, [], ◌∷◌, length, filter, flat_map, get_or, option_to_list, ap, sym, subst, arith, Vec}
 use Rattle.std.specs.Prelude.{All, Contains}
 use Rattle.std.specs.Global.{Global}
@@ -65,7 +65,7 @@ module _ (web : WebRead) (table : TableRead) (rows : Graph) (used : List (List �
   uses_count : length uses ≡ length table.names + 1
   uses_count = omega (arith, same_size, collected.size)
 
-  -- what is in a row is used by the node
+  -- each number in a row of uses is that of a name which the node uses
   use_down : (n m : ℕ) → HasUse uses n m → (n ≤ length table.names) × Contains (used_numbers table web.pieces n) m
   use_down n m u =
       let low : n < length uses = node_in uses n m u in

@@ -1,4 +1,4 @@
--- Pieces and uses by number are those by title.
+-- Pieces and uses by number agree with those by title.
 use Rattle.std.proofs.Common.{◌≡◌, ◌∙◌, ◌<◌, ◌≤◌, ℕ, zero, suc, Bool, true, false, eqb, List, [], ◌∷◌, length, map, filter, flat_map, get_or, option_to_list, refl, ap, sym, subst, inl, inr, arith}
 use Rattle.std.specs.Prelude.{Option, Some, None, Contains}
 use Rattle.std.specs.List.{IsDistinct}
@@ -61,7 +61,7 @@ module _ (table : TableRead) (distinct : IsDistinct bytes_eq table.names) (insid
   pub pieces_by_number : (web : WebRead) (n : ℕ) → n ≤ length table.names → filter (is_piece_of_number table n) web.pieces ≡ pieces_of web table (title_at table.names n)
   pieces_by_number web n hn = λ i. filter (λ (piece : PieceRead). piece_is n piece.occurrence hn i) web.pieces
 
--- The uses of the shape are those by number.
+-- The uses of a shape are those by number.
 module _ (texts : List (List ℕ)) (table : TableRead) (inside : ResolvesInside table) where
   resolved_use : (r : Resolved) (m : ℕ) → Contains (option_to_list (resolved_number r)) m → IsUseOf (use_of table r) (get_or table.names m [])
   resolved_use (resolved.Name id) m c = ap (λ k. get_or table.names k []) (only id m c)
@@ -100,7 +100,7 @@ module _ (texts : List (List ℕ)) (table : TableRead) (inside : ResolvesInside 
     | inr later ↦ inr (pieces_use pieces m later)
   ]
 
-  -- and back
+  -- and each use of the shape is one by number
   abbrev pub IsAmong : List ℕ → List ℕ → Type 0
   IsAmong numbers name = (m : ℕ) × Contains numbers m × (m < length table.names) × (get_or table.names m [] ≡ name)
 
@@ -134,7 +134,7 @@ module _ (texts : List (List ℕ)) (table : TableRead) (inside : ResolvesInside 
   pieces_used (p ∷ pieces) name (inr u) = (let is = pieces_used pieces name u in (is.0, Contains-append_right (used_in table p) (flat_map (used_in table) pieces) is.0 is.1, is.2, is.3))
 
 module _ (web : WebRead) (table : TableRead) (distinct : IsDistinct bytes_eq table.names) (inside : ResolvesInside table) where
-  -- what the node with this number uses by number, it uses by title
+  -- each name that a node uses by number it also uses by title
   pub number_uses : (n m : ℕ) → n ≤ length table.names → Contains (used_numbers table web.pieces n) m → Uses (shapes web table) (title_at table.names n) (get_or table.names m [])
   number_uses n m hn c =
       let by : flat_map (used_in table) (filter (is_piece_of_number table n) web.pieces) ≡ flat_map (used_in table) (pieces_of web table (title_at table.names n)) =

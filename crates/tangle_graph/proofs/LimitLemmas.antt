@@ -1,4 +1,4 @@
--- What is expandable, by the rows of a graph.
+-- Which nodes are expandable, by the rows of a graph.
 use Rattle.std.proofs.Common.{◌≡◌, ◌∙◌, ◌<◌, ℕ, Bool, false, List, [], ◌∷◌, length, map, get_or, refl, ap, sym, arith}
 use Rattle.std.proofs.lemmas.List.{length-map}
 use Rattle.tangle_scan.specs.Web.{WebRead, PieceRead}

@@ -1,4 +1,4 @@
--- Weights by number are those by title; and what reaches a cycle has the greatest.
+-- Weights by number agree with those by title, and a node that reaches a cycle has the greatest weight.
 use Rattle.std.proofs.Common.{◌≡◌, ◌∙◌, ◌<◌, ◌≤◌, ◌+◌, ◌⊎◌, ℕ, zero, suc, min, max, List, [], ◌∷◌, length, map, get_or, refl, ap, sym, subst, inl, inr, arith, rules}
 use Rattle.std.specs.Prelude.{sum_by}
 use Rattle.std.proofs.lemmas.List.Sums.{sum_by-cons}
@@ -15,7 +15,7 @@ use Rattle.tangle_graph.specs.Grouping.{resolved_number}
 use Rattle.tangle_graph.specs.Measures.{use_weight, weight_of_item, weight_of_piece, weight_of_pieces}
 
 module _ (texts : List (List ℕ)) (table : TableRead) (inside : ResolvesInside table) (cap : ℕ) (used : ℕ → ℕ) (by_name : List ℕ → ℕ) where
-  -- a name weighs the same by its number and by its bytes
+  -- a name has the same weight by its number and by its bytes
   abbrev pub Weighs : ℕ → Type 0
   Weighs id = min cap (by_name (get_or table.names id [])) ≡ min cap (used id)
 
@@ -60,7 +60,7 @@ module _ (texts : List (List ℕ)) (table : TableRead) (inside : ResolvesInside 
       by : (a b c d e : ℕ) → min cap a ≡ min cap b → min cap c ≡ min cap d → e ≡ 3 + a + c → min cap e ≡ min cap (3 + b + d)
       by a b c d e f g h = omega arith
 
--- a use is one level below, and weighs less
+-- a used name is one level less deep, and weighs less
 
 item_depth-use : (f : List ℕ → ℕ) (x : ShapeItem) (name : List ℕ) → IsUseOf x name → f name ≤ item_depth f x
 item_depth-use f (Written kind bytes) name u = absurd u
@@ -96,7 +96,7 @@ pieces_weight-use f [] name u = absurd u
 pieces_weight-use f (items ∷ pieces) name (inl u) = omega (arith, items_weight-use f items name u)
 pieces_weight-use f (items ∷ pieces) name (inr u) = omega (arith, pieces_weight-use f pieces name u)
 
--- the depth is met: by a use, or there is no deeper one than 0
+-- a depth that isn't 0 is that of some used name
 
 abbrev pub IsMet : (List ℕ → ℕ) → (List ℕ → Type 0) → ℕ → Type 0
 IsMet f Used d = (d ≡ 0) ⊎ ((name : List ℕ) × Used name × (d ≡ f name))
@@ -154,7 +154,7 @@ pieces_depth-met f items (others ∷ pieces) = both (items_depth-met f items) (p
     both m n (inl e) = first m e
     both m n (inr e) = second n e
 
--- More fuel changes nothing where the depth is below it.
+-- More fuel changes nothing where it exceeds the depth.
 
 item_weight-on : (f g : List ℕ → ℕ) (x : ShapeItem) → ((name : List ℕ) → IsUseOf x name → f name ≡ g name) → item_weight f x ≡ item_weight g x
 item_weight-on f g (Written kind bytes) same = refl

@@ -1,4 +1,4 @@
--- What the graph of names of a web's bodies says of the web.
+-- The graph of names that is made from a web's bodies describes the web.
 use Rattle.std.proofs.Common.{◌≡◌, ◌∙◌, ◌<◌, ◌≤◌, ◌+◌, ◌++◌, ◌∷◌, ℕ, Bool, true, false, not, List, [], length, take, map, get_or, refl, ap, sym, subst, arith, Vec}
 use Rattle.std.specs.Global.{Global}
 use Rattle.std.specs.declared.rc.Rc.{Rc}
@@ -27,7 +27,7 @@ use Rattle.tangle_graph.proofs.GraphLemmas.{graph_of}
 use Rattle.tangle_graph.proofs.BodyLemmas.{names_below}
 use Rattle.tangle_graph.proofs.UsesLemmas.{uses_collected}
 
--- its uses are the graph of the web
+-- its uses are those of the web
 pub graph_over : (web : WebRead) (table : TableRead) (pieces : Graph) (bodies : List NodeBody) (name_graph : NameGraph) → IsDistinct bytes_eq table.names → ResolvesInside table
     → IsRowsOf (length table.names + 1) (positions_of table web.pieces) (rows_of pieces) → AreBodies web table (rows_of pieces) bodies → IsNameGraphOf (map body_uses bodies) name_graph
     → IsGraphOf web table pieces name_graph.uses.items
@@ -35,7 +35,7 @@ graph_over web table pieces bodies name_graph distinct inside grouped are is =
     graph_of web table pieces (map body_uses bodies) name_graph.uses.items distinct inside grouped
     (uses_collected web table (rows_of pieces) bodies (map body_uses bodies) grouped are refl) is.size is.once
 
--- the bodies of a web use names of its table
+-- the bodies of a web use names of the table
 pub uses_inside : (web : WebRead) (table : TableRead) (pieces : List (List ℕ)) (bodies : List NodeBody) → ResolvesInside table → AreBodies web table pieces bodies
     → All (λ row. All (λ id. id < length table.names) row) (map body_uses bodies)
 uses_inside web table pieces bodies inside are =
@@ -56,14 +56,14 @@ each_increasing before rows same once n =
       | no past ↦ (λ k h. (let none : row_at rows n ≡ [] = get_or_past rows n [] (omega (arith, past, same)) in absurd (omega (arith, h, ap length none))))
     ]
 
--- rows that hold the uses of bodies once each are in range, as the bodies' own are
+-- rows with the uses of bodies, each once, are in range if the uses of the bodies are
 pub once_in_range : (bodies : List NodeBody) (count : ℕ) (rows once uses : Graph) → rows_of rows ≡ map body_uses bodies → length bodies ≡ count + 1
     → All (λ row. All (λ id. id < count) row) (map body_uses bodies) → (InRange rows → InRange once) → uses ≡ once → InRange uses
 once_in_range bodies count rows once uses same size all kept is =
     let room : count ≤ length (map body_uses bodies) = omega (arith, size, length-map bodies body_uses) in
     subst InRange (sym is) (kept (rows_in_range rows (map body_uses bodies) count same room all))
 
--- lists of numbers of which a test says that they are not two
+-- lists of numbers that a test finds equal
 pub same_by_test : (xs ys : List ℕ) → not (bytes_eq xs ys) ≡ false → xs ≡ ys
 same_by_test xs ys e = (bytes_eq-Decides xs ys).0 (is_true (bytes_eq xs ys) e)
   where
@@ -71,7 +71,7 @@ same_by_test xs ys e = (bytes_eq-Decides xs ys).0 (is_true (bytes_eq xs ys) e)
     is_true true e = refl
     is_true false e = absurd (let no : true ≡ false = e in cc)
 
--- one body more
+-- one more body
 pub uses_more : (bodies : List (Rc NodeBody Global)) (i : ℕ) (body : Rc NodeBody Global) → i < length bodies → body ≡ get_or bodies i body
     → map body_uses (node_bodies (take (i + 1) bodies)) ≡ map body_uses (node_bodies (take i bodies)) ++ body_uses body.value ∷ []
 uses_more bodies i body low read =

@@ -20,7 +20,7 @@ title_inside names n h = ap title_of_name (slice_get-get_or names n [] h)
 pub title_past : (names : List (List ℕ)) (n : ℕ) → length names ≤ n → title_at names n ≡ title.Program
 title_past names n h = ap title_of_name (slice_get_past names n h)
 
--- what has a name is one of the names
+-- a number whose title is a name is the number of a name
 pub named_inside : (names : List (List ℕ)) (n : ℕ) (name : List ℕ) → title_at names n ≡ Named name → n < length names
 named_inside names n name e = elim (dec_lt n (length names)) [
   | yes low ↦ low
@@ -30,7 +30,7 @@ named_inside names n name e = elim (dec_lt n (length names)) [
 pub named_injective : (a b : List ℕ) → Named a ≡ Named b → a ≡ b
 named_injective a b e = cc
 
--- each name is once
+-- each name has one number
 pub once_named : (names : List (List ℕ)) (n m : ℕ) → IsDistinct bytes_eq names → n < length names → m < length names → get_or names n [] ≡ get_or names m [] → n ≡ m
 once_named names n m distinct hn hm e = elim (ℕ_discrete n m) [
   | yes same ↦ same
@@ -73,7 +73,7 @@ node_is names n h = elim (dec_lt n (length names)) [
   | no past ↦ (let end : length names ≤ n = omega (arith, past) in subst (IsNodeOf names) (sym (node_past (length names) n end)) tt)
 ]
 
--- each node has a number, by which its entries are
+-- each node has a number, by which its entries are found
 pub numbered : (names : List (List ℕ)) (node : Node) → IsNodeOf names node → (n : ℕ) × (n ≤ length names) × (node_at (length names) n ≡ node) × (number_in (length names) node ≡ Some n)
 numbered names Program h = (length names, omega arith, node_past (length names) (length names) (omega arith), refl)
 numbered names (Name id) h =

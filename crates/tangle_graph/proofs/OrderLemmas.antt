@@ -1,4 +1,4 @@
--- What is found of each node along an order in which a node comes after those that it uses.
+-- Values computed for each node along an order, in which a node comes after those that it uses.
 use Rattle.std.proofs.Common.{◌≡◌, ◌≢◌, ◌∙◌, ◌<◌, ◌≤◌, ◌+◌, ◌⊎◌, ℕ, zero, suc, List, [], ◌∷◌, ◌++◌, length, take, get_or, set, sym, subst, inl, inr, arith, length-set, get_or-set_same, get_or-set_other}
 use Rattle.std.specs.Prelude.{Contains}
 use Rattle.std.proofs.Math.Decide.{ℕ_discrete}
@@ -14,7 +14,7 @@ use Rattle.tangle_graph.specs.Nodes.{UsesTitle}
 use Rattle.tangle_graph.specs.Measures.{AreMeasured}
 use Rattle.tangle_graph.proofs.MeasureLemmas.{pieces_depth-use, pieces_weight-use}
 
--- a number is in a list, or it isn't
+-- a number is in a list or not
 pub among : (xs : List ℕ) (n : ℕ) → Contains xs n ⊎ ((c : Contains xs n) → ⊥)
 among [] n = inr (λ c. absurd (omega (arith, c.1)))
 among (x ∷ xs) n = elim (ℕ_discrete x n) [
@@ -69,7 +69,7 @@ measured_next graph value other values order i v after_uses h size sofar e = rec
           ∙ sofar.unlisted n (omega (arith, low, length-set values (get_or order i 0) v)) (λ c. none (subst (λ l. Contains l n) (sym more) (Contains-append_left (take i order) (get_or order i 0 ∷ []) n c)))
     ]
 
--- at the end of the order all are found
+-- at the end of the order the values of all nodes are known
 pub measured_all : (value : ℕ → ℕ) (other : ℕ) (values order : List ℕ) (i n : ℕ) → length order ≤ i → AreMeasured value other values (take i order)
     → n < length values → (((c : Contains order n) → ⊥) → value n ≡ other) → get_or values n 0 ≡ value n
 measured_all value other values order i n h sofar low rest =
@@ -79,7 +79,7 @@ measured_all value other values order i n h sofar low rest =
       | inr none ↦ sofar.unlisted n low (λ c. none (subst (λ l. Contains l n) all c)) ∙ sym (rest none)
     ]
 
--- A use is one level more, and one more in weight.
+-- A node is one level deeper than a name that it uses, and heavier by at least 1.
 
 deeper : (steps : ℕ) (shapes : Shapes) (a b : Title) → UsesTitle shapes a b → steps ≤ depth steps shapes b → suc steps ≤ depth (suc steps) shapes a
 deeper steps shapes a Program u h = absurd u
@@ -89,7 +89,7 @@ heavier : (steps : ℕ) (shapes : Shapes) (a b : Title) → UsesTitle shapes a b
 heavier steps shapes a Program u h = absurd u
 heavier steps shapes a (Named name) u h = omega (arith, h, pieces_weight-use (λ other. weight steps shapes (Named other)) (shapes a) name u)
 
--- what is left out of an order is deeper, and heavier, than any number
+-- a node that is left out of an order is deeper, and heavier, than any number
 pub left_out_deepest : (graph : Graph) (shapes : Shapes) (title : ℕ → Title) (order : List ℕ) (steps n : ℕ) → IsTitled graph (UsesTitle shapes) title → InRange graph → IsOrder graph order
     → n < length graph → ((c : Contains order n) → ⊥) → steps ≤ depth steps shapes (title n)
 left_out_deepest graph shapes title order zero n titled range is low out = omega arith

@@ -1,4 +1,4 @@
--- The order of the numbers, as nodes, is an order of the store's.
+-- The order of the numbers, as nodes, is an order of the store.
 use Rattle.std.proofs.Common.{◌≡◌, ◌≢◌, ◌∙◌, ◌<◌, ◌≤◌, ℕ, Bool, true, false, List, [], length, map, take, get_or, refl, ap, sym, subst, inl, inr, arith}
 use Rattle.std.specs.Prelude.{Contains, AllPairs, ◌&&◌, nat_lt, nat_le, Some, All}
 use Rattle.std.proofs.lemmas.Bool.Decides.{nat_tests}
@@ -95,7 +95,7 @@ module _ (web : WebRead) (table : TableRead) (rows uses : Graph) (order weights 
   pub order_is : IsOrderIn store (map (node_at (length table.names)) order)
   order_is = record { inside = inside; once = once; after = after; expandable = expandable }
 
--- the pieces of each node are those of its number
+-- the pieces of each node are those with its number
 module _ (web : WebRead) (table : TableRead) (rows uses : Graph) (names : List (List ℕ)) (graph : IsGraphOf web table rows uses) (names_are : names ≡ table.names) where
   node_of_below : (a : Node) → IsNodeBelow (length names) a → IsNodeOf table.names a
   node_of_below Program h = tt

@@ -1,4 +1,4 @@
--- What a plan uses are names with a piece, and a plan is right where these have their symbols.
+-- The names that a plan uses have a piece, and the plan is right if each of them is replaced by its own symbols.
 use Rattle.std.proofs.Common.{◌≡◌, ◌≢◌, ◌∙◌, ◌<◌, ℕ, zero, suc, Bool, true, false, List, [], ◌∷◌, length, filter, flat_map, get_or, option_to_list, refl, ap, sym, subst, arith}
 use Rattle.std.specs.Prelude.{Contains, if◌then◌else◌}
 use Rattle.std.proofs.lemmas.List.Elements.{All-contains}
@@ -80,7 +80,7 @@ flat_empty all node e = ap (λ (s : Shape). pieces_flat (λ name. flat 1000 all 
 
 module _ (web : WebRead) (table : TableRead) (rows uses : Graph) (is : IsGraphOf web table rows uses) (inside : ResolvesInside table) (has : ℕ → Bool)
     (flags : (id : ℕ) → id < length table.names → has id ≡ row_has_piece (row_at (rows_of rows) id)) where
-  -- the node with this number uses the name with that one, which has a piece
+  -- the node with the number `n` uses the name with the number `id`, which has a piece
   abbrev pub UsesWithPiece : ℕ → ℕ → Type 0
   UsesWithPiece n id = (id < length table.names) × Uses (shapes web table) (title_at table.names n) (get_or table.names id []) × (shapes web table (Named (get_or table.names id [])) ≢ [])
 

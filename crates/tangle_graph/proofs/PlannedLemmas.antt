@@ -1,4 +1,4 @@
--- The body of a node, where other names have a piece.
+-- The body of a node when other names have a piece.
 use Rattle.std.proofs.Common.{◌≡◌, ◌∙◌, ◌+◌, ℕ, Bool, List, [], ◌∷◌, ◌++◌, flat_map, filter, refl, ap, subst, All}
 use Rattle.std.specs.Prelude.{if◌then◌else◌}
 use Rattle.std.proofs.lemmas.List.Elements.{All-head, All-tail}
@@ -20,7 +20,7 @@ use Rattle.tangle_plans.specs.WebShapes.{resolved_at}
 use Rattle.tangle_plans.specs.declared.nodes.NodeBody.{NodeBody}
 
 module _ (has has' : ℕ → Bool) where
-  -- both say the same of each of these names
+  -- for each of these names both say the same
   abbrev Agrees : List ℕ → Type 0
   Agrees [] = Unit {0}
   Agrees (id ∷ ids) = (has id ≡ has' id) × Agrees ids
@@ -81,7 +81,7 @@ module _ (has has' : ℕ → Bool) where
         ap (λ l. (Own (Opening node piece) ∷ Own (MarkOf node piece 0) ∷ l) ++ pieces_slots texts table has node (piece + 1) pieces) (same_items piece 0 p.items (front used after agrees))
         ∙ ap (λ l. piece_slots texts table has' node piece p.items ++ l) (same_pieces (piece + 1) pieces (back used after agrees))
 
-  -- the body is the same, if of the names that it uses the same ones have a piece
+  -- the body does not change if each name that it uses has a piece in both cases or in neither
   pub planned_over : (node : NodeBody) → All (λ id. has id ≡ has' id) (body_uses node) → IsPlanned has node → IsPlanned has' node
   planned_over node all is =
       let agrees = one_by_one (pieces_uses is.table is.pieces) (subst (All (λ id. has id ≡ has' id)) is.items.uses all) in

@@ -1,4 +1,4 @@
--- One row more, with its flag or its plan.
+-- One more row, with its flag or its plan.
 use Rattle.std.proofs.Common.{◌≡◌, ◌∙◌, ◌<◌, ◌+◌, ℕ, Bool, true, false, true≢false, List, [], ◌∷◌, ◌++◌, length, length-append, filter, take, get_or, ap, sym, subst, arith, Vec}
 use Rattle.std.specs.Global.{Global}
 use Rattle.std.specs.declared.rc.Rc.{Rc}
@@ -21,7 +21,7 @@ use Rattle.tangle_graph.specs.Nodes.{title_at}
 use Rattle.tangle_graph.specs.Plans.{ArePieceFlags, ArePlanned, ArePlans, AreBodies, IsBodyOf, node_bodies, slots_of, uses_of_plans}
 use Rattle.tangle_graph.specs.Stores.{row_has_piece}
 
--- what is so at each position of two lists is so with one more
+-- a relation that holds at each position of two lists also holds with one more item in each
 pushed : {X Y : Type 0} (f : ℕ → X → Y) (xs : List X) (ys : List Y) (x : X) (y : Y) (d : X) (e : Y) → length ys ≡ length xs
     → ((n : ℕ) → n < length xs → get_or ys n e ≡ f n (get_or xs n d)) → y ≡ f (length xs) x
     → (n : ℕ) → n < length (xs ++ x ∷ []) → get_or (ys ++ y ∷ []) n e ≡ f n (get_or (xs ++ x ∷ []) n d)
@@ -127,13 +127,13 @@ pub bodies_count : (rows : Graph) (bodies : List (Rc NodeBody Global)) (i : ℕ)
 bodies_count rows bodies i h size =
     sym (length-map bodies (λ (t : Rc NodeBody Global). t.value)) ∙ size ∙ length-map (take i rows) (λ (v : Vec ℕ Global). v.items) ∙ length-take-le i rows (omega (arith, h))
 
--- what holds of the old body holds of a body that is the same
+-- a property of the old body holds for an equal body
 pub holds_of_old : (before : Option (Bor (Rc NodeBody Global))) (Q : NodeBody → Type 0) (body : NodeBody) → MatchOption before ⊥ (λ old. body ≡ old.now.value)
     → IfSome before (λ old. Q old.now.value) → Q body
 holds_of_old None Q body same at = absurd same
 holds_of_old (Some old) Q body same at = subst Q (sym same) at
 
--- one body more, with its flag
+-- one more body, with its flag
 pub flagged_more : (R : ℕ → NodeBody → Type 0) (bodies : List (Rc NodeBody Global)) (flags : List Bool) (i : ℕ) (body : Rc NodeBody Global) (flag : Bool)
     → length bodies ≡ i → length flags ≡ length bodies
     → ((n : ℕ) → get_or flags n false ≡ true → (b : NodeBody) × (slice_get (node_bodies bodies) n ≡ Some b) × R n b)

@@ -1,4 +1,4 @@
--- Rows of the positions of elements.
+-- Rows of the positions of items.
 use Rattle.std.proofs.Common.{◌≡◌, ◌∙◌, ◌<◌, ◌≤◌, ◌+◌, length-append, ℕ, Bool, true, false, cond, List, [], ◌∷◌, ◌++◌, length, map, filter, get_or, refl, ap, sym, arith, append_assoc, Vec}
 use Rattle.std.specs.Global.{Global}
 use Rattle.std.proofs.lemmas.List.{map-append, get_or_append_left, get_or_push}
@@ -9,7 +9,7 @@ use Rattle.digraph.specs.Graph.{rows_of}
 use Rattle.digraph.specs.Rows.{IsRowsOf}
 use Rattle.digraph.specs.Users.{positions}
 
--- one empty row more
+-- one more empty row
 pub row_more : (rows : List (Vec ℕ Global)) (count : ℕ) (row : Vec ℕ Global) → IsRowsOf count (λ _. []) (rows_of rows) → row.items ≡ [] → IsRowsOf (count + 1) (λ _. []) (rows_of (rows ++ row ∷ []))
 row_more rows count row is none = record {
   size = ap length (map-append (λ (v : Vec ℕ Global). v.items) rows (row ∷ [])) ∙ (let n = is.size in more (rows_of rows) row.items count n);
@@ -26,7 +26,7 @@ row_more rows count row is none = record {
       | no past ↦ get_or_push (rows_of rows) row.items [] n (omega (arith, past, h, is.size)) ∙ none
     ]
 
--- positions are those of elements
+-- positions are below the length of the list
 pub positions_below : {X : Type 0} (p : X → Bool) (k bound : ℕ) (xs : List X) → k + length xs ≤ bound → All (λ j. j < bound) (positions p k xs)
 positions_below p k bound [] h = All-nil (λ j. j < bound)
 positions_below p k bound (x ∷ xs) h =
@@ -40,7 +40,7 @@ at_seam : {X : Type 0} (ys : List X) (x : X) (xs : List X) (d : X) → get_or (y
 at_seam [] x xs d = refl
 at_seam (y ∷ ys) x xs d = at_seam ys x xs d
 
--- what is at the positions of the elements that pass are these elements
+-- the items at the positions that pass are the items that pass
 pub positions_read : {X : Type 0} (p : X → Bool) (before xs : List X) (d : X) → map (λ n. get_or (before ++ xs) n d) (positions p (length before) xs) ≡ filter p xs
 positions_read p before [] d = refl
 positions_read p before (x ∷ xs) d =

@@ -1,4 +1,4 @@
--- The shape of a node of a store, and what the store says of it.
+-- The shape of a node of a store, and what the store records of the node.
 use Rattle.std.proofs.Common.{◌≡◌, ◌≢◌, ◌∙◌, ◌↔◌, ℕ, Bool, true, false, not, List, [], ◌∷◌, length, refl, ap, sym, subst, arith}
 use Rattle.std.specs.Prelude.{nat_lt, if◌then◌else◌, Option, Some, None}
 use Rattle.std.proofs.Math.Decide.{dec_lt}
@@ -14,7 +14,7 @@ use Rattle.tangle_graph.specs.Stores.{StoreRead, IsNodeIn, IsStoreOf, KeepsBodie
 use Rattle.tangle_graph.proofs.NodeLemmas.{node_is, number_at, numbered, title-node}
 use Rattle.tangle_plans.proofs.ShapeLemmas.{names_decide}
 
--- a node is one of these or it has no number
+-- a node has one of these names or is the program, or it has no number
 data IsKnown (names : List (List ℕ)) (a : Node) : Type 0 where
   known : IsNodeOf names a → IsKnown names a
   unknown : number_in (length names) a ≡ None → ((shapes : Shapes) → shape_of_node shapes names a ≡ []) → IsKnown names a
@@ -47,7 +47,7 @@ module _ (shapes : Shapes) (store : StoreRead) (is : IsStoreOf shapes store) whe
     | unknown none empty ↦ absurd (let both : None ≡ Some body = sym (ap (entry_if store.bodies) none) ∙ sym e in cc)
   ]
 
-  -- where nothing is kept there is no piece
+  -- a node without a body has no piece
   pub no_body : (a : Node) → None ≡ body_at store a → shape_in_store store shapes a ≡ []
   no_body a e = elim (is_known store.names a) [
     | known h ↦ (let reported = is.shape_held a h in absurd (let both : None ≡ Some reported.0 = e ∙ reported.1 in cc))
@@ -73,7 +73,7 @@ module _ (shapes : Shapes) (store : StoreRead) (is : IsStoreOf shapes store) whe
       none_unless [] h = refl
       none_unless (x ∷ s) h = absurd (h (λ e. let no : x ∷ s ≡ [] = e in absurd (cc)))
 
-  -- it has no piece just where its shape is the empty one
+  -- a node has no piece exactly if its shape is the empty one
   pub no_piece : (a : Node) (s : Shape) (b r : Bool) → s ≡ [] → b ≡ has_piece_at store a → r ≡ not b
       → ((r ≡ true) ↔ (shape_in_store store shapes a ≡ s)) × ((r ≡ true) ↔ (s ≡ shape_in_store store shapes a))
   no_piece a s true r empty e er = (
@@ -94,7 +94,7 @@ module _ (shapes : Shapes) (store : StoreRead) (is : IsStoreOf shapes store) whe
 some_same : {X : Type 0} (x y : X) → Some x ≡ Some y → x ≡ y
 some_same x y e = cc
 
--- a node that has the old body, and uses names as before, has the old shape
+-- a node that keeps its old body, and the names that it uses, keeps its shape
 pub shape_kept : (old new : StoreRead) (flags : List Bool) (node : Node) → KeepsBodies old new flags → entry false flags (number_in (length new.names) node) ≡ true
     → (old_shapes new_shapes : Shapes) → IsStoreOf old_shapes old → IsStoreOf new_shapes new → IsNodeIn new node
     → new_shapes (title_in_store new node) ≡ old_shapes (title_in_store new node)

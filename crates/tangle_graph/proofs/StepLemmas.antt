@@ -23,7 +23,7 @@ one_level : 1 ≤ levels
 unfolding levels
 one_level = omega arith
 
--- each that is found is within the cap, if all values are
+-- each known value is within the cap, if all values are
 pub measured_capped : (value : ℕ → ℕ) (cap : ℕ) (values nodes : List ℕ) → ((n : ℕ) → value n ≤ cap) → AreMeasured value cap values nodes → (n : ℕ) → n < length values → get_or values n 0 ≤ cap
 measured_capped value cap values nodes within is n low = elim (among nodes n) [
   | inl c ↦ (let e = is.listed n c in let h = within n in omega (arith, e, h))
@@ -31,7 +31,7 @@ measured_capped value cap values nodes within is n low = elim (among nodes n) [
 ]
 
 module _ (web : WebRead) (table : TableRead) (rows uses : Graph) (order : List ℕ) (graph : IsGraphOf web table rows uses) (is : IsOrder uses order) (i : ℕ) (h : i < length order) where
-  -- what is used has its value
+  -- a used name has its value
   used_found : (value : Title → ℕ) (other : ℕ) (values : List ℕ) (t : Title) → AreMeasured (λ n. value (title_at table.names n)) other values (take i order)
       → UsesTitle (shapes web table) (title_at table.names (get_or order i 0)) t
       → (m : ℕ) × HasUse uses (get_or order i 0) m × (m < length uses) × (title_at table.names m ≡ t) × (get_or values m 0 ≡ value t)

@@ -282,7 +282,7 @@ module _ (web : WebRead) (table : TableRead) (rows uses users : Graph) (flags : 
     shape_held = shapes_are;
   }
 
-  -- with the names and the rows of nodes as they are made
+  -- the same store, with its names and rows of nodes given by equal lists
   pub store_made : (names : List (List ℕ)) (used using : List (List Node)) → names ≡ table.names
       → used ≡ map (map (node_at (length table.names))) (rows_of uses) → using ≡ map (map (node_at (length table.names))) (rows_of users)
       → IsStoreOf (shapes web table) (record {

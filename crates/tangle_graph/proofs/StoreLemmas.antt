@@ -1,4 +1,4 @@
--- What a store holds by number is what it says of nodes.
+-- The entries that a store has by number are those that it gives for nodes.
 use Rattle.std.proofs.Common.{◌≡◌, ◌≢◌, ◌∙◌, ◌<◌, ◌≤◌, ◌+◌, ◌↔◌, ◌&&◌, ℕ, zero, suc, min, Bool, true, false, List, [], ◌∷◌, length, map, filter, get_or, refl, ap, sym, arith}
 use Rattle.std.specs.Prelude.{Option, Some, None, Contains, nat_lt, nat_le}
 use Rattle.std.proofs.Math.Decide.{dec_lt}
@@ -20,7 +20,7 @@ use Rattle.tangle_graph.specs.Stores.{row_has_piece}
 use Rattle.tangle_graph.proofs.MeasureLemmas.{weight-settles}
 use Rattle.tangle_graph.proofs.NodeLemmas.{node_below, node_past}
 
--- nodes of two numbers are two
+-- nodes with different numbers differ
 pub same_number : (names : List (List ℕ)) (m n : ℕ) → m ≤ length names → n ≤ length names → node_at (length names) m ≡ node_at (length names) n → m ≡ n
 same_number names m n high low e = elim (dec_lt m (length names)) [
   | yes lm ↦ elim (dec_lt n (length names)) [
@@ -43,7 +43,7 @@ mapped_contains f (x ∷ xs) y (suc k, h, e) =
     let rest = mapped_contains f xs y (k, omega (arith, h), e) in
     (rest.0, (suc rest.1.0, omega (arith, rest.1.1), rest.1.2), rest.2)
 
--- Expandable, by the capped weight and depth.
+-- Whether a node is expandable, by its capped weight and depth.
 
 weight_same : (shapes : Shapes) (node : Title) → depth levels shapes node < levels → weight weight_cap shapes node ≡ weight levels shapes node
 unfolding levels weight_cap
@@ -56,7 +56,7 @@ one_more = refl
 light_of : (cap most w v : ℕ) → cap ≡ most + 1 → v ≡ w → min cap v ≤ most → w ≤ most
 light_of cap most w v e same h = omega (arith, e, same, h)
 
--- a shape is empty where there is no number of a piece
+-- a shape is empty if the row of pieces is
 pub piece_of_row : (row : List ℕ) (s : Shape) → length s ≡ length row → (row_has_piece row ≡ true) ↔ (s ≢ [])
 piece_of_row [] [] e = (λ t. absurd (let no : false ≡ true = t in cc), λ h. absurd (h refl))
 piece_of_row [] (x ∷ s) e = absurd (omega (arith, e))
@@ -74,7 +74,7 @@ piece_of_shape : (s : Shape) → (shape_has_piece s ≡ true) ↔ (s ≢ [])
 piece_of_shape [] = (λ t. absurd (let no : false ≡ true = t in cc), λ h. absurd (h refl))
 piece_of_shape (x ∷ s) = (λ t none. (let no : x ∷ s ≡ [] = none in cc), λ h. refl)
 
--- the test of a node is the property
+-- the test of a node decides the property
 pub expandable_is : (shapes : Shapes) (node : Title) → (is_expandable shapes node ≡ true) ↔ IsExpandableNode shapes node
 expandable_is shapes node = (
   λ e. (let first = both_true (shape_has_piece (shapes node)) (nat_lt (depth levels shapes node) levels && nat_le (weight levels shapes node) heaviest) e in
@@ -92,7 +92,7 @@ same_bool true b f g = sym (f refl)
 same_bool false true f g = g refl
 same_bool false false f g = refl
 
--- so is the test of the capped weight and depth
+-- and so does the test of its capped weight and depth
 pub expandable_by_limits : (shapes : Shapes) (node : Title) (row : List ℕ) (w d : ℕ) → length (shapes node) ≡ length row → w ≡ weight_of shapes node → d ≡ depth_of shapes node
     → (row_has_piece row && (nat_lt d levels && nat_le w heaviest)) ≡ is_expandable shapes node
 expandable_by_limits shapes node row w d size weighed measured =

@@ -1,4 +1,4 @@
--- The weight of pieces is how many slots they have, and the weights of the names that they use.
+-- The weight of pieces is the number of their slots plus the weights of the names that they use.
 use Rattle.std.proofs.Common.{◌≡◌, ℕ, ◌+◌, Bool, true, false, List, [], ◌∷◌, length, refl, arith, length-append}
 use Rattle.std.specs.Prelude.{sum_by, flat_map, decimal, if◌then◌else◌}
 use Rattle.std.proofs.lemmas.List.{length-map}

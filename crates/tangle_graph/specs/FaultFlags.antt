@@ -1,4 +1,5 @@
--- What flags say of each node by its number, for the faults. These definitions are cited by private contracts alone.
+-- The meaning of the nodes' flags, by number, from which faults are found. Only private contracts
+-- cite these definitions.
 use Rattle.std.specs.Prelude.{◌≡◌, ◌≤◌, ◌↔◌, ℕ, ◌+◌, Bool, true, false, List, flat_map, length, slice_index_or}
 use Rattle.tangle_scan.specs.Web.{WebRead}
 use Rattle.tangle_names.specs.NameTable.{TableRead}
@@ -13,7 +14,8 @@ use Rattle.tangle_graph.specs.declared.faults.NodeFlags.{NodeFlags}
 abbrev pub flag_of_number : List Bool → ℕ → Bool
 flag_of_number flags n = slice_index_or flags n false
 
--- the flags say of each node whether it has a piece, contains itself, reaches a name that does, and is expandable
+-- for each node the flags say whether it has a piece, contains itself, reaches a name that does,
+-- and is expandable
 pub record AreNodeFlags (web : WebRead) (table : TableRead) (flags : NodeFlags) : Type 0 where
   pub has_piece_size : length flags.has_piece.now ≡ length table.names + 1
   pub containing_size : length flags.self_containing.now ≡ length table.names + 1
@@ -24,7 +26,7 @@ pub record AreNodeFlags (web : WebRead) (table : TableRead) (flags : NodeFlags) 
   pub reaching : (n : ℕ) → n ≤ length table.names → (flag_of_number flags.reaching_cycles.now n ≡ true) ↔ ReachesCycle (shapes web table) (title_at table.names n)
   pub expandable : (n : ℕ) → n ≤ length table.names → flag_of_number flags.expandable.now n ≡ is_expandable (shapes web table) (title_at table.names n)
 
--- the faults of these names are those of all names, of whatever kind
+-- these names have all faults of all names, of each kind
 abbrev pub HaveTheFaults : WebRead → TableRead → NodeFlags → List ℕ → Type 0
 HaveTheFaults web table flags names = (out : List ℕ) (kind : FaultKind)
     → flat_map (λ id. fault_of web table kind id (fault_occurrence web table out (flag_of_number flags.self_containing.now) (flag_of_number flags.reaching_cycles.now) kind id)) names

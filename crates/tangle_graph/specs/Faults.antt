@@ -1,4 +1,5 @@
--- The faults of the graph of names: what is undefined, never used, contains itself, is too large or has the main file's name.
+-- The faults of the graph of names: a name is undefined, never used, contains itself, is too large
+-- or is that of the main file; or the program is too large or has no piece.
 use Rattle.std.specs.Prelude.{◌≡◌, ◌≤◌, ◌↔◌, ℕ, Bool, true, not, ◌&&◌, List, [], ◌∷◌, ◌++◌, length, map, flat_map, slice_get, slice_index_or, Option, Some, None, option_to_list, is_some, position, if◌then◌else◌}
 use Rattle.std.specs.List.{range_with_len}
 use Rattle.std.specs.Str.{bytes_eq}
@@ -15,11 +16,11 @@ use Rattle.tangle_plans.specs.WebShapes.{shapes}
 use Rattle.tangle_graph.specs.Nodes.{title_at}
 use Rattle.tangle_graph.specs.Outputs.{shape_has_piece, is_expandable, name_with_number}
 
--- the node with this title reaches a name that contains itself, in no step or more
+-- the node with this title is a name that contains itself, or reaches one
 abbrev pub ReachesCycle : Shapes → Title → Type 0
 ReachesCycle shapes title = (other : Title) × Reaches shapes title other × ContainsItself shapes other
 
--- a fault about a name, at the occurrence with this number if there is one
+-- a fault about a name, at the occurrence with this number, or none where there is no number
 module _ (web : WebRead) (table : TableRead) where
   abbrev pub fault_at_number : FaultKind → ℕ → ℕ → List FaultRead
   fault_at_number kind id number =
@@ -33,25 +34,28 @@ module _ (web : WebRead) (table : TableRead) where
   abbrev pub has_piece_by_number : ℕ → Bool
   has_piece_by_number n = shape_has_piece (shapes web table (title_at table.names n))
 
-  -- the numbers of a name's first occurrence, of its first one with `@(`, and of the first use that resolves to it
+  -- the numbers of a name's first occurrence, of its first occurrence with `@(`, and of the first
+  -- use that resolves to it
   abbrev pub first_occurrence_number : ℕ → Option ℕ
   first_occurrence_number id = Some (slice_index_or table.first_occurrences id 0)
 
   abbrev pub first_file_occurrence : ℕ → Option ℕ
   first_file_occurrence id = slice_index_or table.first_file_occurrences id None
 
+  -- A use in a dropped piece counts: what its author has to mend is the name of the definition.
   abbrev pub first_use : ℕ → Option ℕ
   first_use id = position (λ o. is_use o.role && is_number id (resolve web.occurrences o)) web.occurrences
 
--- The node has a piece, reaches no name that contains itself, and is beyond a limit. The flag of each number says whether that node reaches
--- such a name.
+-- The node has a piece, reaches no name that contains itself, and is beyond a limit.
+-- `reaches_cycle` says of each number whether its node reaches such a name.
 abbrev pub is_too_large : WebRead → TableRead → (ℕ → Bool) → ℕ → Bool
 is_too_large web table reaches_cycle n = has_piece_by_number web table n && (not (reaches_cycle n) && not (is_expandable (shapes web table) (title_at table.names n)))
 
--- The faults, given for each number whether that node contains itself and whether it reaches a name that does: the names in their order,
--- and then the program.
+-- The faults: those of the names in their order, and then those of the program. The two functions
+-- say of each number whether its node contains itself, and whether it reaches a name that does.
+-- Both are passed in, since a definition cannot compute whether a path exists.
 module _ (web : WebRead) (table : TableRead) (out : List ℕ) (contains_itself reaches_cycle : ℕ → Bool) where
-  -- whether the name has a fault of this kind, and at which occurrence
+  -- the occurrence at which the name has a fault of this kind, if it has one
   abbrev pub fault_occurrence : FaultKind → ℕ → Option ℕ
   fault_occurrence kind.Undefined id = if has_piece_by_number web table id then None else first_use web table id
   fault_occurrence kind.Unused id =
@@ -67,7 +71,7 @@ module _ (web : WebRead) (table : TableRead) (out : List ℕ) (contains_itself r
   abbrev pub faults_of_names : FaultKind → List FaultRead
   faults_of_names kind = flat_map (λ id. fault_of web table kind id (fault_occurrence kind id)) (range_with_len 0 (length table.names))
 
-  -- the program is too large, or has no piece
+  -- the program is too large; and below, that it has no piece
   abbrev pub large_program : List FaultRead
   large_program = if is_too_large web table reaches_cycle (length table.names) then fault_unplaced kind.TooLarge ∷ [] else []
 

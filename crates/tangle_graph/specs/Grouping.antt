@@ -1,4 +1,5 @@
--- The pieces of each node, and the names that it uses, by number: the names in their order, and then the program.
+-- The pieces of each node, and the names that it uses, by number; the program has the number after
+-- all names.
 use Rattle.std.specs.Prelude.{ℕ, Bool, false, ◌==◌, List, [], length, filter, flat_map, Option, None, Some, option_to_list, slice_index_or, take}
 use Rattle.tangle_scan.specs.declared.items.Item.{Item}
 use Rattle.tangle_scan.specs.declared.items.Item.TheVariants as item
@@ -10,15 +11,16 @@ use Rattle.tangle_plans.specs.WebShapes.{resolved_at}
 use Rattle.digraph.specs.Graph.{row_at}
 use Rattle.digraph.specs.Users.{positions}
 
--- the number of the name that is resolved to
+-- the number of the full name, if the occurrence resolves to one
 abbrev pub resolved_number : Resolved → Option ℕ
 resolved_number (Name id) = Some id
 resolved_number NoFullName = None
 resolved_number Ambiguous = None
 
 module _ (table : TableRead) where
-  -- The number of the node that a piece belongs to, by the occurrence that defines it. A piece of the program has no occurrence, and the
-  -- last number; a piece whose occurrence is not resolved belongs to no node.
+  -- The number of the node that a piece belongs to, by the occurrence that defines it. A piece
+  -- without an occurrence belongs to the program, which has the last number; a piece whose
+  -- occurrence resolves to no name belongs to no node.
   abbrev pub number_of_piece : Option ℕ → Option ℕ
   number_of_piece None = Some (length table.names)
   number_of_piece (Some occurrence) = resolved_number (resolved_at table occurrence)
@@ -35,7 +37,7 @@ abbrev pub has_number_in : ℕ → Option ℕ → Bool
 has_number_in n None = false
 has_number_in n (Some m) = m == n
 
--- the first numbers of a row, as many as were passed
+-- the first numbers of a row, as many as `passed` says
 abbrev pub passed_of : List (List ℕ) → List ℕ → ℕ → List ℕ
 passed_of rows passed n = take (slice_index_or passed n 0) (row_at rows n)
 
@@ -44,7 +46,7 @@ module _ (table : TableRead) where
   abbrev pub is_piece_of_number : ℕ → PieceRead → Bool
   is_piece_of_number n piece = has_number_in n (number_of_piece table piece.occurrence)
 
-  -- where the pieces of the node are
+  -- the positions of the node's pieces
   abbrev pub positions_of : List PieceRead → ℕ → List ℕ
   positions_of pieces n = positions (is_piece_of_number n) 0 pieces
 

@@ -1,4 +1,4 @@
--- When rows of numbers are the pieces and the uses of each node of a web.
+-- When rows of numbers are the pieces and the uses of a web's nodes.
 use Rattle.std.specs.Prelude.{◌≡◌, ◌<◌, ℕ, ◌+◌, length}
 use Rattle.tangle_scan.specs.Web.{WebRead}
 use Rattle.tangle_names.specs.NameTable.{TableRead}
@@ -9,7 +9,8 @@ use Rattle.digraph.specs.Titles.{IsTitled}
 use Rattle.tangle_graph.specs.Nodes.{title_at, UsesTitle}
 use Rattle.std.specs.Prelude.{All}
 
--- the names come in their order, and then the program; each has the numbers of its pieces and those of the names that it uses
+-- for each name in its order, and then for the program, the numbers of its pieces and of the names
+-- that it uses
 pub record IsGraphOf (web : WebRead) (table : TableRead) (rows uses : Graph) : Type 0 where
   pub rows_size : length rows ≡ length table.names + 1
   pub uses_size : length uses ≡ length table.names + 1

@@ -1,4 +1,4 @@
--- When a graph of names is that of nodes that use these names by number.
+-- When a graph of names belongs to nodes with these uses.
 use Rattle.std.specs.Prelude.{◌≡◌, ◌<◌, ℕ, List, length, map}
 use Rattle.std.specs.List.Sorted.{IsStrictlyIncreasing}
 use Rattle.digraph.specs.Flags.{FlagsJust}
@@ -10,7 +10,8 @@ use Rattle.tangle_graph.specs.Nodes.{node_at}
 use Rattle.tangle_graph.specs.Rows.{node_rows}
 use Rattle.tangle_graph.specs.declared.name_graph.NameGraph.{NameGraph}
 
--- each node's row of used names, each once; and what these rows, as a graph, say of each node by its number
+-- for each node a row of the names that it uses, each once; and for each number the facts about its
+-- node that follow from these rows as a graph
 pub record IsNameGraphOf (uses : List (List ℕ)) (name_graph : NameGraph) : Type 0 where
   pub size : length name_graph.uses.items ≡ length uses
   pub once : (n : ℕ) → n < length uses → IsOnceEach (row_at uses n) (row_at (rows_of name_graph.uses.items) n)
@@ -25,7 +26,7 @@ pub record IsNameGraphOf (uses : List (List ℕ)) (name_graph : NameGraph) : Typ
   pub users : Graph
   pub users_size : length users ≡ length name_graph.uses.items
   pub reversed : IsReversed name_graph.uses.items users
-  -- uses, users and order as nodes
+  -- the uses, the users and the order, as nodes
   pub used_nodes : node_rows name_graph.used_nodes.items ≡ map (map (node_at (length name_graph.names))) (rows_of name_graph.uses.items)
   pub user_nodes : node_rows name_graph.user_nodes.items ≡ map (map (node_at (length name_graph.names))) (rows_of users)
   pub node_order : name_graph.node_order.items ≡ map (node_at (length name_graph.names)) name_graph.order.items

@@ -1,4 +1,4 @@
--- Nodes by name, by number and by title: the names of a table in their order, and then the program.
+-- Nodes by name, by number and by title; the program has the number after all names.
 use Rattle.std.specs.Prelude.{◌<◌, ℕ, nat_lt, if◌then◌else◌, List, [], length, set, slice_get, slice_index_or, Option, None, Some}
 use Rattle.tangle_plans.specs.Shapes.{Title, Named, Shape, Shapes, Uses}
 use Rattle.tangle_plans.specs.Shapes as title
@@ -22,16 +22,16 @@ abbrev pub IsNodeOf : List (List ℕ) → Node → Type 0
 IsNodeOf names Program = Unit {0}
 IsNodeOf names (Name id) = id < length names
 
--- the node with this number, where so many names come before the program
+-- the node with this number: a name, or the program after `names` names
 abbrev pub node_at : ℕ → ℕ → Node
 node_at names n = if nat_lt n names then Name n else Program
 
--- the number of the node, if it is one of so many names or the program
+-- the number of the node, if it is the program or one of `names` names
 abbrev pub number_in : ℕ → Node → Option ℕ
 number_in names Program = Some names
 number_in names (Name id) = if nat_lt id names then Some id else None
 
--- the entry with this number; `none`, where there is no number or no such entry
+-- the entry with this number; `none` where there is no number or no such entry
 abbrev pub entry : {X : Type 0} → X → List X → Option ℕ → X
 entry none entries None = none
 entry none entries (Some n) = slice_index_or entries n none
@@ -41,22 +41,22 @@ abbrev pub entry_if : {X : Type 0} → List X → Option ℕ → Option X
 entry_if entries None = None
 entry_if entries (Some n) = slice_get entries n
 
--- the list with this entry at this number, if there is a number
+-- the list with this entry at this number; the same list where there is no number
 abbrev pub with_entry : {X : Type 0} → List X → Option ℕ → X → List X
 with_entry entries None x = entries
 with_entry entries (Some n) x = set entries n x
 
--- the shape of a name; where there is no name it has no piece
+-- the shape of a name; no piece where there is no name
 abbrev pub shape_of_name : Shapes → Option (List ℕ) → Shape
 shape_of_name shapes None = []
 shape_of_name shapes (Some name) = shapes (Named name)
 
--- the shape of a node; a node beyond the names has no piece
+-- the shape of a node; a node that is not among the names has no piece
 abbrev pub shape_of_node : Shapes → List (List ℕ) → Node → Shape
 shape_of_node shapes names Program = shapes title.Program
 shape_of_node shapes names (Name id) = shape_of_name shapes (slice_get names id)
 
--- one title uses another; the program is used by none
+-- one title uses another; nothing uses the program
 abbrev pub UsesTitle : Shapes → Title → Title → Type 0
 UsesTitle shapes user title.Program = ⊥
 UsesTitle shapes user (Named name) = Uses shapes user name

@@ -4,7 +4,8 @@ use Rattle.tangle_plans.specs.declared.nodes.Node.{Node}
 use Rattle.tangle_plans.specs.declared.nodes.Node.TheVariants.{Program}
 use Rattle.tangle_graph.specs.Stores.{StoreRead, IsNodeIn, uses_at, is_expandable_at}
 
--- each node of the list comes once, and after the names that it uses; and each expandable node is in it
+-- each node of the list comes once, and after the names that it uses; each expandable node is in
+-- the list
 pub record IsOrderIn (store : StoreRead) (order : List Node) : Type 0 where
   pub inside : (node : Node) → Contains order node → IsNodeIn store node
   pub once : AllPairs (λ b c. b ≢ c) order

@@ -21,7 +21,7 @@ shape_has_piece (piece ∷ pieces) = true
 abbrev pub is_expandable : Shapes → Title → Bool
 is_expandable shapes title = shape_has_piece (shapes title) && (nat_lt (depth levels shapes title) levels && nat_le (weight levels shapes title) heaviest)
 
--- each number where it comes first
+-- the numbers without repetitions, each at the place where it comes first
 abbrev pub firsts : List ℕ → List ℕ
 firsts [] = []
 firsts (n ∷ ns) = n ∷ filter (λ m. not (m == n)) (firsts ns)
@@ -31,7 +31,7 @@ module _ (web : WebRead) (table : TableRead) where
   abbrev pub file_occurrences : List ℕ
   file_occurrences = positions (λ o. o.is_file) 0 web.occurrences
 
-  -- the names that these resolve to, each where it comes first
+  -- the names to which these occurrences resolve, each at the place where it comes first
   abbrev pub file_names : List ℕ
   file_names = firsts (flat_map (λ occurrence. option_to_list (resolved_number (resolved_at table occurrence))) file_occurrences)
 

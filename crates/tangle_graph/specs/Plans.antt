@@ -15,11 +15,11 @@ use Rattle.tangle_graph.specs.Nodes.{title_at}
 use Rattle.tangle_graph.specs.Stores.{row_has_piece}
 use Rattle.tangle_graph.specs.declared.bodies.OldBodies.{OldBodies}
 
--- of each node, its own symbols and where it uses which names
+-- for each node, its own symbols, and the uses between them
 abbrev pub slots_of : List (Rc NodeBody Global) → List (List Slot)
 slots_of bodies = map (λ (body : Rc NodeBody Global). plan_slots body.value) bodies
 
--- of each node, the names with a piece that its plan uses, by number
+-- for each node, the names with a piece that its plan uses, by number
 abbrev pub uses_of_plans : List (Rc NodeBody Global) → List (List ℕ)
 uses_of_plans bodies = map (λ (body : Rc NodeBody Global). plan_uses body.value) bodies
 
@@ -27,7 +27,7 @@ uses_of_plans bodies = map (λ (body : Rc NodeBody Global). plan_uses body.value
 abbrev pub node_bodies : List (Rc NodeBody Global) → List NodeBody
 node_bodies bodies = map (λ (body : Rc NodeBody Global). body.value) bodies
 
--- the numbers of all rows are those of so many pieces
+-- each number in a row is that of a piece, of which there are `count`
 abbrev pub ArePiecesInside : ℕ → List (Vec ℕ Global) → Type 0
 ArePiecesInside count rows = All (λ (row : Vec ℕ Global). All (λ n. n < count) row.items) rows
 
@@ -36,7 +36,7 @@ pub record ArePieceFlags (rows : List (List ℕ)) (flags : List Bool) : Type 0 w
   pub size : length flags ≡ length rows
   pub flag : (n : ℕ) → n < length rows → slice_index_or flags n false ≡ row_has_piece (slice_index_or rows n [])
 
--- the plans are those of the nodes that have these pieces, where these names have a piece
+-- the plans are those of nodes with these pieces, where `has_piece` says which names have a piece
 pub record ArePlans (web : WebRead) (table : TableRead) (has_piece : ℕ → Bool) (rows : List (List ℕ)) (slots : List (List Slot)) (uses : List (List ℕ)) : Type 0 where
   pub slots_size : length slots ≡ length rows
   pub uses_size : length uses ≡ length rows
@@ -44,13 +44,15 @@ pub record ArePlans (web : WebRead) (table : TableRead) (has_piece : ℕ → Boo
       → slice_index_or slots n [] ≡ pieces_slots web.texts table has_piece (title_at table.names n) 0 (pieces_at web.pieces (slice_index_or rows n []))
   pub uses_right : (n : ℕ) → n < length rows → slice_index_or uses n [] ≡ filter has_piece (pieces_uses table (pieces_at web.pieces (slice_index_or rows n [])))
 
--- the body of a node with the pieces of these numbers determines its shape, by the names that its items use, and its weight
+-- the body of a node with the pieces of these numbers: it determines their shape, the names that
+-- their items use, and their weight
 pub record IsBodyOf (web : WebRead) (table : TableRead) (numbers : List ℕ) (body : NodeBody) : Type 0 where
   pub shape : HoldsShape table.names (shape_of web.texts table (pieces_at web.pieces numbers)) body
   pub names : body_uses body ≡ pieces_uses table (pieces_at web.pieces numbers)
   pub weight : (used : ℕ → ℕ) → length (plan_slots body) + sum_by used (body_uses body) ≡ weight_of_pieces web.texts table used (pieces_at web.pieces numbers)
 
--- the body is that of the node with this number, which has the pieces of these numbers, where these names have a piece
+-- the body of the node with this number, which has the pieces of these numbers, where `has_piece`
+-- says which names have a piece
 pub record IsBodyAt (web : WebRead) (table : TableRead) (has_piece : ℕ → Bool) (n : ℕ) (numbers : List ℕ) (body : NodeBody) : Type 0 where
   pub slots : plan_slots body ≡ pieces_slots web.texts table has_piece (title_at table.names n) 0 (pieces_at web.pieces numbers)
   pub is_body : IsBodyOf web table numbers body
@@ -58,12 +60,13 @@ pub record IsBodyAt (web : WebRead) (table : TableRead) (has_piece : ℕ → Boo
   pub title : body_title body ≡ title_at table.names n
   pub planned : IsPlanned has_piece body
 
--- so it is of each node
+-- each node has such a body
 pub record AreBodies (web : WebRead) (table : TableRead) (rows : List (List ℕ)) (bodies : List NodeBody) : Type 0 where
   pub size : length bodies ≡ length rows
   pub each : (n : ℕ) → n < length rows → (body : NodeBody) × (slice_get bodies n ≡ Some body) × IsBodyOf web table (slice_index_or rows n []) body
 
--- the body of each node was planned under the node's name, where these names have a piece
+-- the body of each node was planned under the node's name, where `has_piece` says which names have
+-- a piece
 pub record ArePlanned (names : List (List ℕ)) (has_piece : ℕ → Bool) (bodies : List NodeBody) : Type 0 where
   pub titles : (n : ℕ) (body : NodeBody) → n < length bodies → body_title (slice_index_or bodies n body) ≡ title_at names n
   pub planned : All (IsPlanned has_piece) bodies
@@ -72,24 +75,24 @@ pub record ArePlanned (names : List (List ℕ)) (has_piece : ℕ → Bool) (bodi
 abbrev pub AreBodiesBefore : OldBodies → Type 0
 AreBodiesBefore old = ArePlanned old.names.now (λ id. slice_index_or old.has_piece.now id false) (node_bodies old.bodies.now)
 
--- they are those of a store with these names, in which these flags say which names have a piece
+-- the old store has these names, and its flags for the names that have a piece are these
 pub record HaveSameNamesAndFlags (old : OldBodies) (new_names : List (List ℕ)) (has_piece : List Bool) : Type 0 where
   pub names : old.names.now ≡ new_names
   pub flags : old.has_piece.now ≡ has_piece
 
--- it is the body that the node with the title of this number had, where these are the names now
+-- the body is the one that the old node with the same title had; `names` are the new names
 pub record IsBodyOfBefore (old : OldBodies) (names : List (List ℕ)) (n : ℕ) (body : NodeBody) : Type 0 where
   pub before : ℕ
   pub inside : before ≤ length old.names.now
   pub title : title_at old.names.now before ≡ title_at names n
   pub had : slice_get (node_bodies old.bodies.now) before ≡ Some body
 
--- and the names that it uses are as before
+-- the same, and the names that the body uses did not change
 abbrev pub IsAsBefore : OldBodies → List (List ℕ) → ℕ → NodeBody → Type 0
 IsAsBefore old names n body =
     IsBodyOfBefore old names n body × (names_at old.names.now (body_uses body) ≡ names_at names (body_uses body))
 
--- so it is of each of these bodies with a flag
+-- this holds for each flagged body
 abbrev pub AreAsBefore : OldBodies → List (List ℕ) → List NodeBody → List Bool → Type 0
 AreAsBefore old names bodies flags =
     (n : ℕ) → slice_index_or flags n false ≡ true → (body : NodeBody) × (slice_get bodies n ≡ Some body) × (IsAsBefore old names n body)

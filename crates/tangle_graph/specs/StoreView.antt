@@ -1,4 +1,4 @@
--- A store as its fields hold it.
+-- A store, as it is read from its fields.
 use Rattle.std.specs.Prelude.{◌≡◌, ◌<◌, All, false, length, map, slice_index_or}
 use Rattle.digraph.specs.Graph.{rows_of}
 use Rattle.tangle_plans.specs.NodeBodies.{body_uses}
@@ -27,8 +27,9 @@ store_read s = record {
   faults = s.faults.items;
 }
 
--- Its graph of names is that of the uses of its bodies, the order in it is one of the store, there is a body for each node, the items of
--- each use names of the store, and each was planned where the flags say which names have a piece.
+-- The graph of names is that of the uses of the bodies, and its order is one of the store. There is
+-- a body for each node; its items use names of the store, and it was planned where the flags say
+-- which names have a piece.
 pub record StoreInvariant (s : Inside) : Type 0 where
   pub sizes : length s.bodies.items ≡ length s.expandable.items
   pub name_graph : IsNameGraphOf (map body_uses (node_bodies s.bodies.items)) s.name_graph.value

@@ -1,4 +1,5 @@
--- What a store says of a web: of each node its pieces, its uses and users, its weight and depth, and whether it contains itself.
+-- What a store records of a web: for each node its pieces, its uses and users, its weight and
+-- depth, and whether it contains itself.
 use Rattle.std.specs.Prelude.{◌≡◌, ◌≢◌, ◌<◌, ◌≤◌, ◌↔◌, ℕ, Bool, true, false, ◌&&◌, nat_lt, nat_le, slice_get, slice_index, slice_index_or, List, [], ◌∷◌, length, AllPairs, Contains, Option, Some}
 use Rattle.tangle_faults.specs.Faults.{FaultRead}
 use Rattle.tangle_plans.specs.Shapes.{Title, Named, Shape, Shapes, Uses, ContainsItself}
@@ -14,7 +15,8 @@ use Rattle.tangle_plans.specs.declared.nodes.Node.{Node}
 use Rattle.tangle_plans.specs.declared.nodes.Node.TheVariants as node_kind
 use Rattle.tangle_graph.specs.Nodes.{title_at, title_of_node, IsNodeOf, number_in, entry, entry_if, with_entry, shape_of_node, UsesTitle}
 
--- the bytes of the names, and lists with an entry for each node: the names in their order, and then the program
+-- the bytes of the names, and lists with an entry for each node: the names in their order, and then
+-- the program
 pub record StoreRead : Type 0 where
   pub names : List (List ℕ)
   -- the numbers of the node's pieces
@@ -27,13 +29,13 @@ pub record StoreRead : Type 0 where
   pub expandable : List Bool
   pub outputs : List OutputRead
   pub faults : List FaultRead
-  -- its own symbols and where it uses which names, and the names with a piece that this uses
+  -- the node's own symbols and the uses between them, and the names with a piece that the plan uses
   pub slots : List (List Slot)
   pub plan_uses : List (List ℕ)
   -- its body
   pub bodies : List NodeBody
 
--- the node with this row of pieces has one
+-- the node with this row of pieces has a piece
 abbrev pub row_has_piece : List ℕ → Bool
 row_has_piece [] = false
 row_has_piece (n ∷ ns) = true
@@ -72,7 +74,7 @@ module _ (store : StoreRead) where
   abbrev pub body_at : Node → Option NodeBody
   body_at node = entry_if store.bodies (number_in (length store.names) node)
 
-  -- the flag of the node, of a list with one for each node
+  -- the node's entry in a list with a flag for each node
   abbrev pub flag_at : List Bool → Node → Bool
   flag_at flags node = entry false flags (number_in (length store.names) node)
 
@@ -96,13 +98,13 @@ pub record UsesPiece (shapes : Shapes) (store : StoreRead) (node : Node) (id : �
   pub uses : Uses shapes (title_in_store store node) (slice_index_or store.names id [])
   pub has_piece : shapes (Named (slice_index_or store.names id [])) ≢ []
 
--- of each name with a piece that the node uses, the expansion that is kept is what the name expands to
+-- for each name with a piece that the node uses, the kept expansion is the name's own
 abbrev pub KeepsUsed : Shapes → StoreRead → Kept → Node → Type 0
 KeepsUsed shapes store kept node =
     (id : ℕ) → UsesPiece shapes store node id → kept_at kept (node_kind.Name id) ≡ Some (flat_of shapes (Named (slice_index_or store.names id [])))
 
--- The store is that of the shapes: what it says of each node is what holds of the node's title. Of a node that it does not have it says
--- what holds of one without a piece.
+-- The store is that of the shapes: what it records of each node holds for the node's title. For a
+-- node that it does not have it gives what holds for a node without a piece.
 pub record IsStoreOf (shapes : Shapes) (store : StoreRead) : Type 0 where
   -- each title is that of one node, and each name that has a piece or is used has a node
   pub once : (a b : Node) → IsNodeIn store a → IsNodeIn store b → title_in_store store a ≡ title_in_store store b → a ≡ b
@@ -117,7 +119,8 @@ pub record IsStoreOf (shapes : Shapes) (store : StoreRead) : Type 0 where
   pub weights : (a : Node) → IsNodeIn store a → weight_at store a ≡ weight_of shapes (title_in_store store a)
   pub depths : (a : Node) → IsNodeIn store a → depth_at store a ≡ depth_of shapes (title_in_store store a)
   pub expandable : (a : Node) → IsNodeIn store a → ((is_expandable_at store a ≡ true) ↔ IsExpandableNode shapes (title_in_store store a))
-  -- a plan uses names with a piece alone, and where each of these has its symbols, the plan has the node's
+  -- a plan uses only names with a piece; if each of them is replaced by its own expansion, the plan
+  -- gives the expansion of the node
   pub plan_uses : (a : Node) (id : ℕ) → IsNodeIn store a → Contains (plan_uses_at store a) id → UsesPiece shapes store a id
   pub plans : (a : Node) (symbols : ℕ → List Symbol) → IsNodeIn store a → depth_of shapes (title_in_store store a) < levels
       → ((id : ℕ) → UsesPiece shapes store a id → symbols id ≡ flat_of shapes (Named (slice_index_or store.names id [])))
@@ -131,7 +134,8 @@ pub record AreWithin (pieces : List (List ℕ)) (weights depths : List ℕ) (fla
   pub flag : (n : ℕ) → n < length pieces
       → slice_index_or flags n false ≡ (row_has_piece (slice_index_or pieces n []) && (nat_lt (slice_index depths n) levels && nat_le (slice_index weights n) heaviest))
 
--- the node with this number has the body that the node with its title had, and the names that it uses are as before
+-- the node with this number keeps the body that the node with its title had, and the names that
+-- this body uses
 pub record KeepsBody (old new : StoreRead) (n : ℕ) : Type 0 where
   pub before : ℕ
   pub inside : before ≤ length old.names
@@ -141,6 +145,6 @@ pub record KeepsBody (old new : StoreRead) (n : ℕ) : Type 0 where
   pub has : slice_get new.bodies n ≡ Some body
   pub uses : names_at old.names (body_uses body) ≡ names_at new.names (body_uses body)
 
--- so it is of each node with a flag
+-- this holds for each flagged node
 abbrev pub KeepsBodies : StoreRead → StoreRead → List Bool → Type 0
 KeepsBodies old new flags = (n : ℕ) → slice_index_or flags n false ≡ true → KeepsBody old new n

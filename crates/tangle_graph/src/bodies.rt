@@ -22,7 +22,7 @@ use tangle_names::{NameTable, Names};
 use tangle_plans::{NodeBody, Planning, has_items_of, plan_node};
 use tangle_scan::Web;
 
-/// A flag for each node, by the row of its pieces: whether it has a piece.
+/// A flag for each node, made from the row of its pieces: whether it has a piece.
 pub(crate) fn piece_flags(alloc: Global, rows: &[Vec<usize>]) -> Result<Vec<bool>, AllocError>
     ensures { IfOk result (λ flags. ArePieceFlags (rows_of rows.now) flags.items) }
 {
@@ -33,7 +33,7 @@ pub(crate) fn piece_flags(alloc: Global, rows: &[Vec<usize>]) -> Result<Vec<bool
     Ok(flags)
 }
 
-/// The name of the node with this number; the program has none.
+/// The name of the node with this number; `None` for the program.
 #[tactic(auto, using(crate::proofs::NodeLemmas::title_inside, crate::proofs::NodeLemmas::title_past))]
 fn name_of_node(alloc: Global, table: &NameTable, n: usize) -> Result<Option<Vec<u8>>, AllocError>
     ensures { IfOk result (λ name. title_of name ≡ title_at table.now.names n) }
@@ -46,7 +46,7 @@ fn name_of_node(alloc: Global, table: &NameTable, n: usize) -> Result<Option<Vec
     }
 }
 
-/// The body of the node with this number, which has the pieces with these numbers.
+/// Makes the body of the node with this number from the pieces with these numbers.
 fn body_of_node(
     alloc: Global,
     planning: &mut Planning,
@@ -69,7 +69,8 @@ fn body_of_node(
     }
 }
 
-/// The names of a store; for each node, whether it has a piece; and the bodies of the nodes.
+/// What a new store takes from an old one: its names, a flag for each node that says whether it has
+/// a piece, and the bodies of its nodes.
 #[derive(Clone, Copy)]
 pub(crate) struct OldBodies<'s> {
     pub(crate) names: &'s Names,
@@ -77,7 +78,7 @@ pub(crate) struct OldBodies<'s> {
     pub(crate) bodies: &'s [Rc<NodeBody>],
 }
 
-/// No bodies, for these names and flags.
+/// No bodies, with these names and flags.
 pub(crate) fn no_bodies<'s>(names: &'s Names, has_piece: &'s [bool]) -> OldBodies<'s>
     ensures before { AreBodiesBefore result }
     ensures same_names_and_flags { HaveSameNamesAndFlags result names.now has_piece.now }
@@ -89,8 +90,8 @@ pub(crate) fn no_bodies<'s>(names: &'s Names, has_piece: &'s [bool]) -> OldBodie
     }
 }
 
-/// The number, among these names, of the node that has number `n` in the table: found by its name,
-/// and the last for the program.
+/// The number in the old store of the node with number `n` in the table: the number of the same
+/// name, or for the program the last number.
 #[tactic(auto, using(crate::proofs::NodeLemmas::title_inside, crate::proofs::NodeLemmas::title_past))]
 fn number_before(names: &Names, table: &NameTable, n: usize) -> Option<usize>
     ensures title { IfSome result (λ m. title_at names.now m
@@ -104,7 +105,6 @@ fn number_before(names: &Names, table: &NameTable, n: usize) -> Option<usize>
     }
 }
 
-/// Whether two lists of flags have the same flag for the name with this number.
 fn is_flagged_alike(flags: &[bool], others: &[bool], id: usize) -> bool
     ensures { result ≡ true
         → slice_index_or flags.now id false ≡ slice_index_or others.now id false }
@@ -112,7 +112,7 @@ fn is_flagged_alike(flags: &[bool], others: &[bool], id: usize) -> bool
     entry(flags, Some(id), false) == entry(others, Some(id), false)
 }
 
-/// Whether they have the same flag for each of these names.
+/// Whether the two lists have the same flag for each of these names.
 fn agree_on(flags: &[bool], others: &[bool], names: &[usize]) -> bool
     ensures { result ≡ true → All (λ id. slice_index_or flags.now id false
         ≡ slice_index_or others.now id false) names.now }
@@ -125,15 +125,13 @@ fn agree_on(flags: &[bool], others: &[bool], names: &[usize]) -> bool
     true
 }
 
-/// Whether two lists of flags are the same.
 pub(crate) fn are_same_flags(flags: &[bool], others: &[bool]) -> bool
     ensures { result ≡ true → flags.now ≡ others.now }
 {
     flags == others
 }
 
-/// The body that had this number, if of the names that it uses the same ones have a piece as
-/// before.
+/// The old body with this number, if each name that it uses has a piece in both webs or in neither.
 fn body_if_same_flags<'s>(
     old: OldBodies<'s>,
     n: usize,
@@ -159,7 +157,7 @@ fn body_if_same_flags<'s>(
     }
 }
 
-/// The body that had this number, where the names, and which of them have a piece, are as before.
+/// The old body with this number, where the names, and which of them have a piece, did not change.
 fn body_at_same_number<'s>(
     old: OldBodies<'s>,
     table: &NameTable,
@@ -213,8 +211,8 @@ struct BodyAfter {
     is_old: bool,
 }
 
-/// The body of the node with this number, which has the pieces with these numbers: the old one,
-/// where it is the same.
+/// The body of the node with this number: the old one, if its items are those of the pieces with
+/// these numbers, else a new one.
 fn body_after(
     alloc: Global,
     planning: &mut Planning,
@@ -251,24 +249,24 @@ fn body_after(
     })
 }
 
-/// Whether the names that a body uses are as before: all are, or it uses none.
+/// Whether the names that a body uses did not change: no name did, or the body uses none.
 fn uses_as_before(same_names_and_flags: bool, body: &NodeBody) -> bool
     ensures { result ≡ true → (same_names_and_flags ≡ true) ⊎ (body_uses body.now ≡ []) }
 {
     same_names_and_flags || body.uses().is_empty()
 }
 
-/// The body of each node, and a flag for each: whether it is the old one, and the names that it
-/// uses are as before.
+/// The body of each node, and a flag for each node: whether it keeps its old body and the names
+/// that it uses.
 #[derive(Drop)]
 pub(crate) struct Bodies {
     pub(crate) bodies: Vec<Rc<NodeBody>>,
     pub(crate) are_as_before: Vec<bool>,
 }
 
-/// The body of each node, by the numbers of its pieces. An old body that is the same is shared.
-/// Where the names, and which of them have a piece, are as before, the old bodies have the numbers
-/// of now.
+/// The body of each node, by the numbers of its pieces. An old body is shared if its items did not
+/// change. Where neither the names nor which of them have a piece changed, each node keeps its
+/// number.
 pub(crate) fn bodies_by_node(
     alloc: Global,
     web: &Web,
@@ -310,7 +308,7 @@ pub(crate) fn bodies_by_node(
     })
 }
 
-/// The names that the items of each node use, by number, each as often as it is used.
+/// For each node, the numbers of the names that its items use, each as often as it is used.
 pub(crate) fn uses_of_bodies(
     alloc: Global,
     bodies: &[Rc<NodeBody>],

@@ -1,5 +1,5 @@
-//! The faults of the graph of names: what is undefined, never used, contains itself, is too large
-//! or has the main file's name.
+//! The faults of the graph of names: a name is undefined, never used, contains itself, is too large
+//! or is that of the main file; or the program is too large or has no piece.
 ghost use Rattle.std.specs.Prelude.{◌≡◌, ◌<◌, ◌≤◌, ◌++◌, ◌∷◌, [], ℕ, List, false, None, All};
 ghost use Rattle.std.specs.Prelude.{IfOk, OnOk, length, slice_index_or, if◌then◌else◌};
 ghost use Rattle.tangle_faults.specs.Faults.{fault_unplaced};
@@ -18,8 +18,8 @@ use tangle_lines::{Fault, FaultKind, NoMemory};
 use tangle_names::{Counted, NameTable};
 use tangle_scan::Web;
 
-/// Flags of the nodes: which have a piece, contain themselves, reach a name that does, and are
-/// expandable.
+/// For each node, by number, whether it has a piece, contains itself, reaches a name that does, and
+/// is expandable.
 #[derive(Drop)]
 pub(crate) struct NodeFlags<'f> {
     pub(crate) has_piece: &'f [bool],
@@ -28,7 +28,7 @@ pub(crate) struct NodeFlags<'f> {
     pub(crate) expandable: &'f [bool],
 }
 
-/// The number of the first use that resolves to the name, if there is one.
+/// The number of the first use that resolves to the name, if any does.
 fn first_use(web: &Web, table: &NameTable, first_uses: &[usize], id: usize) -> Option<usize>
     requires size { id < length first_uses.now }
     requires number { slice_index_or first_uses.now id 0
@@ -53,14 +53,14 @@ fn is_too_large(web: &Web, table: &NameTable, flags: &NodeFlags, n: usize) -> bo
     flags.has_piece[n] && (!flags.reaching_cycles[n] && !flags.expandable[n])
 }
 
-/// The number of the occurrence of a fault, if there is a fault.
 fn number_if(has_fault: bool, number: Option<usize>) -> Option<usize>
     ensures { result ≡ (if has_fault then number else None) }
 {
     if has_fault { number } else { None }
 }
 
-/// At which occurrence the name has a fault of this kind, if it has one.
+/// The number of the occurrence at which the name has a fault of this kind; `None` where it has no
+/// such fault.
 fn fault_occurrence(
     kind: FaultKind,
     web: &Web,
@@ -97,7 +97,8 @@ fn fault_occurrence(
     }
 }
 
-/// Adds a fault about the name, at the occurrence with this number if there is one.
+/// Adds a fault about the name, at the occurrence with this number; adds none where there is no
+/// number.
 fn add_fault(
     alloc: Global,
     faults: &mut Vec<Fault>,
@@ -121,7 +122,8 @@ fn add_fault(
     Ok(())
 }
 
-/// Whether the name may have a fault. A name that is expandable, used and no file has none.
+/// Whether the name may have a fault. A name that is expandable and used, does not contain itself,
+/// and has no occurrence with `@(`, has none.
 fn may_have_fault(
     web: &Web,
     table: &NameTable,
@@ -140,7 +142,7 @@ fn may_have_fault(
         || (flags.self_containing[id] || (!use_number.is_some() || table.is_file(id)))
 }
 
-/// The names that may have a fault, in their order.
+/// The names that may have a fault, in the order of their numbers.
 fn candidates(
     alloc: Global,
     web: &Web,
@@ -196,7 +198,7 @@ fn add_faults(
     Ok(())
 }
 
-/// Adds a fault without a place, if there is one.
+/// Adds a fault without a place, where `has_fault` says so.
 fn add_unplaced(
     alloc: Global,
     faults: &mut Vec<Fault>,

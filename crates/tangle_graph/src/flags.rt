@@ -9,11 +9,11 @@ use tangle_lines::NoMemory;
 use tangle_plans::{Node, PiecesByNode};
 
 impl Store {
-    /// Flags of the nodes of the store. None is set.
+    /// A list with a flag for each node of the store, none of which is set.
     ///
     /// # Errors
     ///
-    /// `NoMemory`, where an allocation failed.
+    /// `NoMemory` where an allocation failed.
     pub fn no_flags(&self, alloc: Global) -> Result<Vec<bool>, NoMemory>
         ensures size { IfOk result (λ flags. length flags.items ≡ length self.now.names + 1) }
         ensures none { IfOk result
@@ -24,14 +24,16 @@ impl Store {
         Ok(flags)
     }
 
-    /// Whether the flag of the node is set. That of a node that the store doesn't have is not.
+    /// Whether the flag of the node is set. A node that the store doesn't have counts as one whose
+    /// flag is not set.
     pub fn is_flagged(&self, flags: &[bool], node: Node) -> bool
         ensures { result ≡ flag_at self.now flags.now node }
     {
         entry(flags, self.number(node), false)
     }
 
-    /// Gives the node this flag. A node that the store doesn't have has none, and nothing changes.
+    /// Sets the flag of the node to this value. For a node that the store doesn't have nothing
+    /// changes.
     pub fn set_flag(&self, flags: &mut Vec<bool>, node: Node, flag: bool)
         ensures { flags.new.items ≡ with_flag self.now flags.old.items node flag }
     {

@@ -1,5 +1,5 @@
-//! The graph of names: which node uses which, how heavy and deep each is, which can be expanded,
-//! and the output files and faults.
+//! The graph of names: which nodes use which, how heavy and deep each is, which are expandable, and
+//! the output files and faults.
 #![tactic(auto)]
 
 mod bodies;

@@ -20,13 +20,14 @@ use tangle_names::NameTable;
 use tangle_plans::NodeBody;
 use tangle_scan::Web;
 
-/// The greatest weight of a node that is expanded.
+/// The greatest weight of an expandable node.
 const HEAVIEST: u32 = 16_777_216;
 
-/// What weighs more counts as this.
+/// The weight that is recorded for each heavier node.
 const WEIGHT_CAP: u32 = HEAVIEST + 1;
 
-/// One more than the greatest depth of a node that is expanded: what is deeper counts as this.
+/// The depth that is recorded for each node that is too deep to be expandable: one more than the
+/// greatest allowed depth.
 const LEVELS: u16 = 1001;
 
 /// The weight of the node with this body, by the weights of the names that it uses.
@@ -45,8 +46,8 @@ fn weight_of_node(weights: &[u32], body: &NodeBody) -> u32
     weight
 }
 
-/// The weight of each node: a node comes after those that it uses, and what reaches a cycle is not
-/// in the order.
+/// The weight of each node. In the order a node comes after those that it uses; a node that reaches
+/// a cycle is not in it, and gets the greatest weight.
 #[tactic(auto, unfolding(tangle_expansion::specs::Limits::weight_cap))]
 fn weights(
     alloc: Global,
@@ -74,7 +75,7 @@ fn weights(
     Ok(weights)
 }
 
-/// The greatest of the depths of the nodes.
+/// The greatest of the depths of these nodes, or 0 if there is none.
 fn greatest(depths: &[u16], nodes: &[usize]) -> u16
     requires { All (λ m. m < length depths.now) nodes.now }
     ensures least { All (λ m. slice_index depths.now m ≤ result) nodes.now }
@@ -106,7 +107,7 @@ fn depth_of_node(depths: &[u16], pieces: &[usize], used: &[usize]) -> u16
     }
 }
 
-/// The depth of each node, in the same way.
+/// The depth of each node, in the same way: a node that reaches a cycle gets the greatest depth.
 #[tactic(auto, unfolding(tangle_expansion::specs::Limits::levels))]
 fn depths(
     alloc: Global,
@@ -131,15 +132,14 @@ fn depths(
     Ok(depths)
 }
 
-/// Whether a node with this row of pieces has one.
 pub(crate) fn row_has_piece(row: &[usize]) -> bool
     ensures { result ≡ row_has_piece row.now }
 {
     !row.is_empty()
 }
 
-/// Whether a node with these pieces, this weight and this depth has a piece and is within both
-/// limits.
+/// Whether a node has a piece and is within both limits, by its row of pieces, its weight and its
+/// depth.
 #[tactic(auto, unfolding(tangle_expansion::specs::Limits::levels, tangle_expansion::specs::Limits::heaviest))]
 fn is_within(pieces: &[usize], weight: u32, depth: u16) -> bool
     ensures { result ≡ (row_has_piece pieces.now
@@ -148,7 +148,7 @@ fn is_within(pieces: &[usize], weight: u32, depth: u16) -> bool
     row_has_piece(pieces) && depth < LEVELS && weight <= HEAVIEST
 }
 
-/// Whether each node is expandable.
+/// A flag for each node: whether it is expandable.
 fn expandable(
     alloc: Global,
     pieces: &[Vec<usize>],
@@ -176,8 +176,8 @@ pub(crate) struct Measures {
 }
 
 impl Measures {
-    /// The measures of nodes with these pieces, uses and bodies; the order is one of the nodes that
-    /// reach no cycle.
+    /// Measures nodes with these pieces, uses and bodies. The order has each node that reaches no
+    /// cycle, after those that it uses.
     pub(crate) fn build(
         alloc: Global,
         web: &Web,

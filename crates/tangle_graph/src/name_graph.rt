@@ -1,5 +1,5 @@
-//! The graph of names of a store: what the names and the uses of the nodes determine, whatever else
-//! the nodes hold.
+//! The graph of names of a store: all that follows from the names and the uses of the nodes,
+//! whatever else the nodes contain.
 ghost use Rattle.std.specs.Prelude.{◌≡◌, ◌<◌, ◌+◌, IfOk, All, length, map, true};
 ghost use Rattle.tangle_plans.specs.NodeBodies.{body_uses};
 ghost use Rattle.tangle_graph.specs.NameGraphs.{IsNameGraphOf};
@@ -14,18 +14,19 @@ use tangle_lines::NoMemory;
 use tangle_names::{NameTable, Names};
 use tangle_plans::{Node, NodeBody};
 
-/// The names, shared with their table; of each node the names that it uses and the nodes that use
-/// it, and whether it contains itself or reaches a name that does; and the nodes that reach no
-/// cycle, each after those that it uses.
+/// The names, shared with their table; for each node the names that it uses, the nodes that use it,
+/// and whether it contains itself or reaches a name that does; and the nodes that reach no cycle,
+/// each after those that it uses.
 ///
-/// The stores of a web before and after an edit share it where the names and the uses stay.
+/// The stores before and after an edit share it where the names and the uses do not change.
 #[derive(Drop)]
 pub(crate) struct NameGraph {
     pub(crate) names: Names,
-    /// The used names of each node, by number.
+    /// For each node, by number, the numbers of the names that it uses.
     pub(crate) uses: Vec<Vec<usize>>,
-    /// The order of the nodes, by number.
+    /// The numbers of the nodes that reach no cycle, each after those that it uses.
     pub(crate) order: Vec<usize>,
+    // The same again as nodes: so the calls of a store that return them take no memory.
     pub(crate) used_nodes: Vec<Vec<Node>>,
     pub(crate) user_nodes: Vec<Vec<Node>>,
     pub(crate) node_order: Vec<Node>,
@@ -34,7 +35,7 @@ pub(crate) struct NameGraph {
 }
 
 impl NameGraph {
-    /// The graph of a table's names, with the uses in the body of each node.
+    /// Builds the graph of the table's names, with the uses that the bodies of the nodes have.
     pub(crate) fn build(
         alloc: Global,
         table: &NameTable,
@@ -71,7 +72,7 @@ impl NameGraph {
         })
     }
 
-    /// The same, to be shared.
+    /// Builds the same graph, to be shared.
     pub(crate) fn shared(
         alloc: Global,
         table: &NameTable,
@@ -94,10 +95,10 @@ impl NameGraph {
     }
 }
 
-/// Whether these are the names of the table, each under its number.
 pub(crate) fn are_names_of(names: &Names, table: &NameTable) -> bool
     ensures { result ≡ true → names.now ≡ table.now.names }
 {
+    // Values are compared, since no clause says whether two `Rc`s are one.
     let count = names.count();
     if count != table.count() {
         return false;
@@ -110,7 +111,7 @@ pub(crate) fn are_names_of(names: &Names, table: &NameTable) -> bool
     true
 }
 
-/// Whether each node uses the names that the node with its number used before, in the same order.
+/// Whether each node uses the same names, in the same order, as the node with its number did.
 pub(crate) fn have_same_uses(before: &[Rc<NodeBody>], bodies: &[Rc<NodeBody>]) -> bool
     ensures { result ≡ true → map body_uses (node_bodies before.now)
         ≡ map body_uses (node_bodies bodies.now) }

@@ -1,4 +1,4 @@
-//! Nodes by number: the names in their order, and then the program.
+//! Nodes by number: each name has its number in the table, and the program comes after all names.
 ghost use Rattle.std.specs.Prelude.{◌≡◌, [], IfOk, map};
 ghost use Rattle.digraph.specs.Graph.{rows_of};
 ghost use Rattle.tangle_graph.specs.Nodes.{entry, node_at, number_in};
@@ -7,7 +7,7 @@ ghost use Rattle.tangle_graph.specs.Rows.{node_rows};
 use std::alloc::{AllocError, Global};
 use tangle_plans::Node;
 
-/// The node with this number, where so many names come before the program.
+/// The node with this number: a name, or the program after `names` names.
 pub(crate) fn node_at(names: usize, n: usize) -> Node
     ensures { result ≡ node_at names n }
 {
@@ -18,7 +18,7 @@ pub(crate) fn node_at(names: usize, n: usize) -> Node
     }
 }
 
-/// The number of the node, if it is one of so many names or the program.
+/// The number of the node, if it is the program or one of `names` names.
 pub(crate) fn number_in(names: usize, node: Node) -> Option<usize>
     ensures { result ≡ number_in names node }
 {
@@ -28,7 +28,6 @@ pub(crate) fn number_in(names: usize, node: Node) -> Option<usize>
     }
 }
 
-/// The nodes with these numbers.
 pub(crate) fn nodes_of(
     alloc: Global,
     names: usize,
@@ -43,7 +42,7 @@ pub(crate) fn nodes_of(
     Ok(nodes)
 }
 
-/// Rows of nodes for these rows of numbers.
+/// The rows of nodes for these rows of numbers.
 pub(crate) fn nodes_by_node(
     alloc: Global,
     names: usize,
@@ -59,7 +58,7 @@ pub(crate) fn nodes_by_node(
     Ok(nodes)
 }
 
-/// The entry with this number; `none`, where there is no number or no such entry.
+/// The entry with this number; `none` where there is no number or no such entry.
 pub(crate) fn entry<T: Copy>(entries: &[T], number: Option<usize>, none: T) -> T
     ensures { result ≡ entry none entries.now number }
 {
@@ -72,7 +71,7 @@ pub(crate) fn entry<T: Copy>(entries: &[T], number: Option<usize>, none: T) -> T
     }
 }
 
-/// The row with this number; an empty one, where there is no number or no such row.
+/// The row with this number; an empty one where there is no number or no such row.
 pub(crate) fn row<T>(rows: &[Vec<T>], number: Option<usize>) -> &[T]
     ensures { result.now ≡ entry [] (map (λ row. row.items) rows.now) number }
 {

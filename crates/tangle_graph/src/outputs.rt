@@ -19,7 +19,7 @@ use tangle_names::NameTable;
 use tangle_plans::Node;
 use tangle_scan::{Occurrence, Web};
 
-/// Adds the number at the end, if the flag says so.
+/// Adds the number at the end of the list, if the flag is set.
 pub(crate) fn push_where(numbers: &mut Vec<usize>, flag: bool, n: usize) -> Result<(), AllocError>
     ensures { OnOk result (numbers.new.items ≡ numbers.old.items ++ (if flag then n ∷ [] else [])) }
 {
@@ -65,7 +65,7 @@ fn names_of(
     Ok(names)
 }
 
-/// Each number where it comes first.
+/// The numbers without repetitions: each at the place where it comes first.
 fn firsts(alloc: Global, count: usize, numbers: &[usize]) -> Result<Vec<usize>, AllocError>
     requires { All (λ n. n < count) numbers.now }
     ensures firsts { IfOk result (λ v. v.items ≡ firsts numbers.now) }
@@ -80,7 +80,8 @@ fn firsts(alloc: Global, count: usize, numbers: &[usize]) -> Result<Vec<usize>, 
     Ok(firsts)
 }
 
-/// The names with an occurrence that begins with `@(`, in the order of the first such one.
+/// The names with an occurrence that begins with `@(`, in the order of their first such
+/// occurrences.
 pub(crate) fn file_names(
     alloc: Global,
     web: &Web,
@@ -122,7 +123,7 @@ fn main_file(
     Ok(files)
 }
 
-/// Adds the file of a name, if it has one of its own.
+/// Adds the file of a name, if the name has a file that is not the main file.
 fn add_named_file(
     alloc: Global,
     table: &NameTable,
@@ -143,8 +144,7 @@ fn add_named_file(
     Ok(())
 }
 
-/// The output files, the main file first, of a web whose nodes have these flags: whether each is
-/// expandable.
+/// The output files of a web, the main file first. The flags say which nodes are expandable.
 pub(crate) fn outputs(
     alloc: Global,
     web: &Web,

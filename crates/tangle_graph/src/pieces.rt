@@ -12,7 +12,7 @@ use std::alloc::{AllocError, Global};
 use tangle_names::{NameTable, Resolved};
 use tangle_scan::Piece;
 
-/// The number of the name that is resolved to.
+/// The number of the full name, if the occurrence resolves to one.
 pub(crate) fn resolved_number(resolved: Resolved) -> Option<usize>
     ensures { result ≡ resolved_number resolved }
 {
@@ -22,8 +22,8 @@ pub(crate) fn resolved_number(resolved: Resolved) -> Option<usize>
     }
 }
 
-/// The number of the node that a piece belongs to, by the occurrence that defines it; a piece of
-/// the program has no occurrence, and the last number.
+/// The number of the node that a piece belongs to, by the occurrence that defines the piece. A
+/// piece without an occurrence belongs to the program, which has the last number.
 fn number_of_piece(table: &NameTable, occurrence: Option<usize>) -> Option<usize>
     requires inside { ResolvesInside table.now }
     requires occurrence { IfSome occurrence (λ n. n < length table.now.resolved) }
@@ -36,7 +36,7 @@ fn number_of_piece(table: &NameTable, occurrence: Option<usize>) -> Option<usize
     }
 }
 
-/// Adds the piece at the end of the row with this number, if there is one.
+/// Adds the piece at the end of the row with this number, if there is a number.
 fn push_at(
     rows: &mut Vec<Vec<usize>>,
     number: Option<usize>,
@@ -71,8 +71,9 @@ pub(crate) fn pieces_by_node(
     Ok(rows)
 }
 
-/// Whether this piece is the next in the row with this number, of which `passed` says how many were
-/// passed; then it is passed too. A piece of no node always is.
+/// Whether this piece is the next one in the row with this number. If so, it is counted in
+/// `passed`, which has for each row the number of pieces found so far. A piece of no node always
+/// passes.
 fn pass_next(
     rows: &[Vec<usize>],
     passed: &mut Vec<usize>,
@@ -100,7 +101,6 @@ fn pass_next(
     }
 }
 
-/// Whether all pieces of each row were passed.
 fn are_passed(rows: &[Vec<usize>], passed: &[usize]) -> bool
     requires { length passed.now ≡ length rows.now }
     ensures { result ≡ true → (n : ℕ) → n < length rows.now
@@ -114,8 +114,8 @@ fn are_passed(rows: &[Vec<usize>], passed: &[usize]) -> bool
     true
 }
 
-/// Whether these rows are those of the pieces. An edit seldom changes them, and then no row is made
-/// anew.
+/// Whether these rows are those of the web's pieces. Few edits change them, so new rows are seldom
+/// made.
 pub(crate) fn are_rows_of(
     alloc: Global,
     rows: &[Vec<usize>],
@@ -146,7 +146,7 @@ pub(crate) fn are_rows_of(
     Ok(are_passed(rows, &passed))
 }
 
-/// An empty row for each name, and one for the program.
+/// One empty row for each name, and one for the program.
 fn rows_for(alloc: Global, table: &NameTable) -> Result<Vec<Vec<usize>>, AllocError>
     ensures { IfOk result (λ rows. IsRowsOf (length table.now.names + 1) (λ _. [])
         (rows_of rows.items)) }

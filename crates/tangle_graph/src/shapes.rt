@@ -7,9 +7,9 @@ ghost use Rattle.tangle_graph.specs.Stores.{shape_in_store, title_in_store};
 use crate::store::Store;
 use tangle_plans::Node;
 
-/// Whether the two nodes have the same shape: the same pieces, with section numbers, file names and
-/// line numbers left out and each use as the name that it resolves to. Nodes without a piece have
-/// the same shape, and a node that a store doesn't have counts as one.
+/// Whether the two nodes have the same shape: the same pieces, without section numbers, file names
+/// and line numbers, and with each use as the name that it resolves to. All nodes without a piece
+/// have the same shape; a node that a store doesn't have counts as one without a piece.
 pub fn same_shape(old: &Store, old_node: Node, new: &Store, new_node: Node) -> bool
     ensures { (old_shapes new_shapes : Shapes) → IsStoreOf old_shapes old.now
         → IsStoreOf new_shapes new.now
@@ -25,8 +25,8 @@ pub fn same_shape(old: &Store, old_node: Node, new: &Store, new_node: Node) -> b
     }
 }
 
-/// Whether a node has a flag: then it has the old shape. The flags say which nodes have the old
-/// body, and use names as before.
+/// Whether a node has a flag, and so keeps its old shape. The flags say which nodes keep their old
+/// body and the names that it uses.
 pub fn keeps_shape(old: &Store, new: &Store, are_as_before: &[bool], node: Node) -> bool
     requires { KeepsBodies old.now new.now are_as_before.now }
     ensures flag { result ≡ flag_at new.now are_as_before.now node }

@@ -42,11 +42,12 @@ use tangle_names::{NameTable, Names, names_are_the_full_names};
 use tangle_plans::{Node, NodeBody, PiecesByNode, names_resolve_inside};
 use tangle_scan::Web;
 
-/// What is known of each node of a web: its pieces, which names it uses and what uses it, its
-/// weight and depth, whether it contains itself and whether it is expandable; and the output files.
+/// For each node of a web: its pieces, the names that it uses and the nodes that use it, its weight
+/// and depth, whether it contains itself and whether it is expandable. Also the output files and
+/// the faults.
 ///
 /// A node is a full name or the unnamed program. It uses a name if one of its pieces has a use that
-/// resolves to the name. A node beyond a store's names counts there as one without a piece.
+/// resolves to the name. A node that is none of a store's counts as one without a piece.
 #[derive(Drop)]
 pub struct Store {
     name_graph: Rc<NameGraph>,
@@ -71,8 +72,8 @@ impl Model for Store {
     ghost invariant = { λ s. StoreInvariant s };
 }
 
-/// A store that was built over another one, and a flag for each of its nodes: whether it has the
-/// body that the node with its name had, and the names that it uses are as before.
+/// A store that was built from an older one, with a flag for each of its nodes: whether the node
+/// keeps its old body and the names that it uses.
 #[derive(Drop)]
 pub struct Rebuilt {
     pub store: Store,
@@ -81,11 +82,11 @@ pub struct Rebuilt {
 
 impl Store {
     /// The store of a web with its table of names, for a main file of this name. The faults of the
-    /// table are not read; they may have been taken.
+    /// table are not read, and may have been taken out.
     ///
     /// # Errors
     ///
-    /// `NoMemory`, where an allocation failed.
+    /// `NoMemory` where an allocation failed.
     pub fn build(alloc: Global, web: &Web, table: &NameTable, out: &[u8]) -> Result<Store, NoMemory>
         requires { table.now ≡ record (table_of web.now) { faults = table.now.faults } }
         ensures { IfOk result (IsStoreOfWeb web.now table.now out.now) }
@@ -106,13 +107,12 @@ impl Store {
         )
     }
 
-    /// The same store, for a web that comes after another one: what the edit did not change is
-    /// shared with the old store. The flags say which nodes have the old body, and use names as
-    /// before.
+    /// The same store, built from the store of an older web: what did not change is shared with the
+    /// old store. The flags say which nodes keep their old body and the names that it uses.
     ///
     /// # Errors
     ///
-    /// `NoMemory`, where an allocation failed. The old store stays as it is.
+    /// `NoMemory` where an allocation failed. The old store does not change.
     pub fn rebuild(
         alloc: Global,
         web: &Web,
@@ -147,14 +147,13 @@ impl Store {
         })
     }
 
-    /// Whether the names are those of the table, each under its number.
     fn has_names_of(&self, table: &NameTable) -> bool
         ensures { result ≡ true → self.now.names ≡ table.now.names }
     {
         are_names_of(&self.name_graph.names, table)
     }
 
-    /// The bodies of the nodes, with the names and flags that their plans depend on.
+    /// The bodies of the nodes, with the names and flags on which their plans depend.
     fn bodies(&self) -> OldBodies<'_>
         ensures planned { AreBodiesBefore result }
         ensures names { result.names.now ≡ self.now.names }
@@ -171,7 +170,7 @@ impl Store {
         }
     }
 
-    /// The numbers of the pieces of each node, one row for each.
+    /// For each node, a row with the numbers of its pieces.
     fn rows(&self) -> &[Vec<usize>]
         ensures { rows_of result.now ≡ self.now.pieces }
     {
@@ -179,7 +178,7 @@ impl Store {
         all
     }
 
-    /// The pieces of each node of a web: the store's own rows, where they are the same.
+    /// The pieces of each node of a web: the store's own rows, if they are the same.
     fn pieces_for(
         &self,
         alloc: Global,
@@ -201,7 +200,7 @@ impl Store {
         shared_pieces(alloc, web, table)
     }
 
-    /// The graph of the table's names and these bodies: the store's own, where it is the same.
+    /// The graph of the table's names and these bodies: the store's own, if it is the same.
     fn name_graph_for(
         &self,
         alloc: Global,
@@ -229,7 +228,7 @@ impl Store {
         }
     }
 
-    /// The store over the pieces, the bodies and the graph of a web's nodes, where the flags say
+    /// Makes a store from the pieces, the bodies and the graph of a web's nodes. The flags say
     /// which nodes have a piece.
     fn over(
         alloc: Global,
@@ -266,6 +265,7 @@ impl Store {
         let rows: &[Vec<usize>] = all;
         let uses: &[Vec<usize>] = &shared.uses;
         let order: &[usize] = &shared.order;
+        // Measures and faults are made anew: each is a short pass, and lines move the faults.
         let measures = Measures::build(alloc, web, table, rows, uses, order, &bodies)?;
         let flags = NodeFlags {
             has_piece: has_piece_by_node,
@@ -337,8 +337,9 @@ impl Store {
     }
 
     /// The weight of the node: each byte of an item counts 1, and so do an opening, a closing, a
-    /// line mark, a use and the macros; a use counts the weight of its name too. What weighs more
-    /// than 16,777,216, or reaches a name that contains itself, has 16,777,217.
+    /// line mark, a use and the macros; a use also counts the weight of its name. A node that
+    /// weighs more than 16,777,216, or reaches a name that contains itself, has the weight
+    /// 16,777,217.
     pub fn weight(&self, node: Node) -> u32
         ensures { result ≡ weight_at self.now node }
     {
@@ -346,8 +347,8 @@ impl Store {
     }
 
     /// The depth of the node: 0 without a piece, else one more than the greatest depth among the
-    /// names that it uses. What is deeper than 1,000, or reaches a name that contains itself, has
-    /// 1,001.
+    /// names that it uses. A node that is deeper than 1,000, or reaches a name that contains
+    /// itself, has the depth 1,001.
     pub fn depth(&self, node: Node) -> u16
         ensures { result ≡ depth_at self.now node }
     {
@@ -379,15 +380,16 @@ impl Store {
 
     /// The faults of the graph: names that are used and have no piece, names that are never used,
     /// names that contain themselves, nodes that are too large, and names with `@(` that are the
-    /// main file's, each kind in the order of the names with the program last; and at the end that
-    /// the program has no piece. A use in a piece that is dropped counts, an abbreviation too.
+    /// main file's. Each kind is in the order of the names, with the program last. The last fault
+    /// is that the program has no piece. Uses in dropped pieces count, and so do uses by
+    /// abbreviations.
     pub fn faults(&self) -> &[Fault]
         ensures { result.now ≡ self.now.faults }
     {
         self.faults.as_slice()
     }
 
-    /// Takes the faults out of the store, which has none from then on.
+    /// Takes the faults out of the store, which then has none.
     pub fn take_faults(&mut self) -> Vec<Fault>
         ensures taken { result.items ≡ self.old.faults }
         ensures others { self.new ≡ record self.old { faults = [] } }
@@ -396,7 +398,7 @@ impl Store {
         replace(&mut self.faults, Vec::new(alloc))
     }
 
-    /// Nodes of the store, each once and after the names that it uses; each that is expandable is
+    /// Nodes of the store, each once and after the names that it uses. Each expandable node is
     /// among them.
     pub fn order(&self) -> &[Node]
         ensures { IsOrderIn self.now result.now }
@@ -405,7 +407,6 @@ impl Store {
     }
 }
 
-/// The pieces of each node of a web, to be shared.
 fn shared_pieces(
     alloc: Global,
     web: &Web,
@@ -445,12 +446,12 @@ impl PiecesByNode for Store {
     }
 }
 
-/// Expands a node: its own symbols and, at each use of a name with a piece, the kept expansion of
-/// that name. The node goes last in the work's list.
+/// Expands a node: the expansion has the node's own symbols, with each use of a name with a piece
+/// replaced by the kept expansion of that name. The node is added to the end of the work's list.
 ///
 /// # Errors
 ///
-/// `NoMemory`, where an allocation failed; the work is then as before.
+/// `NoMemory` where an allocation failed; the work does not change then.
 pub fn expand_one(
     alloc: Global,
     store: &Store,

@@ -1,4 +1,6 @@
+pub mod CodesInside
 pub mod ConstantOrder
+pub mod ConstantQuotes
 pub mod KeptBytes
 pub mod KeptText
 pub mod KindCells

@@ -12,7 +12,7 @@ use Rattle.tangle_text.specs.Regions.{count_before}
 use Rattle.tangle_lexer.specs.Quoted.{one_if}
 use Rattle.tangle_lexer.specs.Lexemes.{Lexeme, lexeme_of, elsewhere, white_lexeme}
 
--- the value of a backslash and this byte, if they are a character
+-- the value of the escape sequence of a backslash and this byte, if a constant may have it
 abbrev pub escape_of : ℕ → Option ℕ
 escape_of b =
     if b == 97 then Some 7 else  -- \a
@@ -28,33 +28,33 @@ abbrev pub escape_value : Option ℕ → Option ℕ
 escape_value None = None
 escape_value (Some b) = escape_of b
 
--- a character of so many cells with this value is a constant where an apostrophe follows it
+-- the constant of a character that has this value and number of cells, if an apostrophe follows
 abbrev pub if_closed : Option ℕ → ℕ → List Cell → Option AsciiConstant
 if_closed None count text = None
 if_closed (Some value) count text =
     if holds apostrophe (byte_at count text) then Some (record { value = value; count = count }) else None
 
--- the octal digit at a distance
+-- the value of the octal digit at this distance from the front
 abbrev pub digit_at : ℕ → List Cell → ℕ
 digit_at k text = unwrap_or (byte_at k text) 48 - 48
 
--- a value that fits a byte
+-- if_closed for a value that may be too large for a byte
 abbrev pub if_byte : ℕ → ℕ → List Cell → Option AsciiConstant
 if_byte value count text = if_closed (if nat_le value 255 then Some value else None) count text
 
--- a backslash at the front and one to three octal digits, as many as there are, with a value of at most 255
+-- a backslash and one to three octal digits, as many as there are; their value is at most 255
 abbrev pub octal_constant : List Cell → Option AsciiConstant
 octal_constant text =
     if not (is_octal (byte_at 2 text)) then if_byte (digit_at 1 text) 2 text else
     if not (is_octal (byte_at 3 text)) then if_byte (8 * digit_at 1 text + digit_at 2 text) 3 text
     else if_byte (64 * digit_at 1 text + 8 * digit_at 2 text + digit_at 3 text) 4 text
 
--- a backslash at the front
+-- the constant of a character that begins with a backslash
 abbrev pub escaped_constant : List Cell → Option AsciiConstant
 escaped_constant text =
     if is_octal (byte_at 1 text) then octal_constant text else if_closed (escape_value (byte_at 1 text)) 2 text
 
--- @@, a backslash with what it escapes, or any other byte but an apostrophe
+-- the character is @@, a backslash with what it escapes, or any other byte but an apostrophe
 abbrev pub constant_by : Option ℕ → List Cell → Option AsciiConstant
 constant_by None text = None
 constant_by (Some b) text =
@@ -66,10 +66,11 @@ constant_by (Some b) text =
 abbrev pub constant_at : List Cell → Option AsciiConstant
 constant_at text = constant_by (byte_at 0 text) text
 
--- What is no constant is white space up to and with the first apostrophe of the line, or up to its end.
+-- A bad constant is white space through the next apostrophe on the line, or up to the line end. The
+-- control codes in it are white space too, since otherwise one mistake could be several faults.
 abbrev pub bad_constant : LexerState → List Cell → Lexeme
 bad_constant s text =
-    let inside : ℕ = count_before region.BadConstant 0 (drop 2 text) in
+    let inside : ℕ = count_before region.BadConstant (drop 2 text) in
     white_lexeme [] (token.Fault fault.AsciiBad (front_line s.last_line text) ∷ [])
     (1 + inside + one_if (holds apostrophe (byte_at 0 (drop inside (drop 2 text))))) s
 
@@ -78,6 +79,6 @@ constant_lexeme None s text = bad_constant s text
 constant_lexeme (Some constant) s text =
     lexeme_of (token.AsciiConstant constant.value (front_line s.last_line text) ∷ []) (2 + constant.count) (elsewhere s)
 
--- @'
+-- @' with the constant after it, or with the fault of a bad one
 abbrev pub ascii_constant : LexerState → List Cell → Lexeme
 ascii_constant s text = constant_lexeme (constant_at (drop 2 text)) s text

@@ -1,10 +1,10 @@
--- Heads among tokens.
+-- Heads: the tokens that begin a section, a macro or a C part.
 use Rattle.std.specs.Prelude.{◌≡◌, Bool, true, false, List, [], ◌∷◌, ◌++◌, Option, None, Some}
 use Rattle.std.specs.List.{list_any}
 use Rattle.tangle_lexer.specs.declared.tokens.Token.{Token}
 use Rattle.tangle_lexer.specs.declared.tokens.Token.TheVariants as token
 
--- what begins a section, a macro or a C part, and so ends what came before
+-- a head ends the macro, C part or documentation before it
 abbrev pub is_head : Token → Bool
 is_head token.Section = true
 is_head (token.MacroStart line) = true
@@ -16,7 +16,7 @@ is_head _ = false
 abbrev pub HasNoHead : List Token → Type 0
 HasNoHead ts = list_any is_head ts ≡ false
 
--- the last token was taken off if it was a head, and nothing else
+-- the last token is removed and returned if it is a head; otherwise nothing changes
 abbrev pub PopsHead : List Token → List Token → Option Token → Type 0
 PopsHead old new None = (new ≡ old) × ((ts : List Token) (head : Token) → old ≡ ts ++ head ∷ [] → is_head head ≡ false)
 PopsHead old new (Some head) = (old ≡ new ++ head ∷ []) × (is_head head ≡ true)

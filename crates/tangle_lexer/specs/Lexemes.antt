@@ -1,4 +1,4 @@
--- What is at the front of the text, and the state there.
+-- Lexemes: what one step of the lexer reads, and the state after it.
 use Rattle.std.specs.Prelude.{ℕ, Bool, List, [], ◌∷◌, ◌++◌, if◌then◌else◌, Option, None}
 use Rattle.tangle_faults.specs.declared.faults.FaultKind.{FaultKind}
 use Rattle.tangle_lexer.specs.declared.occurrences.OccurrenceRole.{OccurrenceRole}
@@ -10,22 +10,23 @@ use Rattle.tangle_lexer.specs.declared.tokens.Token.{Token}
 use Rattle.tangle_lexer.specs.declared.tokens.Token.TheVariants as token
 use Rattle.tangle_text.specs.Bytes.{is_line_end}
 
--- an occurrence of a section name as it is read: the text of the name, whether it is opened by @(, and the line of its first byte
+-- an occurrence of a section name as it is read: the text of the name, whether @( opens it, its
+-- role, and the line of its first byte
 pub record OccurrenceOnLine : Type 0 where
   pub text : List ℕ
   pub is_file : Bool
   pub role : OccurrenceRole
   pub line : ℕ
 
--- What is at the front of the text: its tokens, the occurrence of a name if it is one, how many cells it has after its first, and
--- the state after it.
+-- What one step reads at the front of the text: its tokens, its occurrence if it is a name, the
+-- number of its cells after the first one, and the state after it.
 pub record Lexeme : Type 0 where
   pub tokens : List Token
   pub occurrence : Option OccurrenceOnLine
   pub more : ℕ
   pub after : LexerState
 
--- a lexeme that is no name
+-- a lexeme without an occurrence
 abbrev pub lexeme_of : List Token → ℕ → LexerState → Lexeme
 lexeme_of tokens more after = record { tokens = tokens; occurrence = None; more = more; after = after }
 
@@ -36,18 +37,18 @@ in_mode mode s = record s { mode = mode; include = include.AtStart }
 abbrev pub with_include : IncludeState → LexerState → LexerState
 with_include inc s = record s { include = inc }
 
--- something that is no white space was read, and no part of #include
+-- the state after text that is neither white space nor a part of #include
 abbrev pub elsewhere : LexerState → LexerState
 elsewhere s = with_include include.Elsewhere s
 
 abbrev pub fault_if : Bool → FaultKind → ℕ → List Token
 fault_if b kind line = if b then token.Fault kind line ∷ [] else []
 
--- a line end of a comment or a control text, on this line, is a line end of the part
+-- a line end inside a comment or a control text is a line end of the part
 abbrev pub line_end_by : Option ℕ → ℕ → List Token
 line_end_by b line = if is_line_end b then token.LineEnd line ∷ [] else []
 
--- white space with these line ends in it: after a line end #include may begin
+-- how much of #include was read after white space with these line ends: it may begin after each
 abbrev pub include_over : List Token → IncludeState → IncludeState
 include_over [] inc = inc
 include_over (t ∷ ts) inc = include.AtStart

@@ -6,7 +6,8 @@ use Rattle.tangle_lexer.specs.declared.occurrences.OccurrenceRole.{OccurrenceRol
 use Rattle.tangle_lexer.specs.Lexemes.{OccurrenceOnLine}
 use Rattle.tangle_lexer.specs.Names.{is_abbreviation}
 
--- an occurrence of a section name: its text, an abbreviation's with its dots; whether it is abbreviated; whether it is opened by @(
+-- an occurrence of a section name: its text, with the dots of an abbreviation; whether it is an
+-- abbreviation; whether @( opens it; its role and its origin
 pub record OccurrenceRead : Type 0 where
   pub text : List ℕ
   pub is_abbreviation : Bool
@@ -14,7 +15,7 @@ pub record OccurrenceRead : Type 0 where
   pub role : OccurrenceRole
   pub origin : Origin
 
--- an occurrence that was read, with its origin
+-- an occurrence that was read, with the origin of its line
 abbrev pub occurrence_of : List SourceLine → OccurrenceOnLine → OccurrenceRead
 occurrence_of lines n = record {
   text = n.text;

@@ -1,4 +1,5 @@
--- Quoted and verbatim texts, which are cut: after the first @ of each @@, and at a line end inside.
+-- Quoted and verbatim texts. They are cut after the first @ of each @@ and at a line end inside, so
+-- that the bytes of an item are always a range of a line.
 use Rattle.std.specs.Prelude.{Bool, ◌&&◌, ℕ, ◌+◌, zero, suc, ◌==◌, nat_lt, List, [], ◌∷◌, ◌++◌, drop, if◌then◌else◌, Option}
 use Rattle.tangle_faults.specs.declared.faults.FaultKind.TheVariants as fault
 use Rattle.tangle_text.specs.declared.spans.Span.{Span}
@@ -18,39 +19,41 @@ use Rattle.tangle_text.specs.Regions.{unit_at, more_by, count_before}
 use Rattle.tangle_lexer.specs.Lexemes.{Lexeme, lexeme_of, elsewhere, fault_if}
 use Rattle.tangle_lexer.specs.Comments.{has_end_code, two_if}
 
--- the kind of a range of a region
+-- the kind of the ranges that a region is cut into
 abbrev pub kind_in : Region → SpanKind
 kind_in region.Verbatim = span_kind.Verbatim
 kind_in _ = span_kind.Quoted
 
--- a range of a region
+-- the token of a range of a region
 abbrev pub range_token : Region → Span → Token
 range_token r s = token.Span (kind_in r) s
 
--- the bytes of a line from a column to a column; an empty rest is no item
+-- the range of a line from column `start` up to column `end`; an empty range is no token
 abbrev pub cut_range : Region → ℕ → ℕ → ℕ → List Token
 cut_range r line start end = if nat_lt start end then range_token r (record { line = line; start = start; end = end }) ∷ [] else []
 
--- What a unit inside gives: the range that ends after the first @ of @@; the range that ends with the backslash before a line end
--- inside the text, and that break; for an @ alone its fault, for it is kept.
+-- The tokens of a unit inside a text. For @@: the range up to its first @. For a backslash and a
+-- line end: the range up to the backslash, and the break. For an @ alone: a fault, and the @ is
+-- kept.
 abbrev pub unit_tokens : Region → Unit-of → ℕ → Cell → Option ℕ → List Token
 unit_tokens r unit.Two start c next =
     if holds at_sign c.byte then cut_range r c.line start (c.column + 1) else
     if holds backslash c.byte && is_line_end next then cut_range r c.line start (c.column + 1) ++ token.QuoteBreak ∷ [] else []
 unit_tokens r _ start c next = fault_if (holds at_sign c.byte) fault.StringAt c.line
 
--- where the range after a unit starts: after the second @ of @@, and with the next line
+-- the column where the range after a unit starts: after the second @ of @@, or 0 after a line end
 abbrev pub next_start : Unit-of → ℕ → Cell → Option ℕ → ℕ
 next_start unit.Two start c next = if holds at_sign c.byte then c.column + 2 else if holds backslash c.byte && is_line_end next then 0 else start
 next_start _ start c next = start
 
--- these tokens where the region ends, else the others
+-- the tokens `ending` if the unit ends the region, else `others`
 abbrev pub at_stop : Unit-of → List Token → List Token → List Token
 at_stop unit.Stop ending others = ending
 at_stop _ ending others = others
 
--- The tokens of a text that is cut. `ends` gives its last ones, from the column where the last range starts and the text at the end of the
--- region. The numbers are how many cells are still to be passed over, and the column where the range starts.
+-- The tokens of a text that is cut. `ends` gives the last tokens, by the column where the last
+-- range starts and by the text from the end of the region on. `k` cells at the front belong to an
+-- earlier unit, and the current range starts at column `start`.
 abbrev pub cut_tokens : (ℕ → List Cell → List Token) → Region → ℕ → ℕ → List Cell → List Token
 cut_tokens ends r k start [] = ends start []
 cut_tokens ends r (suc k) start (c ∷ cs) = cut_tokens ends r k start cs
@@ -61,56 +64,58 @@ cut_tokens ends r zero start (c ∷ cs) =
 
 -- quoted texts
 
--- The end of a quoted text: its closing byte belongs to the last range. A line end there is a fault.
+-- The end of a quoted text: the last range includes the closing byte. A line end instead is a
+-- fault.
 abbrev pub quote_stop : Region → ℕ → ℕ → Cell → List Token
 quote_stop r close start c =
     if holds close c.byte then cut_range r c.line start (c.column + 1)
     else cut_range r c.line start c.column ++ token.Fault fault.StringEnd c.line ∷ []
 
--- so is the end of the source
+-- the end of the source instead of the closing byte is a fault too
 abbrev pub quote_end : Region → ℕ → ℕ → ℕ → List Cell → List Token
 quote_end r close last start [] = token.Fault fault.StringEnd last ∷ []
 quote_end r close last start (c ∷ cs) = quote_stop r close start c
 
--- one more cell if the closing byte is there
+-- the one cell of the closing byte, if that is there
 abbrev pub one_if : Bool → ℕ
 one_if b = if b then 1 else 0
 
--- A quoted text that is closed by this byte. Its opening byte belongs to the first range.
+-- A quoted text that this byte closes. The first range includes the opening byte.
 abbrev pub quoted_text : Region → ℕ → LexerState → List Cell → Lexeme
 quoted_text r close s text =
-    let inside : ℕ = count_before r 0 (drop 1 text) in
+    let inside : ℕ = count_before r (drop 1 text) in
     lexeme_of (cut_tokens (quote_end r close s.last_line) r 0 (front_column text) (drop 1 text))
     (inside + one_if (holds close (byte_at 0 (drop inside (drop 1 text))))) (elsewhere s)
 
 -- verbatim texts
 
--- the end of a verbatim text, where a line end is a fault
+-- the last range of a verbatim text, and a fault if a line end ends the text
 abbrev pub verbatim_stop : ℕ → Cell → List Token
 verbatim_stop start c = cut_range region.Verbatim c.line start c.column ++ fault_if (is_line_end c.byte) fault.VerbatimEnd c.line
 
--- at the end of the source nothing is left; a line end comes before it
+-- no verbatim text reaches the end of the source: the line end before that ends the text
 abbrev pub verbatim_end : ℕ → List Cell → List Token
 verbatim_end start [] = []
 verbatim_end start (c ∷ cs) = verbatim_stop start c
 
--- the fault of a verbatim text that ends at once
+-- the fault of an empty verbatim text that a line end ends
 abbrev pub empty_end : List Cell → List Token
 empty_end [] = []
 empty_end (c ∷ cs) = fault_if (is_line_end c.byte) fault.VerbatimEnd c.line
 
--- nothing is passed over before a region ends
+-- a region is empty: it ends at the front
 abbrev pub ends_at_once : Region → List Cell → Bool
-ends_at_once r text = count_before r 0 text == 0
+ends_at_once r text = count_before r text == 0
 
--- The tokens after @=: where the text ends at once, an empty item.
+-- The tokens after @=. An empty text is one empty item, which keeps the white space on both sides
+-- of it.
 abbrev pub verbatim_tokens : List Cell → List Token
 verbatim_tokens text =
     if ends_at_once region.Verbatim text then token.Span span_kind.Verbatim (span_at 0 text) ∷ empty_end text
     else cut_tokens verbatim_end region.Verbatim 0 (front_column text) text
 
--- @= up to @> on this line
+-- @= and the text up to @> on the same line
 abbrev pub verbatim_text : LexerState → List Cell → Lexeme
 verbatim_text s text =
-    let inside : ℕ = count_before region.Verbatim 0 (drop 2 text) in
+    let inside : ℕ = count_before region.Verbatim (drop 2 text) in
     lexeme_of (verbatim_tokens (drop 2 text)) (1 + inside + two_if (has_end_code (drop inside (drop 2 text)))) (elsewhere s)

@@ -1,5 +1,5 @@
 -- The four modes: what begins at a position, and what is read there.
-use Rattle.std.specs.Prelude.{ℕ, zero, suc, ◌+◌, ◌-◌, Bool, ◌==◌, ◌&&◌, ◌||◌, List, [], ◌∷◌, length, flat_map, take, drop, if◌then◌else◌, Option, Some, None, option_to_list}
+use Rattle.std.specs.Prelude.{ℕ, zero, suc, ◌+◌, ◌-◌, Bool, ◌==◌, ◌&&◌, ◌||◌, List, [], ◌∷◌, length, map, flat_map, take, drop, if◌then◌else◌, Option, Some, None, option_to_list}
 use Rattle.tangle_lines.specs.Bytes.{at_sign, double_quote, is_white}
 use Rattle.tangle_lines.specs.Reading.{SourceLine}
 use Rattle.tangle_faults.specs.declared.faults.FaultKind.{FaultKind}
@@ -29,7 +29,7 @@ use Rattle.tangle_text.specs.Words.{is_include_word, word_more}
 
 -- what begins at a position
 
--- which control code @ and this byte are
+-- the control code that @ makes with this byte, which is not a capital letter
 abbrev pub code_of : ℕ → ControlCode
 code_of b =
     if is_white b || b == asterisk then code.SectionStart else
@@ -44,7 +44,7 @@ code_of b =
     if b == 104 then code.AllMacros else  -- @h
     if b == apostrophe then code.AsciiConstant else code.Other  -- @'
 
--- a capital letter counts as the small one
+-- the control code that @ makes with the next cell; a capital letter counts as its small letter
 abbrev pub code_at : Option ℕ → ControlCode
 code_at None = code.SectionStart
 code_at (Some b) = code_of (lower b)
@@ -54,7 +54,7 @@ abbrev pub less_kind : IncludeState → LexemeKind
 less_kind include.AfterInclude = lexeme_kind.HeaderName
 less_kind _ = lexeme_kind.Other
 
--- what begins with this byte, which is no @, where that cell comes next
+-- what begins with the byte `b`, which is not @, before the cell `next`
 abbrev pub byte_kind : IncludeState → ℕ → Option ℕ → LexemeKind
 byte_kind inc b next =
     if b == slash && holds asterisk next then lexeme_kind.BlockComment else
@@ -65,7 +65,7 @@ byte_kind inc b next =
     if is_white b then lexeme_kind.White else
     if is_word_byte b then lexeme_kind.Word else lexeme_kind.Other
 
--- what begins where these two cells are in C text
+-- what begins in C text with these two cells
 abbrev pub kind_by : IncludeState → Option ℕ → Option ℕ → LexemeKind
 kind_by inc None next = lexeme_kind.LineEnd
 kind_by inc (Some b) next = if b == at_sign then lexeme_kind.Control (code_at next) else byte_kind inc b next
@@ -75,17 +75,17 @@ kind_at inc text = kind_by inc (byte_at 0 text) (byte_at 1 text)
 
 -- words and signs
 
--- a # that is the first thing on its line or in its part
+-- after a sign: # can only begin #include if nothing but white space is before it on the line
 abbrev pub include_after_sign : Option ℕ → IncludeState → IncludeState
 include_after_sign b include.AtStart = if holds number_sign b then include.AfterNumberSign else include.Elsewhere
 include_after_sign b _ = include.Elsewhere
 
--- the word include after it
+-- after a word: include completes #include if only white space is between # and this word
 abbrev pub include_after_word : Bool → IncludeState → IncludeState
 include_after_word is_include include.AfterNumberSign = if is_include then include.AfterInclude else include.Elsewhere
 include_after_word is_include _ = include.Elsewhere
 
--- word bytes, as many as there are
+-- a word: word bytes, as many as there are
 abbrev pub word : LexerState → List Cell → Lexeme
 word s text =
     lexeme_of (token.Span span_kind.Word (span_at (1 + word_more text) text) ∷ []) (word_more text)
@@ -93,43 +93,43 @@ word s text =
 
 -- white space, as much as there is
 abbrev pub white_space : LexerState → List Cell → Lexeme
-white_space s text = lexeme_of (token.White ∷ []) (count_before region.White 0 (drop 1 text)) s
+white_space s text = lexeme_of (token.White ∷ []) (count_before region.White (drop 1 text)) s
 
--- a control code that is this fault and white space
+-- a control code that is a fault of this kind, and white space
 abbrev pub code_fault : FaultKind → LexerState → List Cell → Lexeme
 code_fault kind s text = white_lexeme [] (token.Fault kind (front_line s.last_line text) ∷ []) 1 s
 
--- a section start: its @ is read; the byte after it is passed over by the documentation, which begins there
+-- A section start. Only the @ is read: the byte after it is skipped as documentation.
 abbrev pub section_start : LexerState → Lexeme
 section_start s = lexeme_of (token.Section ∷ []) 0 (in_mode mode.Documentation s)
 
--- text up to the next @ is passed over
+-- skips the first cell and the text after it up to an @
 abbrev pub prose : LexerState → List Cell → Lexeme
-prose s text = lexeme_of [] (count_before region.Prose 0 (drop 1 text)) s
+prose s text = lexeme_of [] (count_before region.Prose (drop 1 text)) s
 
--- Limbo. All is passed over up to the first section start, a control code with its two bytes.
+-- Limbo: all is skipped up to the first section start, each control code as two bytes.
 abbrev pub limbo_lexeme : LexerState → List Cell → Lexeme
 limbo_lexeme s text =
     if starts_section text then section_start s else
     if holds at_sign (byte_at 0 text) then lexeme_of [] 1 s else prose s text
 
--- Documentation, by the control code that is there.
+-- A control code in documentation.
 abbrev pub documentation_code : ControlCode → LexerState → List Cell → Lexeme
 documentation_code code.SectionStart s text = section_start s
 -- @d begins a macro
 documentation_code code.Macro s text = lexeme_of (token.MacroStart (front_line s.last_line text) ∷ []) 1 (in_mode mode.Macro s)
 -- @c and @p begin an unnamed C part
 documentation_code code.UnnamedPart s text = lexeme_of (token.UnnamedPart (front_line s.last_line text) ∷ []) 1 (in_mode mode.CPart s)
--- @< and @( begin a C part of that name where the equals sign of a definition follows, and else mention it
+-- @< and @( begin a C part of that name if an equals sign follows, and otherwise mention the name
 documentation_code code.Name s text = name_in_documentation s text
--- all other control codes are passed over
+-- all other control codes are skipped
 documentation_code _ s text = lexeme_of [] 1 s
 
 abbrev pub documentation_lexeme : LexerState → List Cell → Lexeme
 documentation_lexeme s text =
     if holds at_sign (byte_at 0 text) then documentation_code (code_at (byte_at 1 text)) s text else prose s text
 
--- C text, by the control code that is there.
+-- A control code in C text.
 abbrev pub c_code : ControlCode → LexerState → List Cell → Lexeme
 c_code code.SectionStart s text = section_start s
 -- @@ is the sign @
@@ -153,7 +153,7 @@ c_code code.AsciiConstant s text = ascii_constant s text
 -- other control codes are white space
 c_code code.Other s text = lexeme_of (token.White ∷ []) 1 s
 
--- C text, by what begins there.
+-- A lexeme of C text, by its kind.
 abbrev pub c_lexeme : LexemeKind → LexerState → List Cell → Lexeme
 c_lexeme (lexeme_kind.Control code) s text = c_code code s text
 c_lexeme lexeme_kind.BlockComment s text = block_comment s text
@@ -168,7 +168,8 @@ c_lexeme lexeme_kind.Word s text = word s text
 c_lexeme lexeme_kind.Other s text =
     lexeme_of (token.Span span_kind.Sign (span_at 1 text) ∷ []) 0 (with_include (include_after_sign (byte_at 0 text) s.include) s)
 
--- A macro is read as C text, but for control codes that end it and then act as in documentation.
+-- A macro is read as C text, except for @h and for the control codes that end the macro and then
+-- act as in documentation.
 abbrev pub macro_code : ControlCode → LexerState → List Cell → Lexeme
 macro_code code.Macro s text = documentation_code code.Macro s text
 macro_code code.UnnamedPart s text = documentation_code code.UnnamedPart s text
@@ -183,7 +184,7 @@ abbrev pub macro_lexeme : LexemeKind → LexerState → List Cell → Lexeme
 macro_lexeme (lexeme_kind.Control code) s text = macro_code code s text
 macro_lexeme other s text = c_lexeme other s text
 
--- what is at the front of the text in a mode
+-- the lexeme at the front of the text in a mode
 abbrev pub lexeme_in : Mode → LexerState → List Cell → Lexeme
 lexeme_in mode.Limbo s text = limbo_lexeme s text
 lexeme_in mode.Documentation s text = documentation_lexeme s text
@@ -193,11 +194,23 @@ lexeme_in mode.Macro s text = macro_lexeme (kind_at s.include text) s text
 unfoldable pub lexeme : LexerState → List Cell → Lexeme
 lexeme s text = lexeme_in s.mode s text
 
--- All lexemes of a text: each begins where the one before ended. The number passed in is how many cells are still to be passed over.
+-- where a lexeme begins: the state there, and the text from there on
+pub record LexemeStart : Type 0 where
+  pub state : LexerState
+  pub text : List Cell
+
+-- Where the lexemes of a text begin: each where the one before ended. `k` cells at the front belong
+-- to an earlier lexeme.
+abbrev pub lexeme_starts : ℕ → LexerState → List Cell → List LexemeStart
+lexeme_starts k s [] = []
+lexeme_starts (suc k) s (c ∷ cs) = lexeme_starts k s cs
+lexeme_starts zero s (c ∷ cs) =
+    let here : Lexeme = lexeme s (c ∷ cs) in
+    record { state = s; text = c ∷ cs } ∷ lexeme_starts here.more here.after cs
+
+-- the lexemes of a text
 abbrev pub lexemes : ℕ → LexerState → List Cell → List Lexeme
-lexemes k s [] = []
-lexemes (suc k) s (c ∷ cs) = lexemes k s cs
-lexemes zero s (c ∷ cs) = let here : Lexeme = lexeme s (c ∷ cs) in here ∷ lexemes here.more here.after cs
+lexemes k s text = map (λ start. lexeme start.state start.text) (lexeme_starts k s text)
 
 -- the tokens from a position on, in this state
 unfoldable pub tokens_from : LexerState → List Cell → List Token
@@ -207,7 +220,7 @@ tokens_from s text = flat_map (λ l. l.tokens) (lexemes 0 s text)
 unfoldable pub occurrences_from : LexerState → List Cell → List OccurrenceOnLine
 occurrences_from s text = flat_map (λ l. option_to_list l.occurrence) (lexemes 0 s text)
 
--- the state before the first line of a source with so many lines
+-- the state before the first line of a source with this number of lines
 abbrev pub first_state : ℕ → LexerState
 first_state count = record { mode = mode.Limbo; include = include.AtStart; occurrences = 0; last_line = count - 1 }
 

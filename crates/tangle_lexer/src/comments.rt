@@ -1,4 +1,4 @@
-//! Comments and control texts, which are white space.
+//! Comments and control texts, which count as white space.
 ghost use Rattle.std.specs.Prelude.{◌≡◌, ◌++◌, true, drop, IfOk, OnOk};
 ghost use Rattle.tangle_lexer.specs.Reads.{IsRead};
 ghost use Rattle.tangle_text.specs.Regions.{skips_ordinary, region_end};
@@ -11,7 +11,8 @@ use std::alloc::AllocError;
 use tangle_lines::FaultKind;
 use tangle_text::{Reader, Region, Unit, holds, is_end_code, is_section_start, unit_of};
 
-/// Adds the line end that is here, if there is one. After it `#include` may begin.
+/// Adds a line end, if `byte` is one (`None`). `#include` may begin after a line end, so the result
+/// is how much of it was read then.
 fn push_line_end(
     tokens: &mut Vec<Token>,
     include: IncludeState,
@@ -28,10 +29,10 @@ fn push_line_end(
     Ok(IncludeState::AtStart)
 }
 
-/// Goes on to the end of a comment or a control text, and adds its line ends.
+/// Advances to the end of a comment or a control text, and adds the line ends in it.
 ///
-/// Its line ends are line ends of the part: so the C has as many lines as the web there, and what
-/// is after the comment is on the line that the compiler counts, without a line mark.
+/// These are line ends of the part. So the C has as many lines there as the web, and the text after
+/// the comment needs no line mark.
 fn pass_line_ends(
     tokens: &mut Vec<Token>,
     ahead: &mut Reader,
@@ -59,7 +60,7 @@ fn pass_line_ends(
     Ok(include)
 }
 
-/// Whether `*/` is here.
+/// Whether the text ahead begins with `*/`.
 fn ends_comment(ahead: &Reader) -> bool
     ensures { result ≡ spec.ends_comment ahead.now }
 {
@@ -69,7 +70,7 @@ fn ends_comment(ahead: &Reader) -> bool
     }
 }
 
-/// Whether `@>` is here.
+/// Whether the text ahead begins with `@>`.
 pub fn has_end_code(ahead: &Reader) -> bool
     ensures { result ≡ spec.has_end_code ahead.now }
 {
@@ -79,7 +80,7 @@ pub fn has_end_code(ahead: &Reader) -> bool
     }
 }
 
-/// Goes on after `@>`, if it is here, and returns whether it is.
+/// Advances past `@>`, if the text ahead begins with it, and returns whether it does.
 pub fn pass_end_code(ahead: &mut Reader) -> bool
     ensures has_end_code { result ≡ spec.has_end_code ahead.old }
     ensures ahead { ahead.new ≡ drop (spec.two_if (spec.has_end_code ahead.old)) ahead.old }
@@ -91,7 +92,7 @@ pub fn pass_end_code(ahead: &mut Reader) -> bool
     false
 }
 
-/// Whether a section start is here.
+/// Whether the text ahead begins with a section start.
 pub fn starts_section(ahead: &Reader) -> bool
     ensures { result ≡ spec.starts_section ahead.now }
 {
@@ -101,7 +102,8 @@ pub fn starts_section(ahead: &Reader) -> bool
     }
 }
 
-/// Whether what ends a block comment, or else a control text, is here.
+/// Whether the text ahead begins with the end of a block comment (`*/`), or of another region
+/// (`@>`).
 fn ends_region(region: Region, ahead: &Reader) -> bool
     ensures { result ≡ spec.ends_region region ahead.now }
 {
@@ -111,8 +113,8 @@ fn ends_region(region: Region, ahead: &Reader) -> bool
     }
 }
 
-/// Reads the two bytes that open a block comment or a control text, and what is up to its end,
-/// which is two bytes too; it is a fault of this kind if they are not there.
+/// Reads a block comment or a control text, with the two bytes that open it and the two that end
+/// it. If its end is missing, it has a fault of this kind.
 #[inline(always)]
 fn comment_or_control_text(
     region: Region,
@@ -136,7 +138,8 @@ fn comment_or_control_text(
     Ok(LexerState { include, ..state })
 }
 
-/// Reads `/*` and the comment up to its end.
+/// Reads a comment from `/*` to `*/`. A section start or the end of the source before `*/` is a
+/// fault.
 pub fn block_comment(
     tokens: &mut Vec<Token>,
     ahead: &mut Reader,
@@ -149,7 +152,7 @@ pub fn block_comment(
     comment_or_control_text(Region::BlockComment, fault, tokens, ahead, state)
 }
 
-/// Reads `//` and the comment up to the line end.
+/// Reads a comment from `//` up to the line end. A section start before the line end is a fault.
 pub fn line_comment(
     tokens: &mut Vec<Token>,
     ahead: &mut Reader,
@@ -167,7 +170,8 @@ pub fn line_comment(
     Ok(state)
 }
 
-/// Reads the control code of a control text, and the text up to `@>`.
+/// Reads a control text, from its control code to `@>`. The end of the source before `@>`, or a
+/// control code other than `@@`, is a fault.
 pub fn control_text(
     tokens: &mut Vec<Token>,
     ahead: &mut Reader,

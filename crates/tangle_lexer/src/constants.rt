@@ -9,14 +9,14 @@ use std::alloc::AllocError;
 use tangle_lines::FaultKind;
 use tangle_text::{Reader, Region, Unit, holds, is_octal};
 
-/// A constant: its value, and how many bytes its character has.
+/// The value of an ASCII constant, and the number of bytes of its character in the source.
 #[derive(Clone, Copy)]
 pub struct AsciiConstant {
     value: u8,
     count: usize,
 }
 
-/// The value of a backslash and this byte, if they are a character.
+/// The value of the escape sequence of a backslash and this byte, if a constant may have it.
 fn escape_of(byte: u8) -> Option<u8>
     ensures { result ≡ spec.escape_of byte }
 {
@@ -33,7 +33,7 @@ fn escape_of(byte: u8) -> Option<u8>
     }
 }
 
-/// The value of a backslash and what is after it, if they are a character.
+/// The value of the escape sequence of a backslash and what follows it. A line end makes none.
 fn escape_value(byte: Option<u8>) -> Option<u8>
     ensures { result ≡ spec.escape_value byte }
 {
@@ -43,7 +43,7 @@ fn escape_value(byte: Option<u8>) -> Option<u8>
     }
 }
 
-/// A character of so many bytes with this value is a constant where an apostrophe follows it.
+/// The constant of a character that has this value and `count` bytes, if an apostrophe follows.
 fn if_closed(ahead: &Reader, value: Option<u8>, count: usize) -> Option<AsciiConstant>
     ensures { result ≡ spec.if_closed value count ahead.now }
 {
@@ -59,7 +59,7 @@ fn if_closed(ahead: &Reader, value: Option<u8>, count: usize) -> Option<AsciiCon
     }
 }
 
-/// The same for a value that may be too large.
+/// `if_closed` for a value that may be too large for a byte.
 fn if_byte(ahead: &Reader, value: usize, count: usize) -> Option<AsciiConstant>
     ensures { result ≡ spec.if_byte value count ahead.now }
 {
@@ -70,7 +70,7 @@ fn if_byte(ahead: &Reader, value: usize, count: usize) -> Option<AsciiConstant>
     }
 }
 
-/// The octal digit at a distance.
+/// The value of the octal digit at this distance from the front of the text ahead.
 fn digit_at(ahead: &Reader, distance: usize) -> usize
     ensures digit { result ≡ spec.digit_at distance ahead.now }
     ensures small { result < 256 }
@@ -81,7 +81,8 @@ fn digit_at(ahead: &Reader, distance: usize) -> usize
     }
 }
 
-/// A backslash is here, and an octal digit after it.
+/// The constant of a backslash and one to three octal digits. The caller has seen the backslash and
+/// the first digit.
 fn octal_constant(ahead: &Reader) -> Option<AsciiConstant>
     ensures { result ≡ spec.octal_constant ahead.now }
 {
@@ -97,7 +98,7 @@ fn octal_constant(ahead: &Reader) -> Option<AsciiConstant>
     if_byte(ahead, 64 * first + 8 * second + third, 4)
 }
 
-/// A backslash is here.
+/// The constant of a character that begins with a backslash, which the caller has seen.
 fn escaped_constant(ahead: &Reader) -> Option<AsciiConstant>
     ensures { result ≡ spec.escaped_constant ahead.now }
 {
@@ -108,7 +109,7 @@ fn escaped_constant(ahead: &Reader) -> Option<AsciiConstant>
     if_closed(ahead, escape_value(next), 2)
 }
 
-/// The constant whose character is here.
+/// The constant whose character the text ahead begins with, after `@'`.
 fn constant_at(ahead: &Reader) -> Option<AsciiConstant>
     ensures { result ≡ spec.constant_at ahead.now }
 {
@@ -128,7 +129,8 @@ fn constant_at(ahead: &Reader) -> Option<AsciiConstant>
     }
 }
 
-/// Reads what is no constant, up to and with the first apostrophe of the line.
+/// Reads `@'` without a valid constant, through the next apostrophe on the line, or up to the line
+/// end: white space with a fault.
 fn bad_constant(
     tokens: &mut Vec<Token>,
     ahead: &mut Reader,
@@ -147,7 +149,7 @@ fn bad_constant(
     Ok(state)
 }
 
-/// Reads an ASCII constant.
+/// Reads `@'` with the ASCII constant after it, or with the fault of a bad one.
 pub fn ascii_constant(
     tokens: &mut Vec<Token>,
     ahead: &mut Reader,

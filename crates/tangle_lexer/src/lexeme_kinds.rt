@@ -1,4 +1,4 @@
-//! What begins at a position of the text.
+//! The kind of the lexeme that begins at a position, by the two bytes or line ends there.
 ghost use Rattle.std.specs.Prelude.{◌≡◌};
 ghost use Rattle.tangle_lexer.specs.Steps as spec;
 
@@ -23,7 +23,7 @@ pub enum LexemeKind {
     Other,
 }
 
-/// A control code: `@` and the byte after it, where a capital letter counts as the small one.
+/// A control code: `@` and the byte after it. A capital letter counts as its small letter.
 #[derive(Clone, Copy)]
 pub enum ControlCode {
     /// `@` before white space or a line end, and `@*`.
@@ -52,7 +52,7 @@ pub enum ControlCode {
     Other,
 }
 
-/// Which control code `@` and this byte or line end are.
+/// The control code that `@` makes with the next byte, or with a line end (`None`).
 pub fn code_at(next: Option<u8>) -> ControlCode
     ensures { result ≡ spec.code_at next }
 {
@@ -62,7 +62,7 @@ pub fn code_at(next: Option<u8>) -> ControlCode
     }
 }
 
-/// Which control code `@` and this byte are, which is no capital letter.
+/// The control code that `@` makes with this byte, which is not a capital letter.
 fn code_of(byte: u8) -> ControlCode
     ensures { result ≡ spec.code_of byte }
 {
@@ -94,7 +94,7 @@ fn less_kind(include: IncludeState) -> LexemeKind
     }
 }
 
-/// What begins with this byte, which is no `@`.
+/// What begins with `byte`, which is not `@`. `next` is the byte after it.
 fn byte_kind(include: IncludeState, byte: u8, next: Option<u8>) -> LexemeKind
     ensures { result ≡ spec.byte_kind include byte next }
 {
@@ -117,7 +117,7 @@ fn byte_kind(include: IncludeState, byte: u8, next: Option<u8>) -> LexemeKind
     }
 }
 
-/// What begins at a position, by the bytes or line ends there and after it.
+/// What begins with `byte`; `next` comes after it. `None` is a line end.
 #[inline(always)]
 pub fn kind_by(include: IncludeState, byte: Option<u8>, next: Option<u8>) -> LexemeKind
     ensures { result ≡ spec.kind_by include byte next }

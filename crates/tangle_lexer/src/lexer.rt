@@ -11,11 +11,10 @@ use crate::modes::{IncludeState, LexerState, Mode};
 use crate::simple::read_simple;
 use crate::steps::step;
 use crate::tokens::{LexerBuffers, Token};
-use std::alloc::AllocError;
-use tangle_lines::Source;
+use tangle_lines::{NoMemory, Source};
 use tangle_text::Reader;
 
-/// Whether a section, a macro or a C part begins.
+/// Whether a token is a head: it begins a section, a macro or a C part.
 fn is_head(token: Token) -> bool
     ensures { result ≡ is_head_token token }
 {
@@ -25,7 +24,7 @@ fn is_head(token: Token) -> bool
     )
 }
 
-/// The state before the first line.
+/// The state of the lexer before the first line of this source: limbo, with no occurrence read.
 pub fn first_state(source: &Source) -> LexerState
     ensures { result ≡ spec.first_state (length source.now.lines) }
 {
@@ -37,7 +36,7 @@ pub fn first_state(source: &Source) -> LexerState
     }
 }
 
-/// Takes the last token off, if it is a head.
+/// Removes and returns the last token, if it is a head.
 fn pop_head(tokens: &mut Vec<Token>) -> Option<Token>
     ensures { PopsHead tokens.old.items tokens.new.items result }
 {
@@ -47,18 +46,24 @@ fn pop_head(tokens: &mut Vec<Token>) -> Option<Token>
     }
 }
 
-/// Reads the tokens before the next head, and returns the state after that head, and the head; or
-/// those before the end of the text. The tokens read before are dropped.
+/// Reads the tokens up to the next head, which begins a section, a macro or a C part, or up to the
+/// end of the text.
+///
+/// `from` is the state at the position of `ahead`, which advances past the head; `from.occurrences`
+/// has to be the number of occurrences in `buffers`. The tokens before the head, with the faults
+/// among them, replace those in `buffers`. The occurrences that were read are added to those in
+/// `buffers`. Returns the state after the head, and the head itself, or `None` at the end of the
+/// text.
 ///
 /// # Errors
 ///
-/// `AllocError`, where an allocation failed.
+/// `NoMemory`, if an allocation failed.
 pub fn next_block(
     source: &Source,
     buffers: &mut LexerBuffers,
     ahead: &mut Reader,
     from: LexerState,
-) -> Result<(LexerState, Option<Token>), AllocError>
+) -> Result<(LexerState, Option<Token>), NoMemory>
     requires { from.occurrences ≡ length buffers.old.occurrences.items }
     ensures tokens { IfOk result (λ next. tokens_from from ahead.old
         ≡ buffers.new.tokens.items ++ option_to_list next.1 ++ tokens_from next.0 ahead.new) }

@@ -24,7 +24,7 @@ use std::alloc::{AllocError, Global};
 use tangle_lines::{FaultKind, Source};
 use tangle_text::{Front, Reader, Region, Unit, holds, is_white, unit_of};
 
-/// The equals sign of a definition.
+/// The equals sign after a name of documentation, which makes the name a definition.
 #[derive(Clone, Copy)]
 pub enum Equals {
     Absent,
@@ -34,20 +34,22 @@ pub enum Equals {
     Double,
 }
 
-/// A name that was read.
+/// A section name that was read, before it has a role.
 #[derive(Drop)]
 struct Name {
     text: Vec<u8>,
     is_file: bool,
-    /// The line of its first byte.
+    /// The line of the `@` that opens the name.
     line: u32,
-    /// The line on which it ends.
+    /// The line on which the name ends.
     end_line: u32,
-    /// `@>` ends it.
+    /// Whether `@>` ends the name.
     is_ended: bool,
 }
 
-/// Adds a byte to a name in normal form, and returns whether white space was read last.
+/// Adds a byte to a name in normal form. White space adds nothing by itself: the next byte adds one
+/// space for it, inside the name. `white` is whether the byte before was white space, and the
+/// result whether this byte is.
 #[inline(always)]
 fn push_byte(name: &mut Vec<u8>, white: bool, byte: u8) -> Result<bool, AllocError>
     ensures { IfOk result (λ after. (bytes : List ℕ) →
@@ -65,7 +67,7 @@ fn push_byte(name: &mut Vec<u8>, white: bool, byte: u8) -> Result<bool, AllocErr
     Ok(false)
 }
 
-/// A line end in a name is a space.
+/// The byte of a name for a byte or a line end (`None`), which is a space in a name.
 fn name_byte(byte: Option<u8>) -> u8
     ensures { result ≡ name_bytes.name_byte byte }
 {
@@ -75,7 +77,8 @@ fn name_byte(byte: Option<u8>) -> u8
     }
 }
 
-/// Adds a unit to a name.
+/// Adds a unit of one or two bytes to a name; `@@` adds one `@`. `white` and the result are those
+/// of `push_byte`.
 fn push_name_unit(
     name: &mut Vec<u8>,
     white: bool,
@@ -100,7 +103,7 @@ fn push_name_unit(
     }
 }
 
-/// Adds bytes to a name, none of which is an `@`.
+/// Adds bytes other than `@` to a name. `white` and the result are those of `push_byte`.
 fn push_bytes(name: &mut Vec<u8>, white: bool, bytes: &[u8]) -> Result<bool, AllocError>
     ensures { IfOk result (λ after. (more : List ℕ) →
         name.new.items ++ spec.with_single_spaces (spec.has_begun name.new.items) after more
@@ -114,10 +117,10 @@ fn push_bytes(name: &mut Vec<u8>, white: bool, bytes: &[u8]) -> Result<bool, All
     Ok(after)
 }
 
-/// Capacity for the text of most names: it grows for longer ones.
+/// The initial capacity of the text of a name, in bytes. Most names are not longer.
 const NAME_CAPACITY: usize = 32;
 
-/// Reads the text of a name up to its end.
+/// Reads the text of a name up to its end, and returns its normal form.
 fn read_text(alloc: Global, ahead: &mut Reader) -> Result<Vec<u8>, AllocError>
     ensures text { IfOk result (λ name. name.items ≡ spec.name_text ahead.old) }
     ensures ahead { OnOk result (ahead.new ≡ region_end region.Name ahead.old) }
@@ -136,7 +139,8 @@ fn read_text(alloc: Global, ahead: &mut Reader) -> Result<Vec<u8>, AllocError>
     Ok(name)
 }
 
-/// Reads a name from its opening on, and goes on after it.
+/// Reads a name with its opening, and with `@>` if that ends it. `last` is the number of the last
+/// source line.
 fn read_name(alloc: Global, ahead: &mut Reader, last: u32) -> Result<Name, AllocError>
     ensures text { IfOk result (λ name. name.text.items ≡ spec.name_text (drop 2 ahead.old)) }
     ensures is_file { IfOk result
@@ -162,7 +166,7 @@ fn read_name(alloc: Global, ahead: &mut Reader, last: u32) -> Result<Name, Alloc
     })
 }
 
-/// Whether the name that begins here is opened by `@(`.
+/// Whether `@(` opens the name that the text ahead begins with.
 fn opens_file(ahead: &Reader) -> bool
     ensures { result ≡ byte.holds byte.left_parenthesis (byte_at 1 ahead.now) }
 {
@@ -179,7 +183,7 @@ fn is_abbreviation(name: &[u8]) -> bool
     name.ends_with_str(b"...")
 }
 
-/// Adds the occurrence of a name, and returns the state after it.
+/// Adds an occurrence of this name in this role, and returns the state with one more occurrence.
 fn push_occurrence(
     source: &Source,
     occurrences: &mut Vec<Occurrence>,
@@ -202,8 +206,8 @@ fn push_occurrence(
     })
 }
 
-/// Goes on to where the equals sign of a definition may be: over white space, `+` and white
-/// space.
+/// Advances over optional white space, an optional `+` and optional white space, to where the
+/// equals sign of a definition may be.
 fn skip_to_equals(ahead: &mut Reader)
     ensures { ahead.new ≡ drop (spec.count_before_equals ahead.old) ahead.old }
 {
@@ -214,7 +218,7 @@ fn skip_to_equals(ahead: &mut Reader)
     }
 }
 
-/// Which equals sign is here.
+/// The equals sign that the text ahead begins with.
 fn equals_at(ahead: &Reader) -> Equals
     ensures { result ≡ spec.equals_by (byte_at 0 ahead.now) (byte_at 1 ahead.now) }
 {
@@ -230,7 +234,7 @@ fn equals_at(ahead: &Reader) -> Equals
     }
 }
 
-/// Whether `=` alone is where the equals sign of a definition would be.
+/// Whether a single `=` follows a name, which makes a use look like a definition.
 fn has_single_equals(ahead: &Reader) -> bool
     ensures { result ≡ spec.has_single_equals ahead.now }
 {
@@ -239,7 +243,7 @@ fn has_single_equals(ahead: &Reader) -> bool
     matches!(equals_at(&further), Equals::Single)
 }
 
-/// Adds the fault of a name that is not ended.
+/// Adds a fault if `@>` does not end the name.
 #[inline(always)]
 fn push_end_fault(tokens: &mut Vec<Token>, name: &Name) -> Result<(), AllocError>
     ensures { OnOk result (tokens.new.items ≡ tokens.old.items
@@ -251,7 +255,7 @@ fn push_end_fault(tokens: &mut Vec<Token>, name: &Name) -> Result<(), AllocError
     Ok(())
 }
 
-/// Adds a use of this name, and its faults.
+/// Adds a use of this name, which is the occurrence of this number, and the faults of the use.
 fn push_use(
     tokens: &mut Vec<Token>,
     name: &Name,
@@ -271,7 +275,7 @@ fn push_use(
     Ok(())
 }
 
-/// Reads a use.
+/// Reads a name in C text. It is a use, even if it looks like a definition, which is a fault.
 pub fn use_of_name(
     source: &Source,
     buffers: &mut LexerBuffers,
@@ -296,8 +300,8 @@ pub fn use_of_name(
     Ok(after)
 }
 
-/// Goes on after the equals sign of a definition, if one is here, and returns the line on which it
-/// ends.
+/// Advances past the equals sign of a definition and returns the line of that sign. If none
+/// follows, does not advance and returns `None`.
 fn pass_equals(ahead: &mut Reader, last: u32) -> Option<u32>
     ensures { PassesEquals (spec.equals_in ahead.old) (spec.count_before_equals ahead.old) last
         ahead.old ahead.new result }
@@ -322,7 +326,7 @@ fn pass_equals(ahead: &mut Reader, last: u32) -> Option<u32>
     }
 }
 
-/// Adds a mention, and its fault.
+/// Adds a mention of this name, and a fault if `@>` does not end the name.
 fn push_mention(
     source: &Source,
     buffers: &mut LexerBuffers,
@@ -348,7 +352,8 @@ fn push_mention(
     Ok(after)
 }
 
-/// Adds a definition, whose equals sign ends on this line.
+/// Adds a definition of this name, and the head of the C part that begins after the equals sign on
+/// this line.
 fn push_definition(
     source: &Source,
     buffers: &mut LexerBuffers,
@@ -378,7 +383,7 @@ fn push_definition(
     Ok(after)
 }
 
-/// Reads a mention, or a definition up to its equals sign.
+/// Reads a name in documentation: a definition with its equals sign, or else a mention.
 pub fn name_in_documentation(
     source: &Source,
     buffers: &mut LexerBuffers,

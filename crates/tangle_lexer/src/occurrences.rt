@@ -4,18 +4,18 @@ ghost use Rattle.std.specs.Prelude.{◌≡◌};
 use std::marker::Model;
 use tangle_lines::Origin;
 
-/// What an occurrence of a section name does.
+/// What an occurrence of a section name is for.
 #[derive(Clone, Copy, Debug, PartialEq, Eq)]
 pub enum OccurrenceRole {
     /// It begins a C part of its name.
     Definition,
-    /// It is in C text.
+    /// It is in C text, where the C of its name is written.
     Use,
-    /// It is in documentation.
+    /// It is in documentation, and begins no C part.
     Mention,
 }
 
-/// An occurrence of a section name.
+/// A section name as it is written at one position of the web.
 #[derive(Drop)]
 pub struct Occurrence {
     text: Vec<u8>,
@@ -40,7 +40,7 @@ impl Model for Occurrence {
 }
 
 impl Occurrence {
-    /// An occurrence with this name.
+    /// An occurrence of the name `text`, which is in normal form.
     pub(crate) fn new(
         text: Vec<u8>,
         is_abbreviation: bool,
@@ -65,36 +65,37 @@ impl Occurrence {
         }
     }
 
-    /// The name: white space at its ends is dropped, inner runs are one space, and `@@` is `@`. An
-    /// abbreviation has its dots.
+    /// The bytes of the name in normal form: without white space at its ends, with one space for
+    /// each run of white space inside, and with one `@` for each `@@`. The three dots of an
+    /// abbreviation are a part of it.
     pub fn text(&self) -> &[u8]
         ensures { result.now ≡ self.now.text }
     {
         self.text.as_slice()
     }
 
-    /// Whether the name ends in three dots.
+    /// Whether the name is an abbreviation: it ends in three dots.
     pub fn is_abbreviation(&self) -> bool
         ensures { result ≡ self.now.is_abbreviation }
     {
         self.is_abbreviation
     }
 
-    /// Whether it is opened by `@(`.
+    /// Whether the name is a file name: `@(` opens it.
     pub fn is_file(&self) -> bool
         ensures { result ≡ self.now.is_file }
     {
         self.is_file
     }
 
-    /// What it does.
+    /// Whether the occurrence is a definition, a use or a mention.
     pub fn role(&self) -> OccurrenceRole
         ensures { result ≡ self.now.role }
     {
         self.role
     }
 
-    /// The line of its first byte.
+    /// The origin of the line on which the occurrence begins.
     pub fn origin(&self) -> Origin
         ensures { result ≡ self.now.origin }
     {

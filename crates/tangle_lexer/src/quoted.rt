@@ -1,4 +1,4 @@
-//! Quoted and verbatim texts.
+//! Quoted and verbatim texts, which are cut into ranges of lines.
 ghost use Rattle.std.specs.Prelude.{true, ◌≡◌, ◌≤◌, ◌++◌, ℕ, List, IfOk, OnOk, ◌∷◌, drop};
 ghost use Rattle.tangle_files.specs.Adding.{longest_line};
 ghost use Rattle.tangle_text.specs.Ahead.{IsFront};
@@ -19,7 +19,7 @@ use std::alloc::AllocError;
 use tangle_lines::FaultKind;
 use tangle_text::{Front, Reader, Region, Span, Unit, holds, unit_of};
 
-/// The kind of a range of a region.
+/// The kind of the ranges that a region is cut into.
 fn kind_in(region: Region) -> SpanKind
     ensures { result ≡ spec.kind_in region }
 {
@@ -29,7 +29,7 @@ fn kind_in(region: Region) -> SpanKind
     }
 }
 
-/// Adds a range of a line, unless it is empty.
+/// Adds the range of a line from column `start` up to column `end`, unless it is empty.
 fn push_range(
     tokens: &mut Vec<Token>,
     region: Region,
@@ -52,7 +52,8 @@ fn push_range(
     Ok(())
 }
 
-/// Adds the tokens of a unit inside a region, and returns where the next range starts.
+/// Adds the tokens of a unit inside a region, whose current range starts at column `start`. Returns
+/// the column at which the range after the unit starts: `start` itself, unless the text is cut.
 fn push_quoted_unit(
     tokens: &mut Vec<Token>,
     ahead: &Reader,
@@ -86,7 +87,8 @@ fn push_quoted_unit(
     Ok(start)
 }
 
-/// Cuts a text up to the end of its region, and returns where its last range starts.
+/// Advances to the end of a region and adds its ranges except the last one. Returns the column at
+/// which the last range starts; the first one starts at column `first`.
 fn cut(
     tokens: &mut Vec<Token>,
     ahead: &mut Reader,
@@ -114,7 +116,8 @@ fn cut(
     Ok(start)
 }
 
-/// Ends a quoted text whose last range starts at this column.
+/// Adds the last range of a quoted text, from column `start` through the closing byte. A line end
+/// or the end of the source instead of the closing byte is a fault.
 fn end_quote(
     tokens: &mut Vec<Token>,
     ahead: &mut Reader,
@@ -143,7 +146,7 @@ fn end_quote(
     Ok(())
 }
 
-/// Reads a quoted text from its opening byte on.
+/// Reads a quoted text from its opening byte through its closing byte `close`.
 pub fn quoted_text(
     tokens: &mut Vec<Token>,
     ahead: &mut Reader,
@@ -165,7 +168,8 @@ pub fn quoted_text(
     })
 }
 
-/// Ends a verbatim text whose last range starts at this column.
+/// Adds the last range of a verbatim text, from column `start` on, and a fault if a line end ends
+/// the text.
 fn end_verbatim(
     tokens: &mut Vec<Token>,
     ahead: &Reader,
@@ -186,7 +190,7 @@ fn end_verbatim(
     Ok(())
 }
 
-/// Whether a region ends here.
+/// Whether a region is empty: its end is next, or the end of the source.
 fn ends_at_once(ahead: &Reader, region: Region) -> bool
     ensures { result ≡ spec.ends_at_once region ahead.now }
 {
@@ -196,7 +200,7 @@ fn ends_at_once(ahead: &Reader, region: Region) -> bool
     }
 }
 
-/// Adds an empty verbatim text.
+/// Adds an empty verbatim text, and a fault if a line end ends it.
 fn push_empty(tokens: &mut Vec<Token>, ahead: &Reader) -> Result<(), AllocError>
     ensures { OnOk result (tokens.new.items
         ≡ tokens.old.items ++ token.Span span_kind.Verbatim (span_at 0 ahead.now)
@@ -218,7 +222,7 @@ fn push_empty(tokens: &mut Vec<Token>, ahead: &Reader) -> Result<(), AllocError>
     Ok(())
 }
 
-/// Adds a verbatim text, from after its control code on.
+/// Reads a verbatim text after its `@=`, up to its end.
 fn push_verbatim(tokens: &mut Vec<Token>, ahead: &mut Reader, last: u32) -> Result<(), AllocError>
     ensures tokens { OnOk result
         (tokens.new.items ≡ tokens.old.items ++ spec.verbatim_tokens ahead.old) }
@@ -233,7 +237,7 @@ fn push_verbatim(tokens: &mut Vec<Token>, ahead: &mut Reader, last: u32) -> Resu
     end_verbatim(tokens, ahead, start, last)
 }
 
-/// Reads `@=` and the verbatim text up to `@>`, or up to the line end.
+/// Reads `@=` and the verbatim text through `@>`, or up to the line end, which is a fault.
 pub fn verbatim_text(
     tokens: &mut Vec<Token>,
     ahead: &mut Reader,

@@ -1,4 +1,5 @@
-//! Runs of words, white space, signs and line ends, which are most of C text.
+//! A loop for the simple lexemes: words, white space, signs and line ends, which are most of C
+//! text.
 ghost use Rattle.std.specs.Prelude.{◌≡◌, ◌≤◌, ◌++◌, length, IfOk, IfSome, OnOk};
 ghost use Rattle.tangle_lexer.specs.Reads.{IsRead};
 ghost use Rattle.tangle_lexer.specs.Simple.{IsSimple, simple_kind};
@@ -12,7 +13,7 @@ use crate::tokens::Token;
 use std::alloc::AllocError;
 use tangle_text::{Reader, Unit, is_white, is_word_byte};
 
-/// What is in most positions of C text.
+/// A lexeme whose kind is known from its first byte, or from a line end.
 #[derive(Clone, Copy)]
 pub enum SimpleLexeme {
     Word,
@@ -21,7 +22,8 @@ pub enum SimpleLexeme {
     LineEnd,
 }
 
-/// Whether each byte is a sign that opens nothing longer.
+/// For each byte, whether it is a sign wherever a lexeme begins with it. `/` is not, since it may
+/// open a comment.
 const SIGN_BYTES: [bool; 256] = [
     true, true, true, true, true, true, true, true, true, false, true, false, false, false, true,
     true, true, true, true, true, true, true, true, true, true, true, true, true, true, true, true,
@@ -44,7 +46,7 @@ const SIGN_BYTES: [bool; 256] = [
     false, false, false, false, false, false, false, false, false, false, false,
 ];
 
-/// A sign that opens nothing longer.
+/// Whether a byte is a sign wherever a lexeme begins with it.
 #[inline(always)]
 fn is_sign_byte(byte: u8) -> bool
     ensures { result ≡ spec.is_sign_byte byte }
@@ -52,7 +54,7 @@ fn is_sign_byte(byte: u8) -> bool
     SIGN_BYTES[byte as usize]
 }
 
-/// What this byte is, if it opens nothing longer.
+/// The simple lexeme that begins with this byte; `None` if the byte may open something longer.
 #[inline(always)]
 fn simple_of(byte: u8) -> Option<SimpleLexeme>
     ensures { result ≡ spec.simple_of byte }
@@ -68,7 +70,7 @@ fn simple_of(byte: u8) -> Option<SimpleLexeme>
     }
 }
 
-/// What is here, if it opens nothing longer.
+/// The simple lexeme that the text ahead begins with, if it begins with one.
 #[inline(always)]
 fn simple_at(ahead: &Reader) -> Option<SimpleLexeme>
     ensures { IfSome result (λ simple. IsSimple ahead.now simple) }
@@ -80,7 +82,6 @@ fn simple_at(ahead: &Reader) -> Option<SimpleLexeme>
     }
 }
 
-/// Reads a word, white space, a sign or a line end.
 #[inline(always)]
 fn simple_step(
     tokens: &mut Vec<Token>,
@@ -103,15 +104,14 @@ fn simple_step(
     }
 }
 
-/// Whether C text is read in this mode.
 fn is_c_text(mode: Mode) -> bool
     ensures { result ≡ spec.is_c_text mode }
 {
     matches!(mode, Mode::CPart | Mode::Macro)
 }
 
-/// In C text, reads words, white space, signs and line ends, up to a byte that may open something
-/// longer; in other text, nothing.
+/// Reads simple lexemes of C text, up to a byte that may open something longer. In limbo and in
+/// documentation it reads nothing.
 pub fn read_simple(
     tokens: &mut Vec<Token>,
     ahead: &mut Reader,
@@ -128,7 +128,7 @@ pub fn read_simple(
     if !is_c_text(from.mode) {
         return Ok(from);
     }
-    // The position and the state there stay in registers: both are returned at the end alone.
+    // `here` and `include` are local, so that they stay in registers in the loop.
     let mut here = ahead.copy();
     let mut include = from.include;
     while let Some(simple) = simple_at(&here) {

@@ -1,4 +1,4 @@
-//! What is at a position, by the mode.
+//! One step of the lexer: it reads the lexeme at a position, by the rules of the mode.
 ghost use Rattle.std.specs.Prelude.{◌≡◌, ◌≢◌, [], ◌∷◌, length, drop, IfOk, IsSome, None};
 ghost use Rattle.tangle_text.specs.Ahead.{IsFront};
 ghost use Rattle.tangle_lexer.specs.Reads.{IsRead, ReadsLexeme};
@@ -23,7 +23,7 @@ use std::alloc::AllocError;
 use tangle_lines::{FaultKind, Source};
 use tangle_text::{Front, Reader, Region, Unit, holds, is_section_start};
 
-/// Begins a section: its `@` is read.
+/// Begins a section. Only the `@` is read: the byte after it is skipped as documentation.
 fn section_start(
     tokens: &mut Vec<Token>,
     ahead: &mut Reader,
@@ -37,15 +37,15 @@ fn section_start(
     Ok(state.in_mode(Mode::Documentation))
 }
 
-/// Passes over the text up to the next `@`.
+/// Skips what is next, and the text after it up to an `@`.
 fn prose(ahead: &mut Reader)
-    ensures { ahead.new ≡ drop (count_before region.Prose 0 (drop 1 ahead.old)) (drop 1 ahead.old) }
+    ensures { ahead.new ≡ drop (count_before region.Prose (drop 1 ahead.old)) (drop 1 ahead.old) }
 {
     ahead.advance();
     ahead.skip_prose();
 }
 
-/// Limbo: all is passed over up to the first section start.
+/// Reads the first section start, or skips text in limbo: a control code, or the text up to an `@`.
 fn limbo(
     tokens: &mut Vec<Token>,
     ahead: &mut Reader,
@@ -67,7 +67,7 @@ fn limbo(
     Ok(state)
 }
 
-/// Begins a macro or an unnamed C part.
+/// Begins a macro or an unnamed C part, with its control code.
 fn start_block(
     tokens: &mut Vec<Token>,
     ahead: &mut Reader,
@@ -83,7 +83,7 @@ fn start_block(
     Ok(state.in_mode(mode))
 }
 
-/// Reads a control code of documentation.
+/// Reads a control code in documentation. It is skipped if it begins nothing.
 fn documentation_code(
     source: &Source,
     buffers: &mut LexerBuffers,
@@ -113,7 +113,7 @@ fn documentation_code(
     }
 }
 
-/// Reads one sign, which has so many bytes.
+/// Reads one sign: a unit of one byte, or `@@`, a unit of two.
 #[inline(always)]
 pub fn sign(
     tokens: &mut Vec<Token>,
@@ -131,7 +131,7 @@ pub fn sign(
     Ok(after)
 }
 
-/// Reads a control code that is one token.
+/// Reads a control code that becomes this token.
 fn code_token(
     tokens: &mut Vec<Token>,
     ahead: &mut Reader,
@@ -146,7 +146,7 @@ fn code_token(
     Ok(after)
 }
 
-/// Reads a control code that is a fault and white space.
+/// Reads a control code that is a fault of this kind, and white space.
 fn code_fault(
     tokens: &mut Vec<Token>,
     ahead: &mut Reader,
@@ -162,7 +162,7 @@ fn code_fault(
     Ok(state)
 }
 
-/// Reads a control code of C text that opens no name.
+/// Reads a control code in C text, except for one that opens a name.
 fn c_code(
     tokens: &mut Vec<Token>,
     ahead: &mut Reader,
@@ -196,7 +196,6 @@ fn c_code(
     }
 }
 
-/// Reads a word.
 #[inline(always)]
 pub fn word(
     tokens: &mut Vec<Token>,
@@ -215,7 +214,6 @@ pub fn word(
     Ok(after)
 }
 
-/// Reads white space.
 #[inline(always)]
 pub fn white_space(
     tokens: &mut Vec<Token>,
@@ -231,7 +229,6 @@ pub fn white_space(
     Ok(state)
 }
 
-/// Reads a line end.
 #[inline(always)]
 pub fn line_end(
     tokens: &mut Vec<Token>,
@@ -246,7 +243,7 @@ pub fn line_end(
     Ok(state.with_include(IncludeState::AtStart))
 }
 
-/// Reads C text, by what begins there.
+/// Reads a lexeme of this kind in C text.
 #[inline(always)]
 fn c_text(
     source: &Source,
@@ -281,7 +278,8 @@ fn c_text(
     }
 }
 
-/// Reads a control code of a macro.
+/// Reads a control code in a macro. The codes that end a macro act as in documentation, and all
+/// others but `@h` as in a C part.
 fn macro_code(
     source: &Source,
     buffers: &mut LexerBuffers,
@@ -313,7 +311,7 @@ fn macro_code(
     }
 }
 
-/// Reads what is here, in any mode.
+/// Reads one lexeme in any mode. `front` has the first two bytes or line ends of the text ahead.
 #[tactic(auto, unfolding(crate::specs::Steps::lexeme))]
 pub fn step(
     source: &Source,

@@ -1,12 +1,14 @@
-//! Tokens: what the text consists of, one after another.
+//! The tokens that the lexer reads, and the buffers that it fills.
 use crate::occurrences::Occurrence;
 use tangle_lines::FaultKind;
 use tangle_text::Span;
 
-/// The kind of a range of a line.
+/// What the text of a `Token::Span` is.
 #[derive(Clone, Copy)]
 pub enum SpanKind {
+    /// Word bytes, up to the first other byte.
     Word,
+    /// One byte that begins nothing else; `@@` is the sign `@`.
     Sign,
     /// A quoted text, or a range of one.
     Quoted,
@@ -14,37 +16,43 @@ pub enum SpanKind {
     Verbatim,
 }
 
-/// What is in the text. Each `u32` is the number of a source line, from 0.
+/// A token of the text. Each `u32` is the number of a source line, from 0.
 #[derive(Clone, Copy)]
 pub enum Token {
-    /// A section begins.
+    /// The start of a section.
     Section,
-    /// A macro begins; the line of its `@d`.
+    /// The start of a macro, with the line of its `@d`.
     MacroStart(u32),
-    /// An unnamed C part begins; the line on which its head ends.
+    /// The start of an unnamed C part, with the line of its `@c` or `@p`.
     UnnamedPart(u32),
-    /// A C part begins whose name is the occurrence of this number; the line on which its head
-    /// ends.
+    /// The start of a named C part, with the number of the occurrence that names it, and the line
+    /// of its equals sign.
     NamedPart(usize, u32),
     /// A range of a line: a word, a sign, or a range of a quoted or verbatim text.
     Span(SpanKind, Span),
-    /// The line end at which a quoted text is cut.
+    /// A line end inside a quoted text, after a backslash. The text is cut there.
     QuoteBreak,
-    /// An ASCII constant, by its value.
+    /// An ASCII constant, with its value and its line.
     AsciiConstant(u8, u32),
+    /// `@&`.
     Join,
+    /// White space, and what counts as white space: comments, control texts, some control codes.
     White,
+    /// A line end of a C part or a macro, with the line that it ends.
     LineEnd(u32),
-    /// A use of a name, by the number of its occurrence; the line on which it ends.
+    /// A use of a name, with the number of its occurrence and the line on which the name ends.
     UseOf(usize, u32),
-    /// All macros.
+    /// `@h`, with its line.
     AllMacros(u32),
+    /// A fault, with its line.
     Fault(FaultKind, u32),
 }
 
-/// What was read: the tokens, and the occurrences of names.
+/// The vectors that the lexer fills.
 #[derive(Drop)]
 pub struct LexerBuffers {
+    /// The tokens that the last call of `next_block` read before the head.
     pub tokens: Vec<Token>,
+    /// All occurrences of names that were read, in the order of the source.
     pub occurrences: Vec<Occurrence>,
 }

@@ -1,4 +1,4 @@
--- Searches for a byte of a set, or of none of a set, by the definitions of reading.
+-- Searching for a byte of a set, or for one outside a set, by the definitions of reading.
 use Rattle.std.proofs.Common.{◌≡◌, ℕ, zero, suc, ◌<◌, Bool, true, false, not, ◌&&◌, ◌||◌, ◌==◌, List, [], ◌∷◌, length, get_or, take, drop, refl, ap, sym, ◌∙◌, arith, le_refl, take_all, Option, Some, None, is_some, slice_index, cond}
 use Rattle.std.specs.List.{before_first, list_all}
 use Rattle.std.proofs.lemmas.Bool.{false_from_ne_true, false≢true}
@@ -9,7 +9,7 @@ use Rattle.bstr.proofs.lemmas.ByteLemmas.{IsFirstByte-same}
 use Rattle.tangle_lines.specs.Bytes.{double_quote, is_white}
 use Rattle.tangle_lines.specs.Inclusion.{after_white}
 
--- what is before the first byte that passes
+-- the bytes before the first one that passes
 module _ (test : ℕ → Bool) (hay : List ℕ) where
   pub before-found : (k : ℕ) → IsFirstByte test hay (Some k) → take k hay ≡ before_first test hay
   before-found k h =
@@ -99,7 +99,7 @@ some_other (b ∷ bs) (suc k) l other = by (is_white b) (some_other bs k (omega 
     by true h = h
     by false h = refl
 
--- all is white space where no other byte is found
+-- all bytes are white space if no other byte is found
 pub blank-found : (hay : List ℕ) (r : Option ℕ) (blank : Bool) → IsFirstByte (not_in white_set) hay r → is_some r ≡ not blank → blank ≡ list_all is_white hay
 blank-found hay None true h e =
     let f = first_other hay None h in

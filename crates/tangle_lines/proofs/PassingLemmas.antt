@@ -1,4 +1,4 @@
--- Reading goes on past lines that no change takes and that are no inclusions.
+-- Reading goes past lines that no change takes and that are no inclusions.
 use Rattle.std.proofs.Common.{◌≡◌, ℕ, ◌+◌, Bool, List, [], ◌∷◌, ◌++◌, drop, Option, None, Some, slice_get, true, false, not, ◌&&◌, cond, refl, sym, ap, ◌∙◌, append-nil, arith}
 use Rattle.tangle_files.specs.Lines.{FileTable}
 use Rattle.tangle_lines.specs.Change.{Change}
@@ -11,7 +11,7 @@ use Rattle.tangle_lines.proofs.ReadingLemmas.{at, so_far-plain}
 abbrev line_of : WaitingLine → SourceLine
 line_of w = record { bytes = w.bytes; origin = w.origin; changed = w.changed }
 
--- what is read in all from these lines and from what waits
+-- all that is read, from these lines and from those that wait
 abbrev all : FileTable → ℕ → List Change → List SourceLine → List FaultRead → List WaitingLine → ℕ → Reads
 all files change_file cs lines faults ws t =
     before_reads (record { lines = lines; faults = faults }) (reads_from files change_file (at ws cs t))
@@ -39,7 +39,7 @@ module _ (cs : List Change) (lines : List SourceLine) (ws : List WaitingLine) wh
       so_far-plain files change_file (all files change_file cs lines faults (w ∷ ws) t) lines faults (w ∷ ws) cs t refl w ws refl
       ws (lines ++ line_of w ∷ []) faults (omega (arith, h)) unchanged (is_plain files faults w (included_name w.bytes) plain)
 
--- the line after so many lines of a file, where more lines wait after the file
+-- the line after the first `number` lines of a file, where more lines wait after the file
 pub waiting-next : (file : ℕ) (changed : Bool) (depth number next : ℕ) (file_lines : List (List ℕ)) (line : List ℕ) (rest : List WaitingLine)
     → next ≡ number + 1 → drop number file_lines ≡ line ∷ drop (number + 1) file_lines
     → waiting_lines file changed depth (number + 1) (drop number file_lines) ++ rest
@@ -61,7 +61,7 @@ pub passes-same : (cs : List Change) (lines lines' : List SourceLine) (ws ws₁ 
     → ws ≡ ws₁ → ws' ≡ ws₁' → PassesOn cs lines ws₁ n lines' ws₁' → PassesOn cs lines ws n lines' ws'
 passes-same cs lines lines' ws ws₁ ws' ws₁' n before after passed = rw (before, after) passed
 
--- where the line at which the next change is used is another, no change is used
+-- no change is used at a line that is not the awaited one
 pub unawaited : (cs : List Change) (w : WaitingLine) → is_awaited (awaited cs w.changed) w.bytes ≡ false → None ≡ change_here cs w
 unawaited [] w h = refl
 unawaited (c ∷ cs) w h = by w.changed c.old_lines h

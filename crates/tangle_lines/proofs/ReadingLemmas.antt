@@ -1,4 +1,4 @@
--- Each step of reading takes a line, so reading has as many steps as it needs.
+-- Each step of reading takes a line, so the bound allows all steps.
 use Rattle.std.proofs.Common.{◌≡◌, ℕ, zero, suc, ◌+◌, ◌-◌, ◌<◌, ◌≤◌, Bool, true, false, cond, not, ◌&&◌, List, [], ◌∷◌, ◌++◌, length, min, drop, Option, None, Some, refl, sym, ap, ◌∙◌, arith, true≢false, append_assoc, append-nil}
 use Rattle.tangle_faults.specs.declared.faults.FaultKind.TheVariants.{SourceTooLong}
 use Rattle.tangle_faults.specs.Faults.{fault_at, FaultRead}
@@ -11,7 +11,7 @@ use Rattle.tangle_lines.specs.Reading.{WaitingLine, SourceLine, Reads, place_of,
 use Rattle.tangle_lines.specs.Inclusion.{included_name}
 use Rattle.tangle_lines.specs.Reading.ReadingStep.{Ends, Goes}
 
--- a step either ends, or is below the limit and takes a line
+-- a step ends reading, or is below the limit and takes a line
 abbrev Advances : ℕ → ReadingStep → Type 0
 Advances taken (Ends faults) = Unit {0}
 Advances taken (Goes out s) = (taken < source_line_limit) × (taken < s.taken)
@@ -20,7 +20,7 @@ begins-some : (old : List (List ℕ)) (line : List ℕ) → begins old line ≡ 
 begins-some [] line h = absurd (true≢false (sym h))
 begins-some (o ∷ os) line h = omega arith
 
--- a change that is used is the first of those that are left, and has an old line
+-- a used change is the first remaining one, and has an old line
 pub change_here-some : (cs : List Change) (w : WaitingLine) (c : Change) → Some c ≡ change_here cs w → (0 < length c.old_lines) × (cs ≡ c ∷ drop 1 cs)
 change_here-some [] w c h = absurd (cc)
 change_here-some (d ∷ cs) w c h = by w.changed (begins d.old_lines w.bytes) refl h
@@ -66,7 +66,7 @@ module _ (files : FileTable) (change_file : ℕ) where
   after-next n t (Ends faults) a h = refl
   after-next n t (Goes out s) a h = ap (before_reads out) (reads_in-enough n (suc (source_line_limit - s.taken)) s (omega arith) (omega arith))
 
-  -- reading is a step, and then reading
+  -- reading makes one step, and then reads on
   pub reads_from-step : (s : State) → reads_from files change_file s ≡ after files change_file (step_of files change_file s.waiting s.changes s.taken) (λ t. reads_from files change_file t)
   unfolding reads_in
   reads_from-step s =
@@ -78,7 +78,7 @@ before_reads-append a b c = λ i. record { lines = append_assoc a.lines b.lines 
 abbrev pub at : List WaitingLine → List Change → ℕ → State
 at lines changes taken = record { waiting = lines; changes = changes; taken = taken }
 
--- reading, by what waits
+-- reading, by the lines that wait
 module _ (files : FileTable) (change_file : ℕ) (ws : List WaitingLine) (cs : List Change) (t : ℕ) where
   reads_from-end : reads_from files change_file (at [] cs t) ≡ record { lines = []; faults = unused_faults files change_file cs }
   reads_from-end = reads_from-step files change_file (at [] cs t)
@@ -99,7 +99,7 @@ module _ (files : FileTable) (change_file : ℕ) (ws : List WaitingLine) (cs : L
   unfolding by_limit
   reads_from-line w h = reads_from-step files change_file (at (w ∷ ws) cs t) ∙ ap (by_limit w) (lt-ltb t source_line_limit h)
 
--- how reading goes on: what was given so far, and then what waits, is all of it
+-- while reading goes on, the results so far and those of the lines that wait are the whole result
 module _ (files : FileTable) (change_file : ℕ) (start : Reads) (lines : List SourceLine) (faults : List FaultRead) (waiting : List WaitingLine) (changes : List Change) (t : ℕ)
     (so_far : before_reads (record { lines = lines; faults = faults }) (reads_from files change_file (at waiting changes t)) ≡ start) where
   out : Reads
@@ -122,7 +122,7 @@ module _ (files : FileTable) (change_file : ℕ) (start : Reads) (lines : List S
         ∙ ap (before_reads out) (reads_from-stop files change_file ws changes t w h)
         ∙ (λ i. record { lines = append-nil lines i; faults = faults ++ fault_at SourceTooLong (place_of files w.origin) ∷ [] })
 
-    -- a step gives more, and reading goes on from where it leads
+    -- a step gives more, and reading goes on in the state after it
     step_out : (more : Reads) (s : State) → line_step files change_file w ws changes t (change_here changes w) ≡ Goes more s
         → t < source_line_limit → before_reads (before_reads out more) (reads_from files change_file s) ≡ start
     unfolding out

@@ -11,7 +11,7 @@ pub stacked-push : (fs : List (List WaitingLine)) (f : List WaitingLine) → sta
 stacked-push [] f = sym (append-nil f)
 stacked-push (g ∷ fs) f = ap (λ l. l ++ g) (stacked-push fs f) ∙ append_assoc f (stacked fs) g
 
--- with another file instead of the last, and with the last as it is
+-- the last file is replaced by another, or is unchanged
 pub stacked-set : (fs : List (List WaitingLine)) (n : ℕ) (f : List WaitingLine) → length fs ≡ n + 1 → stacked (set fs n f) ≡ f ++ stacked (take n fs)
 stacked-set [] n f h = absurd (omega arith)
 stacked-set (g ∷ []) zero f h = sym (append-nil f)
@@ -24,7 +24,7 @@ stacked-last (g ∷ []) zero d h = sym (append-nil g)
 stacked-last (g ∷ g' ∷ fs) zero d h = absurd (omega arith)
 stacked-last (g ∷ fs) (suc n) d h = ap (λ l. l ++ g) (stacked-last fs n d (omega arith)) ∙ append_assoc (get_or fs n d) (stacked (take n fs)) g
 
--- what is left when a line was taken, and then a line for each further old line
+-- the lines that remain after one line was taken, and then one for each further old line
 pub drop-taken : {X Y : Type 0} (slice : List X) (old : List Y) (w : WaitingLine) (ws : List WaitingLine) → length slice ≡ length old → 0 < length old
     → drop (length (drop 1 slice)) ws ≡ drop (min (length old) (suc (length ws))) (w ∷ ws)
 drop-taken [] old w ws h p = absurd (omega arith)

@@ -1,4 +1,4 @@
--- Small webs with the source that reading gives, by computing the definition.
+-- Small webs and their sources, computed by the definition of reading.
 use Rattle.std.proofs.Common.{◌≡◌, ℕ, zero, suc, List, [], ◌∷◌, None, Some, true, false, refl}
 use Rattle.std.specs.Prelude.{codes}
 use Rattle.tangle_faults.specs.declared.faults.FaultKind.TheVariants.{ChangeMismatch, EmptyOld, ChangeUnused, StrayMark, MissingY, MissingZ, IncludeNoName, IncludeMissing, IncludeTooDeep}
@@ -15,7 +15,7 @@ change = codes "a.ch"
 abbrev inner : List ℕ
 inner = codes "b.w"
 
--- the source of a web and a change file
+-- reading a web and a change file
 abbrev changed : List ℕ → List ℕ → Reads
 changed bytes changes = reads ((web, cut bytes) ∷ (change, cut changes) ∷ []) web (Some change)
 
@@ -25,7 +25,7 @@ line file bytes n = record { bytes = bytes; origin = record { file = file; line 
 abbrev new_line : List ℕ → ℕ → SourceLine
 new_line bytes n = record { bytes = bytes; origin = record { file = 1; line = n }; changed = true }
 
--- a new line replaces an old one, with its own origin
+-- a new line replaces an old one, and has its own origin
 line_replaced : changed (codes "@ A.\n@c\nint a;\nint b;\n") (codes "@x\nint a;\n@y\nint z;\n@z\n") ≡ record {
   lines = line 0 (codes "@ A.") 1 ∷ line 0 (codes "@c") 2 ∷ new_line (codes "int z;") 4 ∷ line 0 (codes "int b;") 4 ∷ [];
   faults = [];
@@ -33,7 +33,7 @@ line_replaced : changed (codes "@ A.\n@c\nint a;\nint b;\n") (codes "@x\nint a;\
 unfolding reads_in
 line_replaced = refl
 
--- a further old line that differs is a fault, and the change is used all the same
+-- a later old line that differs is a fault, and the change is used all the same
 further_old_line_differs : changed (codes "@ A.\n@c\nint a;\nint b;\n") (codes "@x\nint a;\nint c;\n@y\nint z;\n@z\n") ≡ record {
   lines = line 0 (codes "@ A.") 1 ∷ line 0 (codes "@c") 2 ∷ new_line (codes "int z;") 5 ∷ [];
   faults = fault_counting ChangeMismatch (record { file = change; line = 1 }) 1 ∷ [];
@@ -41,7 +41,7 @@ further_old_line_differs : changed (codes "@ A.\n@c\nint a;\nint b;\n") (codes "
 unfolding reads_in
 further_old_line_differs = refl
 
--- a change comes before inclusion: the file isn't looked for
+-- a change comes before inclusion: the file isn't searched for
 inclusion_changed_away : changed (codes "@i none.w\n@ A.\n@c\nx\n") (codes "@x\n@i none.w\n@y\n@z\n") ≡ record {
   lines = line 0 (codes "@ A.") 2 ∷ line 0 (codes "@c") 3 ∷ line 0 (codes "x") 4 ∷ [];
   faults = [];

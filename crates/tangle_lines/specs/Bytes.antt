@@ -1,4 +1,4 @@
--- The bytes that the rules of reading name.
+-- The bytes that the rules of reading mention.
 use Rattle.std.specs.Prelude.{ℕ, ◌+◌, Bool, ◌==◌, ◌||◌}
 use Rattle.tangle_files.specs.Bytes.{space}
 

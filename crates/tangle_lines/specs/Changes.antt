@@ -11,7 +11,7 @@ use Rattle.tangle_lines.specs.declared.changes.LineKind.{LineKind}
 use Rattle.tangle_lines.specs.declared.changes.LineKind.TheVariants.{BeginsChange, BeginsNew, EndsChange, IsText}
 use Rattle.tangle_faults.specs.Faults.{FaultRead, fault_at}
 
--- what a line of a change file is
+-- the kind of a line of a change file
 abbrev pub line_kind_of : List ℕ → LineKind
 line_kind_of [] = IsText
 line_kind_of (a ∷ []) = IsText
@@ -30,11 +30,11 @@ nothing_found = record { changes = []; faults = [] }
 abbrev pub before : Found → Found → Found
 before first rest = record { changes = first.changes ++ rest.changes; faults = first.faults ++ rest.faults }
 
--- a change of which no line was read
+-- a change whose `@x` line was just read
 abbrev pub begun : ℕ → Change
 begun n = record { at = n; old_lines = []; new_lines = [] }
 
--- a change that has come to its end: without old lines it is dropped
+-- a finished change; without old lines it is dropped
 abbrev pub closed_by : List (List ℕ) → Change → List Change
 closed_by [] c = []
 closed_by (o ∷ os) c = c ∷ []
@@ -46,21 +46,23 @@ module _ (file : List ℕ) where
   abbrev pub fault_found : FaultKind → ℕ → Found
   fault_found kind n = record { changes = []; faults = fault_at kind (record { file = file; line = n }) ∷ [] }
 
-  -- the end of the old lines
+  -- the fault at the end of the old lines, if there are none
   abbrev pub old_ended : ℕ → List (List ℕ) → Found
   old_ended at [] = fault_found EmptyOld at
   old_ended at (o ∷ os) = nothing_found
 
-  -- an old line: blank ones directly after the @x line are skipped
+  -- the old lines with one more; blank lines directly after the `@x` line are skipped
+  -- A change that began at a blank line would match almost anywhere.
   abbrev pub with_old : List (List ℕ) → List ℕ → List (List ℕ)
   with_old [] line = if list_all is_white line then [] else line ∷ []
   with_old (o ∷ os) line = (o ∷ os) ++ line ∷ []
 
-  -- a fault, and the changes that come with it
+  -- a fault, and the changes that end with it
   abbrev pub fault_with : FaultKind → ℕ → List Change → Found
   fault_with kind n changes = record { changes = changes; faults = fault_at kind (record { file = file; line = n }) ∷ [] }
 
-  -- the phase after the line of number n, with the change that ends there and the fault that is found
+  -- the phase after the line with the number `n`, and the change and the fault that end with this
+  -- line
   abbrev pub next_phase : ChangePhase → ℕ → List ℕ → LineKind → ChangePhase × Found
   next_phase Outside n line BeginsChange = (InOld (begun n), nothing_found)
   next_phase Outside n line BeginsNew = (Outside, fault_found StrayMark n)
@@ -75,7 +77,7 @@ module _ (file : List ℕ) where
   next_phase (InNew c) n line EndsChange = (Outside, record { changes = closed c; faults = [] })
   next_phase (InNew c) n line IsText = (InNew (record c { new_lines = c.new_lines ++ (n, line) ∷ [] }), nothing_found)
 
-  -- the change and the fault that are found at the end of the file
+  -- the change and the fault at the end of the change file
   abbrev pub at_end : ChangePhase → Found
   at_end Outside = nothing_found
   at_end (InOld c) = fault_found MissingY c.at
@@ -86,6 +88,7 @@ module _ (file : List ℕ) where
   changes_from phase n (line ∷ lines) =
       before (next_phase phase n line (line_kind_of line)).1 (changes_from (next_phase phase n line (line_kind_of line)).0 (n + 1) lines)
 
-  -- the changes of the change file with these lines, and its faults in the order in which they are found
+  -- the changes of the change file with these lines, and its faults in the order in which they are
+  -- found
   abbrev pub changes_of : List (List ℕ) → Found
   changes_of lines = changes_from Outside 1 lines

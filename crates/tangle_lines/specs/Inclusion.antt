@@ -8,14 +8,17 @@ abbrev pub after_white : List ℕ → List ℕ
 after_white [] = []
 after_white (b ∷ bs) = if is_white b then after_white bs else b ∷ bs
 
--- the name in what follows @i: up to the next quote if it begins with one, else up to white space or a quote
+-- the name in the bytes after `@i` and white space: up to the next quote if it begins with one,
+-- else up to white space or a quote
+-- A quoted name without its end is most likely the rest of the line.
 abbrev pub name_in : List ℕ → List ℕ
 name_in [] = []
 name_in (b ∷ bs) =
     if b == double_quote then before_first (λ c. c == double_quote) bs
     else before_first (λ c. is_white c || (c == double_quote)) (b ∷ bs)
 
--- the name of an inclusion, which may be empty; no other line has one
+-- the name of an inclusion, which may be empty; other lines have none
+-- The third byte of the line does not count: a rule without exceptions is easier to remember.
 abbrev pub included_name : List ℕ → Option (List ℕ)
 included_name [] = None
 included_name (a ∷ []) = None

@@ -10,11 +10,11 @@ use Rattle.tangle_lines.specs.Change.{Change}
 use Rattle.tangle_lines.specs.Changes.{Found, nothing_found, changes_of}
 use Rattle.tangle_lines.specs.Inclusion.{included_name}
 
--- the most files that may be open at once, the web counted
+-- the most files that may be open at once, the web included
 abbrev pub depth_limit : ℕ
 depth_limit = 10
 
--- the most lines that are taken
+-- the most lines that are read
 abbrev pub source_line_limit : ℕ
 source_line_limit = 2000000
 
@@ -22,7 +22,9 @@ source_line_limit = 2000000
 abbrev pub place_of : FileTable → Origin → PlaceRead
 place_of files origin = record { file = name_at files origin.file; line = origin.line }
 
--- a line that waits to be read; it is changed if it comes from the change file, or from a file that a changed line includes
+-- a line that waits to be read; it is changed if it is from the change file, or from a file that a
+-- changed line includes
+-- If such a file's lines were not, a change could be used within the new lines of another.
 pub record WaitingLine : Type 0 where
   pub bytes : List ℕ
   pub origin : Origin
@@ -35,7 +37,7 @@ pub record SourceLine : Type 0 where
   pub origin : Origin
   pub changed : Bool
 
--- what is read: source lines, and the faults of change file and reading
+-- the result of reading: source lines, and the faults of the change file and of reading
 pub record Reads : Type 0 where
   pub lines : List SourceLine
   pub faults : List FaultRead
@@ -43,7 +45,7 @@ pub record Reads : Type 0 where
 abbrev pub before_reads : Reads → Reads → Reads
 before_reads first rest = record { lines = first.lines ++ rest.lines; faults = first.faults ++ rest.faults }
 
--- the lines of a file, numbered from n on
+-- the lines of a file, the first of which has the number `n`
 abbrev pub waiting_lines : ℕ → Bool → ℕ → ℕ → List (List ℕ) → List WaitingLine
 waiting_lines file changed depth n [] = []
 waiting_lines file changed depth n (l ∷ ls) =
@@ -55,22 +57,22 @@ change_lines file depth [] = []
 change_lines file depth (l ∷ ls) =
     record { bytes = l.1; origin = record { file = file; line = l.0 }; changed = true; depth = depth } ∷ change_lines file depth ls
 
--- the line equals the first old line
+-- the line equals the first old line of a change
 abbrev pub begins : List (List ℕ) → List ℕ → Bool
 begins [] line = false
 begins (o ∷ os) line = bytes_eq line o
 
--- the first change that isn't used yet, if it is used at this line
+-- the next change, if it is used at this line
 abbrev pub change_here : List Change → WaitingLine → Option Change
 change_here [] w = None
 change_here (c ∷ cs) w = if not w.changed && begins c.old_lines w.bytes then Some c else None
 
--- 1 if the old line has no line or an unequal one
+-- 1 if there is no line for the old line, or one that differs; else 0
 abbrev pub unequal_front : List ℕ → List WaitingLine → ℕ
 unequal_front o [] = 1
 unequal_front o (w ∷ ws) = if bytes_eq w.bytes o then 0 else 1
 
--- how many of the old lines have no line or an unequal one
+-- the number of old lines for which there is no line, or one that differs
 abbrev pub unequal_lines : List (List ℕ) → List WaitingLine → ℕ
 unequal_lines [] ws = 0
 unequal_lines (o ∷ os) ws = unequal_front o ws + unequal_lines os (drop 1 ws)
@@ -78,19 +80,22 @@ unequal_lines (o ∷ os) ws = unequal_front o ws + unequal_lines os (drop 1 ws)
 abbrev pub mismatch_faults : PlaceRead → ℕ → List FaultRead
 mismatch_faults place n = if n == 0 then [] else fault_counting ChangeMismatch place n ∷ []
 
--- where reading is: the lines that wait, the changes not yet used, and how many lines were taken
+-- the state of reading: the lines that wait, the changes that are not yet used, and the number of
+-- lines taken
 pub record State : Type 0 where
   pub waiting : List WaitingLine
   pub changes : List Change
   pub taken : ℕ
 
--- one step of reading: it ends, or gives source lines and faults and goes on
+-- one step of reading: it ends, or it gives source lines and faults and a state in which reading
+-- goes on
 pub data ReadingStep : Type 0 where
   Ends : List FaultRead → ReadingStep
   Goes : Reads → State → ReadingStep
 
 module _ (files : FileTable) where
-  -- the lines that replace an inclusion of the file of this name and number, or the first fault that applies
+  -- the lines of the included file with this name and number, or the first fault that applies
+  -- A missing file comes first: its author can add it, and the depth shows at the next run.
   abbrev pub included : WaitingLine → List ℕ → Option ℕ → (List WaitingLine × List FaultRead)
   included w name None = ([], fault_about IncludeMissing (place_of files w.origin) name ∷ [])
   included w name (Some n) =
@@ -101,7 +106,7 @@ module _ (files : FileTable) where
   inclusion w [] = ([], fault_at IncludeNoName (place_of files w.origin) ∷ [])
   inclusion w (b ∷ bs) = included w (b ∷ bs) (file_number files (b ∷ bs))
 
-  -- a line that no change takes is a source line or an inclusion
+  -- a line that no change takes becomes a source line, or is replaced by the file that it includes
   abbrev pub plain_step : WaitingLine → List WaitingLine → List Change → ℕ → Option (List ℕ) → ReadingStep
   plain_step w ws changes taken None =
       Goes (record { lines = record { bytes = w.bytes; origin = w.origin; changed = w.changed } ∷ []; faults = [] })
@@ -115,31 +120,31 @@ module _ (files : FileTable) (change_file : ℕ) where
   abbrev pub change_place : Change → PlaceRead
   change_place c = place_of files (record { file = change_file; line = c.at })
 
-  -- the first of the changes that are left was not used
+  -- the fault of the first remaining change, which was not used
   abbrev pub unused_faults : List Change → List FaultRead
   unused_faults [] = []
   unused_faults (c ∷ cs) = fault_at ChangeUnused (change_place c) ∷ []
 
-  -- a change that is used takes as many lines as it has old lines, and its new lines wait instead of them
+  -- a used change takes as many lines as it has old lines, and its new lines wait instead
   abbrev pub change_step : Change → List Change → WaitingLine → List WaitingLine → ℕ → ReadingStep
   change_step c cs w ws taken =
       let lines = min (length c.old_lines) (length (w ∷ ws)) in
       Goes (record { lines = []; faults = mismatch_faults (change_place c) (unequal_lines (drop 1 c.old_lines) ws) })
       (record { waiting = change_lines change_file w.depth c.new_lines ++ drop lines (w ∷ ws); changes = cs; taken = taken + lines })
 
-  -- a change that is used here comes before inclusion
+  -- a change that is used at a line comes before inclusion
   abbrev pub line_step : WaitingLine → List WaitingLine → List Change → ℕ → Option Change → ReadingStep
   line_step w ws changes taken None = plain_step files w ws changes taken (included_name w.bytes)
   line_step w ws changes taken (Some c) = change_step c (drop 1 changes) w ws taken
 
-  -- the end comes when no line waits, or at the limit
+  -- reading ends when no line waits, or at the limit
   abbrev pub step_of : List WaitingLine → List Change → ℕ → ReadingStep
   step_of [] changes taken = Ends (unused_faults changes)
   step_of (w ∷ ws) changes taken =
       if nat_lt taken source_line_limit then line_step w ws changes taken (change_here changes w)
       else Ends (fault_at SourceTooLong (place_of files w.origin) ∷ [])
 
-  -- what a step gives, and then what the rest gives
+  -- the results of a step, and then those of the rest
   abbrev pub after : ReadingStep → (State → Reads) → Reads
   after (Ends faults) rest = record { lines = []; faults = faults }
   after (Goes out s) rest = before_reads out (rest s)
@@ -149,12 +154,12 @@ module _ (files : FileTable) (change_file : ℕ) where
   reads_in zero s = record { lines = []; faults = [] }
   reads_in (suc n) s = after (step_of s.waiting s.changes s.taken) (λ t. reads_in n t)
 
-  -- reading to its end: each step takes a line at least, and the step at the limit is the last,
-  -- so that these are enough (reads_from-step in proofs/ReadingLemmas)
+  -- reading to its end: each step takes at least one line, and the step at the limit is the last,
+  -- so this number of steps is enough (`reads_from-step` in proofs/ReadingLemmas)
   abbrev pub reads_from : State → Reads
   reads_from s = reads_in (suc (source_line_limit - s.taken)) s
 
--- reading of the web with these changes, of the change file of this number
+-- reading the web with these changes; `change` is the number of the change file
 abbrev pub reads_web : FileTable → ℕ → ℕ → Found → Reads
 reads_web files web change found =
     before_reads (record { lines = []; faults = found.faults })
@@ -165,12 +170,12 @@ abbrev pub change_number : FileTable → Option (List ℕ) → ℕ
 change_number files None = 0
 change_number files (Some name) = file_number_or_count files name
 
--- what the change file says, if there is one
+-- the changes and the faults of the change file, if there is one
 abbrev pub changes_in : FileTable → Option (List ℕ) → Found
 changes_in files None = nothing_found
 changes_in files (Some name) = changes_of (name_at files (file_number_or_count files name)) (lines_at files (file_number_or_count files name))
 
--- what reading of the files gives, by the names of the web and the change file
+-- the result of reading the files, by the names of the web and the change file
 abbrev pub reads : FileTable → List ℕ → Option (List ℕ) → Reads
 reads files web change = reads_web files (file_number_or_count files web) (change_number files change) (changes_in files change)
 
@@ -183,18 +188,18 @@ pub record SourceRead : Type 0 where
 abbrev pub with_files : FileTable → Reads → SourceRead
 with_files files r = record { files = files; lines = r.lines; faults = r.faults }
 
--- the source that the files and the roles make
+-- the source of these files and roles
 abbrev pub source_of : FileTable → RolesRead → SourceRead
 source_of files roles = with_files files (reads files roles.web roles.change)
 
--- what is read from a source without that line
+-- what is read of a source where it has no such line
 abbrev pub no_line : SourceLine
 no_line = record { bytes = []; origin = record { file = 0; line = 0 }; changed = false }
 
--- the source line of this number, from 0
+-- the source line with this number, from 0
 abbrev pub line_at : List SourceLine → ℕ → SourceLine
 line_at lines number = get_or lines number no_line
 
--- the origin of the source line of this number
+-- the origin of the source line with this number
 abbrev pub origin_at : List SourceLine → ℕ → Origin
 origin_at lines number = (line_at lines number).origin

@@ -17,7 +17,7 @@ use tangle_faults::{Fault, FaultKind, add_fault};
 use tangle_files::Line;
 use tangle_streams::NoMemory;
 
-/// What a line of a change file is, by its first two bytes.
+/// The kind of a line of a change file, by its first two bytes.
 #[derive(Clone, Copy, Debug, PartialEq, Eq)]
 pub enum LineKind {
     /// `@x`
@@ -29,7 +29,7 @@ pub enum LineKind {
     IsText,
 }
 
-/// A change, from its `@x` line on. Its lines are those of the change file.
+/// A change, with the number of its `@x` line. It borrows its lines from the change file.
 #[derive(Drop)]
 pub struct Change<'a> {
     at: u32,
@@ -51,7 +51,6 @@ impl<'a> Model for Change<'a> {
 }
 
 impl<'a> Change<'a> {
-    /// A change without lines.
     fn new(alloc: Global, at: u32) -> Self
         ensures { result ≡ record { at = at; old_lines = []; new_lines = [] } }
     {
@@ -80,7 +79,7 @@ impl<'a> Change<'a> {
         Ok(())
     }
 
-    /// The number of its `@x` line.
+    /// The number of the `@x` line of the change.
     pub(crate) fn at(&self) -> u32
         ensures { result ≡ self.now.at }
     {
@@ -101,7 +100,6 @@ impl<'a> Change<'a> {
         self.new_lines.as_slice()
     }
 
-    /// Whether there is no old line.
     fn is_empty(&self) -> bool
         ensures { IsTrue result ↔ (self.now.old_lines ≡ []) }
     {
@@ -109,7 +107,7 @@ impl<'a> Change<'a> {
     }
 }
 
-/// Where in the change file a line is.
+/// The part of a change file to which the next line belongs.
 #[derive(Drop)]
 pub enum ChangePhase<'a> {
     Outside,
@@ -117,8 +115,7 @@ pub enum ChangePhase<'a> {
     InNew(Change<'a>),
 }
 
-/// The changes of the change file of this name, whose faults are added to the others as they are
-/// found.
+/// Reads the changes of the change file of this name. Its faults are added as they are found.
 pub(crate) fn changes_of<'a>(
     alloc: Global,
     file: &[u8],
@@ -144,7 +141,7 @@ pub(crate) fn changes_of<'a>(
     Ok(changes)
 }
 
-/// The phase after a line. The change that ends there, and the faults that are found, are added.
+/// The phase after a line. The change and the fault that end with this line are added.
 fn next_phase<'a>(
     alloc: Global,
     file: &[u8],
@@ -176,7 +173,7 @@ fn next_phase<'a>(
     }
 }
 
-/// The phase after a line outside of changes. A fault that is found is added.
+/// The phase after a line outside of changes. A fault of this line is added.
 fn next_outside<'a>(
     alloc: Global,
     file: &[u8],
@@ -199,7 +196,7 @@ fn next_outside<'a>(
     }
 }
 
-/// The phase after a line among the old lines of a change. A fault that is found is added.
+/// The phase after a line among the old lines of a change. A fault of this line is added.
 fn next_in_old<'a>(
     alloc: Global,
     file: &[u8],
@@ -240,8 +237,8 @@ fn next_in_old<'a>(
     }
 }
 
-/// The phase after a line among the new lines of a change. The change, where it ends, and a fault
-/// that is found are added.
+/// The phase after a line among the new lines of a change. If the change ends here it is added, and
+/// so is a fault of this line.
 fn next_in_new<'a>(
     alloc: Global,
     file: &[u8],
@@ -283,7 +280,7 @@ fn next_in_new<'a>(
     }
 }
 
-/// Adds the change that ends with the change file, and the fault that is found there.
+/// Ends the change that is open at the end of the change file, and adds its fault.
 fn finish<'a>(
     alloc: Global,
     file: &[u8],
@@ -310,7 +307,7 @@ fn finish<'a>(
     }
 }
 
-/// Adds a change that has come to its end, unless it has no old lines.
+/// Adds a finished change. A change without old lines is dropped.
 fn keep<'a>(change: Change<'a>, changes: &mut Vec<Change<'a>>) -> Result<(), NoMemory>
     ensures { OnOk result (changes.new.items ≡ changes.old.items ++ closed change.entry) }
 {
@@ -320,7 +317,7 @@ fn keep<'a>(change: Change<'a>, changes: &mut Vec<Change<'a>>) -> Result<(), NoM
     Ok(())
 }
 
-/// What the line is.
+/// The kind of a line.
 fn line_kind(line: &[u8]) -> LineKind
     ensures { result ≡ line_kind_of line.now }
 {
@@ -332,7 +329,7 @@ fn line_kind(line: &[u8]) -> LineKind
     }
 }
 
-/// Whether the line is empty or of white space alone.
+/// Whether the line is empty or has only white space.
 fn is_blank(line: &[u8]) -> bool
     ensures { result ≡ list_all is_white line.now }
 {

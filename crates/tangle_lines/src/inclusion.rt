@@ -11,12 +11,12 @@ use bstr::ByteSlice;
 /// White space: the space, tab, carriage return, vertical tab and form feed.
 pub(crate) const WHITE: &[u8] = b" \t\r\x0b\x0c";
 
-/// White space and the quote: a name without quotes ends before the first of these.
+/// White space and the quote: the first of these ends a name without quotes.
 const WHITE_OR_QUOTE: &[u8] = b" \t\r\x0b\x0c\"";
 
-/// The name that a line includes, which may be empty: a line that begins with `@i` or `@I` is an
-/// inclusion. A name in quotes may have white space in it; what follows the name is ignored. Other
-/// lines include nothing.
+/// The name that a line includes, which may be empty. A line that begins with `@i` or `@I` is an
+/// inclusion; a name in quotes may have white space in it, and what follows the name is ignored.
+/// Other lines include nothing.
 pub fn included_name(line: &[u8]) -> Option<&[u8]>
     ensures { option_copied result ≡ name_of_inclusion line.now }
 {
@@ -26,7 +26,7 @@ pub fn included_name(line: &[u8]) -> Option<&[u8]>
     }
 }
 
-/// The name in what follows the `@i` of an inclusion and its white space.
+/// The name in the bytes after `@i` and white space.
 fn inclusion_name(bytes: &[u8]) -> &[u8]
     ensures { result.now ≡ name_in bytes.now }
 {
@@ -38,8 +38,8 @@ fn inclusion_name(bytes: &[u8]) -> &[u8]
 }
 
 /// The bytes from the first one on that isn't white space.
-// Not inlined, nor is `before_white_or_quote`: the search puts a table on the stack, and most lines
-// include nothing.
+// This function and `before_white_or_quote` are not inlined: the search puts a table on the stack,
+// and most lines include nothing.
 #[inline(never)]
 fn skip_white(bytes: &[u8]) -> &[u8]
     ensures { result.now ≡ after_white bytes.now }

@@ -1,7 +1,7 @@
-//! The source lines of a web: change files and inclusion.
+//! The source lines of a web, after inclusions and changes.
 //!
-//! [`read_source`] reads a web and its change file from a table of files. The names of files, of
-//! faults and of streams are re-exported.
+//! [`read_source`] reads a web and its change file from a table of files. The types for files,
+//! faults and streams are re-exported.
 #![tactic(auto)]
 
 mod changes;

@@ -1,4 +1,4 @@
-//! Reading of a web over open files.
+//! Reads a web, with its inclusions and changes.
 ghost use Rattle.std.specs.Prelude.{◌≡◌, ℕ, ◌+◌, ◌^◌, ◌<◌, ◌≤◌, [], ◌∷◌, ◌++◌, length, min, drop};
 ghost use Rattle.std.specs.Prelude.{map, true, false, None, IfOk, OnOk};
 ghost use Rattle.std.specs.Option.{option_copied};
@@ -21,13 +21,14 @@ use tangle_faults::{Fault, FaultKind, add_fault};
 use tangle_files::{Files, Line, Roles};
 use tangle_streams::NoMemory;
 
-/// The most files that may be open at once, the web counted.
+/// The most files that may be open at once, the web included.
 const DEPTH_LIMIT: u8 = 10;
 
-/// The most lines that are taken.
+/// The most lines that are read.
 const SOURCE_LINE_LIMIT: usize = 2_000_000;
 
-/// The number of the file of this name, or the count of files, which is no file's number.
+/// The number of the file of this name; the number of all files, which no file has, where there is
+/// none.
 fn file_number_or_count(files: &Files, name: &[u8]) -> u16
     ensures { result ≡ file_number_or_count files.now name.now }
 {
@@ -37,14 +38,15 @@ fn file_number_or_count(files: &Files, name: &[u8]) -> u16
     }
 }
 
-/// Reads the web of these roles with its change file: each inclusion is replaced by the lines of
-/// its file, and the lines that a change takes by its new lines. A change is used where a line
-/// equals its first old line, in the order of the change file, and before that line is tested for
-/// an inclusion. CWEB's rules of `@i` and of change files: see docs/reading.md.
+/// Reads the web of these roles with its change file. Each inclusion is replaced by the lines of
+/// its file, and the lines that a change takes are replaced by its new lines. Changes are used in
+/// the order of the change file. A change is used at a line that equals its first old line, before
+/// this line is tested for an inclusion. These are CWEB's rules of `@i` and of change files: see
+/// docs/reading.md.
 ///
 /// # Errors
 ///
-/// `NoMemory`. What is wrong in the files is a fault of the source.
+/// `NoMemory` where an allocation failed. Mistakes in the files are faults of the source.
 pub fn read_source<'a>(
     alloc: Global,
     files: &'a Files,
@@ -73,14 +75,14 @@ pub fn read_source<'a>(
     })
 }
 
-/// Reading is its first step, and then the reading of what that step leaves. So the bound on the
-/// count of steps in its definition is no part of its meaning: it is never used up.
+/// Reading makes its first step, and then reads on in the state after it. So the bound on the
+/// number of steps in the definition, which is never used up, does not change what reading gives.
 pub fn reading_goes_step_by_step()
     ensures { (files : FileTable) (change_file : ℕ) (state : State)
         → ReadsByStep files change_file state }
 {}
 
-/// Opens the file that an inclusion names, or adds a fault that says why not.
+/// Opens the file that an inclusion names, or adds the fault of the inclusion.
 fn include<'a, 'c>(
     alloc: Global,
     files: &'a Files,
@@ -139,7 +141,7 @@ fn read_plain<'a, 'c>(
     }
 }
 
-/// Whether the line is the first old line of the change.
+/// Whether the line equals the first old line of the change.
 fn begins_change(change: &Change<'_>, line: &[u8]) -> bool
     ensures { result ≡ begins change.now.old_lines line.now }
 {
@@ -165,8 +167,8 @@ fn change_at<'a, 'c>(changes: &'c [Change<'a>], line: &WaitingLine<'a>) -> Optio
     }
 }
 
-/// The first old line of the next change, which is used at a line that equals it. `None` where none
-/// is used, as in lines that are changed.
+/// The first old line of the next change, which is used at a line that equals it. `None` where no
+/// change can be used: there is none left, or the lines are changed.
 pub(crate) fn awaited_line<'c>(changes: &'c [Change<'_>], is_changed: bool) -> Option<&'c [u8]>
     ensures { option_copied result ≡ awaited changes.entry.now is_changed }
 {
@@ -179,8 +181,8 @@ pub(crate) fn awaited_line<'c>(changes: &'c [Change<'_>], is_changed: bool) -> O
     }
 }
 
-/// Whether a line is a source line as it is: it is not the one at which the next change is
-/// used, and it is no inclusion.
+/// Whether a line becomes a source line unchanged: it is no inclusion, and the next change is not
+/// used at it.
 pub(crate) fn is_source_line(awaited: Option<&[u8]>, line: &[u8]) -> bool
     ensures { result ≡ true →
         (is_awaited (option_copied awaited.entry) line.now ≡ false)
@@ -192,16 +194,16 @@ pub(crate) fn is_source_line(awaited: Option<&[u8]>, line: &[u8]) -> bool
     }
 }
 
-/// What was taken for the old lines of a change, and how they compare.
+/// The lines that a change took, and how they compare with its old lines.
 #[derive(Clone, Copy)]
 struct MatchedLines {
-    /// How many lines were taken for them.
+    /// The number of lines that it took.
     lines: usize,
-    /// How many of the old lines had no line, or an unequal one.
+    /// The number of old lines for which there was no line, or one that differs.
     unequal: usize,
 }
 
-/// Takes one line and compares it with an old line.
+/// Takes one line and compares it with an old line of a change.
 fn take_one<'a, 'c>(old: &Line, waiting: &mut Waiting<'a, 'c>) -> MatchedLines
     ensures lines { result.lines ≡ min 1 (length waiting.old) }
     ensures unequal { result.unequal ≡ unequal_front old.now waiting.old }
@@ -223,7 +225,7 @@ fn take_one<'a, 'c>(old: &Line, waiting: &mut Waiting<'a, 'c>) -> MatchedLines
     }
 }
 
-/// Takes a line for each of the old lines, and compares them.
+/// Takes a line for each old line of a change, and compares them.
 fn take_old<'a, 'c>(old_lines: &[&'a Line], waiting: &mut Waiting<'a, 'c>) -> MatchedLines
     ensures lines { result.lines ≡ min (length old_lines.now) (length waiting.old) }
     ensures unequal { result.unequal ≡ unequal_lines (map (λ l. l.now) old_lines.now) waiting.old }
@@ -241,7 +243,6 @@ fn take_old<'a, 'c>(old_lines: &[&'a Line], waiting: &mut Waiting<'a, 'c>) -> Ma
     MatchedLines { lines, unequal }
 }
 
-/// All but the first one.
 fn after_first<T>(items: &[T]) -> &[T]
     ensures { result.now ≡ drop 1 items.now }
 {
@@ -251,7 +252,7 @@ fn after_first<T>(items: &[T]) -> &[T]
     }
 }
 
-/// Adds the fault of the old lines of a change that did not match, with their number.
+/// Adds the fault of a change some of whose old lines did not match, with their number.
 fn add_mismatch_fault(
     alloc: Global,
     file: &[u8],
@@ -268,8 +269,8 @@ fn add_mismatch_fault(
     Ok(())
 }
 
-/// Replaces the lines that a change takes, from this one on, by its new lines, and returns how many
-/// it took.
+/// Replaces the lines that a change takes, from this one on, by its new lines. Returns the number
+/// of lines that it took.
 fn use_change<'a, 'c>(
     alloc: Global,
     files: &'a Files,
@@ -294,7 +295,7 @@ fn use_change<'a, 'c>(
     Ok(taken.lines + 1)
 }
 
-/// Adds the fault of the first of the changes that were not used.
+/// Adds the fault of the first change that was not used, if there is one.
 fn add_unused_fault(
     alloc: Global,
     files: &Files,
@@ -314,7 +315,7 @@ fn add_unused_fault(
     }
 }
 
-/// Reads the lines that wait, and adds the faults to those before.
+/// Reads the lines that wait. Its faults are added to the given ones.
 fn read_on<'a, 'c>(
     alloc: Global,
     files: &'a Files,

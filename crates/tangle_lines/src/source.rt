@@ -1,4 +1,4 @@
-//! The source: what reading gives.
+//! The source: the result of reading a web.
 ghost use Rattle.std.specs.Prelude.{◌≡◌, ◌≤◌, length};
 ghost use Rattle.tangle_files.specs.Lines.{name_at};
 ghost use Rattle.tangle_files.specs.Adding.{longest_line, most_files};
@@ -8,8 +8,8 @@ use std::marker::Model;
 use tangle_faults::{Fault, Origin};
 use tangle_files::{Files, Line};
 
-/// A source line, with its origin, and whether it is from the change file. The origin is as its two
-/// numbers, so that a line takes 16 bytes.
+/// A source line, with its origin, and whether it is from the change file. The two numbers of the
+/// origin are fields of the line, so that it takes 16 bytes.
 #[derive(Drop)]
 pub(crate) struct SourceLine<'a> {
     line: &'a Line,
@@ -32,7 +32,6 @@ impl<'a> Model for SourceLine<'a> {
 }
 
 impl<'a> SourceLine<'a> {
-    /// The line of this origin.
     pub(crate) fn new(line: &'a Line, origin: Origin, is_changed: bool) -> Self
         ensures { result ≡ record { bytes = line.now; origin = origin; changed = is_changed } }
     {
@@ -55,8 +54,8 @@ impl<'a> SourceLine<'a> {
     }
 }
 
-/// The source lines of a web, and the faults of its change file and of reading. It borrows its
-/// lines from the table of files, and has at most 2,000,000.
+/// The source lines of a web, at most 2,000,000, and the faults of its change file and of reading.
+/// It borrows the lines from the table of files.
 #[derive(Drop)]
 pub struct Source<'a> {
     pub(crate) files: &'a Files,
@@ -81,7 +80,7 @@ impl<'a> Model for Source<'a> {
 }
 
 impl<'a> Source<'a> {
-    /// How many lines there are: at most 2,000,000.
+    /// The number of lines: at most 2,000,000.
     pub fn count(&self) -> usize
         ensures count { result ≡ length self.now.lines }
         ensures limit { result ≤ source_line_limit }
@@ -89,7 +88,8 @@ impl<'a> Source<'a> {
         self.lines.len()
     }
 
-    /// The bytes of the line of this number, from 0: at most 65,535, and none after the last line.
+    /// The bytes of the line with this number, from 0: at most 65,535 bytes. After the last line
+    /// there are none.
     pub fn line(&self, number: usize) -> &'a [u8]
         ensures bytes { result.now ≡ (line_at self.now.lines number).bytes }
         ensures short { length result.now ≤ longest_line }
@@ -100,8 +100,7 @@ impl<'a> Source<'a> {
         }
     }
 
-    /// Where the line of this number, from 0, is in the files: after the last line, line 0 of file
-    /// 0.
+    /// The origin of the line with this number, from 0. After the last line it is line 0 of file 0.
     pub fn origin(&self, number: usize) -> Origin
         ensures { result ≡ origin_at self.now.lines number }
     {
@@ -111,8 +110,8 @@ impl<'a> Source<'a> {
         }
     }
 
-    /// Whether the line of this number, from 0, is from the change file, or from a file that such a
-    /// line includes. After the last line none is.
+    /// Whether the line with this number, from 0, is from the change file, or from a file that such
+    /// a line includes. After the last line it is not.
     pub fn is_changed(&self, number: usize) -> bool
         ensures { result ≡ (line_at self.now.lines number).changed }
     {
@@ -122,7 +121,7 @@ impl<'a> Source<'a> {
         }
     }
 
-    /// How many files there are in the table of files: at most 256.
+    /// The number of files in the table of files: at most 256.
     pub fn file_count(&self) -> usize
         ensures count { result ≡ length self.now.files }
         ensures limit { result ≤ most_files }
@@ -130,21 +129,22 @@ impl<'a> Source<'a> {
         self.files.count()
     }
 
-    /// The name of the file of an origin: no bytes if the table has no such file.
+    /// The name of the file of an origin; empty if the table has no such file.
     pub fn file_name(&self, origin: Origin) -> &'a [u8]
         ensures { result.now ≡ name_at self.now.files origin.file }
     {
         self.files.name_at(origin.file)
     }
 
-    /// The faults of the change file, and then those of reading, as they were found.
+    /// The faults of the change file, and then those of reading, each in the order in which they
+    /// were found.
     pub fn faults(&self) -> &[Fault]
         ensures { result.now ≡ self.now.faults }
     {
         self.faults.as_slice()
     }
 
-    /// The same faults; the lines are freed.
+    /// Takes the faults out of the source, and frees its lines.
     pub fn into_faults(self) -> Vec<Fault>
         ensures { result.items ≡ self.entry.faults }
     {

@@ -1,4 +1,4 @@
-//! The open files, seen as the one list of the lines that wait to be read.
+//! The open files, as one list of the lines that wait to be read.
 ghost use Rattle.std.specs.Prelude.{◌≡◌, ◌+◌, ◌≤◌, List, [], ◌∷◌, ◌++◌, length, drop, map};
 ghost use Rattle.std.specs.Prelude.{IfSome, IfNone, IfOk, OnOk};
 ghost use Rattle.tangle_files.specs.Adding.{most_lines};
@@ -15,9 +15,9 @@ use tangle_faults::Origin;
 use tangle_files::Line;
 use tangle_streams::NoMemory;
 
-/// A line that waits to be read. It is changed if it is from the change file, or from a file that
-/// such a line includes; the web's lines have depth 1, and those of an included file one more than
-/// the line that includes it.
+/// A line that waits to be read. It is changed if it is from the change file, or from a file that a
+/// changed line includes. The depth of the web's lines is 1, and that of an included file's lines
+/// is one more than that of the line which includes it.
 #[derive(Drop)]
 pub(crate) struct WaitingLine<'a> {
     pub(crate) line: &'a Line,
@@ -39,16 +39,16 @@ impl<'a> Model for WaitingLine<'a> {
     } };
 }
 
-/// The lines of an open file that were not read yet.
+/// The lines of an open file that are not yet read.
 #[derive(Clone, Copy)]
 pub enum Rest<'a, 'c> {
-    /// The lines of a file, and how many of them were read.
+    /// The lines of a file, and the number of those that were read.
     OfFile(&'a [Line], u32),
     /// The new lines of a change, with their numbers.
     OfChange(&'c [(u32, &'a Line)]),
 }
 
-/// An open file.
+/// An open file, of which some lines wait to be read.
 #[derive(Drop)]
 pub(crate) struct OpenFile<'a, 'c> {
     file: u16,
@@ -70,7 +70,7 @@ impl<'a, 'c> Model for OpenFile<'a, 'c> {
 }
 
 impl<'a, 'c> OpenFile<'a, 'c> {
-    /// A file of which no line was read.
+    /// A file that was just opened.
     pub(crate) fn new(file: u16, lines: &'a [Line], is_changed: bool, depth: u8) -> Self
         requires { length lines.now ≤ most_lines }
         ensures { result ≡ waiting_lines file is_changed depth 1 lines.entry.now }
@@ -83,7 +83,7 @@ impl<'a, 'c> OpenFile<'a, 'c> {
         }
     }
 
-    /// The new lines of a change.
+    /// The new lines of a change, as an open file.
     pub(crate) fn of_change(file: u16, lines: &'c [(u32, &'a Line)], depth: u8) -> Self
         ensures { result ≡ change_lines file depth (map (λ l. (l.0, l.1.now)) lines.entry.now) }
     {
@@ -95,7 +95,7 @@ impl<'a, 'c> OpenFile<'a, 'c> {
         }
     }
 
-    /// Takes the next line.
+    /// Takes the next line, if there is one.
     fn take(&mut self) -> Option<WaitingLine<'a>>
         ensures front { IfSome result (λ w. self.old ≡ w ∷ self.new) }
         ensures none { IfNone result ((self.old ≡ []) × (self.new ≡ [])) }
@@ -134,8 +134,8 @@ impl<'a, 'c> OpenFile<'a, 'c> {
         }
     }
 
-    /// Takes source lines up to a line that a change takes, an inclusion, the end or the limit: how
-    /// many they are.
+    /// Takes source lines up to an inclusion, a line that a change takes, the end of the file or
+    /// the limit. Returns their number.
     fn take_plain(
         &mut self,
         changes: &[Change<'_>],
@@ -169,7 +169,7 @@ impl<'a, 'c> OpenFile<'a, 'c> {
     }
 }
 
-/// The line after so many lines, with its number.
+/// The line after the first `read` lines, with its number, if there is one.
 fn line_after<'a>(lines: &'a [Line], read: u32) -> Option<(&'a Line, u32)>
     requires { length lines.now ≤ most_lines }
     ensures line { IfSome result
@@ -183,7 +183,7 @@ fn line_after<'a>(lines: &'a [Line], read: u32) -> Option<(&'a Line, u32)>
     Some((&lines[read as usize], read + 1))
 }
 
-/// The open files: the last one is read first.
+/// The open files. The last one is read first.
 #[derive(Drop)]
 pub(crate) struct Waiting<'a, 'c> {
     files: Vec<OpenFile<'a, 'c>>,
@@ -200,7 +200,6 @@ impl<'a, 'c> Model for Waiting<'a, 'c> {
 }
 
 impl<'a, 'c> Waiting<'a, 'c> {
-    /// No file is open.
     pub(crate) fn new(alloc: Global) -> Self
         ensures { result ≡ [] }
     {
@@ -209,7 +208,7 @@ impl<'a, 'c> Waiting<'a, 'c> {
         }
     }
 
-    /// Opens a file in front of the others.
+    /// Opens a file, which is read before the others.
     pub(crate) fn open(&mut self, file: OpenFile<'a, 'c>) -> Result<(), NoMemory>
         ensures { OnOk result (self.new ≡ file.entry ++ self.old) }
     {
@@ -217,7 +216,7 @@ impl<'a, 'c> Waiting<'a, 'c> {
         Ok(())
     }
 
-    /// Takes the first line that waits.
+    /// Takes the first line that waits, if there is one.
     pub(crate) fn take(&mut self) -> Option<WaitingLine<'a>>
         ensures front { IfSome result (λ w. self.old ≡ w ∷ self.new) }
         ensures none { IfNone result ((self.old ≡ []) × (self.new ≡ [])) }
@@ -234,8 +233,9 @@ impl<'a, 'c> Waiting<'a, 'c> {
         None
     }
 
-    /// Takes source lines from the file in front, up to a line that a change takes, an inclusion,
-    /// the file's end or the limit, and returns how many. Most of a web's lines are taken here.
+    /// Takes source lines from the file that is read first, up to an inclusion, a line that a
+    /// change takes, the end of the file or the limit. Returns their number. Most of a web's lines
+    /// are taken here.
     pub(crate) fn take_plain(
         &mut self,
         changes: &[Change<'_>],

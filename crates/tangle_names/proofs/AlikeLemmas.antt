@@ -1,4 +1,4 @@
--- What the names resolve to depends on how the occurrences are written alone.
+-- The resolution of the names depends only on how the occurrences are written.
 use Rattle.std.proofs.Common.{◌≡◌, ◌<◌, ◌+◌, ◌∙◌, ◌&&◌, ℕ, Bool, true, false, cond, not, List, [], ◌∷◌, length, map, filter, get_or, refl, ap, sym, subst, Some, None, position}
 use Rattle.std.specs.Prelude.{nat_lt}
 use Rattle.std.specs.List.{position_or_len}
@@ -13,7 +13,7 @@ use Rattle.tangle_names.specs.Resolution.{IsResolutionOf, ResolutionInvariant, t
 use Rattle.tangle_names.specs.Resolving.{first_file_number, first_number, names_in_order, names_of, resolve, resolved_meaning}
 use Rattle.tangle_names.proofs.TableLemmas.{map-map}
 
--- an occurrence that is written so, without role and origin
+-- an occurrence that is written like this, without role and origin
 plain : NameText × Bool × Bool → OccurrenceRead
 plain w = record { text = w.0; is_abbreviation = w.1; is_file = w.2; role = Mention; origin = record { file = 0; line = 0 } }
 
@@ -91,7 +91,7 @@ alike-at old new i o n alike h g at by =
     ap written_form at ∙ (sym (get_or-map written_form old i o (written_form o) h) ∙ (ap (λ ws. get_or ws i (written_form o)) alike
     ∙ (get_or-map written_form new i n (written_form o) g ∙ ap written_form (sym by))))
 
--- what is kept of occurrences that are written alike
+-- the resolution of occurrences that are written the same
 pub kept-alike : (old new : List OccurrenceRead) (r s : Resolution) (faults others : List FaultRead) → table_read r faults ≡ table_over old others → ResolutionInvariant r → s ≡ r
     → AreWrittenAlike old new → IsResolutionOf new s
 kept-alike old new r s faults others table kept same alike =

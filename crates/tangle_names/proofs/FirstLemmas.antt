@@ -18,7 +18,7 @@ use Rattle.tangle_names.proofs.LawLemmas.{occur}
 use Rattle.tangle_names.proofs.MeaningLemmas.{cons_cases, no_item}
 use Rattle.tangle_names.proofs.TableLemmas.{distinct_names, is_number-means}
 
--- the first position that passes
+-- the first position of an item that passes
 past_first : {X : Type 0} (q : X → Bool) (x : X) (xs : List X) → q x ≡ false → position_or_len q (x ∷ xs) ≡ suc (position_or_len q xs)
 past_first q x xs is = ap (λ b. cond (not b) (1 + position_or_len q xs) 0) is ∙ omega arith
 
@@ -59,7 +59,7 @@ none_passes : {X : Type 0} (q : X → Bool) (xs : List X) (x : X) → length xs 
 none_passes q [] x h c = absurd (no_item x c)
 none_passes q (y ∷ ys) x h c = none_passes-at q y ys x (q y) refl (none_passes q ys x) h c
 
--- an occurrence resolves to a name where the name is what it means
+-- an occurrence resolves to a name if it means the name
 resolves_as : (os : List OccurrenceRead) (id : ℕ) (o : OccurrenceRead) → id < length (names_in_order os) → resolves_to os (get_or (names_in_order os) id []) o ≡ true → resolve os o ≡ Name id
 resolves_as os id o h is = by (resolve os o) refl
   where

@@ -1,4 +1,4 @@
--- The numbers that are kept beside the names, and the faults that are found by them.
+-- The numbers that a resolution has beside the names, and the faults that are found from them.
 use Rattle.std.proofs.Common.{◌≡◌, ◌<◌, ◌≤◌, ◌+◌, ◌∙◌, ℕ, zero, suc, Bool, true, false, cond, not, ◌&&◌, List, [], ◌∷◌, ◌++◌, length, map, filter, flat_map, take, get_or, refl, ap, sym, subst, arith, add-zero, zero-add, append-nil, Some, option_to_list}
 use Rattle.std.specs.Prelude.{All, slice_get}
 use Rattle.std.specs.List.{enumerate_from}
@@ -19,7 +19,7 @@ use Rattle.tangle_names.specs.Sorted.{SameTexts}
 use Rattle.tangle_names.proofs.LawLemmas.{same}
 use Rattle.tangle_names.proofs.TableLemmas.{any-same, begins-known}
 
--- one item in front
+-- one more item at the front
 numbers-cons : {X : Type 0} (q : X → Bool) (k : ℕ) (x : X) (xs : List X)
     → numbers_from q k (x ∷ xs) ≡ cond (q x) (k ∷ numbers_from q (k + 1) xs) (numbers_from q (k + 1) xs)
 numbers-cons {X} q k x xs = by (q x)
@@ -31,7 +31,7 @@ numbers-cons {X} q k x xs = by (q x)
     by true = refl
     by false = refl
 
--- one item after
+-- one more item at the end
 numbers-push : {X : Type 0} (q : X → Bool) (k : ℕ) (xs : List X) (x : X)
     → numbers_from q k (xs ++ x ∷ []) ≡ numbers_from q k xs ++ cond (q x) ((k + length xs) ∷ []) []
 numbers-push q k [] x = numbers-cons q k x [] ∙ ap {B = List ℕ} (λ n. cond (q x) (n ∷ []) []) (sym (add-zero k))
@@ -51,7 +51,7 @@ length-take xs zero h = refl
 length-take [] (suc i) h = absurd (omega (arith, h))
 length-take (x ∷ xs) (suc i) h = ap suc (length-take xs i (omega (arith, h)))
 
--- one item more
+-- one more item
 pub numbers-more : {X : Type 0} (q : X → Bool) (xs : List X) (i : ℕ) (d : X) → i < length xs
     → numbers_from q 0 (take (i + 1) xs) ≡ numbers_from q 0 (take i xs) ++ cond (q (get_or xs i d)) (i ∷ []) []
 numbers-more q xs i d h =
@@ -63,7 +63,7 @@ pub listed-step : {X : Type 0} (q : X → Bool) (xs : List X) (i : ℕ) (d : X) 
 listed-step q xs i d b before after h tested sofar pushed =
     pushed ∙ ((λ j. sofar j ++ cond (tested j) (i ∷ []) []) ∙ sym (numbers-more q xs i d h))
 
--- lists whose items pass at the same positions
+-- lists whose items pass at the same positions have the same numbers
 numbers-agree : {X Y : Type 0} (q : X → Bool) (p : Y → Bool) (k : ℕ) (xs : List X) (ys : List Y) (d : X) (e : Y) → length xs ≡ length ys
     → ((i : ℕ) → i < length ys → q (get_or xs i d) ≡ p (get_or ys i e)) → numbers_from q k xs ≡ numbers_from p k ys
 numbers-agree q p k [] [] d e long at = refl
@@ -96,7 +96,7 @@ numbers_inside-at q k (x ∷ xs) n d h =
 pub numbers_inside : {X : Type 0} (q : X → Bool) (xs : List X) → All (λ n. n < length xs) (numbers_from q 0 xs)
 numbers_inside q xs n d h = omega (arith, numbers_inside-at q 0 xs n d h)
 
--- what is found by the numbers is found by the items
+-- what is found from the numbers is found from the items
 by_number : {X : Type 0} (g : ℕ → List FaultRead) (f : X → List FaultRead) (q : X → Bool) (k : ℕ) (xs : List X)
     → ((i : ℕ) (x : X) → slice_get xs i ≡ Some x → cond (q x) (g (k + i)) [] ≡ f x) → flat_map g (numbers_from q k xs) ≡ flat_map f xs
 by_number g f q k [] at = refl

@@ -55,7 +55,7 @@ position-keys keys text =
     let size = sym (length-map keys (λ (v : Vec ℕ Global). v.items)) in
     λ i. cond (ltb (at i) (size i)) (Some (at i)) None
 
--- the name that is found has the text
+-- the name that was found has this text
 pub found_has_text : (names : List NameText) (text : NameText) (found : Option ℕ) → found ≡ position (bytes_eq text) names
     → IfSome found (λ n. (n < length names) × (get_or names n [] ≡ text))
 found_has_text names text None e = tt

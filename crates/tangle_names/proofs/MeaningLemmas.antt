@@ -1,4 +1,4 @@
--- When a list has no text, one or several, and when an element passes a test.
+-- Whether a list has no text, one or several, and whether an item of it passes a test.
 use Rattle.std.proofs.Common.{◌≡◌, ◌≢◌, ◌⊎◌, ◌∙◌, Bool, true, false, cond, ◌&&◌, ◌||◌, List, [], ◌∷◌, filter, refl, ap, sym, subst, inl, inr, arith, Contains}
 use Rattle.std.specs.List.{list_all, list_any}
 use Rattle.std.proofs.lemmas.List.Folds.{list_any-from_Any}

@@ -20,7 +20,7 @@ resolved_at : (f : OccurrenceRead → Resolved) (os : List OccurrenceRead) (rs :
     → rs ≡ map f os → r ≡ get_or rs i r → r ≡ f o
 resolved_at f os rs i o r h read all at = at ∙ (ap (λ xs. get_or xs i r) all ∙ (get_or-map f os i o r h ∙ ap f (sym read)))
 
--- one occurrence more in front
+-- one more occurrence at the front
 first_at : (q : OccurrenceRead → Bool) (os : List OccurrenceRead) (i : ℕ) (o : OccurrenceRead) → i < length os → o ≡ get_or os i o
     → i + position_or_len q (drop i os) ≡ cond (q o) i (i + 1 + position_or_len q (drop (i + 1) os))
 first_at q os i o h read =
@@ -64,7 +64,7 @@ beginning_step texts names i id old new inside h sofar flags =
     let test : NameText → Bool = λ (t : NameText). begins_another texts t && is_number id (resolved_meaning names (One t)) in
     flags.flags id h ∙ (ap (λ b. b || test (get_or texts i [])) sofar ∙ sym (list_any_more test texts i [] inside))
 
--- no occurrence, no warning and no fault
+-- without an occurrence there is neither a warning nor a fault
 pub no_warning : (web : WebRead) (first : ℕ) (name : NameText) → length web.occurrences ≤ first → warning web first name ≡ []
 no_warning web first name past =
     ap (λ found. map (λ (o : OccurrenceRead). fault_about kind.PrefixName (named_place_of web.file_names o.origin) name) (option_to_list found)) (slice_get_past web.occurrences first past)

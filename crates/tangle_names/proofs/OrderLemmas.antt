@@ -1,4 +1,4 @@
--- Prefixes in the order of bytes: what begins with a prefix isn't below it, and is together.
+-- Prefixes in the order of bytes: the texts that begin with a prefix aren't below it, and are next to each other.
 use Rattle.std.proofs.Common.{◌≡◌, ℕ, Bool, true, false, ◌&&◌, [], ◌∷◌, refl, arith, nat_eq}
 use Rattle.std.specs.Ordering.{nat_cmp, ordering_then, is_lt, is_gt}
 use Rattle.std.specs.declared.cmp.Ordering.{Ordering}
@@ -22,7 +22,7 @@ step_between : (a b c : ℕ) (r s : Ordering) (d e : Bool) → (is_lt r ≡ fals
     → (nat_eq c b && d) ≡ true
 step_between a b c r s d e more low high begun = grind (arith, nat_tests)
 
--- a text that lies between a prefix and a text that begins with it begins with it, too
+-- a text that is neither below a prefix nor above a text with this prefix has the prefix too
 pub begins-between : (p t u : NameText) → is_lt (slice_cmp nat_cmp t p) ≡ false → is_gt (slice_cmp nat_cmp t u) ≡ false
     → begins_with p u ≡ true → begins_with p t ≡ true
 begins-between [] t u low high begun = refl

@@ -1,4 +1,4 @@
--- What is meant has its name among the names, and its number stays.
+-- The name that is meant is among the names, and keeps its number.
 use Rattle.std.proofs.Common.{◌≡◌, ◌+◌, ◌∙◌, ◌||◌, ℕ, Bool, true, false, cond, not, List, [], ◌∷◌, ◌++◌, length, map, take, fold, get_or, refl, ap, sym, arith, inl, inr, ◌<◌, Contains}
 use Rattle.std.specs.List.{list_any, position_or_len}
 use Rattle.std.specs.Str.{bytes_eq}
@@ -13,7 +13,7 @@ use Rattle.tangle_names.specs.Sorted.{meaning_of}
 use Rattle.tangle_names.specs.declared.sorted.Meaning.{Meaning as Found}
 use Rattle.tangle_names.proofs.MeaningLemmas.{cons_cases, here, there}
 
--- what is meant is among the names
+-- the name that is meant is among the names
 either : (a b : Bool) → a ≡ true → (a || b) ≡ true
 either true b h = refl
 either false b h = absurd (cc)
@@ -50,7 +50,7 @@ meant-fold t (m ∷ ms) ts c = elim (cons_cases m ms (One t) c) [
   | inr d ↦ meant-fold t ms (with_name ts m) d
 ]
 
--- a name keeps its number when another is added
+-- a name keeps its number when another name is added
 found-append : (q : NameText → Bool) (xs ys : List NameText) → list_any q xs ≡ true → position_or_len q (xs ++ ys) ≡ position_or_len q xs
 found-append q [] ys h = absurd (cc)
 found-append q (x ∷ xs) ys h = by (q x) refl (found-append q xs ys)

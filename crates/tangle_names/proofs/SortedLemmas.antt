@@ -1,4 +1,4 @@
--- The sorted full names: how they come from a sort, and where those are that begin with a prefix.
+-- The sorted full names: how a sort gives them, and where those are that begin with a prefix.
 use Rattle.std.proofs.Common.{◌≡◌, ◌≢◌, ◌≤◌, ◌<◌, ◌+◌, ◌∙◌, ℕ, zero, suc, Bool, true, false, cond, not, ◌&&◌, List, [], ◌∷◌, length, get_or, filter, refl, ap, sym, subst, inl, inr, arith, Contains}
 use Rattle.std.specs.Borrow.{Bor}
 use Rattle.std.specs.BTreeMap.Comparable.{le_lt_trans}
@@ -30,7 +30,7 @@ size sorted = length-map sorted (λ (b : Bor NameText). b.now)
 pub at_text : (sorted : List (Bor NameText)) (k : ℕ) (d : Bor NameText) → k < length sorted → get_or (borrowed_names sorted) k [] ≡ (get_or sorted k d).now
 at_text sorted k d h = get_or-map (λ (b : Bor NameText). b.now) sorted k d [] h
 
--- of two names the one that is first is below the other
+-- of two names the first is below the second
 pub rising : (texts : List NameText) → IsInOrder texts → (i j : ℕ) → i < j → j < length texts → slice_cmp nat_cmp (get_or texts i []) (get_or texts j []) ≡ Less
 rising [] up i j low high = absurd (omega arith)
 rising (t ∷ ts) up zero zero low high = absurd (omega arith)
@@ -51,7 +51,7 @@ alike t = by (slice_cmp nat_cmp t t) refl
     by Equal is = is
     by Greater is = absurd (let clash : Greater ≡ Less = sym is ∙ (nat_list_cmp_total.antisymm t t ∙ ap ordering_reverse is) in cc)
 
--- nor is it above it
+-- and it is not above it
 pub no_higher : (texts : List NameText) → IsInOrder texts → (i j : ℕ) → i ≤ j → j < length texts → is_gt (slice_cmp nat_cmp (get_or texts i []) (get_or texts j [])) ≡ false
 no_higher texts up i j low high = elim (cases_lt i j) [
   | inl before ↦ ap is_gt (rising texts up i j before high)
@@ -59,7 +59,7 @@ no_higher texts up i j low high = elim (cases_lt i j) [
       ap (λ k. is_gt (slice_cmp nat_cmp (get_or texts i []) (get_or texts k []))) (sym same) ∙ ap is_gt (alike (get_or texts i [])))
 ]
 
--- the names that begin with a prefix are together, from one position on
+-- the names that begin with a prefix are next to each other, from one position on
 pub record Gathers (texts : List NameText) (p : NameText) (first : ℕ) : Type 0 where
   pub below : (k : ℕ) → k < first → k < length texts → begins_with p (get_or texts k []) ≡ false
   pub together : (j k : ℕ) → first ≤ j → j ≤ k → k < length texts → begins_with p (get_or texts k []) ≡ true → begins_with p (get_or texts j []) ≡ true
@@ -79,7 +79,7 @@ gathers texts p first up lower upper = record {
       begins-between p (get_or texts j []) (get_or texts k []) (upper j low within) (no_higher texts up j k high inside) begun;
 }
 
--- a name of the table that begins with the prefix is at this position or after it
+-- a name of the table that begins with the prefix is at this position or later
 found_at : (texts : List NameText) (p : NameText) (first : ℕ) → Gathers texts p first → (t : NameText) → Contains texts t → begins_with p t ≡ true
     → (k : ℕ) × (first ≤ k) × (k < length texts) × (get_or texts k [] ≡ t)
 found_at texts p first g t c begun =
@@ -125,7 +125,7 @@ several_found full texts p first same up begun more =
     only-several (filter (begins_with p) full) (get_or texts first []) (get_or texts (first + 1) [])
     (inside_full full texts p first same begun) (inside_full full texts p (first + 1) same more) (apart texts up first (first + 1) (omega arith) more.0)
 
--- a name begins another where it begins the next one
+-- a name begins another if it begins the next one
 gathers_at : (texts : List NameText) (i : ℕ) → IsInOrder texts → i < length texts → Gathers texts (get_or texts i []) i
 gathers_at texts i up inside = gathers texts (get_or texts i []) i up
     (λ k low h. ap is_lt (rising texts up k i low inside))
@@ -170,7 +170,7 @@ begins-none texts i up inside alone =
     right true b h = h
     right false b h = absurd (cc)
 
--- what a sort and a `dedup` leave
+-- the texts after a sort and a `dedup`
 sorted_texts : (sorted : List (Bor NameText)) → IsSorted (λ (x y : Bor NameText). slice_cmp nat_cmp x.now y.now) sorted → IsSorted (slice_cmp nat_cmp) (borrowed_names sorted)
 sorted_texts [] up k d low high = absurd (omega arith)
 sorted_texts (b ∷ bs) up k d low high =
@@ -208,7 +208,7 @@ same_of full names sorted left e moved is =
           (Contains-from_dedup bytes_eq (borrowed_names sorted) t (subst (λ xs. Contains xs t) once c)));
     }
 
--- the position where the names begin that aren't below a prefix
+-- the first position of a name that isn't below a prefix
 pub is_parted : (sorted : List (Bor NameText)) (p : NameText) → IsInOrder (borrowed_names sorted) → IsPartitionedBy (λ (b : Bor NameText). is_lt (slice_cmp nat_cmp b.now p)) sorted
 is_parted sorted p up i j d low high is =
     let before : i < length sorted = omega (arith, low, high) in
@@ -244,7 +244,7 @@ at_begun sorted p k d begun =
     let inside : k < length sorted = omega (arith, begun.0, size sorted) in
     sym (at_text sorted k d inside)
 
--- whether a name begins another, by the names as the code reads them
+-- whether a name begins another, by the names that the code reads
 pub begins_another-read : (sorted : List (Bor NameText)) (i : ℕ) (d : Bor NameText) → IsInOrder (borrowed_names sorted) → i < length sorted
     → BeginsAt (borrowed_names sorted) (get_or sorted i d).now (i + 1) → begins_another (borrowed_names sorted) (get_or (borrowed_names sorted) i []) ≡ true
 begins_another-read sorted i d up inside next =

@@ -1,4 +1,4 @@
--- The names in order, what is known of them by their numbers, and the table put together.
+-- The names in order, their properties by number, and the table that is made from both.
 use Rattle.std.proofs.Common.{◌≡◌, ◌<◌, ◌+◌, ◌∙◌, ℕ, zero, suc, Bool, true, false, cond, not, ◌||◌, ◌&&◌, ◌==◌, List, [], ◌∷◌, ◌++◌, length, map, filter, fold, get_or, refl, ap, sym, subst, arith, inl, inr, Option, None, Contains}
 use Rattle.std.specs.List.{list_any, position_or_len}
 use Rattle.std.specs.Str.{bytes_eq}
@@ -38,7 +38,7 @@ out_of_map f (x ∷ xs) y c = elim (cons_cases (f x) (map f xs) y c) [
   | inr d ↦ (let found = out_of_map f xs y d in (found.0, there x xs found.0 found.1, found.2))
 ]
 
--- no text of the list is in it twice
+-- no text is twice in the list
 abbrev pub Distinct : List NameText → Type 0
 Distinct [] = Unit {0}
 Distinct (t ∷ ts) = (list_any (bytes_eq t) ts ≡ false) × Distinct ts
@@ -69,7 +69,7 @@ distinct-fold (m ∷ ms) ts d = distinct-fold ms (with_name ts m) (distinct-with
 pub distinct_names : (ms : List Meaning) → Distinct (names_of ms)
 distinct_names ms = distinct-fold ms [] tt
 
--- a name has the number of an occurrence where it is the name that the occurrence means
+-- an occurrence resolves to the number of a name exactly if it means the name
 not_later : (b c : Bool) (n : ℕ) → b ≡ c → (cond (not b) (1 + n) 0 == 0) ≡ c
 not_later true c n e = e
 not_later false c n e = above ∙ e
@@ -147,7 +147,7 @@ names_are_full os = from_fold (Contains (full_names os)) (meanings os) [] (λ t 
     let o = out_of_map (meaning (full_names os)) os m c in
     meant_name os o.0 t o.1 (o.2 ∙ e))
 
--- what is known of a name by its number
+-- properties of a name by its number
 pub first-known : (os : List OccurrenceRead) (id : ℕ) → id < length (names_in_order os) → first_by_number (resolve os) All os id ≡ first_number os (get_or (names_in_order os) id [])
 first-known os id h = λ i. position_or_len (λ (o : OccurrenceRead). is_number-means (names_in_order os) (meaning (full_names os) o) id (distinct_names (meanings os)) h i) os
 
@@ -189,7 +189,7 @@ begins-known os texts id same h =
     ∙ any-at (begins_another texts) texts n (same.over n full)
     ∙ any-same (λ (other : NameText). begins_with n other && not (bytes_eq n other)) (full_names os) texts same
 
--- the first numbers and the warnings by the names themselves
+-- the first numbers and the warnings, from the names themselves
 pub first_occurrences_are : (os : List OccurrenceRead) (names : List NameText) (numbers : List ℕ) → names ≡ names_in_order os → length numbers ≡ length names
     → ((id : ℕ) → id < length names → get_or numbers id 0 ≡ first_by_number (resolve os) All os id) → numbers ≡ map (first_number os) (names_in_order os)
 first_occurrences_are os names numbers named size known =

@@ -9,16 +9,16 @@ use Rattle.tangle_scan.specs.Web.{web_of}
 use Rattle.tangle_names.specs.declared.Resolved.TheVariants.{Name, NoFullName, Ambiguous}
 use Rattle.tangle_names.specs.NameTable.{TableRead, table_of}
 
--- the source lines of the file a.w from a line number on
+-- the source lines of the file `a.w`, from a line number on
 abbrev numbered_lines : ℕ → List (List ℕ) → List SourceLine
 numbered_lines n [] = []
 numbered_lines n (text ∷ texts) = record { bytes = text; origin = record { file = 0; line = n }; changed = false } ∷ numbered_lines (n + 1) texts
 
--- the table of the web that has these lines
+-- the table of the web with these lines
 abbrev table : List (List ℕ) → TableRead
 table texts = table_of (web_of (record { files = (codes "a.w", texts) ∷ []; lines = numbered_lines 1 texts; faults = [] }))
 
--- a name that is used in front of its definition
+-- a name that is used before its definition
 used_and_defined : table (codes "@ A." ∷ codes "@c" ∷ codes "int x=@<v@>;" ∷ codes "@ @<v@>=" ∷ codes "1" ∷ [])
     ≡ record { names = codes "v" ∷ []; resolved = Name 0 ∷ Name 0 ∷ []; first_occurrences = 0 ∷ []; first_file_occurrences = None ∷ []; faults = [] }
 unfolding lexeme occurrences_from
@@ -27,12 +27,12 @@ used_and_defined = refl
 abbrev with_abbreviation : List (List ℕ)
 with_abbreviation = codes "@ A." ∷ codes "@c" ∷ codes "@<Ini...@>" ∷ codes "@ @<Initialize@>=" ∷ codes "x=0;" ∷ []
 
--- an abbreviation in front of its full name
+-- an abbreviation before its full name
 abbreviated : table with_abbreviation ≡ record { names = codes "Initialize" ∷ []; resolved = Name 0 ∷ Name 0 ∷ []; first_occurrences = 0 ∷ []; first_file_occurrences = None ∷ []; faults = [] }
 unfolding lexeme occurrences_from
 abbreviated = refl
 
--- the same, with a second full name after
+-- the same, followed by a second full name
 ambiguous : table (with_abbreviation ++ codes "@ @<Init table@>=" ∷ []) ≡ record {
   names = codes "Initialize" ∷ codes "Init table" ∷ [];
   resolved = Ambiguous ∷ Name 0 ∷ Name 1 ∷ [];
@@ -49,7 +49,8 @@ used_twice : table (codes "@ A." ∷ codes "@c" ∷ codes "@<u@>@<u@>" ∷ [])
 unfolding lexeme occurrences_from
 used_twice = refl
 
--- a mention, a name that begins another, an abbreviation of no name, and names that a definition and the next section end
+-- a mention, a name that begins another, an abbreviation without a full name, and names that end at a definition and at
+-- the next section
 begun : table (codes "@ A @<In it@>." ∷ codes "@c" ∷ codes "@<  In   @>@<Zz...@>" ∷ codes "@<b@>=" ∷ codes "@<q" ∷ codes "@ B." ∷ []) ≡ record {
   names = codes "In it" ∷ codes "In" ∷ codes "b" ∷ codes "q" ∷ [];
   resolved = Name 0 ∷ Name 1 ∷ NoFullName ∷ Name 2 ∷ Name 3 ∷ [];

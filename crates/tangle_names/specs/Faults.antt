@@ -12,7 +12,7 @@ use Rattle.tangle_lexer.specs.Occurrences.{OccurrenceRead}
 use Rattle.tangle_names.specs.Names.{NameText, full_names, begins_with}
 use Rattle.tangle_names.specs.Resolving.{names_in_order, resolve, first_occurrence}
 
--- the line of an origin, by its file's name
+-- the line of an origin, with the name of its file
 abbrev pub named_place_of : List (List ℕ) → Origin → PlaceRead
 named_place_of files origin = record { file = slice_index_or files origin.file []; line = origin.line }
 
@@ -22,11 +22,11 @@ resolution_fault files (Name id) o = []
 resolution_fault files NoFullName o = fault_about kind.NoFullName (named_place_of files o.origin) o.text ∷ []
 resolution_fault files Ambiguous o = fault_about kind.Ambiguous (named_place_of files o.origin) o.text ∷ []
 
--- the faults of the occurrences, by what each resolves to
+-- the faults of the occurrences, each by its resolution
 abbrev pub resolution_faults : List (List ℕ) → (OccurrenceRead → Resolved) → List OccurrenceRead → List FaultRead
 resolution_faults files f os = flat_map (λ o. resolution_fault files (f o) o) os
 
--- another of the names begins with the name
+-- another of the names begins with this name
 abbrev pub begins_another : List NameText → NameText → Bool
 begins_another full name = list_any (λ other. begins_with name other && not (bytes_eq name other)) full
 
@@ -37,7 +37,8 @@ prefix_fault web name = if begins_another (full_names web.occurrences) name
     (option_to_list (first_occurrence web.occurrences name))
     else []
 
--- all faults of names: those of the occurrences in their order, and then those of the names in theirs
+-- all faults of names: those of the occurrences in their order, and then those of the names in
+-- their order
 abbrev pub faults : WebRead → List FaultRead
 faults web = resolution_faults web.file_names (resolve web.occurrences) web.occurrences
     ++ flat_map (prefix_fault web) (names_in_order web.occurrences)

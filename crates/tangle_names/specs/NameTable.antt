@@ -8,8 +8,8 @@ use Rattle.tangle_names.specs.Names.{NameText}
 use Rattle.tangle_names.specs.Resolving.{first_file_number, first_number, names_in_order, resolve}
 use Rattle.tangle_names.specs.Faults.{faults}
 
--- The full names, what each occurrence resolves to, for each name the number of its first occurrence and of its first one
--- as a file, and the faults.
+-- The full names, the resolution of each occurrence, for each name the number of its first
+-- occurrence and of its first one as a file, and the faults.
 pub record TableRead : Type 0 where
   pub names : List NameText
   pub resolved : List Resolved
@@ -27,7 +27,7 @@ table_of web = record {
   faults = faults web;
 }
 
--- the table over these occurrences, with these faults
+-- the table of these occurrences, with these faults
 abbrev pub table_over : List OccurrenceRead → List FaultRead → TableRead
 table_over os faults = record {
   names = names_in_order os;
@@ -41,6 +41,7 @@ table_over os faults = record {
 abbrev pub written_form : OccurrenceRead → NameText × Bool × Bool
 written_form o = (o.text, o.is_abbreviation, o.is_file)
 
--- there are as many old occurrences as new ones, and each is written as the new one of its number
+-- the lists of occurrences have the same length, and each old occurrence is written as the new one
+-- with its number
 abbrev pub AreWrittenAlike : List OccurrenceRead → List OccurrenceRead → Type 0
 AreWrittenAlike old new = map written_form old ≡ map written_form new

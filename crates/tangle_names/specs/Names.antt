@@ -12,7 +12,7 @@ NameText = List ℕ
 abbrev pub full_names : List OccurrenceRead → List NameText
 full_names os = map (λ o. o.text) (filter (λ o. not o.is_abbreviation) os)
 
--- the prefix of an abbreviation: what is before its three dots
+-- the prefix of an abbreviation: its text before the three dots
 abbrev pub prefix : NameText → NameText
 prefix abbreviation = take (length abbreviation - 3) abbreviation
 
@@ -20,13 +20,13 @@ prefix abbreviation = take (length abbreviation - 3) abbreviation
 abbrev pub begins_with : NameText → NameText → Bool
 begins_with p name = starts_with nat_eq name p
 
--- what an occurrence may mean: no full name, one, or several
+-- what an occurrence means: no full name, one, or several
 pub data Meaning : Type 0 where
   Nothing : Meaning
   One : NameText → Meaning
   Several : Meaning
 
--- the one text of the list, if it has only one
+-- the one text that the list has, however often
 abbrev pub only : List NameText → Meaning
 only [] = Nothing
 only (t ∷ ts) = if list_all (bytes_eq t) ts then One t else Several

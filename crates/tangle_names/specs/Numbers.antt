@@ -1,4 +1,5 @@
--- Names by their numbers. Most of these definitions are cited by private contracts alone: the table is built over numbers.
+-- Names by their numbers, from which the table is built. Most of these definitions are cited only
+-- by private contracts.
 use Rattle.std.specs.Prelude.{◌≡◌, ◌<◌, ℕ, Bool, true, false, nat_lt, ◌==◌, ◌&&◌, ◌||◌, List, [], length, filter, flat_map, map, slice_get, slice_index_or, Option, Some, None, option_to_list, Vec, if◌then◌else◌}
 use Rattle.std.specs.List.{enumerate_from, list_any, position_or_len}
 use Rattle.std.specs.Global.{Global}
@@ -21,7 +22,7 @@ use Rattle.tangle_names.specs.Faults.{begins_another}
 abbrev pub key_texts : List (Vec ℕ Global) → List NameText
 key_texts keys = map (λ (v : Vec ℕ Global). v.items) keys
 
--- it resolves to the name with this number
+-- an occurrence with this resolution resolves to the name with this number
 abbrev pub is_number : ℕ → Resolved → Bool
 is_number id (Name n) = n == id
 is_number id NoFullName = false
@@ -38,38 +39,38 @@ is_counted All o = true
 is_counted Files o = o.is_file
 is_counted Uses o = is_use o.role
 
--- the number of the first occurrence that resolves to the name with this number and is counted; the count of occurrences,
--- where there is none
+-- the number of the first counted occurrence that resolves to the name with this number, or the
+-- number of occurrences where there is none
 abbrev pub first_by_number : (OccurrenceRead → Resolved) → Counted → List OccurrenceRead → ℕ → ℕ
 first_by_number f counted os id = position_or_len (λ o. is_counted counted o && is_number id (f o)) os
 
--- the name that is resolved to has this number instead of its own, if the occurrence is counted
+-- if the occurrence is counted, this number replaces that of the name to which it resolves
 pub record SetsNumber (old new : List ℕ) (is_included : Bool) (number : ℕ) (resolved : Resolved) : Type 0 where
   pub size : length new ≡ length old
   pub numbers : (id : ℕ) → id < length old → slice_index_or new id 0
       ≡ (if is_included && is_number id resolved then number else slice_index_or old id 0)
 
--- a number below the count
+-- the number, if it is below the count
 abbrev pub number_below : ℕ → ℕ → Option ℕ
 number_below count n = if nat_lt n count then Some n else None
 
--- the name that is resolved to is flagged, if it is to be
+-- the name to which an occurrence resolves is flagged, if `flagged` says so
 pub record Flags (old new : List Bool) (flagged : Bool) (resolved : Resolved) : Type 0 where
   pub size : length new ≡ length old
   pub flags : (id : ℕ) → id < length old → slice_index_or new id false
       ≡ (slice_index_or old id false || (flagged && is_number id resolved))
 
--- the numbers of the items that pass, where the first item has number k
+-- the numbers of the items that pass, where the first item has the number `k`
 abbrev pub numbers_from : {X : Type 0} → (X → Bool) → ℕ → List X → List ℕ
 numbers_from q k xs = map (λ e. e.0) (filter (λ e. q e.1) (enumerate_from k xs))
 
--- it resolves to no name
+-- an occurrence with this resolution resolves to no name
 abbrev pub is_unresolved : Resolved → Bool
 is_unresolved (Name id) = false
 is_unresolved NoFullName = true
 is_unresolved Ambiguous = true
 
--- the fault of the occurrence with this number, by what it resolves to
+-- the fault of the occurrence with this number, by its resolution
 abbrev pub fault_of_number : WebRead → List Resolved → ℕ → List FaultRead
 fault_of_number web resolved n =
     flat_map (resolution_fault web.file_names (slice_index_or resolved n NoFullName))

@@ -1,5 +1,5 @@
--- What is kept of a web's names that depends on no origin. These definitions are cited by private
--- contracts alone.
+-- The parts of a web's names that depend on no origin. Only private contracts cite these
+-- definitions.
 use Rattle.std.specs.Prelude.{◌≡◌, List, [], length, map}
 use Rattle.tangle_faults.specs.Faults.{FaultRead}
 use Rattle.tangle_lexer.specs.Occurrences.{OccurrenceRead}
@@ -8,7 +8,7 @@ use Rattle.tangle_names.specs.Faults.{begins_another}
 use Rattle.tangle_names.specs.NameTable.{TableRead, table_over}
 use Rattle.tangle_names.specs.Numbers.{is_unresolved, key_texts, number_below, numbers_from}
 
--- what is kept, with these faults, as a table
+-- a resolution, with these faults, as a table
 abbrev pub table_read : Resolution → List FaultRead → TableRead
 table_read r faults = record {
   names = key_texts r.names.keys;
@@ -18,8 +18,9 @@ table_read r faults = record {
   faults = faults;
 }
 
--- The names and what resolves to them give the numbers that are kept besides: each name has a first
--- occurrence, and the occurrences without a name and the names that begin others are listed.
+-- The other numbers follow from the names and from the resolution of the occurrences: each name has
+-- a first occurrence, and the occurrences without a name and the names that begin others are
+-- listed.
 pub record ResolutionInvariant (r : Resolution) : Type 0 where
   pub first_occurrences : length r.first_occurrences.items ≡ length r.names.keys
   pub first_file_occurrences : length r.first_file_occurrences.items ≡ length r.names.keys
@@ -27,7 +28,7 @@ pub record ResolutionInvariant (r : Resolution) : Type 0 where
   pub beginning_numbers : r.beginning_numbers.items
       ≡ numbers_from (begins_another (key_texts r.names.keys)) 0 (key_texts r.names.keys)
 
--- it is what the occurrences resolve to
+-- the resolution is that of the occurrences
 pub record IsResolutionOf (os : List OccurrenceRead) (r : Resolution) : Type 0 where
   pub table : table_read r [] ≡ table_over os []
   pub kept : ResolutionInvariant r

@@ -1,4 +1,4 @@
--- The full names in order, and what each occurrence of a name resolves to.
+-- The full names in order, and the resolution of each occurrence.
 use Rattle.std.specs.Prelude.{ℕ, Bool, ◌&&◌, List, [], ◌∷◌, ◌++◌, Option, map, fold, find, position, if◌then◌else◌}
 use Rattle.std.specs.List.{list_any, position_or_len}
 use Rattle.std.specs.Str.{bytes_eq}
@@ -7,17 +7,17 @@ use Rattle.tangle_names.specs.declared.Resolved.TheVariants.{Name, NoFullName, A
 use Rattle.tangle_lexer.specs.Occurrences.{OccurrenceRead}
 use Rattle.tangle_names.specs.Names.{NameText, Meaning, Nothing, One, Several, full_names, meaning, means}
 
--- what each occurrence means
+-- the meaning of each occurrence
 abbrev pub meanings : List OccurrenceRead → List Meaning
 meanings os = map (meaning (full_names os)) os
 
--- the names, with the one that is meant added at the end unless it is there
+-- the names, and at the end the one that is meant, unless it is among them
 abbrev pub with_name : List NameText → Meaning → List NameText
 with_name names Nothing = names
 with_name names (One t) = if list_any (bytes_eq t) names then names else names ++ t ∷ []
 with_name names Several = names
 
--- the names that are meant, each where it is meant first
+-- the names that are meant, each at the place where it is meant first
 abbrev pub names_of : List Meaning → List NameText
 names_of ms = fold with_name [] ms
 
@@ -25,13 +25,13 @@ names_of ms = fold with_name [] ms
 abbrev pub names_in_order : List OccurrenceRead → List NameText
 names_in_order os = names_of (meanings os)
 
--- what is meant, by the number of its name
+-- the resolution of a meaning, by the number of its name
 abbrev pub resolved_meaning : List NameText → Meaning → Resolved
 resolved_meaning names Nothing = NoFullName
 resolved_meaning names (One t) = Name (position_or_len (bytes_eq t) names)
 resolved_meaning names Several = Ambiguous
 
--- what an occurrence resolves to
+-- the resolution of an occurrence
 abbrev pub resolve : List OccurrenceRead → OccurrenceRead → Resolved
 resolve os o = resolved_meaning (names_in_order os) (meaning (full_names os) o)
 
@@ -43,11 +43,11 @@ resolves_to os name o = means name (meaning (full_names os) o)
 abbrev pub first_occurrence : List OccurrenceRead → NameText → Option OccurrenceRead
 first_occurrence os name = find (resolves_to os name) os
 
--- the number of that occurrence; the count of occurrences, where there is none
+-- the number of that occurrence, or the number of all occurrences where there is none
 abbrev pub first_number : List OccurrenceRead → NameText → ℕ
 first_number os name = position_or_len (resolves_to os name) os
 
--- The number of the first occurrence that resolves to the name and is a file's, which has `@(`. A name is a file if it
+-- The number of the first occurrence with `@(` that resolves to the name. A name is a file if it
 -- has one.
 abbrev pub first_file_number : List OccurrenceRead → NameText → Option ℕ
 first_file_number os name = position (λ o. o.is_file && resolves_to os name o) os

@@ -1,4 +1,5 @@
--- The full names of a web in the order of their bytes. These definitions are cited by private contracts alone.
+-- The full names of a web in the order of their bytes. Only private contracts cite these
+-- definitions.
 use Rattle.std.specs.Prelude.{◌≡◌, ◌<◌, ℕ, true, List, [], length, map, slice_index_or, Contains}
 use Rattle.std.specs.Ordering.{nat_cmp}
 use Rattle.std.specs.Cmp.Lexicographic.{slice_cmp}
@@ -8,17 +9,17 @@ use Rattle.tangle_names.specs.declared.sorted.Meaning.{Meaning as Found}
 use Rattle.tangle_names.specs.declared.sorted.Meaning.TheVariants as found
 use Rattle.tangle_names.specs.Names.{NameText, Meaning, Nothing, One, Several, begins_with}
 
--- the texts that slices show
+-- the texts of the slices
 abbrev pub borrowed_names : List (Bor NameText) → List NameText
 borrowed_names slices = map (λ (b : Bor NameText). b.now) slices
 
--- a meaning, as the code has it
+-- the meaning that the code's value represents
 abbrev pub meaning_of : Found → Meaning
 meaning_of found.Nothing = Nothing
 meaning_of (found.One text) = One text.now
 meaning_of found.Several = Several
 
--- each text is below the next one
+-- each text is below the next one in the order of bytes
 abbrev pub IsInOrder : List NameText → Type 0
 IsInOrder texts = IsStrictlySortedBy (slice_cmp nat_cmp) texts
 
@@ -27,6 +28,6 @@ pub record SameTexts (xs ys : List NameText) : Type 0 where
   pub over : (t : NameText) → Contains xs t → Contains ys t
   pub back : (t : NameText) → Contains ys t → Contains xs t
 
--- at this position is a text that begins with the prefix
+-- the text at this position begins with the prefix
 abbrev pub BeginsAt : List NameText → NameText → ℕ → Type 0
 BeginsAt texts p position = (position < length texts) × (begins_with p (slice_index_or texts position []) ≡ true)

@@ -1,4 +1,4 @@
-//! Which names begin another one.
+//! Finds the names that begin another name.
 ghost use Rattle.std.specs.Prelude.{◌≡◌, ◌<◌, ℕ, [], IfOk, length, slice_index_or, true, false};
 ghost use Rattle.tangle_names.specs.declared.Resolved.TheVariants.{Name};
 ghost use Rattle.tangle_names.specs.Faults.{begins_another};
@@ -13,7 +13,8 @@ use crate::sorted::begins_at;
 use indexmap::IndexSet;
 use std::alloc::{AllocError, Global};
 
-/// Which names begin another one. In the order of their bytes such a name begins the next one.
+/// A flag for each name, by number: whether the name begins another one. In the order of bytes,
+/// such a name begins the next one.
 pub(crate) fn beginning_flags(
     alloc: Global,
     sorted: &[&[u8]],
@@ -32,7 +33,7 @@ pub(crate) fn beginning_flags(
     Ok(begins)
 }
 
-/// Flags the name at this position, if it begins the next one.
+/// Flags the name at this position if it begins the next one.
 fn flag_beginning(
     flags: &mut Vec<bool>,
     sorted: &[&[u8]],
@@ -50,7 +51,7 @@ fn flag_beginning(
     }
 }
 
-/// Flags the name of this number, if there is one.
+/// Flags the name to which its text resolves, by number.
 fn flag(flags: &mut Vec<bool>, id: usize)
     ensures { Flags flags.old.items flags.new.items true (Name id) }
 {
@@ -59,7 +60,7 @@ fn flag(flags: &mut Vec<bool>, id: usize)
     }
 }
 
-/// The numbers that are flagged.
+/// The numbers whose flags are set.
 pub(crate) fn flagged_numbers(alloc: Global, flags: &[bool]) -> Result<Vec<usize>, AllocError>
     ensures { IfOk result (λ v. v.items ≡ numbers_from (λ flag. flag) 0 flags.now) }
 {

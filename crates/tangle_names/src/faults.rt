@@ -29,7 +29,7 @@ fn add_fault(
     Ok(())
 }
 
-/// Adds the fault of an occurrence, if it resolves to no name.
+/// Adds the fault of an occurrence that resolves to no name.
 fn add_resolution_fault(
     alloc: Global,
     faults: &mut Vec<Fault>,
@@ -49,7 +49,7 @@ fn add_resolution_fault(
     }
 }
 
-/// Adds the fault of the occurrence with this number, by what it resolves to.
+/// Adds the fault of the occurrence with this number, if it resolves to no name.
 fn add_fault_of_number(
     alloc: Global,
     faults: &mut Vec<Fault>,
@@ -67,7 +67,7 @@ fn add_fault_of_number(
     Ok(())
 }
 
-/// Adds the faults of the occurrences with these numbers, by what each resolves to.
+/// Adds the faults of those of the numbered occurrences that resolve to no name.
 fn add_faults_of_numbers(
     alloc: Global,
     faults: &mut Vec<Fault>,
@@ -85,7 +85,7 @@ fn add_faults_of_numbers(
     Ok(())
 }
 
-/// Adds the warning for a name that begins another, at the occurrence with this number.
+/// Adds the warning that a name begins another, at the occurrence with this number.
 fn add_warning(
     alloc: Global,
     faults: &mut Vec<Fault>,
@@ -102,7 +102,7 @@ fn add_warning(
     Ok(())
 }
 
-/// Adds the warnings for the names with these numbers, which begin others.
+/// Adds the warnings for the names with these numbers, each of which begins another.
 fn add_warnings(
     alloc: Global,
     faults: &mut Vec<Fault>,
@@ -123,7 +123,7 @@ fn add_warnings(
     Ok(())
 }
 
-/// The faults of names of a web with this resolution.
+/// The faults of names of a web, by its resolution.
 pub(crate) fn faults(
     alloc: Global,
     web: &Web,

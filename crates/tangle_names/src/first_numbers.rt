@@ -1,4 +1,4 @@
-//! The number of each name's first counted occurrence.
+//! Finds the first counted occurrence of each name.
 ghost use Rattle.std.specs.Prelude.{◌≡◌, ◌<◌, ℕ, IfOk, length, map, slice_index_or};
 ghost use Rattle.tangle_lexer.specs.Occurrences.{OccurrenceRead};
 ghost use Rattle.tangle_names.specs.declared.Resolved.{Resolved};
@@ -8,20 +8,20 @@ use crate::Resolved;
 use std::alloc::{AllocError, Global};
 use tangle_scan::{Occurrence, OccurrenceRole};
 
-/// Which occurrences count in a search for the first one.
+/// Which occurrences count when the first one is searched.
 #[derive(Clone, Copy, Debug, PartialEq, Eq)]
 pub enum Counted {
     /// All occurrences: definitions, uses and mentions.
     All,
-    /// Those with `@(`, by which a name is a file.
+    /// Those with `@(`, which make their name a file.
     Files,
     /// The uses, which are in C parts.
     Uses,
 }
 
-/// For each name, the number of the first counted occurrence that resolves to it, or the count of
+/// For each name, the number of the first counted occurrence that resolves to it, or the number of
 /// occurrences where there is none.
-// From the last occurrence to the first, so that an earlier number replaces a later one.
+// It goes from the last occurrence to the first, so that an earlier number replaces a later one.
 pub(crate) fn first_numbers(
     alloc: Global,
     occurrences: &[Occurrence],
@@ -45,7 +45,6 @@ pub(crate) fn first_numbers(
     Ok(numbers)
 }
 
-/// Whether the occurrence is one of those that are counted.
 fn is_counted(occurrence: &Occurrence, counted: Counted) -> bool
     ensures { result ≡ is_counted counted occurrence.now }
 {
@@ -56,7 +55,7 @@ fn is_counted(occurrence: &Occurrence, counted: Counted) -> bool
     }
 }
 
-/// Sets the number of the name that is resolved to, if the occurrence is counted.
+/// Sets the number of the name to which an occurrence resolves, if the occurrence is counted.
 fn set_number(numbers: &mut Vec<usize>, is_included: bool, number: usize, resolved: Resolved)
     ensures { SetsNumber numbers.old.items numbers.new.items is_included number resolved }
 {

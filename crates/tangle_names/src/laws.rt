@@ -1,4 +1,4 @@
-//! Laws of names, which hold of each web.
+//! Laws of names, which hold for each web.
 ghost use Rattle.std.specs.Prelude.{◌≡◌, ◌<◌, ◌↔◌, ℕ, List, [], true, false, length};
 ghost use Rattle.std.specs.Prelude.{slice_index_or, Contains, IsSome};
 ghost use Rattle.std.specs.List.{IsDistinct};
@@ -10,7 +10,8 @@ ghost use Rattle.tangle_names.specs.Resolving.{names_in_order, resolve};
 ghost use Rattle.tangle_names.specs.Laws.{IsFirst, IsFirstAsFileIfAny, ResolvesFull};
 ghost use Rattle.tangle_names.specs.Laws.{ResolvesPrefix};
 
-/// The names in order are the full names of the web, each once; an occurrence resolves to each.
+/// The names of the table are the full names of the web, each once, and some occurrence resolves to
+/// each.
 pub fn names_are_the_full_names()
     ensures same { (occurrences : List OccurrenceRead) (text : List ℕ)
         → Contains (names_in_order occurrences) text ↔ Contains (full_names occurrences) text }
@@ -22,8 +23,8 @@ pub fn names_are_the_full_names()
 {}
 
 /// A full name resolves to itself. An abbreviation resolves to the one full name of the web that
-/// begins with its prefix; it is without a full name where none does, and ambiguous where two do
-/// that differ.
+/// begins with its prefix. It has no full name where none begins with the prefix, and is ambiguous
+/// where several different ones do.
 pub fn occurrences_resolve_by_the_whole_web()
     ensures full { (occurrences : List OccurrenceRead) (occurrence : OccurrenceRead)
         → Contains occurrences occurrence → occurrence.is_abbreviation ≡ false
@@ -35,8 +36,8 @@ pub fn occurrences_resolve_by_the_whole_web()
         (prefix occurrence.text) (resolve occurrences occurrence) }
 {}
 
-/// The first occurrence of a name is the first that resolves to it, and its first occurrence as a
-/// file is the first of those with `@(`, if there is one.
+/// The first occurrence of a name is the first that resolves to it. The first occurrence of a name
+/// as a file is the first with `@(` that resolves to it, if there is one.
 pub fn first_occurrences_resolve_to_their_names()
     ensures first { (occurrences : List OccurrenceRead) (id : ℕ)
         → id < length (names_in_order occurrences) → IsFirst occurrences id

@@ -26,6 +26,6 @@ pub enum Resolved {
     Name(usize),
     /// No full name begins with the abbreviation's prefix.
     NoFullName,
-    /// Several full names begin with it.
+    /// Several full names begin with the abbreviation's prefix.
     Ambiguous,
 }

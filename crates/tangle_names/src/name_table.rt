@@ -19,10 +19,10 @@ use std::rc::Rc;
 use tangle_lines::{Fault, NoMemory};
 use tangle_scan::{Occurrence, Web};
 
-/// The full names of a web, what each occurrence resolves to, and the faults of names.
+/// The full names of a web, the resolution of each occurrence, and the faults of names.
 #[derive(Drop)]
 pub struct NameTable {
-    // Tables of webs whose occurrences are written alike share it. It is never changed.
+    // Tables of webs whose occurrences are written the same share it. It never changes.
     resolution: Rc<Resolution>,
     faults: Vec<Fault>,
 }
@@ -42,14 +42,14 @@ impl NameTable {
     ghost use Rattle.tangle_names.specs.NameTable.{table_of, table_over};
     ghost use Rattle.tangle_names.specs.Resolution.{IsResolutionOf};
 
-    /// The table of the names of a web. A name that ends in three dots is an abbreviation, and the
-    /// others are full names, mentions included. An abbreviation resolves to the one full name of
-    /// the whole web that begins with what is before its dots. Full names have numbers from 0 on,
-    /// in the order of the first occurrences that resolve to them.
+    /// The table of a web's names. A name that ends in three dots is an abbreviation; the others
+    /// are full names, also those that are only mentioned. An abbreviation resolves to the one full
+    /// name of the whole web that begins with the text before the dots. Full names are numbered
+    /// from 0, in the order of the first occurrences that resolve to them.
     ///
     /// # Errors
     ///
-    /// `NoMemory`, where an allocation failed.
+    /// `NoMemory` where an allocation failed.
     pub fn build(alloc: Global, web: &Web) -> Result<NameTable, NoMemory>
         ensures { IfOk result (λ table. table ≡ table_of web.now) }
     {
@@ -57,13 +57,13 @@ impl NameTable {
         NameTable::over(alloc, web, Rc::new(alloc, resolution)?)
     }
 
-    /// The table that `build` gives, made with the table and the occurrences of an older web. If
-    /// each occurrence is written as the old one of its number, what they resolve to is shared with
-    /// the old table, and nothing is sorted or looked up. The faults are made anew.
+    /// The same table as [`NameTable::build`] makes, built from the table and the occurrences of an
+    /// older web. If each new occurrence is written as the old one with its number, the resolution
+    /// is shared with the old table, without sorting and look-ups. The faults are made again.
     ///
     /// # Errors
     ///
-    /// `NoMemory`, where an allocation failed.
+    /// `NoMemory` where an allocation failed.
     pub fn rebuild(
         alloc: Global,
         web: &Web,
@@ -80,7 +80,7 @@ impl NameTable {
         }
     }
 
-    /// The table of a web with this resolution.
+    /// Makes the table of a web with this resolution.
     fn over(alloc: Global, web: &Web, resolution: Rc<Resolution>) -> Result<NameTable, NoMemory>
         requires { IsResolutionOf web.now.occurrences resolution.value }
         ensures { IfOk result (λ table. table ≡ table_of web.now) }
@@ -89,7 +89,7 @@ impl NameTable {
         Ok(NameTable { resolution, faults })
     }
 
-    /// What the occurrence of this number resolves to: its full name, or why it has none.
+    /// The resolution of the occurrence with this number: its full name, or why it has none.
     pub fn resolve(&self, occurrence: usize) -> Resolved
         requires { occurrence < length self.now.resolved }
         ensures { result ≡ slice_index_or self.now.resolved occurrence NoFullName }
@@ -97,18 +97,18 @@ impl NameTable {
         self.resolution.resolved[occurrence]
     }
 
-    /// The number of the full name with this text, if it is one.
+    /// The number of the full name with this text, if there is one.
     pub fn find(&self, text: &[u8]) -> Option<usize>
         ensures { result ≡ position (bytes_eq text.now) self.now.names }
     {
         self.resolution.find(text)
     }
 
-    /// The full names, shared.
+    /// Shares the full names.
     ///
     /// # Errors
     ///
-    /// `NoMemory`, where no more shares can be counted.
+    /// `NoMemory` where the counter of shares is full.
     pub fn names(&self) -> Result<Names, NoMemory>
         ensures { IfOk result (λ names. names ≡ self.now.names) }
     {
@@ -118,14 +118,14 @@ impl NameTable {
         }
     }
 
-    /// How many full names there are.
+    /// The number of full names.
     pub fn count(&self) -> usize
         ensures { result ≡ length self.now.names }
     {
         self.resolution.count()
     }
 
-    /// The text of the full name of this number.
+    /// The text of the full name with this number.
     pub fn text(&self, id: usize) -> &[u8]
         requires { id < length self.now.names }
         ensures { result.now ≡ slice_index_or self.now.names id [] }
@@ -133,8 +133,8 @@ impl NameTable {
         self.resolution.text(id)
     }
 
-    /// The number of the first occurrence that resolves to the full name of this number,
-    /// abbreviations included.
+    /// The number of the first occurrence that resolves to the full name with this number; it may
+    /// be an abbreviation.
     pub fn first_occurrence(&self, id: usize) -> usize
         requires { id < length self.now.names }
         ensures { result ≡ slice_index_or self.now.first_occurrences id 0 }
@@ -142,8 +142,8 @@ impl NameTable {
         self.resolution.first_occurrences[id]
     }
 
-    /// The number of the first occurrence with `@(` that resolves to the full name of this number,
-    /// if there is one.
+    /// The number of the first occurrence with `@(` that resolves to the full name with this
+    /// number, if there is one.
     pub fn first_file_occurrence(&self, id: usize) -> Option<usize>
         requires { id < length self.now.names }
         ensures { result ≡ slice_index_or self.now.first_file_occurrences id None }
@@ -156,7 +156,7 @@ impl NameTable {
         }
     }
 
-    /// Whether the full name of this number is a file: an occurrence with `@(` resolves to it.
+    /// Whether the full name with this number is a file: an occurrence with `@(` resolves to it.
     pub fn is_file(&self, id: usize) -> bool
         requires { id < length self.now.names }
         ensures { result ≡ is_some (slice_index_or self.now.first_file_occurrences id None) }
@@ -164,12 +164,12 @@ impl NameTable {
         self.first_file_occurrence(id).is_some()
     }
 
-    /// For each full name, the number of the first counted occurrence of the web that resolves to
-    /// it, or the count of occurrences where there is none. The occurrences are those of the web.
+    /// For each full name, the number of the first counted occurrence that resolves to it, or the
+    /// number of occurrences where there is none. The occurrences must be those of the table's web.
     ///
     /// # Errors
     ///
-    /// `AllocError`, where an allocation failed.
+    /// `AllocError` where an allocation failed.
     pub fn first_numbers(
         &self,
         alloc: Global,
@@ -187,16 +187,16 @@ impl NameTable {
         first_numbers(alloc, occurrences, resolved, self.count(), counted)
     }
 
-    /// The faults of names: those of occurrences that resolve to no full name or to several, in
-    /// their order, and then the warnings for full names that begin others, in theirs, each at its
-    /// name's first occurrence.
+    /// The faults of names: first those of occurrences that resolve to no full name or to several,
+    /// in the order of the occurrences; then the warnings for full names that begin others, in the
+    /// order of the names, each at its name's first occurrence.
     pub fn faults(&self) -> &[Fault]
         ensures { result.now ≡ self.now.faults }
     {
         self.faults.as_slice()
     }
 
-    /// Takes the faults out of the table, which has none from then on.
+    /// Takes the faults out of the table, which then has none.
     pub fn take_faults(&mut self) -> Vec<Fault>
         ensures taken { result.items ≡ self.old.faults }
         ensures others { self.new ≡ record self.old { faults = [] } }

@@ -9,8 +9,8 @@ use std::marker::Model;
 use std::rc::Rc;
 use tangle_lines::NoMemory;
 
-/// The full names of a web, each under its number. They are shared with the table, so that their
-/// bytes are stored once.
+/// The full names of a web, by number. They are shared with the table, so that their bytes are
+/// stored once.
 #[derive(Drop)]
 pub struct Names {
     resolution: Rc<Resolution>,
@@ -34,11 +34,11 @@ impl Names {
         Names { resolution }
     }
 
-    /// The same names, shared.
+    /// Shares the names.
     ///
     /// # Errors
     ///
-    /// `NoMemory`, where no more shares can be counted.
+    /// `NoMemory` where the counter of shares is full.
     pub fn share(&self) -> Result<Names, NoMemory>
         ensures { IfOk result (λ names. names ≡ self.now) }
     {
@@ -48,14 +48,14 @@ impl Names {
         }
     }
 
-    /// How many names there are.
+    /// The number of names.
     pub fn count(&self) -> usize
         ensures { result ≡ length self.now }
     {
         self.resolution.count()
     }
 
-    /// The text of the name of this number.
+    /// The text of the name with this number.
     pub fn text(&self, id: usize) -> &[u8]
         requires { id < length self.now }
         ensures { result.now ≡ slice_index_or self.now id [] }
@@ -63,15 +63,15 @@ impl Names {
         self.resolution.text(id)
     }
 
-    /// The number of the name with this text, if it is one.
+    /// The number of the name with this text, if there is one.
     pub fn find(&self, text: &[u8]) -> Option<usize>
         ensures { result ≡ position (bytes_eq text.now) self.now }
     {
         self.resolution.find(text)
     }
 
-    /// The number of the name with this text, if it is one. The text is compared with that of name
-    /// number `id` first: after most edits a name has its old number, and nothing is looked up.
+    /// The number of the name with this text, if there is one. The name with the number `id` is
+    /// compared first, since after most edits a name keeps its number and needs no look-up.
     pub fn find_from(&self, id: usize, text: &[u8]) -> Option<usize>
         ensures some { IfSome result (λ n. (n < length self.now)
             × (slice_index_or self.now n [] ≡ text.now)) }

@@ -1,4 +1,4 @@
-//! The numbers of the full names, and what each occurrence resolves to.
+//! Numbers the full names, and resolves the occurrences.
 ghost use Rattle.std.specs.Prelude.{◌≡◌, ◌∷◌, ◌++◌, [], IfOk, OnOk, if◌then◌else◌, map};
 ghost use Rattle.std.specs.List.{position_or_len};
 ghost use Rattle.std.specs.Str.{bytes_eq};
@@ -14,7 +14,7 @@ use indexmap::IndexSet;
 use std::alloc::{AllocError, Global};
 use tangle_scan::Occurrence;
 
-/// The number of a full name, which is added if it is new.
+/// The number of a full name; a new name is added.
 fn intern(alloc: Global, names: &mut IndexSet<Vec<u8>>, text: &[u8]) -> Result<usize, AllocError>
     ensures names { OnOk result (key_texts names.new.keys
         ≡ with_name (key_texts names.old.keys) (One text.now)) }
@@ -29,7 +29,7 @@ fn intern(alloc: Global, names: &mut IndexSet<Vec<u8>>, text: &[u8]) -> Result<u
     Ok(id)
 }
 
-/// Resolves a meaning. Its name is added if it is new.
+/// The resolution of a meaning; a new name is added.
 fn resolve_meaning(
     alloc: Global,
     names: &mut IndexSet<Vec<u8>>,
@@ -47,7 +47,7 @@ fn resolve_meaning(
     }
 }
 
-/// What the occurrences resolve to, by what each means. The full names go into `names`, in the
+/// The resolution of each occurrence, from its meaning. The full names are added to `names`, in the
 /// order of the first occurrences that resolve to them.
 fn resolve_all(
     alloc: Global,
@@ -67,7 +67,7 @@ fn resolve_all(
     Ok(resolved)
 }
 
-/// What the occurrences of a web resolve to. Its full names go into `names`, in order.
+/// The resolution of each occurrence of a web. The full names are added to `names` in order.
 pub(crate) fn resolve_occurrences(
     alloc: Global,
     names: &mut IndexSet<Vec<u8>>,
@@ -85,7 +85,6 @@ pub(crate) fn resolve_occurrences(
     resolve_all(alloc, names, &meanings)
 }
 
-/// Whether an occurrence with this result resolves to no name.
 fn is_unresolved(resolved: Resolved) -> bool
     ensures { result ≡ is_unresolved resolved }
 {
@@ -95,7 +94,6 @@ fn is_unresolved(resolved: Resolved) -> bool
     }
 }
 
-/// Adds the number at the end of the list, if it is to be listed.
 pub(crate) fn push_if(
     numbers: &mut Vec<usize>,
     is_listed: bool,
@@ -124,7 +122,7 @@ pub(crate) fn unresolved_numbers(
     Ok(numbers)
 }
 
-/// The number of a full name, or the count of names where it is none of them.
+/// The number of a full name, or the number of all names where it is none of them.
 pub(crate) fn number(names: &IndexSet<Vec<u8>>, text: &[u8]) -> usize
     ensures { result ≡ position_or_len (bytes_eq text.now) (key_texts names.now.keys) }
 {

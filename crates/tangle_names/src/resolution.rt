@@ -1,4 +1,4 @@
-//! What the names of a web resolve to. It depends on how the occurrences are written, and on no
+//! The resolution of a web's names. It depends only on how the occurrences are written, and on no
 //! origin.
 ghost use Rattle.std.specs.Prelude.{◌≡◌, ◌↔◌, ◌<◌, [], IfOk, IsTrue, length, position};
 ghost use Rattle.std.specs.Prelude.{slice_index_or};
@@ -16,16 +16,17 @@ use indexmap::IndexSet;
 use std::alloc::{AllocError, Global};
 use tangle_scan::Occurrence;
 
-/// The full names of a web, what each occurrence resolves to, and by which numbers the faults of
-/// names are found. An edit that leaves the occurrences written as they were leaves all of it.
+/// The full names of a web, the resolution of each occurrence, and the numbers from which the
+/// faults of names are found. An edit after which each occurrence is written the same changes
+/// nothing of this.
 #[derive(Drop)]
 pub(crate) struct Resolution {
     pub(crate) names: IndexSet<Vec<u8>>,
     pub(crate) resolved: Vec<Resolved>,
     // The number of each name's first occurrence.
     pub(crate) first_occurrences: Vec<usize>,
-    // The number of each name's first occurrence as a file; the count of occurrences, where it has
-    // none.
+    // The number of each name's first occurrence as a file; the number of all occurrences where it
+    // has none.
     pub(crate) first_file_occurrences: Vec<usize>,
     // The numbers of the occurrences that resolve to no name.
     pub(crate) unresolved: Vec<usize>,
@@ -34,7 +35,7 @@ pub(crate) struct Resolution {
 }
 
 impl Resolution {
-    /// What the names of a web with these occurrences resolve to.
+    /// The resolution of the names of a web with these occurrences.
     pub(crate) fn build(alloc: Global, occurrences: &[Occurrence]) -> Result<Resolution, AllocError>
         ensures { IfOk result (λ resolution. IsResolutionOf occurrences.now resolution) }
     {
@@ -68,14 +69,14 @@ impl Resolution {
         })
     }
 
-    /// How many names there are.
+    /// The number of names.
     pub(crate) fn count(&self) -> usize
         ensures { result ≡ length (key_texts self.now.names.keys) }
     {
         self.names.len()
     }
 
-    /// The text of the name of this number.
+    /// The text of the name with this number.
     pub(crate) fn text(&self, id: usize) -> &[u8]
         requires { id < length (key_texts self.now.names.keys) }
         ensures { result.now ≡ slice_index_or (key_texts self.now.names.keys) id [] }
@@ -84,7 +85,7 @@ impl Resolution {
         text.as_slice()
     }
 
-    /// The number of the name with this text, if it is one.
+    /// The number of the name with this text, if there is one.
     pub(crate) fn find(&self, text: &[u8]) -> Option<usize>
         ensures { result ≡ position (bytes_eq text.now) (key_texts self.now.names.keys) }
     {
@@ -92,7 +93,7 @@ impl Resolution {
     }
 }
 
-/// Whether the two occurrences are written alike: with the same text, both abbreviated or neither,
+/// Whether two occurrences are written the same: with the same text, both abbreviated or neither,
 /// and both with `@(` or neither.
 fn is_written_alike(old: &Occurrence, new: &Occurrence) -> bool
     ensures { IsTrue result ↔ (written_form old.now ≡ written_form new.now) }
@@ -102,8 +103,8 @@ fn is_written_alike(old: &Occurrence, new: &Occurrence) -> bool
         && old.text() == new.text()
 }
 
-/// Whether there are as many old occurrences as new ones, and each is written as the new one of its
-/// number.
+/// Whether the two lists of occurrences have the same length, and each old occurrence is written
+/// the same as the new one with its number.
 pub(crate) fn are_written_alike(old: &[Occurrence], new: &[Occurrence]) -> bool
     ensures { IsTrue result ↔ AreWrittenAlike old.now new.now }
 {

@@ -1,4 +1,5 @@
-//! The full names of a web in the order of their bytes, and what an occurrence means among them.
+//! The full names of a web in the order of their bytes, and the meaning of an occurrence among
+//! them.
 ghost use Rattle.std.specs.Prelude.{◌≡◌, ◌↔◌, List, ℕ, IfOk, IsTrue, map};
 ghost use Rattle.std.specs.Ordering.{nat_cmp, is_lt};
 ghost use Rattle.std.specs.Cmp.Lexicographic.{slice_cmp};
@@ -9,7 +10,7 @@ ghost use Rattle.tangle_names.specs.Sorted.{borrowed_names};
 use std::alloc::{AllocError, Global};
 use tangle_scan::Occurrence;
 
-/// What an occurrence may mean: no full name, one, or several.
+/// What an occurrence means: no full name, one, or several.
 #[derive(Clone, Copy)]
 pub(crate) enum Meaning<'a> {
     Nothing,
@@ -45,14 +46,14 @@ fn full_names(alloc: Global, occurrences: &[Occurrence]) -> Result<Vec<&[u8]>, A
     Ok(names)
 }
 
-/// Whether the text is below the prefix in the order of bytes.
+/// Whether the text comes before the prefix in the order of bytes.
 fn is_below(text: &[u8], prefix: &[u8]) -> bool
     ensures { result ≡ is_lt (slice_cmp nat_cmp text.now prefix.now) }
 {
     text.cmp(prefix).is_lt()
 }
 
-/// Whether there is a name at this position that begins with the prefix.
+/// Whether the name at this position begins with the prefix.
 pub(crate) fn begins_at(sorted: &[&[u8]], position: usize, prefix: &[u8]) -> bool
     ensures { IsTrue result ↔ BeginsAt (borrowed_names sorted.now) prefix.now position }
 {
@@ -60,7 +61,8 @@ pub(crate) fn begins_at(sorted: &[&[u8]], position: usize, prefix: &[u8]) -> boo
 }
 
 /// The one full name that begins with the prefix.
-// Such names aren't below the prefix, and are together: two at most are looked at.
+// Names that begin with the prefix are next to each other, and none is below it: at most two are
+// looked at.
 fn only_with<'a>(sorted: &[&'a [u8]], prefix: &[u8]) -> Meaning<'a>
     requires { IsInOrder (borrowed_names sorted.now) }
     ensures { (full : List (List ℕ)) → SameTexts full (borrowed_names sorted.now)
@@ -76,14 +78,14 @@ fn only_with<'a>(sorted: &[&'a [u8]], prefix: &[u8]) -> Meaning<'a>
     }
 }
 
-/// The prefix of an abbreviation: what is before its three dots.
+/// The prefix of an abbreviation: its text before the three dots.
 fn prefix(abbreviation: &[u8]) -> &[u8]
     ensures { result.now ≡ prefix abbreviation.now }
 {
     &abbreviation[..abbreviation.len().saturating_sub(3)]
 }
 
-/// What the occurrence means, among the full names of the web.
+/// The meaning of the occurrence among the full names of the web.
 fn meaning_among<'a>(sorted: &[&'a [u8]], occurrence: &'a Occurrence) -> Meaning<'a>
     requires { IsInOrder (borrowed_names sorted.now) }
     ensures { (full : List (List ℕ)) → SameTexts full (borrowed_names sorted.now)
@@ -96,7 +98,7 @@ fn meaning_among<'a>(sorted: &[&'a [u8]], occurrence: &'a Occurrence) -> Meaning
     }
 }
 
-/// What each occurrence means.
+/// The meaning of each occurrence.
 pub(crate) fn meanings<'a>(
     alloc: Global,
     sorted: &[&'a [u8]],

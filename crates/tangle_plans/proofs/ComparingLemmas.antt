@@ -1,4 +1,4 @@
--- Comparing lists from their fronts.
+-- Lists are compared from the front.
 use Rattle.std.proofs.Common.{◌≡◌, ◌≢◌, ◌∙◌, ℕ, ◌+◌, ◌<◌, ◌≤◌, ◌-◌, suc, List, [], ◌∷◌, ◌++◌, length, map, take, drop, arith, refl, ap, sym, append_assoc, append-nil, get_or, drop-cons, add-one, All}
 use Rattle.std.specs.Prelude.{flat_map, Option, Some, None}
 use Rattle.std.proofs.lemmas.Grind.{flat_map-append}
@@ -39,7 +39,7 @@ and_then a b c f g h p q = λ more. ((λ e. (q more).0 ((p more).0 e)), λ e. (p
 pub and_not : (a b : Lists) (f g : Lists → Lists) → GoOnAs a f b g → IsNotAfter g b → IsNotAfter f a
 and_not a b f g p q = λ more e. q more ((p more).0 e)
 
--- fronts that say the same
+-- equal fronts
 
 pub front_same : (a b : Lists) (f f' g : Lists → Lists) → ((more : Lists) → f' more ≡ f more) → GoOnAs a f b g → GoOnAs a f' b g
 front_same a b f f' g same p = λ more. ((λ e. (p more).0 (e ∙ same more)), λ e. (p more).1 e ∙ sym (same more))
@@ -50,7 +50,7 @@ not_same a f f' same p = λ more e. p more (e ∙ same more)
 pub back_same : (a b : Lists) (f g g' : Lists → Lists) → ((more : Lists) → g more ≡ g' more) → GoOnAs a f b g → GoOnAs a f b g'
 back_same a b f g g' same p = λ more. ((λ e. (p more).0 e ∙ same more), λ e. (p more).1 (e ∙ sym (same more)))
 
--- tags, bytes and uses in front of lists
+-- tags, bytes and uses are put before lists
 
 pub other_tag : (tag first : ItemTag) (tags : List ItemTag) (bytes uses : List ℕ) → (first ≡ tag → ⊥)
     → (more : Lists) → record { tags = first ∷ tags; bytes = bytes; uses = uses } ≢ with_tag tag more
@@ -58,7 +58,7 @@ other_tag tag first tags bytes uses differ more e =
     let both : (first ∷ tags) ≡ tag ∷ more.tags = ap (λ (m : Lists). m.tags) e in
     differ (cc)
 
--- the fronts of the three lists
+-- a tag, bytes and uses in front of the three lists
 abbrev pub with_all : ItemTag → List ℕ → List ℕ → Lists → Lists
 with_all tag bytes uses more = record { tags = tag ∷ more.tags; bytes = bytes ++ more.bytes; uses = uses ++ more.uses }
 
@@ -87,7 +87,7 @@ all_after tag first bytes uses l tags left rest same is b u = λ more. (
 pub cut_not : (first bytes whole rest : List ℕ) → whole ≡ first ++ rest → ((more : List ℕ) → rest ≢ bytes ++ more) → (more : List ℕ) → whole ≢ first ++ (bytes ++ more)
 cut_not first bytes whole rest is differ more e = differ more (append_cancel_left first rest (bytes ++ more) (sym is ∙ e))
 
--- spans and items after the bytes of a range
+-- spans and items after the bytes of a pending range
 
 module _ (texts : List (List ℕ)) where
   -- a span that begins another range
@@ -103,14 +103,14 @@ module _ (texts : List (List ℕ)) (table : TableRead) where
       lists_same (with_item texts table x more) (with_span texts kind s more)
       (ap (λ c. c ∷ more.tags) (is.tag table)) (ap (λ b. b ++ more.bytes) (is.bytes texts)) (ap (λ u. u ++ more.uses) (is.no_use table))
 
-  -- another item, after which no range is left
+  -- an item without a span, after which the range is empty
   pub item_cut : (x : Item) (first next : List ℕ) → next ≡ []
       → (more : Lists) → with_bytes first (with_item texts table x more) ≡ with_all (tag_in table x) (first ++ bytes_in texts x) (uses_in table x) (with_bytes next more)
   item_cut x first next none more =
       ap (λ b. record { tags = tag_in table x ∷ more.tags; bytes = b; uses = uses_in table x ++ more.uses })
       (sym (append_assoc first (bytes_in texts x) more.bytes) ∙ ap (λ n. (first ++ bytes_in texts x) ++ (n ++ more.bytes)) (sym none))
 
-  -- what is said of a span is said of the item
+  -- what holds of a span holds of its item
   pub position_of_item : (x : Item) (kind : ItemKind) (s : Span) (tag : ItemTag) (position : Position) (r : Option Position) → IsSpanOf x kind s
       → GoesAfter (with_span texts kind s) tag position r → GoesAfter (with_item texts table x) tag position r
   position_of_item x kind s tag position None is p =
@@ -129,7 +129,7 @@ module _ (texts : List (List ℕ)) (table : TableRead) where
       ∙ lists_same (with_items texts table (x ∷ rest) more) (with_item texts table x (with_items texts table rest more))
       refl (append_assoc (bytes_in texts x) (flat_map (bytes_in texts) rest) more.bytes) (append_assoc (uses_in table x) (flat_map (uses_in table) rest) more.uses)
 
-  -- one of them at a position, with its tag
+  -- the tag at a position is the first of those from there on
   tags_on : (tags : List ItemTag) (i : ℕ) (tag d : ItemTag) → i < length tags → tag ≡ get_or tags i d → drop i tags ≡ tag ∷ drop (i + 1) tags
   tags_on tags i tag d h is = drop-cons tags i d h ∙ ap (λ c. c ∷ drop (suc i) tags) (sym is) ∙ ap (λ j. tag ∷ drop j tags) (sym (add-one i))
 
@@ -222,14 +222,14 @@ module _ (texts : List (List ℕ)) (table : TableRead) where
   pub pieces_over : (pieces : List PieceRead) (numbers : List ℕ) (i : ℕ) → length numbers ≤ i → (more : Lists) → with_pieces texts table (pieces_at pieces (drop i numbers)) more ≡ more
   pieces_over pieces numbers i h more = ap (λ l. with_pieces texts table (pieces_at pieces l) more) (drop_all numbers i h)
 
-  -- what is said of all of them, and of their shape
+  -- the front of the pieces is the front of their shape
   pub shape_in_front : (pieces : List PieceRead) → All (λ (p : PieceRead). All (IsInRange texts) p.items) pieces
       → (more : Lists) → with_shape texts table pieces more ≡ with_pieces texts table pieces more
   shape_in_front pieces spans more =
       lists_same (with_shape texts table pieces more) (with_pieces texts table pieces more)
       (ap (λ l. l ++ more.tags) (sym (tags_held texts table pieces spans))) (ap (λ l. l ++ more.bytes) (sym (bytes_held texts table pieces))) refl
 
-  -- with nothing after
+  -- nothing remains after the pieces
   pub has_items : (pieces : List PieceRead) (body : NodeBody) → lists_of body ≡ with_shape texts table pieces no_lists → HasItemsOf texts table pieces body
   has_items pieces body e = record {
     tags = ap (λ (m : Lists). m.tags) e ∙ append-nil (shape_tags (shape_of texts table pieces));

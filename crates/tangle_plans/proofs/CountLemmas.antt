@@ -1,4 +1,4 @@
--- How many slots a plan has.
+-- The number of slots of a plan.
 use Rattle.std.proofs.Common.{◌≡◌, ℕ, ◌+◌, ◌-◌, ◌<◌, ◌≤◌, ◌^◌, min, List, [], ◌∷◌, map, drop, length, refl, ap, arith, length-append, length-drop}
 use Rattle.std.proofs.lemmas.List.{length-map, length-take}
 use Rattle.tangle_plans.specs.Shapes.{Title, Program}
@@ -13,7 +13,7 @@ pub between_counted : (bytes : List ℕ) (start end : ℕ) → length (map (λ b
 between_counted bytes start end =
     omega (arith, length-map (bytes_between bytes start end) (λ b. Own (Byte b)), length-take (end - start) (drop start bytes), length-drop start bytes)
 
--- by the bytes alone
+-- the number of slots, which depends neither on the node nor on the numbers of pieces and marks
 abbrev pub own_count : List ℕ → ℕ → List Step → ℕ
 own_count bytes start [] = 0
 own_count bytes start (s ∷ plan) = length (step_slots Program bytes 0 0 start s) + own_count bytes (bytes_after_step start s) plan

@@ -35,7 +35,7 @@ pieces_next f pieces numbers i n p made whole h is low at e =
     ∙ ap (λ l. made ++ flat_map f (pieces_at pieces l)) (sym next)
     ∙ e
 
--- after the last of them
+-- after the last piece of the list
 pub pieces_done : {A : Type 0} (f : PieceRead → List A) (pieces : List PieceRead) (numbers : List ℕ) (i : ℕ) (made whole : List A)
     → length numbers ≤ i → made ++ flat_map f (pieces_at pieces (drop i numbers)) ≡ whole → made ≡ whole
 pieces_done f pieces numbers i made whole h e = sym (append-nil made) ∙ ap (λ l. made ++ flat_map f (pieces_at pieces l)) (sym (drop_all numbers i h)) ∙ e
@@ -84,7 +84,7 @@ tags_held texts table (p ∷ pieces) h =
     ap (λ l. (l ++ piece_end ∷ []) ++ pieces_tags table pieces) (items_held texts table p.items (h zero p (omega arith)))
     ∙ ap (λ l. (map item_tag (map (shape_item texts table) p.items) ++ piece_end ∷ []) ++ l) (tags_held texts table pieces (λ i d low. h (suc i) d (omega (arith, low))))
 
--- what holds of all pieces holds of those with these numbers
+-- what holds of all pieces holds of the pieces with these numbers
 pub all_at : (P : PieceRead → Type 0) (pieces : List PieceRead) (numbers : List ℕ) → All P pieces → All (λ n. n < length pieces) numbers → All P (pieces_at pieces numbers)
 all_at P pieces [] h low = λ i d none. absurd (omega (arith, none))
 all_at P pieces (n ∷ numbers) h low = at (all_at P pieces numbers h (λ j e lower. low (suc j) e (omega (arith, lower))))

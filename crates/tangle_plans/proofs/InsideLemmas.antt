@@ -1,4 +1,4 @@
--- What an occurrence resolves to is a name of the table.
+-- An occurrence that resolves to a name resolves to one of the table.
 use Rattle.std.proofs.Common.{arith, ◌≡◌, ℕ, zero, suc, Bool, true, false, List, [], ◌∷◌, map, length, refl}
 use Rattle.std.specs.Prelude.{slice_index_or, Contains}
 use Rattle.std.proofs.lemmas.List.Elements.{Contains-append_right}

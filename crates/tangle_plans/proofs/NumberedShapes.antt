@@ -1,4 +1,4 @@
--- Tags, bytes and uses of pieces determine their slots.
+-- The tags, bytes and uses of pieces determine their slots.
 use Rattle.std.proofs.Common.{◌≡◌, ◌∙◌, ℕ, ◌+◌, Bool, List, [], ◌∷◌, ◌++◌, map, refl, ap, sym}
 use Rattle.std.specs.Prelude.{flat_map, if◌then◌else◌, decimal}
 use Rattle.std.proofs.lemmas.List.{map-append}
@@ -22,7 +22,7 @@ use Rattle.tangle_plans.specs.Comparing.{HasItemsOf}
 use Rattle.tangle_plans.specs.declared.nodes.NodeBody.{NodeBody}
 use Rattle.tangle_plans.proofs.TagLemmas.{same_by_tags}
 
--- A shape in which each name is its number, as a name of one byte.
+-- A shape in which each name is replaced by a name of one byte, its number.
 
 abbrev as_name : ℕ → List ℕ
 as_name id = id ∷ []
@@ -53,7 +53,7 @@ module _ (texts : List (List ℕ)) (table : TableRead) where
   abbrev shape_numbered : List PieceRead → Shape
   shape_numbered pieces = map (λ (p : PieceRead). map numbered p.items) pieces
 
-  -- its tags and bytes are those of the shape itself
+  -- its tags and bytes are those of the first shape
 
   use_tag_numbered : (r : Resolved) → item_tag (use_numbered r) ≡ item_tag (use_of table r)
   use_tag_numbered (Name id) = refl

@@ -1,4 +1,4 @@
--- Bytes and a plan that are being made.
+-- Bytes and a plan while they are made.
 use Rattle.std.proofs.Common.{◌≡◌, ◌∙◌, ℕ, ◌+◌, ◌-◌, ◌<◌, ◌≤◌, zero, suc, Bool, true, false, List, [], ◌∷◌, ◌++◌, map, take, drop, length, refl, ap, sym, subst, append_assoc, append-nil, arith, length-append, length-drop, get_or, drop-cons, add-one}
 use Rattle.std.specs.Prelude.{nat_lt, if◌then◌else◌}
 use Rattle.std.specs.List.{AllByRecursion}
@@ -59,7 +59,7 @@ ends-longer : (n m : ℕ) (plan : List Step) → n ≤ m → AllByRecursion (End
 ends-longer n m [] le h = tt
 ends-longer n m (s ∷ plan) le h = (end-longer n m s le h.0, ends-longer n m plan le h.1)
 
--- what is within the bytes is there in a longer list
+-- bytes of a list are at the same positions in a longer list
 between-longer : (bytes more : List ℕ) (start end : ℕ) → end ≤ length bytes → bytes_between (bytes ++ more) start end ≡ bytes_between bytes start end
 between-longer bytes more start end h = by (nat_lt start end) refl
   where

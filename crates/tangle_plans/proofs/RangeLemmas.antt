@@ -1,4 +1,4 @@
--- Items that are side by side in the source, and the range of a source line that has their bytes.
+-- Items that are side by side in the source, and the pending range of the source line that has their bytes.
 use Rattle.std.proofs.Common.{◌≡◌, ◌∙◌, ℕ, ◌+◌, ◌-◌, ◌<◌, ◌≤◌, Bool, List, [], ◌∷◌, ◌++◌, map, take, drop, length, refl, ap, sym, subst, append_assoc, append-nil, arith, get_or, drop-cons, add-one}
 use Rattle.std.specs.Prelude.{flat_map}
 use Rattle.std.proofs.lemmas.Grind.{flat_map-append}
@@ -24,7 +24,7 @@ use Rattle.tangle_plans.specs.declared.ranges.LineRange.{LineRange}
 use Rattle.tangle_plans.proofs.HeldLemmas.{items_next}
 use Rattle.tangle_plans.proofs.PlanningLemmas.{item_made}
 
--- a range with a span that begins where it ends
+-- a range and a span that begins where the range ends
 
 pieces_joined : (whole : List ℕ) (start mid end : ℕ) → start ≤ mid → mid ≤ end
     → take (mid - start) (drop start whole) ++ take (end - mid) (drop mid whole) ≡ take (end - start) (drop start whole)
@@ -86,7 +86,7 @@ ranges_with_space range more x blank lt byte same number start end = rw blank (r
   no_use = λ table. refl;
 })
 
--- the items of a piece from one number on are still to be added to what is being made, after a range
+-- the items up to the number `i` were added, the last of them as a pending range
 pub record IsAddedUpTo (texts : List (List ℕ)) (table : TableRead) (has_piece : ℕ → Bool) (first : Making) (items : List Item) (i : ℕ) (range : LineRange) (made : Making) : Type 0 where
   pub node : made.node ≡ first.node
   pub piece : made.piece ≡ first.piece
@@ -125,7 +125,7 @@ pub goes_on : (texts : List (List ℕ)) (table : TableRead) (has_piece : ℕ →
 goes_on texts table has_piece first items i x d range next old new h is adds =
     goes_on_there texts table has_piece first items i d range next old new h (subst (λ y. AddsItem texts table has_piece y range next old new) is adds)
 
--- an item with a span is added as its span is
+-- an item with a span is added by adding its span
 pub span_added : (texts : List (List ℕ)) (table : TableRead) (has_piece : ℕ → Bool) (x : Item) (kind : ItemKind) (s : Span) (range next : LineRange) (old new : Making)
     → IsSpanOf x kind s → AddsSpan texts kind s range next old new → AddsItem texts table has_piece x range next old new
 span_added texts table has_piece x kind s range next old new is adds = record {
@@ -150,7 +150,7 @@ ranges_with_span range more x kind s is joins = record {
   no_use = is.no_use;
 }
 
--- a range over items, one after the other
+-- a range over several items, one after another
 
 pub over_none : (texts : List (List ℕ)) (range : LineRange) → IsRangeOfSource texts range → IsRangeOver texts range [] range
 over_none texts range of_source = record {

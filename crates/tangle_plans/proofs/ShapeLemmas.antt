@@ -1,4 +1,4 @@
--- The bodies of two nodes say whether their shapes are the same.
+-- The bodies of two nodes determine whether their shapes are equal.
 use Rattle.std.proofs.Common.{◌≡◌, ◌∙◌, ℕ, Bool, true, false, List, ap, sym, true≢false}
 use Rattle.tangle_plans.specs.Shapes.{Shape}
 use Rattle.tangle_plans.specs.Tags.{shape_tags, shape_bytes, shape_names}

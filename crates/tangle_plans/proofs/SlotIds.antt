@@ -1,4 +1,4 @@
--- The names that a plan uses are those with a piece among the names that its items use.
+-- The names that a plan uses are those used by its items that have a piece.
 use Rattle.std.proofs.Common.{◌≡◌, ◌∙◌, ℕ, ◌+◌, Bool, true, false, List, [], ◌∷◌, ◌++◌, refl, ap, sym}
 use Rattle.std.specs.Prelude.{flat_map, filter, decimal, if◌then◌else◌}
 use Rattle.std.proofs.lemmas.Grind.{flat_map-append}

@@ -1,4 +1,4 @@
--- Tags, bytes and names determine the shape.
+-- Tags, bytes and names determine a shape.
 use Rattle.std.proofs.Common.{◌≡◌, ◌∙◌, ℕ, List, [], ◌∷◌, ◌++◌, map, take, drop, length, refl, ap, sym, append_assoc}
 use Rattle.std.specs.Prelude.{flat_map}
 use Rattle.std.proofs.Math.Seq.{take-append_seam, drop-append_seam}
@@ -9,7 +9,7 @@ use Rattle.tangle_plans.specs.declared.tags.ItemKind.{ItemKind}
 use Rattle.tangle_plans.specs.declared.tags.ItemKind.TheVariants as tag
 use Rattle.tangle_plans.specs.declared.tags.ItemTag.{ItemTag}
 
--- an item in front of the first piece
+-- a shape with one more item at the front of its first piece
 onto : ShapeItem → Shape → Shape
 onto x [] = (x ∷ []) ∷ []
 onto x (items ∷ pieces) = (x ∷ items) ∷ pieces
@@ -18,7 +18,7 @@ first_name : List (List ℕ) → List ℕ
 first_name [] = []
 first_name (name ∷ names) = name
 
--- the item of a tag, in front of what the bytes and names that it leaves give
+-- the item with a tag, before the shape that the remaining bytes and names give
 item_from_tag : ItemKind → ℕ → List ℕ → List (List ℕ) → (List ℕ → List (List ℕ) → Shape) → Shape
 item_from_tag tag.Word n bytes names rest = onto (Written kind.Word (take n bytes)) (rest (drop n bytes) names)
 item_from_tag tag.Sign n bytes names rest = onto (Written kind.Sign (take n bytes)) (rest (drop n bytes) names)

@@ -1,4 +1,4 @@
--- The body of a node, beside the pieces of a web that it may have.
+-- When a body belongs to pieces of a web.
 use Rattle.std.specs.Prelude.{◌≡◌, ℕ, Bool, List, filter}
 use Rattle.tangle_scan.specs.Web.{PieceRead}
 use Rattle.tangle_names.specs.NameTable.{TableRead}
@@ -14,7 +14,8 @@ pub record HasItemsOf (texts : List (List ℕ)) (table : TableRead) (pieces : Li
   pub bytes : body_bytes body ≡ shape_bytes (shape_of texts table pieces)
   pub uses : body_uses body ≡ pieces_uses table pieces
 
--- the body is that of some pieces, of some web, where these names have a piece
+-- the body was planned from some pieces of some web, where `has_piece` says which names have a
+-- piece
 pub record IsPlanned (has_piece : ℕ → Bool) (body : NodeBody) : Type 0 where
   pub texts : List (List ℕ)
   pub table : TableRead

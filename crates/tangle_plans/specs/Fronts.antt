@@ -1,4 +1,4 @@
--- The tags, bytes and uses of a body, compared from their fronts.
+-- The tags, bytes and uses of a body, which are compared from the front.
 use Rattle.std.specs.Prelude.{◌≡◌, ◌≢◌, ◌-◌, ℕ, List, [], ◌∷◌, ◌++◌, flat_map, length, Option, IfSome, MatchOption}
 use Rattle.tangle_text.specs.declared.spans.Span.{Span}
 use Rattle.tangle_scan.specs.declared.items.Item.{Item}
@@ -18,13 +18,13 @@ use Rattle.tangle_plans.specs.declared.comparing.Left.{Left}
 use Rattle.tangle_plans.specs.declared.comparing.Position.{Position}
 use Rattle.tangle_plans.specs.declared.nodes.NodeBody.{NodeBody}
 
--- tags, bytes and uses of a body, or the last of them
+-- the tags, bytes and uses of a body, or those that remain of them
 pub record Lists : Type 0 where
   pub tags : List ItemTag
   pub bytes : List ℕ
   pub uses : List ℕ
 
--- those that are still to be compared
+-- the lists that remain to be compared
 abbrev pub lists_left : Left → Lists
 lists_left left = record { tags = left.tags.now; bytes = left.bytes.now; uses = left.uses.now }
 
@@ -34,7 +34,7 @@ lists_of body = record { tags = body_tags body; bytes = body_bytes body; uses = 
 abbrev pub no_lists : Lists
 no_lists = record { tags = []; bytes = []; uses = [] }
 
--- other lists with something in front of them
+-- lists with more items in front
 
 abbrev pub with_tag : ItemTag → Lists → Lists
 with_tag tag more = record { tags = tag ∷ more.tags; bytes = more.bytes; uses = more.uses }
@@ -49,7 +49,7 @@ module _ (texts : List (List ℕ)) (table : TableRead) where
   abbrev pub with_item : Item → Lists → Lists
   with_item x more = record { tags = tag_in table x ∷ more.tags; bytes = bytes_in texts x ++ more.bytes; uses = uses_in table x ++ more.uses }
 
-  -- the items of a piece, and its end
+  -- the lists with the items of a piece, and its end, in front
   abbrev pub with_items : List Item → Lists → Lists
   with_items items more = record {
     tags = piece_tags table items ++ more.tags;
@@ -64,7 +64,7 @@ module _ (texts : List (List ℕ)) (table : TableRead) where
     uses = pieces_uses table pieces ++ more.uses;
   }
 
-  -- the same, as it is said of a shape
+  -- the same, by the shape of the pieces
   abbrev pub with_shape : List PieceRead → Lists → Lists
   with_shape pieces more = record {
     tags = shape_tags (shape_of texts table pieces) ++ more.tags;
@@ -72,49 +72,53 @@ module _ (texts : List (List ℕ)) (table : TableRead) where
     uses = pieces_uses table pieces ++ more.uses;
   }
 
--- the lists begin with this front just where the others do with theirs, and what is after the two is the same
+-- the lists begin with the front exactly if the others begin with the other front, and the same
+-- rest remains
 abbrev pub GoOnAs : Lists → (Lists → Lists) → Lists → (Lists → Lists) → Type 0
 GoOnAs lists front others front' = (more : Lists) → (lists ≡ front more → others ≡ front' more) × (others ≡ front' more → lists ≡ front more)
 
--- after this front, the lists go on with what is left
+-- the lists are this front and then what is left
 abbrev pub IsAfter : (Lists → Lists) → Lists → Lists → Type 0
 IsAfter front lists left = GoOnAs lists front left (λ more. more)
 
--- they do not begin with it
+-- the lists do not begin with this front
 abbrev pub IsNotAfter : (Lists → Lists) → Lists → Type 0
 IsNotAfter front lists = (more : Lists) → lists ≢ front more
 
--- what is left after this front was found, or that the lists do not begin with it
+-- the lists that remain after this front, or none because the lists do not begin with it
 abbrev pub LeavesAfter : (Lists → Lists) → Left → Option Left → Type 0
 LeavesAfter front left found = MatchOption found (IsNotAfter front (lists_left left)) (λ next. IsAfter front (lists_left left) (lists_left next))
 
--- the lists at a position within a piece, with these tags; of its bytes, those of its range come first
+-- the lists at a position within a piece, with these tags; the bytes of the position's pending
+-- range come first
 abbrev pub lists_at : List ItemTag → Position → Lists
 lists_at tags position = record { tags = tags; bytes = position.bytes.now; uses = position.uses.now }
 
 abbrev pub with_range : Position → Lists → Lists
 with_range position more = with_bytes (range_bytes position.range) more
 
--- with this tag next, the lists begin with this front, and after it they are those at another position
+-- with this tag next, the lists begin with this front, and those of the other position remain
 abbrev pub IsAfterPosition : (Lists → Lists) → ItemTag → Position → Position → Type 0
 IsAfterPosition front tag position next =
     (tags : List ItemTag) → GoOnAs (lists_at (tag ∷ tags) position) (λ more. with_range position (front more)) (lists_at tags next) (with_range next)
 
--- they do not begin with it
+-- with this tag next, the lists do not begin with this front
 abbrev pub IsNotAfterPosition : (Lists → Lists) → ItemTag → Position → Type 0
 IsNotAfterPosition front tag position = (tags : List ItemTag) → IsNotAfter (λ more. with_range position (front more)) (lists_at (tag ∷ tags) position)
 
--- the position after this front was found, or that the lists do not begin with it
+-- the position after this front, or none because the lists do not begin with it
 abbrev pub GoesAfter : (Lists → Lists) → ItemTag → Position → Option Position → Type 0
 GoesAfter front tag position found = MatchOption found (IsNotAfterPosition front tag position) (λ next. IsAfterPosition front tag position next)
 
--- an item that can come next at a position: their ranges are of the source, and the name that it uses is one of the table's
+-- an item that can come next at a position: the item and the position have ranges of the source,
+-- and the item uses a name of the table, if any
 pub record CanComeNext (texts : List (List ℕ)) (table : TableRead) (position : Position) (x : Item) : Type 0 where
   pub span : IsInRange texts x
   pub name : IsUseBelow (length table.resolved) x
   pub range : IsRangeOfSource texts position.range
 
--- the position after an item was found, with a range of the source too, or that it does not come next
+-- the position after an item, which again has a range of the source, or none because the item does
+-- not come next
 pub record GoesAfterItem (texts : List (List ℕ)) (table : TableRead) (x : Item) (tag : ItemTag) (here : Position) (found : Option Position) : Type 0 where
   pub range : IfSome found (λ next. IsRangeOfSource texts next.range)
   pub position : GoesAfter (with_item texts table x) tag here found

@@ -1,4 +1,4 @@
--- What the pieces of a web put into a plan.
+-- The slots that the pieces of a web give a plan.
 use Rattle.std.specs.Prelude.{ℕ, ◌+◌, Bool, if◌then◌else◌, List, [], ◌∷◌, ◌++◌, decimal, map, slice_index_or, None}
 use Rattle.tangle_files.specs.Bytes.{space, line_feed}
 use Rattle.tangle_scan.specs.declared.items.Item.{Item}
@@ -13,7 +13,7 @@ use Rattle.tangle_plans.specs.Flat.{Byte, Opening, MarkOf, Closing, AllMacros}
 use Rattle.tangle_plans.specs.WebShapes.{resolved_at}
 use Rattle.tangle_plans.specs.Slots.{Slot, Own, Used, byte_slots}
 
--- how many marks there are up to the end of an item, with so many before it
+-- the number of marks after an item, where there are `marks` before it
 abbrev pub marks_after_item : ℕ → Item → ℕ
 marks_after_item marks (item.LineMark origin) = marks + 1
 marks_after_item marks (item.Word span) = marks
@@ -27,7 +27,7 @@ marks_after_item marks item.LineEnd = marks
 marks_after_item marks (item.UseOf occurrence) = marks
 marks_after_item marks item.Defs = marks
 
--- a name with a piece is used by its number, and any other use is a space
+-- a use of a name with a piece has the name's number; any other use is a space
 abbrev pub name_slots : (ℕ → Bool) → Resolved → List Slot
 name_slots has_piece (Name id) = if has_piece id then Used id ∷ [] else Own (Byte space) ∷ []
 name_slots has_piece NoFullName = Own (Byte space) ∷ []
@@ -47,7 +47,7 @@ module _ (texts : List (List ℕ)) (table : TableRead) (has_piece : ℕ → Bool
   item_slots piece marks (item.UseOf occurrence) = name_slots has_piece (resolved_at table occurrence)
   item_slots piece marks item.Defs = Own AllMacros ∷ []
 
-  -- the items of a piece, and its closing
+  -- the slots of these items, and then the closing of the piece
   abbrev pub items_slots : ℕ → ℕ → List Item → List Slot
   items_slots piece marks [] = Own (Closing node piece) ∷ []
   items_slots piece marks (x ∷ items) = item_slots piece marks x ++ items_slots piece (marks_after_item marks x) items

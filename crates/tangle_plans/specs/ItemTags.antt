@@ -1,4 +1,4 @@
--- The tags of a web's items, and the numbers of the names that they use.
+-- The tags of a web's items, and the numbers of the names that the items use.
 use Rattle.std.specs.Prelude.{ℕ, ◌-◌, List, [], ◌∷◌, ◌++◌, length, map, flat_map, decimal}
 use Rattle.tangle_scan.specs.declared.items.Item.{Item}
 use Rattle.tangle_scan.specs.declared.items.Item.TheVariants as item
@@ -24,7 +24,7 @@ uses_resolved NoFullName = []
 uses_resolved Ambiguous = []
 
 module _ (table : TableRead) where
-  -- the tag of an item, which has as many bytes as its span
+  -- the tag of an item, whose size is the length of the item's span
   abbrev pub tag_in : Item → ItemTag
   tag_in (item.Word span) = record { kind = tag.Word; size = span.end - span.start }
   tag_in (item.Sign span) = record { kind = tag.Sign; size = span.end - span.start }
@@ -44,7 +44,7 @@ module _ (table : TableRead) where
   abbrev pub pieces_tags : List PieceRead → List ItemTag
   pieces_tags pieces = flat_map (λ (p : PieceRead). piece_tags p.items) pieces
 
-  -- the number of the name that an item uses, if it uses one
+  -- the number of the name that an item uses, if it is a use that resolves to one
   abbrev pub uses_in : Item → List ℕ
   uses_in (item.UseOf occurrence) = uses_resolved (resolved_at table occurrence)
   uses_in _ = []

@@ -1,4 +1,4 @@
--- The body that is being made of a node, as it is stored in memory.
+-- The body of a node while it is made, as it is in memory.
 use Rattle.std.specs.Prelude.{ℕ, List, [], ◌++◌, drop}
 use Rattle.tangle_plans.specs.Meaning.{title_of}
 use Rattle.tangle_plans.specs.Shapes.{Title}
@@ -6,7 +6,8 @@ use Rattle.tangle_plans.specs.Slots.{Slot, slots, byte_slots}
 use Rattle.tangle_plans.specs.declared.tags.ItemTag.{ItemTag}
 use Rattle.tangle_plans.specs.declared.planning.Planning.TheInside.{Inside}
 
--- what was made so far: the pieces and marks counted, the slots, and of all items the bytes, the tags and the names that they use
+-- what was made so far: the numbers of pieces and marks, the slots, and the bytes, tags and used
+-- names of all items
 pub record Making : Type 0 where
   pub node : Title
   pub piece : ℕ
@@ -27,6 +28,6 @@ making p = record {
   uses = p.uses.items;
 }
 
--- nothing yet
+-- nothing was made yet
 abbrev pub nothing_made : Title → Making
 nothing_made node = record { node = node; piece = 0; marks = 0; made = []; bytes = []; tags = []; uses = [] }

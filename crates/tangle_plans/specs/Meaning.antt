@@ -1,4 +1,5 @@
--- What an expansion means: the symbols of its plan over its bytes, with the symbols of the expansions that it shares where it uses them.
+-- The meaning of an expansion: the symbols of its plan and its bytes, with the symbols of the
+-- shared expansions at the uses.
 use Rattle.std.specs.Prelude.{ℕ, ◌+◌, ◌-◌, Bool, true, false, if◌then◌else◌, List, [], ◌∷◌, ◌++◌, map, take, drop, Option, None, Some, Vec}
 use Rattle.std.specs.Global.{Global}
 use Rattle.tangle_files.specs.Bytes.{space}
@@ -7,7 +8,7 @@ use Rattle.tangle_plans.specs.Flat.{Symbol, Byte, Opening, MarkOf, Closing, AllM
 use Rattle.tangle_plans.specs.declared.steps.Step.{Step}
 use Rattle.tangle_plans.specs.declared.steps.Step.TheVariants as step
 
--- the node of a name, or of none
+-- the node with this name; without a name, the program
 abbrev pub title_of : Option (Vec ℕ Global) → Title
 title_of None = Program
 title_of (Some name) = Named name.items
@@ -16,14 +17,17 @@ title_of (Some name) = Named name.items
 abbrev pub bytes_between : List ℕ → ℕ → ℕ → List ℕ
 bytes_between bytes start end = take (end - start) (drop start bytes)
 
--- a shared expansion that no step uses is at the end, after a space; an expansion that is made has none
+-- a shared expansion that no step uses comes at the end, after a space; no expansion that is made
+-- has one
 abbrev pub left_over : List (List Symbol) → List Symbol
 left_over [] = []
 left_over (symbols ∷ rest) = Byte space ∷ symbols ++ left_over rest
 
 module _ (node : Title) (bytes : List ℕ) where
-  -- The symbols of a plan from one step on: after so many pieces, so many marks of this piece and so many of the body's bytes, with
-  -- what is left of the shared expansions. At a use without one it ends; an expansion that is made has one for each use.
+  -- The symbols of the remaining steps of a plan: `piece` pieces are before the current one,
+  -- `marks` marks were in it and `start` bytes of the body were used, and `used` has the remaining
+  -- shared expansions. The plan ends at a use without a shared expansion; an expansion that is made
+  -- has one for each use.
   abbrev pub plan_flat : ℕ → ℕ → ℕ → List Step → List (List Symbol) → List Symbol
   plan_flat piece marks start [] used = left_over used
   plan_flat piece marks start (step.Open ∷ plan) used = Opening node piece ∷ MarkOf node piece 0 ∷ plan_flat piece 0 start plan used
@@ -35,7 +39,7 @@ module _ (node : Title) (bytes : List ℕ) where
   plan_flat piece marks start (step.Use id ∷ plan) (symbols ∷ used) = Byte space ∷ symbols ++ plan_flat piece marks start plan used
   plan_flat piece marks start (step.Close ∷ plan) used = Closing node piece ∷ plan_flat (piece + 1) 0 start plan used
 
--- how the writing of a plan goes on
+-- the numbers of pieces, marks and bytes after a step
 
 abbrev pub is_use_step : Step → Bool
 is_use_step (step.Use id) = true
@@ -73,14 +77,14 @@ bytes_after_step start step.Space = start
 bytes_after_step start (step.Use id) = start
 bytes_after_step start step.Close = start
 
--- where the writing of a plan is
+-- a position in a plan that is being written, with the remaining steps
 pub record PlanCursor : Type 0 where
   pub piece : ℕ
   pub marks : ℕ
   pub start : ℕ
   pub plan : List Step
 
--- what is left after the next use
+-- the cursor after the next use
 abbrev pub after_use : ℕ → ℕ → ℕ → List Step → PlanCursor
 after_use piece marks start [] = record { piece = piece; marks = marks; start = start; plan = [] }
 after_use piece marks start (s ∷ plan) =

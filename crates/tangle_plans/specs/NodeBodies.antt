@@ -1,4 +1,4 @@
--- The body of a node, as clauses name it.
+-- The body of a node, as contracts mention it.
 use Rattle.std.specs.Prelude.{◌≡◌, ℕ, List, [], map, slice_index_or}
 use Rattle.tangle_plans.specs.Shapes.{Title, Shape}
 use Rattle.tangle_plans.specs.Tags.{shape_tags, shape_bytes, shape_names}
@@ -13,19 +13,19 @@ body_title body = title_of body.name
 abbrev pub body_tags : NodeBody → List ItemTag
 body_tags body = body.tags.items
 
--- the bytes of all its items
+-- the bytes of all items
 abbrev pub body_bytes : NodeBody → List ℕ
 body_bytes body = body.bytes.items
 
--- the numbers of the names that its items use, one for each use that is resolved
+-- the numbers of the names that the items use: one for each use that resolves to a name
 abbrev pub body_uses : NodeBody → List ℕ
 body_uses body = body.uses.items
 
--- the numbers of the names with a piece that its plan uses
+-- the numbers of the names with a piece that the plan uses
 abbrev pub plan_uses : NodeBody → List ℕ
 plan_uses body = uses_of body.plan.items
 
--- its own symbols, and where it uses which names
+-- the node's own symbols, and the uses between them
 abbrev pub plan_slots : NodeBody → List Slot
 plan_slots body = slots (title_of body.name) body.bytes.items 0 0 0 body.plan.items
 
@@ -33,7 +33,7 @@ plan_slots body = slots (title_of body.name) body.bytes.items 0 0 0 body.plan.it
 abbrev pub names_at : List (List ℕ) → List ℕ → List (List ℕ)
 names_at names numbers = map (λ id. slice_index_or names id []) numbers
 
--- the body determines this shape, where these are the names
+-- the body determines this shape, where the table has these names
 pub record HoldsShape (names : List (List ℕ)) (shape : Shape) (body : NodeBody) : Type 0 where
   pub tags : body_tags body ≡ shape_tags shape
   pub bytes : body_bytes body ≡ shape_bytes shape

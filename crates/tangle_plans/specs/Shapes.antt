@@ -1,4 +1,5 @@
--- The shapes of a web: of each node its pieces, with section numbers and origins left out and each use resolved.
+-- The shapes of a web: the pieces of each node, without section numbers and origins, and with each
+-- use resolved.
 use Rattle.std.specs.Prelude.{◌⊎◌, ◌≡◌, ℕ, Bool, true, false, List, [], ◌∷◌}
 use Rattle.std.specs.Str.{bytes_eq}
 
@@ -13,7 +14,7 @@ title_eq Program (Named name) = false
 title_eq (Named name) Program = false
 title_eq (Named name) (Named other) = bytes_eq name other
 
--- what an item is that is written as it is
+-- the kind of an item whose bytes are written unchanged
 pub data Kind : Type 0 where
   Word : Kind
   Sign : Kind
@@ -24,9 +25,9 @@ pub data Kind : Type 0 where
   Blank : Kind
   LineEnd : Kind
 
--- an item, as far as a shape has it
+-- an item of a shape
 pub data ShapeItem : Type 0 where
-  -- of this kind, with the bytes that are written
+  -- an item of this kind, with the bytes that are written
   Written : Kind → List ℕ → ShapeItem
   -- a line mark, without its origin
   Mark : ShapeItem
@@ -34,13 +35,13 @@ pub data ShapeItem : Type 0 where
   AllMacros : ShapeItem
   -- a use that resolves to this name
   Use : List ℕ → ShapeItem
-  -- a use that is not resolved
+  -- a use that does not resolve to a name
   NoUse : ShapeItem
 
 abbrev pub Shape : Type 0
 Shape = List (List ShapeItem)
 
--- the shape of each node; a node without a piece has the empty one
+-- the shape of each node; that of a node without a piece is empty
 abbrev pub Shapes : Type 0
 Shapes = Title → Shape
 
@@ -52,7 +53,7 @@ IsUseOf AllMacros name = ⊥
 IsUseOf (Use other) name = other ≡ name
 IsUseOf NoUse name = ⊥
 
--- a use of the name is in the piece
+-- the piece has a use of the name
 abbrev pub UsesInPiece : List ShapeItem → List ℕ → Type 0
 UsesInPiece [] name = ⊥
 UsesInPiece (item ∷ items) name = IsUseOf item name ⊎ UsesInPiece items name
@@ -65,7 +66,7 @@ UsesInShape (piece ∷ pieces) name = UsesInPiece piece name ⊎ UsesInShape pie
 abbrev pub Uses : Shapes → Title → List ℕ → Type 0
 Uses shapes node name = UsesInShape (shapes node) name
 
--- from the node the other one is reached in no step, one step or more
+-- the first node reaches the second in any number of steps: each node reaches itself in none
 pub data Reaches (shapes : Shapes) : Title → Title → Type 0 where
   here : {node : Title} → Reaches shapes node node
   on : {node other : Title} {name : List ℕ} → Uses shapes node name → Reaches shapes (Named name) other → Reaches shapes node other

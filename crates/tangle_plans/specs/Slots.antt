@@ -1,4 +1,4 @@
--- What a plan says of a node by itself: its own symbols, and where it uses which names.
+-- The slots of a plan: the node's own symbols, and the uses between them.
 use Rattle.std.specs.Prelude.{◌≡◌, ◌≤◌, ℕ, ◌+◌, Bool, true, false, nat_lt, if◌then◌else◌, List, [], ◌∷◌, ◌++◌, length, map, flat_map}
 use Rattle.std.specs.List.{AllByRecursion}
 use Rattle.tangle_files.specs.Bytes.{space}
@@ -8,7 +8,7 @@ use Rattle.tangle_plans.specs.Meaning.{bytes_between, pieces_after_step, marks_a
 use Rattle.tangle_plans.specs.declared.steps.Step.{Step}
 use Rattle.tangle_plans.specs.declared.steps.Step.TheVariants as step
 
--- a symbol of its own, or a use of the name with this number
+-- a symbol of the node's own, or a use of the name with this number
 pub data Slot : Type 0 where
   Own : Symbol → Slot
   Used : ℕ → Slot
@@ -28,7 +28,7 @@ module _ (node : Title) (bytes : List ℕ) where
   slots piece marks start (s ∷ plan) =
       step_slots piece marks start s ++ slots (pieces_after_step piece s) (marks_after_step marks s) (bytes_after_step start s) plan
 
--- a slot with the symbols of the names
+-- a slot in which a use is replaced by a space and the name's symbols
 abbrev pub filled_slot : (ℕ → List Symbol) → Slot → List Symbol
 filled_slot symbols (Own symbol) = symbol ∷ []
 filled_slot symbols (Used id) = Byte space ∷ symbols id
@@ -50,7 +50,7 @@ abbrev pub uses_of : List Step → List ℕ
 uses_of [] = []
 uses_of (s ∷ plan) = step_uses s ++ uses_of plan
 
--- where a plan is at its end
+-- the numbers of pieces, marks and bytes after the steps of a plan
 
 abbrev pub pieces_after_plan : ℕ → List Step → ℕ
 pieces_after_plan piece [] = piece
@@ -64,7 +64,7 @@ abbrev pub bytes_after_plan : ℕ → List Step → ℕ
 bytes_after_plan start [] = start
 bytes_after_plan start (s ∷ plan) = bytes_after_plan (bytes_after_step start s) plan
 
--- no run ends after this position
+-- if the step is a run, it ends at this position or before
 abbrev pub EndsWithin : ℕ → Step → Type 0
 EndsWithin most (step.Run end) = end ≤ most
 EndsWithin most step.Open = Unit {0}
@@ -83,11 +83,12 @@ is_run step.Space = false
 is_run (step.Use id) = false
 is_run step.Close = false
 
--- the run up to a position, if it is not empty
+-- the run up to a position, unless the run is empty
 abbrev pub last_run : ℕ → ℕ → List Step
 last_run start end = if nat_lt start end then step.Run end ∷ [] else []
 
--- bytes and a plan that are being made: start is the end of the last run, and each run ends within the bytes
+-- bytes and a plan while they are made: `start` is the end of the last run, and each run ends
+-- within the bytes
 pub record IsMade (bytes : List ℕ) (plan : List Step) (piece marks start : ℕ) : Type 0 where
   pub pieces : piece ≡ pieces_after_plan 0 plan
   pub marks_of_piece : marks ≡ marks_after_plan 0 plan

@@ -1,4 +1,5 @@
--- What two shapes are compared by: for each item a small tag, all bytes of the items, and the names of the uses.
+-- How two shapes are compared: by a small tag for each item, by all bytes of the items, and by the
+-- names of the uses.
 use Rattle.std.specs.Prelude.{ℕ, List, [], ◌∷◌, ◌++◌, length, map, flat_map}
 use Rattle.tangle_plans.specs.Shapes.{Kind, ShapeItem, Written, Mark, AllMacros, Use, NoUse, Shape}
 use Rattle.tangle_plans.specs.Shapes as kind
@@ -16,7 +17,7 @@ written_kind kind.AsciiConstant = tag.AsciiConstant
 written_kind kind.Blank = tag.Blank
 written_kind kind.LineEnd = tag.LineEnd
 
--- the tag of an item: its kind, and how many bytes it has
+-- the tag of an item: its kind, and the number of its bytes
 abbrev pub item_tag : ShapeItem → ItemTag
 item_tag (Written k bytes) = record { kind = written_kind k; size = length bytes }
 item_tag Mark = record { kind = tag.Mark; size = 0 }
@@ -24,11 +25,11 @@ item_tag AllMacros = record { kind = tag.AllMacros; size = 0 }
 item_tag (Use name) = record { kind = tag.Use; size = 0 }
 item_tag NoUse = record { kind = tag.NoUse; size = 0 }
 
--- a blank
+-- the tag of a blank
 abbrev pub blank_tag : ItemTag
 blank_tag = record { kind = tag.Blank; size = 1 }
 
--- the end of a piece
+-- the tag that ends a piece
 abbrev pub piece_end : ItemTag
 piece_end = record { kind = tag.PieceEnd; size = 0 }
 

@@ -16,19 +16,20 @@ module _ (table : TableRead) where
   abbrev pub resolved_at : ℕ → Resolved
   resolved_at occurrence = slice_index_or table.resolved occurrence NoFullName
 
-  -- a use of what is resolved to
+  -- a use, by its resolution
   abbrev pub use_of : Resolved → ShapeItem
   use_of (Name id) = Use (slice_index_or table.names id [])
   use_of NoFullName = NoUse
   use_of Ambiguous = NoUse
 
-  -- the node that is resolved to
+  -- the node of the name to which an occurrence resolves
   abbrev pub node_of : Resolved → Option Title
   node_of (Name id) = Some (Named (slice_index_or table.names id []))
   node_of NoFullName = None
   node_of Ambiguous = None
 
-  -- the node of a piece with this occurrence, or of an unnamed one; a piece whose occurrence is not resolved has none and is dropped
+  -- the node of a piece with this occurrence; without an occurrence it is the program. A piece
+  -- whose occurrence resolves to no name has no node, and is dropped.
   abbrev pub node_of_occurrence : Option ℕ → Option Title
   node_of_occurrence None = Some Program
   node_of_occurrence (Some occurrence) = node_of (resolved_at occurrence)
@@ -40,18 +41,18 @@ module _ (table : TableRead) where
   abbrev pub is_piece_of : Title → PieceRead → Bool
   is_piece_of node piece = is_node node (node_of_occurrence piece.occurrence)
 
--- what is resolved to is one of so many names
+-- an occurrence with this resolution resolves to one of the first `count` names, or to none
 abbrev pub IsNameBelow : ℕ → Resolved → Type 0
 IsNameBelow count (Name id) = id < count
 IsNameBelow count NoFullName = Unit {0}
 IsNameBelow count Ambiguous = Unit {0}
 
--- all occurrences resolve to names of the table, if to any
+-- each occurrence that resolves to a name resolves to one of the table
 abbrev pub ResolvesInside : TableRead → Type 0
 ResolvesInside table = (occurrence : ℕ) → IsNameBelow (length table.names) (resolved_at table occurrence)
 
 module _ (texts : List (List ℕ)) (table : TableRead) where
-  -- an item of a shape: kinds and bytes as they are cut, without origins
+  -- an item of a shape, with the kind and the bytes that the scanner cut, and without an origin
   abbrev pub shape_item : Item → ShapeItem
   shape_item (item.Word span) = Written kind.Word (span_text texts span)
   shape_item (item.Sign span) = Written kind.Sign (span_text texts span)

@@ -1,5 +1,5 @@
-//! Comparing the body of a node with the pieces of a web that it has now, item by item. Nothing is
-//! made for it.
+//! Compares the body of a node with the pieces that the node has in a new web, item by item,
+//! without making a new body.
 ghost use Rattle.std.specs.Prelude.{◌≡◌, ◌≢◌, ◌↔◌, ◌∷◌, ◌++◌, ◌<◌, ◌≤◌, true, ℕ, Bool, List};
 ghost use Rattle.std.specs.Prelude.{length, drop, filter, MatchOption, IfSome};
 ghost use Rattle.std.specs.List.{All};
@@ -25,7 +25,7 @@ use itoa::Buffer;
 use tangle_names::{NameTable, Resolved};
 use tangle_scan::{Item, Span, Web};
 
-/// The tags, bytes and uses of a node that are still to be compared.
+/// The tags, bytes and uses of a body that remain to be compared.
 #[derive(Clone, Copy)]
 pub(crate) struct Left<'o> {
     pub(crate) tags: &'o [ItemTag],
@@ -33,8 +33,8 @@ pub(crate) struct Left<'o> {
     pub(crate) uses: &'o [usize],
 }
 
-/// A position within a piece: the bytes and uses that are still to be compared, and a range of the
-/// source that the bytes begin with.
+/// A position within a piece: the bytes and uses that remain to be compared, and a pending range of
+/// the source, with which these bytes have to begin.
 #[derive(Clone, Copy)]
 pub(crate) struct Position<'w, 'o> {
     pub(crate) range: LineRange<'w>,
@@ -42,7 +42,7 @@ pub(crate) struct Position<'w, 'o> {
     pub(crate) uses: &'o [usize],
 }
 
-/// The bytes after this front, if they begin with it.
+/// The rest of the bytes, if they begin with these ones.
 fn after_bytes<'o>(bytes: &'o [u8], front: &[u8]) -> Option<&'o [u8]>
     ensures { MatchOption result
         ((rest : List ℕ) → bytes.now ≢ front.now ++ rest)
@@ -51,7 +51,7 @@ fn after_bytes<'o>(bytes: &'o [u8], front: &[u8]) -> Option<&'o [u8]>
     bytes.strip_prefix(front)
 }
 
-/// The bytes after this one, if they begin with it.
+/// The rest of the bytes, if they begin with this byte.
 fn after_byte<'o>(bytes: &'o [u8], byte: u8) -> Option<&'o [u8]>
     ensures { MatchOption result
         ((rest : List ℕ) → bytes.now ≢ byte ∷ rest)
@@ -61,7 +61,7 @@ fn after_byte<'o>(bytes: &'o [u8], byte: u8) -> Option<&'o [u8]>
     if *first == byte { Some(rest) } else { None }
 }
 
-/// The bytes after those of a range of a line, if they begin with them.
+/// The rest of the bytes, if they begin with those of a range of a source line.
 fn after_range<'o>(bytes: &'o [u8], range: LineRange) -> Option<&'o [u8]>
     requires start { range.start ≤ range.end }
     requires end { range.end ≤ length range.line.now }
@@ -75,7 +75,7 @@ fn after_range<'o>(bytes: &'o [u8], range: LineRange) -> Option<&'o [u8]>
     after_bytes(bytes, &range.line[range.start..range.end])
 }
 
-/// The bytes after those of an item, if they begin with them.
+/// The rest of the bytes, if they begin with those of an item.
 fn after_bytes_of<'o>(bytes: &'o [u8], web: &Web, item: &Item) -> Option<&'o [u8]>
     requires { IsInRange web.now.texts item.now }
     ensures { MatchOption result
@@ -96,8 +96,8 @@ fn after_bytes_of<'o>(bytes: &'o [u8], web: &Web, item: &Item) -> Option<&'o [u8
     }
 }
 
-/// The uses after that of the name which is resolved to, if they begin with it. If there is no
-/// name, they are all there still.
+/// The rest of the uses, if they begin with the name to which an occurrence resolves; all the uses,
+/// if it resolves to none.
 fn after_name<'o>(uses: &'o [usize], resolved: Resolved) -> Option<&'o [usize]>
     ensures { MatchOption result
         ((rest : List ℕ) → uses.now ≢ uses_resolved resolved ++ rest)
@@ -112,7 +112,7 @@ fn after_name<'o>(uses: &'o [usize], resolved: Resolved) -> Option<&'o [usize]>
     }
 }
 
-/// The uses after that of an item, if they begin with it.
+/// The rest of the uses, if they begin with that of an item; all the uses, if the item is no use.
 fn after_use_of<'o>(uses: &'o [usize], table: &NameTable, item: &Item) -> Option<&'o [usize]>
     requires { IsUseBelow (length table.now.resolved) item.now }
     ensures { MatchOption result
@@ -125,8 +125,8 @@ fn after_use_of<'o>(uses: &'o [usize], table: &NameTable, item: &Item) -> Option
     }
 }
 
-/// The position after a span of this kind, if it comes next, with this tag. The span begins a
-/// range; items that go on with it are passed by `pass_same`.
+/// The position after a span of this kind, if the span comes next and has this tag. The span begins
+/// a pending range, which `pass_same` makes longer.
 #[inline(always)]
 fn after_span<'w, 'o>(
     position: Position<'w, 'o>,
@@ -152,8 +152,8 @@ fn after_span<'w, 'o>(
     })
 }
 
-/// The position after an item, if it comes next, with this tag. No range is left after it; a span
-/// that begins one is passed by `after_span`.
+/// The position after an item, if the item comes next and has this tag. The pending range is empty
+/// then; `after_span` passes an item that begins a range.
 #[inline(always)]
 fn after_item<'w, 'o>(
     position: Position<'w, 'o>,
@@ -175,8 +175,8 @@ fn after_item<'w, 'o>(
     Some(Position { range, bytes, uses })
 }
 
-/// The position after these items, if they come next, with these tags. Items that are side by side
-/// in the source are compared at once.
+/// The position after these items, if they come next and have these tags. Items that are side by
+/// side in the source are compared at once.
 fn after_items<'w, 'o>(
     left: Left<'o>,
     web: &'w Web,
@@ -219,7 +219,7 @@ fn after_items<'w, 'o>(
     Some(position)
 }
 
-/// What is left after a piece with these items, if it comes next.
+/// The rest of the lists, if they begin with a piece that has these items.
 fn after_piece<'o>(left: Left<'o>, web: &Web, table: &NameTable, items: &[Item]) -> Option<Left<'o>>
     requires spans { All (IsInRange web.now.texts) items.now }
     requires names { All (IsUseBelow (length table.now.resolved)) items.now }
@@ -241,7 +241,7 @@ fn after_piece<'o>(left: Left<'o>, web: &Web, table: &NameTable, items: &[Item])
     })
 }
 
-/// What is left after the pieces with these numbers, if they come next.
+/// The rest of the lists, if they begin with the pieces that have these numbers.
 fn after_pieces<'o>(
     left: Left<'o>,
     web: &Web,
@@ -262,15 +262,14 @@ fn after_pieces<'o>(
     Some(left)
 }
 
-/// Whether nothing is left.
 fn is_nothing(left: Left) -> bool
     ensures { (result ≡ true) ↔ (lists_left left.entry ≡ no_lists) }
 {
     left.tags.is_empty() && left.bytes.is_empty() && left.uses.is_empty()
 }
 
-/// Whether a body has the tags, bytes and uses of these pieces. If it has, these pieces would be
-/// planned to the same body, under the same name and where the same names have a piece.
+/// Whether a body has the tags, bytes and uses of these pieces. If so, planning these pieces makes
+/// the same body, under the same name and where the same names have a piece.
 pub fn has_items_of(old: &NodeBody, web: &Web, table: &NameTable, numbers: &[usize]) -> bool
     requires numbers { All (λ n. n < length web.now.pieces) numbers.now }
     requires ours { length table.now.resolved ≡ length web.now.occurrences }

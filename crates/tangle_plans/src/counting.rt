@@ -1,4 +1,4 @@
-//! How many symbols a node has of its own, by its plan.
+//! Counts the symbols that a plan gives without those of used names.
 ghost use Rattle.std.specs.Prelude.{◌≡◌, ◌<◌, ◌^◌, ℕ, List, length, min};
 ghost use Rattle.tangle_plans.specs.NodeBodies.{plan_slots};
 ghost use Rattle.tangle_plans.specs.Shapes.{Program};
@@ -7,7 +7,7 @@ ghost use Rattle.tangle_plans.specs.Slots.{step_slots};
 use crate::nodes::NodeBody;
 use crate::steps::{Step, bytes_after_step};
 
-/// How many symbols a step gives, after so many of the body's `size` bytes.
+/// The number of symbols that a step gives after `start` of the body's `size` bytes.
 #[tactic(auto, using(crate::proofs::CountLemmas::between_counted))]
 fn symbols_of_step(step: Step, start: usize, size: usize) -> usize
     ensures { (bytes : List ℕ) → length bytes ≡ size
@@ -21,8 +21,8 @@ fn symbols_of_step(step: Step, start: usize, size: usize) -> usize
 }
 
 impl NodeBody {
-    /// How many symbols the node has of its own, where each use of a name with a piece counts as
-    /// one. The count is at most `usize::MAX`.
+    /// The number of the node's own symbols, where each use of a name with a piece counts as one.
+    /// At most `usize::MAX` is returned.
     pub fn symbol_count(&self) -> usize
         ensures { (cap : ℕ) → cap < 2 ^ 64 → min cap result
             ≡ min cap (length (plan_slots self.now)) }

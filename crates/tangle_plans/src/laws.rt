@@ -1,4 +1,4 @@
-//! Laws of the definitions.
+//! Laws of names and of shapes.
 ghost use Rattle.std.specs.Prelude.{◌≡◌};
 ghost use Rattle.tangle_scan.specs.Web.{WebRead};
 ghost use Rattle.tangle_names.specs.NameTable.{table_of};
@@ -8,15 +8,14 @@ ghost use Rattle.tangle_plans.specs.WebShapes.{ResolvesInside};
 
 use tangle_names::occurrences_resolve_by_the_whole_web;
 
-/// All occurrences of a web resolve to names of its table, if to any.
+/// Each occurrence of a web that resolves to a name resolves to one in the web's table.
 pub fn names_resolve_inside()
     ensures { (web : WebRead) → ResolvesInside (table_of web) }
 {
     occurrences_resolve_by_the_whole_web();
 }
 
-/// Two shapes are the same where the tags of their items, their bytes and the names of their uses
-/// are.
+/// Two shapes are equal if the tags of their items, their bytes and the names of their uses are.
 pub fn tags_settle_the_shape()
     ensures { (s t : Shape) → shape_tags s ≡ shape_tags t → shape_bytes s ≡ shape_bytes t
         → shape_names s ≡ shape_names t → s ≡ t }

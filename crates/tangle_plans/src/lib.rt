@@ -1,7 +1,7 @@
 //! The bodies of the nodes of a web, with the plans of their symbols, and their shapes.
 //!
-//! A node is a full name or the unnamed program. [`plan_node`] makes the body of one, a
-//! [`NodeBody`], [`has_items_of`] compares it with pieces, and [`same_shape`] two of them.
+//! A node is a full name or the unnamed program. [`plan_node`] makes its body, a [`NodeBody`];
+//! [`has_items_of`] compares a body with pieces, and [`same_shape`] compares two bodies.
 #![tactic(auto)]
 
 mod comparing;

@@ -1,4 +1,4 @@
-//! The nodes of a web, their bodies, and what a store gives of them.
+//! The nodes of a web, their bodies, and what a store has of each node.
 ghost use Rattle.std.specs.Prelude.{◌≡◌, ℕ, List, length, Option, Some, None, IfSome, IfNone};
 ghost use Rattle.tangle_plans.specs.Nodes.{IsNodeBelow};
 ghost use Rattle.tangle_plans.specs.NodeBodies.{body_uses};
@@ -11,11 +11,12 @@ use crate::tags::ItemTag;
 use std::rc::Rc;
 use tangle_names::Names;
 
-/// The body of a node: its name, the bytes of all its items, the plan of its symbols, and besides,
-/// for comparing shapes, the tags of its items and the numbers of the names that they use.
+/// The body of a node: its name, the bytes of all its items and the plan of its symbols; and, for
+/// comparing shapes, the tags of its items and the numbers of the names that they use.
 #[derive(Drop)]
 pub struct NodeBody {
     /// The name, or none for the program.
+    // A copy, since the body is kept while the table is replaced and the name's number may change.
     pub name: Option<Vec<u8>>,
     /// The bytes of all its items.
     pub bytes: Vec<u8>,
@@ -26,7 +27,7 @@ pub struct NodeBody {
 }
 
 impl NodeBody {
-    /// The numbers of the names that its items use, one for each use that is resolved.
+    /// The numbers of the names that its items use: one for each use that resolves to a name.
     pub fn uses(&self) -> &[usize]
         ensures { result.now ≡ body_uses self.now }
     {
@@ -34,7 +35,7 @@ impl NodeBody {
     }
 }
 
-/// A node of a web: a full name by its number in the table of names, or the unnamed program.
+/// A node of a web: a full name, by its number in the table of names, or the unnamed program.
 #[derive(Clone, Copy, Debug, PartialEq, Eq)]
 pub enum Node {
     /// The unnamed program.
@@ -59,7 +60,8 @@ impl Node {
     }
 }
 
-/// What gives the full names of a web and, of each node, the numbers of its pieces and its body.
+/// A store that has the full names of a web and, for each node, the numbers of its pieces and its
+/// body.
 pub trait PiecesByNode {
     // The bytes of the names, in the order of their numbers.
     ghost names: { Self → List (List ℕ) };
@@ -79,7 +81,7 @@ pub trait PiecesByNode {
         requires { IsNodeBelow (length (names self.now)) node }
         ensures { result.now ≡ pieces self.now node };
 
-    /// The body of the node, if it is one of the web.
+    /// The body of the node, if the node is one of the web.
     fn node_body(&self, node: Node) -> Option<&Rc<NodeBody>>
         ensures some { IfSome result (λ found. bodies self.now node ≡ Some found.now.value) }
         ensures none { IfNone result (bodies self.now node ≡ None) };

@@ -1,4 +1,4 @@
-//! Making the body of a node, item by item.
+//! Makes the body of a node, item by item.
 ghost use Rattle.tangle_names.specs.NameTable.{TableRead};
 ghost use Rattle.std.specs.Prelude.{◌≡◌, false, length, map, take, slice_index_or, ◌++◌, flat_map};
 ghost use Rattle.std.specs.Prelude.{filter, [], IfOk, OnOk, OnErr, ◌+◌, ◌<◌, ◌≤◌, ◌∷◌};
@@ -32,8 +32,8 @@ use tangle_lines::NoMemory;
 use tangle_names::{NameTable, Resolved};
 use tangle_scan::{Item, Span, Web};
 
-/// Buffers in which the bodies of nodes are made, one after the other: a body takes just as much
-/// memory as it needs.
+/// Buffers in which the bodies of nodes are made, one after another. They are kept for the next
+/// node, so that a finished body takes only the memory that it needs.
 #[derive(Drop)]
 pub struct Planning {
     name: Option<Vec<u8>>,
@@ -74,7 +74,8 @@ impl Planning {
         }
     }
 
-    /// Begins with a node of this name, or the program, with capacity for so many tags.
+    /// Begins with a node of this name, or with the program, and with capacity for this number of
+    /// tags.
     fn begin(&mut self, alloc: Global, name: Option<Vec<u8>>, tags: usize) -> Result<(), NoMemory>
         ensures { OnOk result (self.new ≡ nothing_made (title_of name)) }
     {
@@ -89,7 +90,7 @@ impl Planning {
         Ok(())
     }
 
-    /// Adds bytes that are written as they are.
+    /// Adds bytes that are written unchanged.
     fn add_bytes(&mut self, bytes: &[u8]) -> Result<(), NoMemory>
         ensures { OnOk result (self.new ≡ record self.old
             { made = self.old.made ++ byte_slots bytes.now; bytes = self.old.bytes ++ bytes.now }) }
@@ -98,7 +99,7 @@ impl Planning {
         Ok(())
     }
 
-    /// Adds a byte that is written as it is.
+    /// Adds a byte that is written unchanged.
     fn add_byte(&mut self, byte: u8) -> Result<(), NoMemory>
         ensures { OnOk result (self.new ≡ record self.old {
           made = self.old.made ++ byte_slots (byte ∷ []);
@@ -110,7 +111,7 @@ impl Planning {
         Ok(())
     }
 
-    /// Adds a step that is no run.
+    /// Adds a step that is no run; the bytes before it become a run.
     fn add_step(&mut self, step: Step) -> Result<(), NoMemory>
         requires { is_run step ≡ false }
         ensures { OnOk result (self.new ≡ record self.old {
@@ -139,8 +140,8 @@ impl Planning {
         self.add_tag_with_allocation(tag)
     }
 
-    /// Adds a tag where there is no capacity. It is separate, since the common case is shorter
-    /// without it.
+    /// Adds a tag where there is no capacity. This is a function of its own, which keeps the common
+    /// case short.
     #[inline(never)]
     fn add_tag_with_allocation(&mut self, tag: ItemTag) -> Result<(), NoMemory>
         ensures { OnOk result (self.new ≡ record self.old { tags = self.old.tags ++ tag ∷ [] }) }
@@ -150,7 +151,7 @@ impl Planning {
     }
 
     /// Makes a range longer by the items that come next in the source, as far as the tags have
-    /// capacity: its new end, and how many items these are.
+    /// capacity. Returns the new end of the range, and the number of these items.
     fn pass(&mut self, web: &Web, range: LineRange, items: &[Item]) -> (usize, usize)
         requires range { IsRangeOfSource web.now.texts range }
         requires spans { All (IsInRange web.now.texts) items.now }
@@ -178,7 +179,7 @@ impl Planning {
         Ok(())
     }
 
-    /// The body of the node.
+    /// Takes the finished body out of the buffers.
     fn finish(&mut self, alloc: Global) -> Result<NodeBody, NoMemory>
         ensures node { IfOk result (λ body. body_title body ≡ self.old.node) }
         ensures made { IfOk result (λ body. slots self.old.node (body_bytes body) 0 0 0
@@ -200,7 +201,7 @@ impl Planning {
     }
 }
 
-/// Ends the run of bytes from one position of the body up to another, if there are some.
+/// Adds a run of the body's bytes from one position up to another, if there are any.
 fn end_run(plan: &mut Vec<Step>, start: usize, end: usize) -> Result<(), NoMemory>
     ensures ok { OnOk result (plan.new.items ≡ plan.old.items ++ last_run start end) }
     ensures err { OnErr result (plan.new.items ≡ plan.old.items) }
@@ -211,14 +212,13 @@ fn end_run(plan: &mut Vec<Step>, start: usize, end: usize) -> Result<(), NoMemor
     Ok(())
 }
 
-/// Whether the name with this number has a piece.
 fn has_piece_at(has_piece: &[bool], id: usize) -> bool
     ensures { result ≡ slice_index_or has_piece.now id false }
 {
     has_piece.get(id) == Some(&true)
 }
 
-/// Adds a use of what is resolved to.
+/// Adds a use, by what its occurrence resolves to.
 fn add_use(planning: &mut Planning, resolved: Resolved, has_piece: &[bool]) -> Result<(), NoMemory>
     ensures { OnOk result (planning.new ≡ record planning.old {
       made = planning.old.made ++ name_slots (λ id. slice_index_or has_piece.now id false)
@@ -272,7 +272,7 @@ fn add_item(
     }
 }
 
-/// Adds a range that is still to be copied.
+/// Adds the bytes of a pending range.
 fn add_range(planning: &mut Planning, range: LineRange) -> Result<(), NoMemory>
     requires start { range.start ≤ range.end }
     requires end { range.end ≤ length range.line.now }
@@ -288,7 +288,7 @@ fn add_range(planning: &mut Planning, range: LineRange) -> Result<(), NoMemory>
     planning.add_bytes(&range.line[range.start..range.end])
 }
 
-/// Adds a span after a range that is still to be copied: the range that is to be copied then.
+/// Adds a span after a pending range. Returns the range that is pending then.
 fn add_span<'w>(
     planning: &mut Planning,
     web: &'w Web,
@@ -307,8 +307,8 @@ fn add_span<'w>(
     Ok(range_of(web, span))
 }
 
-/// Adds an item without a span after a range that is still to be copied: the range that is to be
-/// copied then.
+/// Adds an item without a span after a pending range. Returns the range that is pending then, which
+/// is empty.
 fn add_other<'w>(
     planning: &mut Planning,
     web: &'w Web,
@@ -332,7 +332,7 @@ fn add_other<'w>(
     Ok(end_of(range))
 }
 
-/// Adds a piece. Items that are side by side in the source are copied at once.
+/// Adds a piece. The bytes of items that are side by side in the source are copied at once.
 fn add_piece(
     planning: &mut Planning,
     web: &Web,
@@ -404,12 +404,12 @@ fn add_pieces(
     Ok(())
 }
 
-/// The body of the node that has the pieces with these numbers: a full name with these bytes, or
-/// the unnamed program. The flags say of each name of the table whether it has a piece.
+/// Makes the body of a node from the pieces with these numbers. The node is the full name with
+/// these bytes, or the unnamed program. The flags say which names of the table have a piece.
 ///
 /// # Errors
 ///
-/// `NoMemory`, where an allocation failed.
+/// `NoMemory` where an allocation failed.
 pub fn plan_node(
     alloc: Global,
     planning: &mut Planning,

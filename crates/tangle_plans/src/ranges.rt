@@ -1,4 +1,4 @@
-//! Items that are side by side in the source: their bytes are copied at once.
+//! Items that are side by side in the source, whose bytes are copied or compared at once.
 ghost use Rattle.std.specs.Prelude.{◌≡◌, ◌≤◌, ◌++◌, true, [], ℕ, List, IfSome, length, map, take};
 ghost use Rattle.std.specs.List.{All};
 ghost use Rattle.tangle_names.specs.NameTable.{TableRead};
@@ -32,8 +32,9 @@ pub(crate) fn span_of(item: &Item) -> Option<(ItemKind, Span)>
     }
 }
 
-/// A range of a source line that is still to be copied, with the bytes of the line. It may be
-/// empty.
+/// A pending range: a range of a source line that remains to be copied or compared, with the bytes
+/// of the line. It may be empty.
+// Its numbers are apart, since a span takes shifts and masks each time it is compared or extended.
 #[derive(Clone, Copy)]
 pub(crate) struct LineRange<'w> {
     pub(crate) line: &'w [u8],
@@ -43,7 +44,7 @@ pub(crate) struct LineRange<'w> {
     pub(crate) end: usize,
 }
 
-/// An empty range.
+/// An empty pending range.
 pub(crate) fn no_range<'w>(web: &'w Web) -> LineRange<'w>
     ensures range { IsRangeOfSource web.now.texts result }
     ensures bytes { range_bytes result ≡ [] }
@@ -56,7 +57,7 @@ pub(crate) fn no_range<'w>(web: &'w Web) -> LineRange<'w>
     }
 }
 
-/// The empty range where this one ends, so that no line is looked up for it.
+/// The empty range at the end of this one, which needs no look-up of a line.
 pub(crate) fn end_of<'w>(range: LineRange<'w>) -> LineRange<'w>
     ensures range { (texts : List (List ℕ)) → IsRangeOfSource texts range.entry
         → IsRangeOfSource texts result }
@@ -82,7 +83,7 @@ pub(crate) fn range_of<'w>(web: &'w Web, span: Span) -> LineRange<'w>
     }
 }
 
-/// The end of a range that goes on with this span, if the span begins where the range ends.
+/// The end of a range that is made longer by this span, if the span begins where the range ends.
 fn joined(range: LineRange, span: Span) -> Option<usize>
     ensures { IfSome result (λ end. IsJoined range.entry span (record range.entry { end = end })) }
 {
@@ -93,7 +94,6 @@ fn joined(range: LineRange, span: Span) -> Option<usize>
     }
 }
 
-/// Whether the item is a blank.
 fn is_blank_item(item: &Item) -> bool
     ensures { result ≡ true → item.now ≡ item_kind.Blank }
 {
@@ -103,7 +103,8 @@ fn is_blank_item(item: &Item) -> bool
     }
 }
 
-/// The end of a range that goes on with this item, if that is a blank, and a space in the source.
+/// The end of a range that is made longer by this item, if the item is a blank, and a space in the
+/// source.
 fn with_space(range: LineRange, item: &Item) -> Option<usize>
     ensures { IfSome result (λ end. IsRangeWith range.entry item.now blank_tag
         (record range.entry { end = end })) }
@@ -118,8 +119,8 @@ fn with_space(range: LineRange, item: &Item) -> Option<usize>
     }
 }
 
-/// The end of a range that goes on with this item, if the item comes next in the source, and the
-/// item's tag.
+/// The end of a range that is made longer by this item, with the item's tag, if the item comes next
+/// in the source.
 fn with_item(web: &Web, range: LineRange, item: &Item) -> Option<(usize, ItemTag)>
     requires { IsInRange web.now.texts item.now }
     ensures { IfSome result (λ more. IsRangeWith range.entry item.now more.1
@@ -137,8 +138,8 @@ fn with_item(web: &Web, range: LineRange, item: &Item) -> Option<(usize, ItemTag
     }
 }
 
-/// Makes a range longer by the items that come next in the source: its new end, and how many items
-/// these are. Their tags are added, and no more items are passed than the tags have capacity for.
+/// Makes a range longer by the items that come next in the source, and adds their tags, as far as
+/// the tags have capacity. Returns the new end of the range, and the number of these items.
 pub(crate) fn pass_items(
     tags: &mut Vec<ItemTag>,
     web: &Web,
@@ -170,8 +171,8 @@ pub(crate) fn pass_items(
     (end, passed)
 }
 
-/// Makes a range longer by the items that come next in the source, as long as they have these tags:
-/// its new end, and how many items these are.
+/// Makes a range longer by the items that come next in the source, as long as they have these tags.
+/// Returns the new end of the range, and the number of these items.
 pub(crate) fn pass_same(
     tags: &[ItemTag],
     web: &Web,

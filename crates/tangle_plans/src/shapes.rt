@@ -1,4 +1,4 @@
-//! Comparing shapes.
+//! Compares shapes.
 ghost use Rattle.std.specs.Prelude.{◌≡◌, ◌<◌, ◌↔◌, true, false, length};
 ghost use Rattle.std.specs.List.{All};
 ghost use Rattle.tangle_plans.specs.Shapes.{Shape};
@@ -8,7 +8,8 @@ ghost use Rattle.tangle_plans.specs.NodeBodies.{HoldsShape};
 use crate::nodes::{NodeBody, PiecesByNode};
 use crate::tags::same_tags;
 
-/// Whether the names with these numbers are, one by one, the same.
+/// Whether the names with these numbers in one store are, one by one, those with the other numbers
+/// in the other store.
 fn same_names<S: PiecesByNode>(
     store: &S,
     uses: &[usize],
@@ -34,7 +35,7 @@ fn same_names<S: PiecesByNode>(
     true
 }
 
-/// Whether the items of two nodes are of the same kinds and have the same bytes.
+/// Whether the items of two bodies have the same kinds and the same bytes.
 fn same_items(body: &NodeBody, other: &NodeBody) -> bool
     ensures some { result ≡ true → (body_tags body.now ≡ body_tags other.now)
         × (body_bytes body.now ≡ body_bytes other.now) }
@@ -47,9 +48,9 @@ fn same_items(body: &NodeBody, other: &NodeBody) -> bool
     body.bytes == other.bytes
 }
 
-/// Whether two nodes, of the same store or of two, have the same shape: the same pieces, items of
-/// the same kinds and bytes, and uses of the same names. Section numbers and origins are no part of
-/// a shape, but where the marks are is.
+/// Whether two nodes, of one store or of two, have the same shape: the same pieces, with items of
+/// the same kinds and bytes, and uses of the same names. Section numbers and origins do not belong
+/// to a shape, but the positions of the marks do.
 pub fn same_shape<S: PiecesByNode>(
     store: &S,
     body: &NodeBody,

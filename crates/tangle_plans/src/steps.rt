@@ -1,4 +1,4 @@
-//! How many pieces, marks and bytes of a plan there are up to the end of a step.
+//! The steps of a plan, and the numbers of pieces, marks and bytes after each.
 ghost use Rattle.std.specs.Prelude.{◌≡◌, ◌+◌, ◌^◌, ◌<◌};
 ghost use Rattle.tangle_plans.specs.Meaning.{pieces_after_step, marks_after_step, bytes_after_step};
 
@@ -13,15 +13,15 @@ pub enum Step {
     Mark,
     /// All macros.
     AllMacros,
-    /// A use that is not resolved, or of a name without a piece: a space.
+    /// A space, for a use that does not resolve to a name, or of a name without a piece.
     Space,
-    /// A use of the name with this number, which has a piece: a space and the name's symbols.
+    /// A use of the name with this number, which has a piece: a space, and then the name's symbols.
     Use(usize),
     /// A piece ends, with its closing.
     Close,
 }
 
-/// How many pieces have ended at the end of a step, with so many before it.
+/// The number of pieces that have ended after a step, where `piece` have ended before it.
 pub fn pieces_after_step(piece: usize, step: Step) -> usize
     requires { piece + 1 < 2 ^ 64 }
     ensures { result ≡ pieces_after_step piece step }
@@ -33,7 +33,7 @@ pub fn pieces_after_step(piece: usize, step: Step) -> usize
     }
 }
 
-/// How many marks of its piece there are up to the end of a step, with so many before it. The
+/// The number of marks of the current piece after a step, where there are `marks` before it. The
 /// opening mark is not counted.
 pub fn marks_after_step(marks: usize, step: Step) -> usize
     requires { marks + 1 < 2 ^ 64 }
@@ -46,7 +46,7 @@ pub fn marks_after_step(marks: usize, step: Step) -> usize
     }
 }
 
-/// How many bytes of the body there are up to the end of a step, with so many before it.
+/// The number of the body's bytes that are used after a step, where `start` are used before it.
 pub fn bytes_after_step(start: usize, step: Step) -> usize
     ensures { result ≡ bytes_after_step start step }
 {

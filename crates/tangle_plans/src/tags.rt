@@ -1,5 +1,5 @@
-//! What two shapes are compared by, beside the bytes of their items: tags of the items, and the
-//! names that they use.
+//! The tags of items and the numbers of used names, by which shapes are compared, along with the
+//! bytes of the items.
 ghost use Rattle.std.specs.Prelude.{◌≡◌, ◌↔◌, true, ◌++◌, ◌-◌, ◌<◌, ◌≤◌, length, OnOk, decimal};
 ghost use Rattle.std.specs.List.{All};
 ghost use Rattle.tangle_scan.specs.WellFormed.{IsUseBelow};
@@ -29,7 +29,7 @@ pub(crate) enum ItemKind {
     PieceEnd,
 }
 
-/// An item in four bytes: its kind, and how many bytes it has.
+/// An item in four bytes: its kind, and the number of its bytes.
 #[derive(Clone, Copy, Debug, PartialEq, Eq)]
 pub(crate) struct ItemTag {
     kind: ItemKind,
@@ -37,7 +37,7 @@ pub(crate) struct ItemTag {
 }
 
 /// The tag of an item whose bytes are a span of the source.
-// For a span that is not known to be in range: the size is 0 if it ends before it starts.
+// For any span, in range or not: the size is 0 if the span ends before it starts.
 pub(crate) fn span_tag(kind: ItemKind, span: Span) -> ItemTag
     ensures { result ≡ record { kind = kind; size = span.end - span.start } }
 {
@@ -47,7 +47,7 @@ pub(crate) fn span_tag(kind: ItemKind, span: Span) -> ItemTag
     }
 }
 
-/// The same tag, where the span does not end before it starts.
+/// The same tag, for a span that does not end before it starts.
 pub(crate) fn tag_of_span(kind: ItemKind, span: Span) -> ItemTag
     requires { span.start ≤ span.end }
     ensures { result ≡ record { kind = kind; size = span.end - span.start } }
@@ -58,14 +58,14 @@ pub(crate) fn tag_of_span(kind: ItemKind, span: Span) -> ItemTag
     }
 }
 
-/// The tag of an item that has so many bytes.
+/// The tag of an item with this number of bytes.
 fn fixed_tag(kind: ItemKind, size: u16) -> ItemTag
     ensures { result ≡ record { kind = kind; size = size } }
 {
     ItemTag { kind, size }
 }
 
-/// How many decimal digits the value has.
+/// The number of decimal digits of the value.
 fn digit_count(value: u8) -> u16
     ensures { result ≡ length (decimal value) }
 {
@@ -73,7 +73,7 @@ fn digit_count(value: u8) -> u16
     digits.format(value).as_bytes().len() as u16
 }
 
-/// The tag of a use of what is resolved to.
+/// The tag of a use, by its resolution.
 fn use_tag(resolved: Resolved) -> ItemTag
     ensures { result ≡ tag_of_use resolved }
 {
@@ -83,7 +83,6 @@ fn use_tag(resolved: Resolved) -> ItemTag
     }
 }
 
-/// The tag of an item.
 pub(crate) fn tag_of(item: &Item, table: &NameTable) -> ItemTag
     requires { IsUseBelow (length table.now.resolved) item.now }
     ensures { result ≡ tag_in table.now item.now }
@@ -103,21 +102,21 @@ pub(crate) fn tag_of(item: &Item, table: &NameTable) -> ItemTag
     }
 }
 
-/// The tag of a blank.
+/// The tag of a blank, which is one byte.
 pub(crate) fn blank_tag() -> ItemTag
     ensures { result ≡ blank_tag }
 {
     fixed_tag(ItemKind::Blank, 1)
 }
 
-/// The tag of the end of a piece.
+/// The tag that ends a piece.
 pub(crate) fn piece_end() -> ItemTag
     ensures { result ≡ piece_end }
 {
     fixed_tag(ItemKind::PieceEnd, 0)
 }
 
-/// How many tags the pieces with these numbers have, for the memory that they take.
+/// The number of tags of the pieces with these numbers, for allocating them at once.
 pub(crate) fn tag_count(pieces: &[Piece], numbers: &[usize]) -> usize
     requires { All (λ n. n < length pieces.now) numbers.now }
 {
@@ -128,14 +127,12 @@ pub(crate) fn tag_count(pieces: &[Piece], numbers: &[usize]) -> usize
     count
 }
 
-/// Whether two tags are the same.
 pub(crate) fn same_tag(tag: ItemTag, other: ItemTag) -> bool
     ensures { (result ≡ true) ↔ (tag ≡ other) }
 {
     tag == other
 }
 
-/// Whether two lists of tags are the same.
 pub(crate) fn same_tags(tags: &[ItemTag], others: &[ItemTag]) -> bool
     ensures { (result ≡ true) ↔ (tags.now ≡ others.now) }
 {
@@ -150,7 +147,7 @@ pub(crate) fn same_tags(tags: &[ItemTag], others: &[ItemTag]) -> bool
     true
 }
 
-/// Adds the number of the name that is resolved to, if there is one.
+/// Adds the number of the name to which an occurrence resolves, if it resolves to one.
 pub(crate) fn add_name(names: &mut Vec<usize>, resolved: Resolved) -> Result<(), NoMemory>
     ensures { OnOk result (names.new.items ≡ names.old.items ++ uses_resolved resolved) }
 {

@@ -1,3 +1,4 @@
 pub mod WorkedApart
 pub mod WorkedLocations
+pub mod WorkedSegments
 pub mod WorkedWebs

@@ -20,19 +20,21 @@ use Rattle.tangle_scan.specs.MacroBytes.{macro_bytes}
 use Rattle.tangle_scan.specs.Web.{WebRead, BlockKind, blocks}
 use Rattle.tangle_scan.specs.Web.BlockKind.{OfMacro, OfPiece}
 
--- The bytes that a C compiler reads: it takes out each backslash that a line feed is directly after, with that line feed.
+-- The bytes that a C compiler reads: it takes out each backslash with a line feed directly after
+-- it.
 abbrev pub as_read : List ℕ → List ℕ
 as_read [] = []
 as_read (b ∷ []) = b ∷ []
 as_read (b ∷ c ∷ bs) = if b == backslash && c == line_feed then as_read bs else b ∷ as_read (c ∷ bs)
 
--- what it reads of the bytes after an item, of which the last byte is a backslash, or is not
+-- what the compiler reads of the bytes after an item; the flag says whether the item ends in a
+-- backslash
 abbrev pub read_after : Bool → List ℕ → List ℕ
 read_after true [] = []
 read_after true (b ∷ bs) = if b == line_feed then as_read bs else as_read (b ∷ bs)
 read_after false bs = as_read bs
 
--- it reads nothing, where nothing is needed, or white space first
+-- the compiler reads white space first, or no byte if no white space is needed
 abbrev pub is_gap_read : Bool → List ℕ → Bool
 is_gap_read is_needed [] = not is_needed
 is_gap_read is_needed (b ∷ bs) = is_white b || b == line_feed
@@ -40,7 +42,7 @@ is_gap_read is_needed (b ∷ bs) = is_white b || b == line_feed
 -- the tokens of a part, as the author means a C compiler to read them
 
 module _ (texts : List (List ℕ)) where
-  -- a line end is next, white space before it aside
+  -- the next token other than white space is a line end
   abbrev pub ends_line : List Token → Bool
   ends_line [] = false
   ends_line (token.White ∷ es) = ends_line es
@@ -52,8 +54,9 @@ module _ (texts : List (List ℕ)) where
   is_backslash (token.Span span_kind.Sign s) = bytes_eq (span_text texts s) (backslash ∷ [])
   is_backslash _ = false
 
-  -- Of the tokens of a C part those that it reads. A continued line ends in a backslash that the author means to be taken out with its line
-  -- end, and white space between the two counts for nothing. The flag says whether such a backslash is before.
+  -- The tokens of a C part that the compiler reads. A continued line ends in a backslash that the
+  -- author means to be taken out with the line end; white space between the two is taken out too.
+  -- The flag says whether such a backslash is before these tokens.
   abbrev pub read_tokens : Bool → List Token → List Token
   read_tokens continued [] = []
   read_tokens continued (token.White ∷ es) = (if continued then [] else token.White ∷ []) ++ read_tokens continued es
@@ -62,8 +65,8 @@ module _ (texts : List (List ℕ)) where
       let continues : Bool = ends_in_backslash texts e && ends_line es in
       (if continues && is_backslash e then [] else e ∷ []) ++ read_tokens continues es
 
-  -- Of the tokens of a macro those that are written: none of the white space, line ends and backslashes at its end, nor tokens there that
-  -- are no items.
+  -- The tokens of a macro that are written: all but the white space, line ends, backslashes and
+  -- tokens that are not items at the end of the macro.
 
   abbrev pub is_dropped_token : Token → Bool
   is_dropped_token (token.Span span_kind.Sign s) = ends_in_backslash texts (token.Span span_kind.Sign s)
@@ -80,8 +83,9 @@ module _ (texts : List (List ℕ)) where
   written_tokens [] = []
   written_tokens (e ∷ es) = with_written e (written_tokens es)
 
-  -- Whether the item before ends in a backslash, which a line feed after it takes out. Of quoted texts only a header name that did not end,
-  -- which has its fault, may end in one and be before a line end.
+  -- Whether the item before ends in a backslash, which the compiler takes out with a line feed
+  -- after it. Quoted texts do not count: only a header name without its >, which is a fault, can
+  -- end in a backslash before a line end.
   abbrev pub after_backslash : Option Token → Bool
   after_backslash None = false
   after_backslash (Some e) = ends_in_backslash texts e
@@ -90,13 +94,14 @@ module _ (texts : List (List ℕ)) where
   IsVerbatim (Some (token.Span span_kind.Verbatim s)) = Unit {0}
   IsVerbatim _ = ⊥
 
-  -- The source keeps two items apart, and the compiler would read others without white space between them, or the first ends the name of a
-  -- macro.
+  -- The source keeps two items apart, and the compiler would read other tokens without white space
+  -- between them, or the first item ends the name of a macro.
   abbrev pub needs_white : Bool → Bool → Option Token → Token → Bool
   needs_white in_name apart None f = false
   needs_white in_name apart (Some e) f = apart && (in_name || not (may_touch texts e f))
 
-  -- what is written for a token, where this is written for uses and for all macros
+  -- what is written for a token, if `used` gives what is written for uses, and `macros` is what is
+  -- written for @h
   module _ (used : ℕ → List ℕ) (macros : List ℕ) where
     abbrev pub token_bytes : Token → List ℕ
     token_bytes (token.Span kind s) = span_text texts s
@@ -106,9 +111,10 @@ module _ (texts : List (List ℕ)) where
     token_bytes (token.AllMacros line) = macros
     token_bytes _ = []
 
-    -- The bytes are those of the items in their order, with others between them: there the compiler reads nothing or white space first,
-    -- and white space wherever it is needed. The flags say whether all so far is the name of a macro, and whether the source keeps apart
-    -- what is before and what comes. The bytes after the last item have this property.
+    -- The bytes are those of the items in their order, with other bytes between them. Of these the
+    -- compiler reads white space first, or, if no white space is needed there, perhaps nothing.
+    -- `in_name`: all items so far are the name of a macro. `apart`: the source keeps the next item
+    -- apart from the one before. `AtEnd` is true of the bytes after the last item.
     abbrev pub AreReadApart : (Option Token → List ℕ → Type 0) → Bool → Bool → Option Token → List Token → List ℕ → Type 0
     AreReadApart AtEnd in_name apart before [] bytes = AtEnd before bytes
     AreReadApart AtEnd in_name apart before (token.White ∷ es) bytes = AreReadApart AtEnd in_name true before es bytes
@@ -118,8 +124,9 @@ module _ (texts : List (List ℕ)) where
         × (is_gap_read (needs_white in_name apart before e) (read_after (after_backslash before) between) ≡ true)
         × AreReadApart AtEnd (in_name && not apart && is_name_part e) false (Some e) es rest
 
-  -- After the last item of a macro comes the line feed that ends it. It is taken out only after verbatim text: the author ended that in a
-  -- backslash, or it has no bytes and is directly after one.
+  -- A line feed after the last item ends a macro. The compiler takes it out only after a verbatim
+  -- text: one that the author ended in a backslash, or one without bytes directly after a
+  -- backslash.
   pub record EndsMacro (before : Option Token) (bytes : List ℕ) : Type 0 where
     pub line_feed : bytes ≡ line_feed ∷ []
     pub stays : after_backslash before ≡ true → IsVerbatim before
@@ -130,11 +137,12 @@ module _ (texts : List (List ℕ)) where
       (rest : List ℕ) × (bytes ≡ codes "#define " ++ rest)
       × AreReadApart (λ occurrence. []) [] EndsMacro true false None (written_tokens tokens) rest
 
-  -- after the last item of a piece: nothing is read before the closing, or white space first
+  -- after the last item of a piece, the compiler reads white space first, or nothing
   abbrev pub EndsPiece : Option Token → List ℕ → Type 0
   EndsPiece before bytes = is_gap_read false (read_after (after_backslash before) bytes) ≡ true
 
-  -- the bytes of an item of a piece, where these are written for uses, for marks after their first line feed, and for all macros
+  -- the bytes of an item of a piece, if these are written for uses, for marks after their first
+  -- line feed, and for all macros
   abbrev pub piece_item_bytes : (ℕ → List ℕ) → (Origin → List ℕ) → List ℕ → Item → List ℕ
   piece_item_bytes used mark macros (item.UseOf occurrence) = space ∷ used occurrence
   piece_item_bytes used mark macros (item.LineMark origin) = line_feed ∷ mark origin
@@ -148,7 +156,7 @@ module _ (texts : List (List ℕ)) where
       → AreReadApart (λ occurrence. space ∷ used occurrence) (line_feed ∷ macros) EndsPiece false false None
       (read_tokens false tokens) (flat_map (piece_item_bytes used mark macros) items)
 
--- what rules 1 and 2 leave of the pieces and of the macros of a source, in their order
+-- the tokens of the pieces and of the macros of a source after rules 1 and 2, in order
 
 module _ (lines : List SourceLine) where
   abbrev pub kind_piece_tokens : BlockKind → List Token → List (List Token)
@@ -166,7 +174,8 @@ module _ (lines : List SourceLine) where
   abbrev pub all_macro_tokens : List (List Token)
   all_macro_tokens = flat_map (λ b. kind_macro_tokens b.kind b.tokens) (blocks 0 (all_tokens lines))
 
--- of two items that the source keeps apart, in a macro or in a piece, a C compiler reads the tokens of both
+-- a C compiler reads two items of a macro or a piece as the tokens of both, if the source keeps
+-- them apart
 pub record StaysApart (source : SourceRead) (web : WebRead) : Type 0 where
   pub macros : AllZip (λ items tokens. IsMacroReadApart web.texts tokens (macro_bytes web.texts items)) web.macros (all_macro_tokens source.lines)
   pub pieces : AllZip (λ p tokens. IsPieceReadApart web.texts tokens p.items) web.pieces (all_piece_tokens source.lines)

@@ -22,7 +22,7 @@ pub record GatheringRead : Type 0 where
 abbrev pub nothing : GatheringRead
 nothing = record { sections = 0; pieces = []; macros = []; has_all_macros = false; faults = [] }
 
--- the same with what these tokens add
+-- a gathering with what these tokens add to it
 unfoldable pub gathering_with : SourceRead → GatheringRead → List Token → GatheringRead
 gathering_with source before tokens = record {
   sections = section_count before.sections tokens;
@@ -32,12 +32,12 @@ gathering_with source before tokens = record {
   faults = before.faults ++ scan_faults source.files source.lines tokens;
 }
 
--- the fault that a token is by itself
+-- the fault of a token that is a fault
 abbrev pub own_fault : FileTable → List SourceLine → Token → List FaultRead
 own_fault files lines (token.Fault kind line) = fault_on files lines kind line ∷ []
 own_fault files lines _ = []
 
--- the same with a head before these tokens, but not yet with theirs
+-- a gathering with what a head before these tokens adds, without the faults among the tokens
 abbrev pub with_head : SourceRead → GatheringRead → Token → List Token → GatheringRead
 with_head source before head tokens = record {
   sections = section_after before.sections head;
@@ -47,7 +47,7 @@ with_head source before head tokens = record {
   faults = before.faults ++ faults_at source.files source.lines head tokens;
 }
 
--- the web of a source, of what was gathered, and of these occurrences
+-- the web of a source, from what was gathered and from these occurrences
 abbrev pub web_from : SourceRead → GatheringRead → List OccurrenceRead → WebRead
 web_from source gathering occurrences = record {
   texts = texts_of source.lines;

@@ -1,4 +1,5 @@
--- The bytes that are written for items.
+-- The bytes that are written for items. They are defined here, below the crates that write them, so
+-- that the law about items that stay apart can be a law of webs.
 use Rattle.std.specs.Prelude.{ℕ, List, [], ◌∷◌, decimal}
 use Rattle.tangle_files.specs.Bytes.{space, line_feed}
 use Rattle.tangle_scan.specs.declared.items.Item.{Item}
@@ -6,7 +7,7 @@ use Rattle.tangle_scan.specs.declared.items.Item.TheVariants as item
 use Rattle.tangle_scan.specs.Rules.{span_text}
 
 module _ (texts : List (List ℕ)) where
-  -- the bytes of an item; a use, a mark and the macros have none
+  -- the bytes of an item; a use, a mark and all macros have none here
   abbrev pub bytes_in : Item → List ℕ
   bytes_in (item.Word span) = span_text texts span
   bytes_in (item.Sign span) = span_text texts span

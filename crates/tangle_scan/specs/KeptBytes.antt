@@ -7,12 +7,13 @@ use Rattle.tangle_lexer.specs.Segments.{span_points, kept_points, ShowsKind, all
 use Rattle.tangle_scan.specs.Web.{WebRead}
 use Rattle.tangle_scan.specs.SourceOrder.{item_spans}
 
--- a byte is before another: on an earlier line, or further left on its line
+-- the first point is before the second: on an earlier line, or further left on the same line
 abbrev pub IsEarlier : ℕ × ℕ → ℕ × ℕ → Type 0
 IsEarlier p q = (p.0 ≤ q.0) × (p.0 ≡ q.0 → p.1 < q.1)
 
--- The segments of the source are side by side and fill its text, and each shows what it is. The bytes that are kept are those in the
--- spans of the pieces, none of which is there twice.
+-- The segments of the source are side by side and fill its text, and the cells of each are such as
+-- its kind has. The bytes that are kept are those in the spans of the pieces, and no byte is in two
+-- spans.
 pub record KeepsEachByte (source : SourceRead) (web : WebRead) : Type 0 where
   pub filled : flat_map (λ s. s.cells) (all_segments source.lines) ≡ text_from 0 source.lines
   pub kinds : AllByRecursion (λ s. ShowsKind s.kind s.cells) (all_segments source.lines)

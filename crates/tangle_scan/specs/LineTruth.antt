@@ -1,4 +1,4 @@
--- The counted origin in a piece, and that the piece's source items are there on their own lines.
+-- By the counted origin of a piece, its source items are on their own lines.
 use Rattle.std.specs.Prelude.{◌≡◌, ◌<◌, ℕ, length, Bool, true, false, ◌&&◌, not, if◌then◌else◌}
 use Rattle.std.specs.Prelude.{List, [], ◌∷◌, flat_map, Option, Some, None}
 use Rattle.std.specs.List.{AllZip}
@@ -16,7 +16,7 @@ use Rattle.tangle_scan.specs.Rules.{next_line, is_expected, counted_after_line_e
 
 -- A source item is a word, a sign, a quoted or verbatim text, or an ASCII constant.
 
--- a source item, and the counted origin there, where it is known
+-- a source item, and the counted origin at it, if that is known
 pub record CountedItem : Type 0 where
   pub item : Item
   pub origin : Option Origin
@@ -25,8 +25,9 @@ abbrev pub with_line_end : Option Origin → Option Origin
 with_line_end None = None
 with_line_end (Some p) = Some (next_line p)
 
--- The source items, each with the counted origin. A mark sets the origin, and a line end in the output adds one line. The origin
--- isn't known after a use and after all macros, until the next mark.
+-- The source items, each with the counted origin. A mark sets the origin, and a line end in the
+-- output adds one line to it. The origin is not known after a use and after all macros, until the
+-- next mark.
 abbrev pub counted_items : Option Origin → List Item → List CountedItem
 counted_items origin [] = []
 counted_items origin (item.Word s ∷ items) = record { item = item.Word s; origin = origin } ∷ counted_items origin items
@@ -41,8 +42,9 @@ counted_items origin (item.UseOf occurrence ∷ items) = counted_items None item
 counted_items origin (item.Defs ∷ items) = counted_items None items
 counted_items origin (item.Blank ∷ items) = counted_items origin items
 
--- A source item, the source line that it is on, and whether it is in a stretch, where the counted origin may be another.
--- An item of an ASCII constant has no line, and a run that was removed has no item: so these come from the tokens of the part.
+-- A source item, its source line, and whether it is in a stretch, where the counted origin may be
+-- that of another line. Locations are made from the tokens of the part, since the item of an ASCII
+-- constant has no line, and a removed run has no item.
 pub record Location : Type 0 where
   pub item : Item
   pub line : ℕ
@@ -53,17 +55,18 @@ has_line_end [] = false
 has_line_end (token.LineEnd line ∷ es) = true
 has_line_end (e ∷ es) = has_line_end es
 
--- what rule 2 leaves of a run, but a join in place of one with a line end that it removes
+-- what rule 2 leaves of a run, with a join instead of a run with line ends that the rule removes
 abbrev pub left_or_join : List Token → List Token
 left_or_join run = if has_join run then (if has_line_end run then token.Join ∷ [] else []) else run
 
--- the tokens of a C part after rules 1 and 2, with a join where line ends are gone
+-- the tokens of a C part after rules 1 and 2, with a join where line ends were removed
 abbrev pub tokens_and_joins : List Token → List Token
 tokens_and_joins tokens = map_runs left_or_join [] (with_spaces (without_faults tokens))
 
--- The source items of these tokens, and where they are, by the token before on the line, by the counted origin, and by whether a stretch has
--- begun. One begins where line ends are gone, at a line end inside a quoted text, and at the end of a continued line, where the count
--- does not expect the next source line. It ends at every other line end, and at a mark.
+-- The locations of the source items of these tokens. `before` is the token before them on the line,
+-- `counted` the counted origin, and `stretch` whether they are in a stretch. A stretch begins where
+-- line ends were removed, at a line end inside a quoted text, and at the end of a continued line if
+-- the count does not expect the next source line. It ends at every other line end, and at a mark.
 module _ (lines : List SourceLine) where
   abbrev pub locations : Option Token → Origin → Bool → List Token → List Location
   locations before counted stretch [] = []
@@ -84,7 +87,7 @@ module _ (lines : List SourceLine) where
       record { item = item.Code b; line = line; in_stretch = stretch } ∷ locations (Some (token.AsciiConstant b line)) counted stretch es
   locations before counted stretch (e ∷ es) = locations (Some e) counted stretch es
 
-  -- where the source items of a C part are whose head ends on this line
+  -- the locations of the source items of a C part whose head ends on this line
   abbrev pub part_locations : ℕ → List Token → List Location
   part_locations line tokens = locations None (origin_at lines line) false (tokens_and_joins tokens)
 
@@ -92,22 +95,23 @@ module _ (lines : List SourceLine) where
   kind_locations (OfMacro line) tokens = []
   kind_locations (OfPiece occurrence line) tokens = part_locations line tokens ∷ []
 
-  -- where the source items of each piece of the source are, in the order of the pieces
+  -- the locations of the source items of each piece of the source, in the order of the pieces
   abbrev pub piece_locations : List (List Location)
   piece_locations = flat_map (λ b. kind_locations b.kind b.tokens) (blocks 0 (all_tokens lines))
 
--- Both are the same item, which is on a line of the source; outside a stretch the counted origin is that of this line.
+-- A counted item and a location have the same item, which is on a line of the source. Outside
+-- stretches the counted origin is that of the line.
 pub record IsOwn (lines : List SourceLine) (p : CountedItem) (s : Location) : Type 0 where
   pub item : p.item ≡ s.item
   pub line : s.line < length lines
   pub origin : s.in_stretch ≡ false → p.origin ≡ Some (origin_at lines s.line)
 
--- The source items of a piece whose opening mark has this origin, and where they are: outside stretches the counted origin of
--- each is its own.
+-- The source items of a piece whose opening mark has the origin `mark` are at these locations:
+-- outside stretches the counted origin of each is that of its line.
 abbrev pub IsAtItsLine : List SourceLine → Origin → List Item → List Location → Type 0
 IsAtItsLine lines mark items locations = AllZip (IsOwn lines) (counted_items (Some mark) items) locations
 
--- the source items of each piece are at their lines
+-- the source items of each piece are at their own lines
 abbrev pub PiecesAreAtTheirLines : SourceRead → WebRead → Type 0
 PiecesAreAtTheirLines source web =
     AllZip (λ p locations. IsAtItsLine source.lines p.origin p.items locations) web.pieces (piece_locations source.lines)

@@ -7,8 +7,10 @@ use Rattle.tangle_scan.specs.Rules.{first_byte}
 use Rattle.tangle_scan.specs.ItemBytes.{bytes_in}
 
 module _ (texts : List (List ℕ)) where
-  -- blanks, line ends and backslashes, which are not written at the end of a macro: after a backslash there, a C compiler would take out the
-  -- line feed that ends the macro, and read the next macro as a part of this one
+  -- Blanks, line ends and backslashes are not written at the end of a macro. After a backslash
+  -- there, a C compiler would take out the line feed that ends the macro, and read the next macro
+  -- as a part of this one. A line end inside a quoted text is written, since it belongs to that
+  -- text.
   abbrev pub is_dropped_at_end : Item → Bool
   is_dropped_at_end item.Blank = true
   is_dropped_at_end item.LineEnd = true
@@ -19,12 +21,12 @@ module _ (texts : List (List ℕ)) where
   without_end_after x [] = if is_dropped_at_end x then [] else x ∷ []
   without_end_after x (y ∷ items) = x ∷ y ∷ items
 
-  -- without those at the end
+  -- the items of a macro without those that are not written at its end
   abbrev pub without_end : List Item → List Item
   without_end [] = []
   without_end (x ∷ items) = without_end_after x (without_end items)
 
-  -- in a macro a line end has a backslash before it
+  -- the bytes of an item of a macro: those of a line end begin with a backslash
   abbrev pub macro_item_bytes : Item → List ℕ
   macro_item_bytes item.LineEnd = codes "\\\n"
   macro_item_bytes x = bytes_in texts x

@@ -1,4 +1,4 @@
--- What is still to come of the rules for items, where a pass over the tokens is.
+-- What the rules for items give for the tokens that a pass has not read yet.
 use Rattle.std.specs.Prelude.{◌≡◌, ◌≤◌, ℕ, max, Bool, true, false, ◌==◌, ◌&&◌, ◌||◌, not, if◌then◌else◌}
 use Rattle.std.specs.Prelude.{List, [], ◌∷◌, ◌++◌, length, take, drop}
 use Rattle.std.specs.Prelude.{Option, Some, None, option_to_list}
@@ -26,16 +26,18 @@ use Rattle.tangle_scan.specs.Rules.{texts_of, first_byte, last_byte, ends_in_bac
 use Rattle.tangle_scan.specs.Rules.{next_line, line_item, counted_after_line_end}
 use Rattle.tangle_scan.specs.Rules.{macro_blanks, unmarked_items}
 
--- the run at the end of a list begins in it, and its flag says whether it has a join
+-- `run` is a run at the end of a list: it begins inside the list, and its flag says whether it has
+-- a join
 pub record IsRun (spaced : List Token) (run : Run) : Type 0 where
   pub start : run.start ≤ length spaced
   pub has : run.has_join ≡ has_join (drop run.start spaced)
 
--- rule 2 where its run begins at a position of what was added
+-- rule 2, where a run that began at position `start` of the tokens so far goes on in the tokens
+-- `es`
 unfoldable pub without_joins_from : List Token → ℕ → List Token → List Token
 without_joins_from spaced start es = take start spaced ++ without_joins (drop start spaced) es
 
--- rule 1, where a token came before
+-- rule 1 for the tokens after another one
 
 abbrev pub needs_space : List (List ℕ) → Stage → Token → Token → Bool
 needs_space texts stage.AfterName before e = would_merge before e || not (may_follow_name texts e)
@@ -51,7 +53,8 @@ with_white_space texts at before [] = []
 with_white_space texts at before (e ∷ es) =
     (if needs_space texts at before e then token.White ∷ [] else []) ++ e ∷ with_white_space texts (stage_after at e) e es
 
--- what is removed first: faults, and the white space and line ends at the front of a macro
+-- the tokens without what is removed first: faults, and the white space and line ends at the front
+-- of a macro
 abbrev pub without_skipped : Stage → List Token → List Token
 without_skipped stage.Front es = without_front_gaps (without_faults es)
 without_skipped _ es = without_faults es
@@ -65,7 +68,8 @@ is_skipped stage.Front token.White = true
 is_skipped stage.Front (token.LineEnd line) = true
 is_skipped at e = false
 
--- a token that rules 1 and 2 may change, or that is removed, or that is all macros, or a head
+-- a fault, a join, an ASCII constant, @h or a head: without them rules 1 and 2 change at most the
+-- front of a macro
 abbrev pub is_rare : Token → Bool
 is_rare token.Section = true
 is_rare (token.MacroStart line) = true
@@ -82,12 +86,12 @@ is_front_gap token.White = true
 is_front_gap (token.LineEnd line) = true
 is_front_gap e = false
 
--- what is after the white space and the line ends at the front
+-- the tokens after the white space and the line ends at the front
 abbrev pub after_front : List Token → List Token
 after_front [] = []
 after_front (e ∷ es) = if is_front_gap e then after_front es else e ∷ es
 
--- the second token may be after the first, the name of a macro
+-- the second token needs no white space before it, where the first is the name of a macro
 abbrev pub is_name_spaced : List (List ℕ) → List Token → Bool
 is_name_spaced texts [] = true
 is_name_spaced texts (e ∷ []) = true
@@ -98,27 +102,28 @@ is_name_spaced texts (e ∷ f ∷ es) = may_follow_name texts f
 abbrev pub origin_of : CountedOrigin → Origin
 origin_of counted = record { file = counted.file; line = counted.line }
 
--- the item that a token is in C parts and macros alike
+-- the item for a token, if that is the same item in C parts and in macros
 abbrev pub item_of : Token → Option Item
 item_of (token.Span kind s) = Some (span_item kind s)
 item_of token.QuoteBreak = Some item.QuoteBreak
 item_of (token.AsciiConstant b line) = Some (item.Code b)
 item_of _ = None
 
--- the items that rules 4 and 5 give for a token that is no white space and no line end
+-- the items that rules 4 and 5 give for a token other than white space and line ends
 abbrev pub items_at : List SourceLine → Token → List Item
 items_at lines (token.UseOf occurrence line) = item.UseOf occurrence ∷ item.LineMark (origin_at lines line) ∷ []
 items_at lines (token.AllMacros line) = item.Defs ∷ item.LineMark (origin_at lines line) ∷ []
 items_at lines e = option_to_list (item_of e)
 
--- the counted origin after it
+-- the counted origin after such a token
 abbrev pub counted_after_token : List SourceLine → Origin → Token → Origin
 counted_after_token lines counted (token.UseOf occurrence line) = origin_at lines line
 counted_after_token lines counted (token.AllMacros line) = origin_at lines line
 counted_after_token lines counted token.QuoteBreak = next_line counted
 counted_after_token lines counted e = counted
 
--- whether the next line continues a line that ends with an item, and with these items
+-- whether the next line continues a line whose last item is this one, or that ends after these
+-- items
 
 abbrev pub item_continues : List (List ℕ) → Item → Bool
 item_continues texts (item.Sign s) = first_byte texts s == backslash
@@ -130,8 +135,9 @@ items_continue texts [] = false
 items_continue texts (x ∷ []) = item_continues texts x
 items_continue texts (x ∷ y ∷ items) = items_continue texts (y ∷ items)
 
--- The items for the tokens to come, by whether white space is a blank, if an item comes, whether the next line continues this one, whether
--- white space is directly before, and by the counted origin.
+-- The items for tokens that were not read yet. `keeps`: white space before an item is a blank.
+-- `continues`: the next line continues this one if it ends here. `white`: white space is directly
+-- before. `counted`: the counted origin.
 abbrev pub plain_items_ahead : List SourceLine → Bool → Bool → Bool → Origin → List Token → List Item
 plain_items_ahead lines keeps continues white counted [] = []
 plain_items_ahead lines keeps continues white counted (token.White ∷ es) = plain_items_ahead lines keeps continues true counted es
@@ -142,14 +148,14 @@ plain_items_ahead lines keeps continues white counted (e ∷ es) =
     (if keeps && white then item.Blank ∷ [] else [])
     ++ (items_at lines e ++ plain_items_ahead lines true (ends_in_backslash (texts_of lines) e) false (counted_after_token lines counted e) es)
 
--- the items to come, where these were made so far
+-- the items for tokens that were not read yet, after these items
 unfoldable pub items_ahead : List SourceLine → PartState → List Item → List Token → List Item
 items_ahead lines at items es =
     plain_items_ahead lines at.keeps_white (items_continue (texts_of lines) items) at.has_white (origin_of at.counted) es
 
 -- all rules in one pass over a C part that has rare tokens
 
--- the run of joins, white space and line ends that comes next has a join
+-- the run of joins, white space and line ends at the front has a join
 abbrev pub joins_ahead : List Token → Bool
 joins_ahead [] = false
 joins_ahead (token.Join ∷ es) = true
@@ -158,19 +164,19 @@ joins_ahead (token.LineEnd line ∷ es) = joins_ahead es
 joins_ahead (token.Fault kind line ∷ es) = joins_ahead es
 joins_ahead (e ∷ es) = false
 
--- rule 1 for a token, by what is last before it
+-- rule 1 puts white space between `last` and this token
 abbrev pub touches : Last → Token → Bool
 touches last.Word e = is_constant e
 touches last.AsciiConstant e = is_constant e || is_word_token e
 touches _ e = false
 
--- a blank is before the item of this token
+-- a blank goes before the item of this token
 abbrev pub needs_blank : Last → Token → Bool
 needs_blank last.White e = true
 needs_blank last.ContinuedWhite e = true
 needs_blank at e = touches at e
 
--- what is last after white space, after the end of a line and after a token that is an item
+-- what `Last` is after white space, after the end of a line and after a token that is an item
 
 abbrev pub last_after_white : Last → Last
 last_after_white last.Front = last.Front
@@ -191,14 +197,14 @@ abbrev pub is_joined : Last → Bool
 is_joined last.Joined = true
 is_joined _ = false
 
--- a line end is last, white space after it aside
+-- nothing but white space was read since the last line end, or since the front of the part
 abbrev pub is_after_line_end : Last → Bool
 is_after_line_end last.Front = true
 is_after_line_end last.Continued = true
 is_after_line_end last.ContinuedWhite = true
 is_after_line_end _ = false
 
--- an item is last, white space after it aside
+-- nothing but white space was read since the last item
 abbrev pub is_after_item : Last → Bool
 is_after_item last.Other = true
 is_after_item last.Word = true
@@ -206,12 +212,13 @@ is_after_item last.AsciiConstant = true
 is_after_item last.White = true
 is_after_item _ = false
 
--- whether the next line continues a line that ends here, by the last item
+-- the next line continues a line that ends here: the line has items, and the last one ends in a
+-- backslash
 abbrev pub continues_after : List (List ℕ) → Last → Token → Bool
 continues_after texts at e = is_after_item at && ends_in_backslash texts e
 
--- the items that all rules give for the tokens to come, by what is last before them, by the last item
--- and by the counted origin
+-- The items that all rules give for tokens that were not read yet: `at` is what is directly before
+-- them, `before` the token of the last item, and `counted` the counted origin.
 abbrev pub rare_items_ahead : List SourceLine → Last → Token → Origin → List Token → List Item
 rare_items_ahead lines at before counted [] = []
 rare_items_ahead lines at before counted (token.Fault kind line ∷ es) = rare_items_ahead lines at before counted es
@@ -226,25 +233,26 @@ rare_items_ahead lines at before counted (e ∷ es) =
     (if needs_blank at e then item.Blank ∷ [] else [])
     ++ (items_at lines e ++ rare_items_ahead lines (last_of e) e (counted_after_token lines counted e) es)
 
--- whether line ends were added that a join to come removes
+-- line ends were added that a later join of the same run removes
 abbrev pub takes_back : Last → List Token → Bool
 takes_back at es = is_after_line_end at && joins_ahead es
 
--- all items, where these were made so far and these tokens are to come
+-- all items of a part: those made so far, without line ends that a later join removes, and those
+-- for the tokens not read yet
 unfoldable pub all_items : List SourceLine → List Item → RarePartState → List Token → List Item
 all_items lines items at es =
     if takes_back at.last es
     then take at.start.items items ++ rare_items_ahead lines last.Joined at.item.now (origin_of at.start.counted) es
     else items ++ rare_items_ahead lines at.last at.item.now (origin_of at.counted) es
 
--- the higher of the two counted lines
+-- the higher of the two counted lines of the state, for which a limit is proved
 abbrev pub highest : RarePartState → ℕ
 highest at = max at.counted.line at.start.counted.line
 
--- the item before on the line, if there is one
+-- the last item of the current line, if it has one
 abbrev pub item_before : MacroState → Option Token
 item_before at = if at.has_item then Some at.item.now else None
 
--- rule 3 and the items of a macro
+-- the items of a macro for tokens that were not read yet
 unfoldable pub unmarked_from : List (List ℕ) → MacroState → List Token → List Item
 unmarked_from texts at es = unmarked_items (macro_blanks texts at.in_name (item_before at) at.has_white es)

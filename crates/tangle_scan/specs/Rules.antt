@@ -1,4 +1,5 @@
--- From the tokens of a C part or a macro to its items: five rules, each applied to the whole list in turn.
+-- Five rules make items of the tokens of a C part or a macro. Each is applied to the whole list in
+-- turn, so that it can be read, and proved, alone.
 use Rattle.std.specs.Prelude.{ℕ, ◌+◌, Bool, true, false, ◌==◌, nat_le, ◌&&◌, ◌||◌, not, ◌-◌, if◌then◌else◌, codes, Option, None, Some, is_some}
 use Rattle.std.specs.Prelude.{List, [], ◌∷◌, ◌++◌, length, take, drop, get_or, map}
 use Rattle.std.specs.List.{list_any}
@@ -23,15 +24,15 @@ texts_of lines = map (λ l. l.bytes) lines
 abbrev pub span_text : List (List ℕ) → Span → List ℕ
 span_text texts s = take (s.end - s.start) (drop s.start (get_or texts s.line []))
 
--- its first byte
+-- the first byte of a span
 abbrev pub first_byte : List (List ℕ) → Span → ℕ
 first_byte texts s = get_or (get_or texts s.line []) s.start 0
 
--- its last byte, or 0 if it has none
+-- the last byte of a span, or 0 if the span is empty
 abbrev pub last_byte : List (List ℕ) → Span → ℕ
 last_byte texts s = if nat_le s.end s.start then 0 else get_or (get_or texts s.line []) (s.end - 1) 0
 
--- faults are no items
+-- the tokens without faults, which are not items
 abbrev pub without_faults : List Token → List Token
 without_faults [] = []
 without_faults (token.Fault kind line ∷ es) = without_faults es
@@ -55,7 +56,8 @@ with_spaces [] = []
 with_spaces (e ∷ []) = e ∷ []
 with_spaces (e ∷ f ∷ es) = e ∷ (if would_merge e f then token.White ∷ [] else []) ++ with_spaces (f ∷ es)
 
--- In a macro it is also put after the name, which is the first item, unless ( or white space, a line end or a join follows.
+-- In a macro, white space is also put after the name, which is the first item, unless an opening
+-- parenthesis, white space, a line end or a join follows.
 
 abbrev pub may_follow_name : List (List ℕ) → Token → Bool
 may_follow_name texts token.White = true
@@ -92,7 +94,8 @@ has_join [] = false
 has_join (token.Join ∷ es) = true
 has_join (e ∷ es) = has_join es
 
--- each run of joins, white space and line ends, made into what a function gives of it; the first list is the run that is before the second
+-- Each run of joins, white space and line ends is replaced by what `f` gives for it. `run` is the
+-- part of the first run that is before this list.
 abbrev pub map_runs : (List Token → List Token) → List Token → List Token → List Token
 map_runs f run [] = f run
 map_runs f run (token.Join ∷ es) = map_runs f (run ++ token.Join ∷ []) es
@@ -106,8 +109,9 @@ left_of_run run = if has_join run then [] else run
 abbrev pub without_joins : List Token → List Token → List Token
 without_joins run es = map_runs left_of_run run es
 
--- Lines that a C compiler joins. Before it reads tokens, it takes out each backslash with a line feed directly after it. So the next line
--- continues a line whose last item, white space aside, ends in a backslash: a sign, or verbatim text.
+-- Lines that a C compiler joins. Before it reads tokens, it takes out each backslash with a line
+-- feed directly after it. So a line is continued by the next one if its last item is a sign or a
+-- verbatim text that ends in a backslash.
 
 abbrev pub ends_in_backslash : List (List ℕ) → Token → Bool
 ends_in_backslash texts (token.Span span_kind.Sign s) = first_byte texts s == backslash
@@ -119,27 +123,34 @@ abbrev pub is_continued : List (List ℕ) → Option Token → Bool
 is_continued texts None = false
 is_continued texts (Some e) = ends_in_backslash texts e
 
--- Rule 3: white space between two items of a line is a blank, for which one White is left; so is white space at the front of a line that
--- continues another. Other white space is dropped.
+-- Rule 3: white space between two items of a line is a blank, for which one White is left, and so
+-- is white space at the front of a line that continues another. Other white space is dropped. A
+-- line end alone makes no blank: a word that a backslash and a line feed cut is one word.
 
--- what is before the front of the next line, after this token: the end of this line, if the next one continues it
+-- the token before the first item of the next line: the end of this line, if the next line
+-- continues it, else none
 abbrev pub at_line_front : List (List ℕ) → Option Token → ℕ → Option Token
 at_line_front texts before line = if is_continued texts before then Some (token.LineEnd line) else None
 
--- Before is a token after which white space is a blank, if there is one: an item on the same line, or the end of the line that this line
--- continues. The flag says whether white space is directly before.
+-- White space is a blank if it is after a token `before`: an item on the same line, or the end of
+-- the line that this line continues. `white`: white space is directly before these tokens.
 abbrev pub blanks : List (List ℕ) → Option Token → Bool → List Token → List Token
 blanks texts before white [] = []
 blanks texts before white (token.White ∷ es) = blanks texts before true es
 blanks texts before white (token.LineEnd line ∷ es) = token.LineEnd line ∷ blanks texts (at_line_front texts before line) false es
 blanks texts before white (e ∷ es) = (if is_some before && white then token.White ∷ [] else []) ++ e ∷ blanks texts (Some e) false es
 
--- Rule 3 in a macro. Its line ends are written with a backslash before each, so a C compiler takes all of them out. Two items that only
--- line ends would keep apart get a blank before these, unless they may touch.
+-- Rule 3 in a macro. A backslash is written before each line end of a macro, so a C compiler takes
+-- all of them out. If only line ends keep two items apart, a blank goes before the line ends,
+-- unless the items may touch. It is directly after the first item, so that each line begins with an
+-- item.
 
--- Two items may touch if a C compiler reads the same tokens without white space between them as with it. A separator is one token and
--- part of no longer one. An operator may be a part of another one, as + is of ++, or of a number, as in 1e+5, but not of an identifier or a
--- quoted text. Two words would be one; so would a number and what is after it, and L and "x" are a literal of wide characters.
+-- Two items may touch if a C compiler reads the same tokens with and without white space between
+-- them. A separator is never a part of a longer token. An operator may be a part of a longer
+-- operator, as + of ++, or of a number, as in 1e+5, but not of an identifier or a quoted text. Two
+-- words would be read as one word, a number and a word after it as one number, and L and "x" as a
+-- wide string. The rule looks only at two items, without C's grammar of tokens: an unneeded blank
+-- changes no token, and each further kind would be one more claim about C.
 
 abbrev pub sign_kind : ℕ → TouchKind
 sign_kind b =
@@ -162,27 +173,30 @@ kinds_may_touch k g = false
 abbrev pub may_touch : List (List ℕ) → Token → Token → Bool
 may_touch texts e f = kinds_may_touch (touch_kind texts e) (touch_kind texts f)
 
--- The name of a macro is what is before all white space and line ends: a word, or several items that joins have made a name of.
+-- The name of a macro is its first item with the words, ASCII constants and verbatim texts that
+-- follow directly: joins can make one name of several items. White space after the name is kept
+-- even before a separator, since #define call (f) has no parameter, and #define call(f) has one.
 abbrev pub is_name_part : Token → Bool
 is_name_part (token.Span span_kind.Word s) = true
 is_name_part (token.Span span_kind.Verbatim s) = true
 is_name_part (token.AsciiConstant value line) = true
 is_name_part _ = false
 
--- the next item, whatever white space and line ends are before it
+-- the first token that is neither white space nor a line end
 abbrev pub next_item : List Token → Option Token
 next_item [] = None
 next_item (token.White ∷ es) = next_item es
 next_item (token.LineEnd line ∷ es) = next_item es
 next_item (e ∷ es) = Some e
 
--- whether a blank is before the line ends between these items; the flag says whether the first ends the name
+-- whether a blank goes before the line ends between these two items; `in_name`: the first item ends
+-- the macro's name
 abbrev pub has_blank_at_line_end : List (List ℕ) → Bool → Option Token → Option Token → Bool
 has_blank_at_line_end texts in_name (Some e) (Some f) = in_name || not (may_touch texts e f)
 has_blank_at_line_end texts in_name before next = false
 
--- The first flag says whether all so far is the name; the token is the item before on the line, if there is one; the second flag says
--- whether white space is directly before.
+-- `in_name`: all items so far are the macro's name. `before`: the last item of the current line, if
+-- it has one. `white`: white space is directly before these tokens.
 abbrev pub macro_blanks : List (List ℕ) → Bool → Option Token → Bool → List Token → List Token
 macro_blanks texts in_name before white [] = []
 macro_blanks texts in_name before white (token.White ∷ es) = macro_blanks texts in_name before true es
@@ -193,9 +207,10 @@ macro_blanks texts in_name before white (e ∷ es) =
     (if is_some before && white then token.White ∷ [] else [])
     ++ e ∷ macro_blanks texts (in_name && not white && is_name_part e) (Some e) false es
 
--- Rules 4 and 5: the origin that the compiler counts. A line end adds one line; it is a mark instead where the next source line has
--- another origin, but not in a line that the next one continues: there the compiler would read the mark as a part of the line. A mark is
--- after each use and each @h too, for the line on which it ends.
+-- Rules 4 and 5: the origin that the compiler counts. A line end adds one line to it. Instead of a
+-- line end there is a mark if the next source line has another origin than the compiler would
+-- count, except at the end of a continued line, where the compiler would read the mark as a part of
+-- that line. A mark is also after each use and each @h, with the line on which that ends.
 
 abbrev pub next_line : Origin → Origin
 next_line p = record { file = p.file; line = p.line + 1 }
@@ -208,7 +223,8 @@ abbrev pub is_expected : List SourceLine → Origin → ℕ → Bool
 is_expected lines counted line =
     nat_le (length lines) (line + 1) || same_origin (origin_at lines (line + 1)) (next_line counted)
 
--- at the end of a line that is continued, or is not
+-- the counted origin after the end of a line, and the item for it; `continued`: the next line
+-- continues this one
 abbrev pub counted_after_line_end : List SourceLine → Bool → Origin → ℕ → Origin
 counted_after_line_end lines continued counted line =
     if continued || is_expected lines counted line then next_line counted else origin_at lines (line + 1)
@@ -217,7 +233,7 @@ abbrev pub line_item : List SourceLine → Bool → Origin → ℕ → Item
 line_item lines continued counted line =
     if continued || is_expected lines counted line then item.LineEnd else item.LineMark (origin_at lines (line + 1))
 
--- the item that a span of a kind is
+-- the item for a span of this kind
 abbrev pub span_item : SpanKind → Span → Item
 span_item span_kind.Word s = item.Word s
 span_item span_kind.Sign s = item.Sign s
@@ -244,10 +260,10 @@ items_by_origin lines before counted (token.UseOf occurrence line ∷ es) =
 items_by_origin lines before counted (token.AllMacros line ∷ es) =
     item.Defs ∷ item.LineMark (origin_at lines line)
     ∷ items_by_origin lines (Some (token.AllMacros line)) (origin_at lines line) es
--- heads, joins and faults are no items
+-- heads, joins and faults are not items
 items_by_origin lines before counted (e ∷ es) = items_by_origin lines (Some e) counted es
 
--- what rules 1 and 2 leave of a C part
+-- the tokens of a C part after rules 1 and 2
 abbrev pub part_tokens : List Token → List Token
 part_tokens tokens = without_joins [] (with_spaces (without_faults tokens))
 
@@ -271,10 +287,10 @@ unmarked_items (token.QuoteBreak ∷ es) = item.QuoteBreak ∷ unmarked_items es
 unmarked_items (token.Span kind s ∷ es) = span_item kind s ∷ unmarked_items es
 unmarked_items (token.AsciiConstant value line ∷ es) = item.Code value ∷ unmarked_items es
 unmarked_items (token.White ∷ es) = item.Blank ∷ unmarked_items es
--- uses and @h are not in macros; heads, joins and faults are no items
+-- uses and @h are not in macros; heads, joins and faults are not items
 unmarked_items (_ ∷ es) = unmarked_items es
 
--- what rules 1 and 2 leave of a macro
+-- the tokens of a macro after rules 1 and 2
 abbrev pub macro_tokens : List (List ℕ) → List Token → List Token
 macro_tokens texts tokens = without_joins [] (with_name_space texts (with_spaces (without_front_gaps (without_faults tokens))))
 

@@ -1,4 +1,4 @@
--- Where the texts of items are: in lines of the source, and in its order.
+-- The texts of items are ranges of source lines, in the order of the source.
 use Rattle.std.specs.Prelude.{◌≡◌, ◌≤◌, ◌<◌, ℕ, List, [], ◌∷◌, length, get_or, flat_map}
 use Rattle.std.specs.List.{All, AllPairs}
 use Rattle.tangle_text.specs.declared.spans.Span.{Span}
@@ -38,7 +38,9 @@ item_spans (_ ∷ items) = item_spans items
 abbrev pub IsBefore : Span → Span → Type 0
 IsBefore s t = (s.line ≤ t.line) × (s.line ≡ t.line → s.end ≤ t.start)
 
--- Of the spans of all pieces, one piece after another, each is before all later ones; so are those of all macros.
+-- In the list of the spans of all pieces, each span is before all later ones, and so it is in the
+-- list of the spans of all macros. No order between the two lists is stated, since no definition
+-- reads the spans of both together.
 pub record SpansAreInOrder (web : WebRead) : Type 0 where
   pub pieces : AllPairs IsBefore (flat_map (λ p. item_spans p.items) web.pieces)
   pub macros : AllPairs IsBefore (flat_map item_spans web.macros)

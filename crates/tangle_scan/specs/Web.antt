@@ -1,4 +1,4 @@
--- The web: the tokens of the whole text, grouped by section into pieces, macros and occurrences.
+-- The web: the pieces, macros, occurrences and faults that the tokens of the whole text make.
 use Rattle.std.specs.Prelude.{ℕ, ◌+◌, Bool, true, false, List, [], ◌∷◌, ◌++◌, map, flat_map, if◌then◌else◌, Option, Some, None}
 use Rattle.std.specs.List.{list_any}
 use Rattle.tangle_faults.specs.declared.faults.Origin.{Origin}
@@ -53,7 +53,7 @@ pub data BlockKind : Type 0 where
   OfMacro : ℕ → BlockKind
   OfPiece : Option ℕ → ℕ → BlockKind
 
--- what is after a head, up to the next one, with the number of its section
+-- a macro or a C part: the tokens from its head up to the next head, with the number of its section
 pub record Block : Type 0 where
   pub section : ℕ
   pub kind : BlockKind
@@ -66,12 +66,13 @@ block_at section (token.UnnamedPart line) es = record { section = section; kind 
 block_at section (token.NamedPart occurrence line) es = record { section = section; kind = OfPiece (Some occurrence) line; tokens = body es } ∷ []
 block_at section _ es = []
 
--- the number of the section after a token
+-- the number of the section that the text after a token is in
 abbrev pub section_after : ℕ → Token → ℕ
 section_after section token.Section = section + 1
 section_after section _ = section
 
--- the C parts and macros in order, each with the number of its section, from the number of the section before
+-- the C parts and macros in order, each with the number of its section; `section` is the number of
+-- the section before these tokens
 abbrev pub blocks : ℕ → List Token → List Block
 blocks section [] = []
 blocks section (e ∷ es) = block_at section e es ++ blocks (section_after section e) es
@@ -100,7 +101,7 @@ module _ (lines : List SourceLine) where
   kind_piece (OfPiece occurrence line) b =
       record { section = b.section; origin = origin_at lines line; occurrence = occurrence; items = part_items lines line b.tokens } ∷ []
 
-  -- the piece that a block is
+  -- the piece of a block, if the block is a C part
   abbrev pub piece_of : Block → List PieceRead
   piece_of b = kind_piece b.kind b
 
@@ -111,7 +112,7 @@ module _ (lines : List SourceLine) where
   kind_macro (OfMacro line) b = kept_macro (macro_items (texts_of lines) b.tokens)
   kind_macro (OfPiece occurrence line) b = []
 
-  -- the macro that a block is, unless it is dropped
+  -- the macro of a block, if the block is a macro that is kept
   abbrev pub macro_of : Block → List (List Item)
   macro_of b = kind_macro b.kind b
 
@@ -124,7 +125,7 @@ module _ (files : FileTable) (lines : List SourceLine) where
   macro_fault line es =
       if is_macro (texts_of lines) (macro_items (texts_of lines) (body es)) then [] else fault_on fault.MacroName line ∷ []
 
-  -- the fault that a token is; that of a macro is at its @d
+  -- the fault of a token; the fault of a macro that is dropped is on the line of its @d
   abbrev pub faults_at : Token → List Token → List FaultRead
   faults_at (token.Fault kind line) es = fault_on kind line ∷ []
   faults_at (token.MacroStart line) es = macro_fault line es

@@ -1,4 +1,5 @@
--- The numbers of occurrences and the ranges of lines in a web are in range.
+-- The numbers of occurrences in a web are below their count, and its spans are ranges of source
+-- lines.
 use Rattle.std.specs.Prelude.{◌<◌, ℕ, length}
 use Rattle.std.specs.List.{All}
 use Rattle.std.specs.Option.{IfSome}
@@ -7,7 +8,7 @@ use Rattle.tangle_scan.specs.declared.items.Item.TheVariants as item
 use Rattle.tangle_scan.specs.Web.{WebRead}
 use Rattle.tangle_scan.specs.SourceOrder.{SpansAreInRange}
 
--- an item that is no use, or that of one of so many occurrences
+-- an item is not a use, or the number of its occurrence is below `count`
 abbrev pub IsUseBelow : ℕ → Item → Type 0
 IsUseBelow count (item.UseOf occurrence) = occurrence < count
 IsUseBelow count _ = Unit {0}

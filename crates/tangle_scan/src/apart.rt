@@ -3,10 +3,10 @@ ghost use Rattle.tangle_lines.specs.Reading.{SourceRead};
 ghost use Rattle.tangle_scan.specs.Apart.{StaysApart};
 ghost use Rattle.tangle_scan.specs.Web.{web_of};
 
-/// In the web of each source, two items of a macro or of a piece that the source keeps apart are
-/// read apart by a C compiler, which takes out each backslash with a line feed after it: white
-/// space is between them, or they may touch. The last item of a macro's name and the next one do
-/// not touch, and the line feed that ends a macro stays.
+/// In the web of each source, a C compiler reads two items of a macro or of a piece apart if the
+/// source keeps them apart: white space is between them, or they may touch. If the first one ends
+/// the name of a macro, it is white space. The compiler takes out each backslash with a line feed
+/// after it before it reads tokens; the line feed that ends a macro is not taken out.
 pub fn what_is_apart_stays_apart()
     ensures { (source : SourceRead) → StaysApart source (web_of source) }
 {}

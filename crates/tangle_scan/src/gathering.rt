@@ -1,4 +1,4 @@
-//! From the tokens of C parts and macros to the pieces, macros and faults of a web.
+//! Gathers the pieces, macros and faults of a web from the tokens of its C parts and macros.
 ghost use Rattle.std.specs.Prelude.{◌≡◌, ◌≤◌, ◌<◌, ◌+◌, ◌^◌, ◌++◌, ◌∷◌, ◌||◌, []};
 ghost use Rattle.std.specs.Prelude.{flat_map, if◌then◌else◌, true, false, IfOk, OnOk};
 ghost use Rattle.std.specs.List.{list_any};
@@ -52,7 +52,7 @@ fn add_scan_fault(
     Ok(())
 }
 
-/// Adds the fault that a token is, if it is one.
+/// Adds the fault of a token, if the token is a fault.
 fn add_own_fault(
     alloc: Global,
     source: &Source,
@@ -89,8 +89,8 @@ fn add_faults(
     Ok(())
 }
 
-/// Makes the items of a C part whose head ends on a line, and returns what is known of it. Most
-/// parts have no rare token. If one has, the items up to the first such token are made again.
+/// Replaces `items` by those of a C part whose head ends on this line. Most parts have no rare
+/// token. If a part has one, the items before that token are made a second time.
 fn fill_part(
     source: &Source,
     items: &mut Vec<Item>,
@@ -114,9 +114,9 @@ fn fill_part(
     })
 }
 
-/// The items of a C part whose head ends on a line, and what is known of it.
-// They are made in a vector with capacity for one item a token. A part has few more, and spare
-// capacity is freed.
+/// The items of a C part whose head ends on this line, with their flags.
+// The vector has capacity for one item for each token. A part has at most a few items more, and
+// capacity that is left is freed.
 fn part_items(
     alloc: Global,
     source: &Source,
@@ -135,14 +135,13 @@ fn part_items(
     Ok((items, flags))
 }
 
-/// A buffer for the tokens of a macro, which all macros use in turn.
+/// A buffer for the tokens of one macro after the other.
 #[derive(Drop)]
 pub(crate) struct MacroBuffer {
     tokens: Vec<Token>,
 }
 
 impl MacroBuffer {
-    /// A buffer without memory.
     pub(crate) fn new(alloc: Global) -> Self {
         MacroBuffer {
             tokens: Vec::new(alloc),
@@ -169,7 +168,7 @@ impl MacroBuffer {
     }
 }
 
-/// Whether a macro begins with an identifier.
+/// Whether items begin with an identifier, as those of a macro have to.
 fn is_macro(source: &Source, items: &[Item]) -> bool
     ensures { result ≡ rules.is_macro (texts_of source.now.lines) items.now }
 {
@@ -179,7 +178,7 @@ fn is_macro(source: &Source, items: &[Item]) -> bool
     }
 }
 
-/// What is gathered of a web so far.
+/// What was gathered of a web so far, block by block.
 #[derive(Drop)]
 pub(crate) struct Gathering {
     pub(crate) sections: usize,
@@ -204,7 +203,7 @@ impl Model for Gathering {
 }
 
 impl Gathering {
-    /// The gathering of a web before its first block.
+    /// An empty gathering.
     pub(crate) fn new(alloc: Global) -> Self
         ensures { result ≡ nothing }
     {
@@ -217,7 +216,7 @@ impl Gathering {
         }
     }
 
-    /// Adds the tokens before the first head.
+    /// Adds the faults among the tokens before the first head.
     pub(crate) fn add_front(
         &mut self,
         alloc: Global,
@@ -232,7 +231,7 @@ impl Gathering {
         Ok(())
     }
 
-    /// Adds the piece of a C part whose head ends on a line, and returns whether some of its tokens
+    /// Adds the piece of a C part whose head ends on this line. Returns whether some of its tokens
     /// are rare.
     fn add_piece(
         &mut self,
@@ -267,8 +266,8 @@ impl Gathering {
         Ok(flags.has_rare)
     }
 
-    /// Adds a macro, or the fault that it does not begin with an identifier, at the line of its
-    /// `@d`. It returns whether some of its tokens are rare.
+    /// Adds a macro, or a fault on the line of its `@d` if the macro does not begin with an
+    /// identifier. Returns whether some of its tokens are rare.
     fn add_macro(
         &mut self,
         alloc: Global,
@@ -298,7 +297,7 @@ impl Gathering {
     }
 
     /// Adds the section, the macro or the piece that a head begins, without the faults among its
-    /// tokens. It returns whether some of these tokens are rare.
+    /// tokens. Returns whether some of these tokens are rare.
     fn add_head(
         &mut self,
         alloc: Global,
@@ -327,7 +326,7 @@ impl Gathering {
         }
     }
 
-    /// Adds a block: a head and the tokens up to the next one.
+    /// Adds a block: a head and the tokens up to the next head.
     pub(crate) fn add_block(
         &mut self,
         alloc: Global,

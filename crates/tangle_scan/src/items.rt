@@ -5,7 +5,7 @@ use std::marker::Model;
 use tangle_lines::Origin;
 use tangle_text::Span;
 
-/// How many numbers the low half of an occurrence's number distinguishes.
+/// The number of values of the low half of an occurrence's number: 2 to the power of 32.
 const LOW_NUMBERS: usize = 4_294_967_296;
 
 /// The number of an occurrence, from 0. It is stored in two halves, so that an item takes 12 bytes,
@@ -35,7 +35,7 @@ impl Model for OccurrenceNumber {
 }
 
 impl OccurrenceNumber {
-    /// The occurrence of this number.
+    /// Stores this number.
     pub(crate) fn new(number: usize) -> Self
         ensures { result ≡ number }
     {
@@ -53,30 +53,30 @@ impl OccurrenceNumber {
     }
 }
 
-/// What a piece or a macro is made of. The text of an item with a span is that range of the source.
+/// What pieces and macros consist of. The text of an item with a span is that range of the source.
 #[derive(Clone, Copy, Debug, PartialEq, Eq)]
 pub enum Item {
-    /// Letters, digits, `_`, `$` and bytes past 127, as many as are together.
+    /// Word bytes up to the first other byte: letters, digits, `_`, `$` and bytes from 128 to 255.
     Word(Span),
-    /// One byte of another kind; `@@` is the sign `@`.
+    /// One byte that begins no other item; `@@` is the sign `@`.
     Sign(Span),
     /// A quoted text, or one of the ranges that it is cut into: after the first `@` of each `@@`,
-    /// and at a line end inside it.
+    /// and at a line end inside the text.
     Quoted(Span),
-    /// The line end at which a quoted text is cut.
+    /// A line end inside a quoted text, after a backslash. The text is cut there.
     QuoteBreak,
     /// A verbatim text, or one of the ranges that it is cut into.
     Verbatim(Span),
-    /// An ASCII constant, by its value.
+    /// An ASCII constant, by its value: the number that is written for it in decimal.
     Code(u8),
-    /// White space between two items.
+    /// White space between two items, of any length: one space is written for it.
     Blank,
-    /// A line end.
+    /// A line end outside quoted texts.
     LineEnd,
-    /// Here the compiler gets this origin.
+    /// A line mark: a C compiler counts lines from this origin on.
     LineMark(Origin),
     /// A use of a section name, by the number of its occurrence.
     UseOf(OccurrenceNumber),
-    /// All macros of the web.
+    /// `@h`: all macros of the web are written here.
     Defs,
 }

@@ -1,5 +1,6 @@
-//! The items of a macro. A C compiler takes out all of its line ends, so a blank is put before them
-//! between two items that may not touch, and after the macro's name.
+//! The items of a macro. A C compiler takes out all line ends of a macro. So where line ends keep
+//! two items apart, a blank goes before the line ends if the two may not touch, or if the first
+//! ends the macro's name.
 ghost use Rattle.std.specs.Prelude.{◌≡◌, ◌++◌, ◌∷◌, ◌&&◌, [], not, true, false, None};
 ghost use Rattle.std.specs.Prelude.{if◌then◌else◌, IfOk, OnOk};
 ghost use Rattle.tangle_scan.specs.Rules as rules;
@@ -16,16 +17,16 @@ use tangle_lines::{NoMemory, Source};
 /// The state of a macro while its items are made.
 #[derive(Clone, Copy)]
 struct MacroState<'t> {
-    /// Whether all so far is the name.
+    /// Whether all items so far are the macro's name.
     in_name: bool,
-    /// Whether an item is before on the line.
+    /// Whether the current line has an item so far.
     has_item: bool,
-    /// That item. It is read only where there is one.
+    /// The last item of the line. It has no meaning unless `has_item` is true.
     item: &'t Token,
     has_white: bool,
 }
 
-/// Whether an item is a part of the name, if all before it is.
+/// Whether an item is a part of the macro's name, if all items before it are.
 fn is_name_part(token: Token) -> bool
     ensures { result ≡ rules.is_name_part token }
 {
@@ -35,7 +36,7 @@ fn is_name_part(token: Token) -> bool
     )
 }
 
-/// The next item, whatever white space and line ends are before it.
+/// The first token that is neither white space nor a line end.
 fn next_item(tokens: &[Token]) -> Option<Token>
     ensures { result ≡ rules.next_item tokens.now }
 {
@@ -47,8 +48,9 @@ fn next_item(tokens: &[Token]) -> Option<Token>
     None
 }
 
-/// Whether a blank is before a line end, which these tokens follow.
-// The item after a run of line ends is looked for once: at its first line end.
+/// Whether a blank goes before a line end. `rest` are the tokens after the line end.
+// The item after a run of line ends is searched for only once, at the first line end of the run:
+// after that, `has_item` is false.
 fn has_blank_at_line_end(source: &Source, at: MacroState, rest: &[Token]) -> bool
     ensures { result ≡ rules.has_blank_at_line_end (texts_of source.now.lines) at.entry.in_name
         (item_before at.entry) (rules.next_item rest.now) }
@@ -81,7 +83,7 @@ fn after_item<'t>(at: MacroState<'t>, item: &'t Token) -> MacroState<'t>
     }
 }
 
-/// Adds a line end of a macro, after a blank where one is needed.
+/// Adds a line end of a macro, with a blank before it if `has_blank`.
 fn push_macro_line_end(items: &mut Vec<Item>, has_blank: bool) -> Result<(), NoMemory>
     ensures { OnOk result (items.new.items ≡ items.old.items
         ++ (if has_blank then item.Blank ∷ [] else []) ++ item.LineEnd ∷ []) }
@@ -93,7 +95,7 @@ fn push_macro_line_end(items: &mut Vec<Item>, has_blank: bool) -> Result<(), NoM
     Ok(())
 }
 
-/// Adds the items of a token of a macro, which these tokens follow.
+/// Adds the items of a token of a macro. `rest` are the tokens after it.
 #[inline(always)]
 fn add_macro_token<'t>(
     source: &Source,
@@ -133,8 +135,9 @@ fn add_macro_token<'t>(
     }
 }
 
-/// Makes the items of a macro.
-// It is no part of the long function that gathers a web, so that its state stays in registers.
+/// Replaces `items` by those of a macro.
+// It is not inlined into the long function that gathers a web, so that its state stays in
+// registers.
 #[inline(never)]
 pub(crate) fn fill_macro(
     source: &Source,

@@ -14,7 +14,7 @@ pub struct Piece {
     origin: Origin,
     occurrence: Option<usize>,
     items: Vec<Item>,
-    /// Without it no item is a line mark.
+    /// Whether some item may be a line mark. If `false`, none is.
     may_have_mark: bool,
 }
 
@@ -38,7 +38,7 @@ impl Model for Piece {
 }
 
 impl Piece {
-    /// A piece of these items. Without `may_have_mark` none of them is a line mark.
+    /// A piece with these items. If `may_have_mark` is `false`, none of them is a line mark.
     pub(crate) fn new(
         section: usize,
         origin: Origin,
@@ -64,7 +64,7 @@ impl Piece {
         }
     }
 
-    /// The number of its section, from 1.
+    /// The number of the section that the piece is in, from 1.
     pub fn section(&self) -> usize
         ensures { result ≡ self.now.section }
     {
@@ -78,7 +78,8 @@ impl Piece {
         self.origin
     }
 
-    /// The number of its name's occurrence, or none for a piece of the unnamed program.
+    /// The number of the occurrence that names the piece, from 0 among all occurrences of the web;
+    /// `None` for a piece of the unnamed program.
     pub fn occurrence(&self) -> Option<usize>
         ensures { result ≡ self.now.occurrence }
     {
@@ -92,7 +93,7 @@ impl Piece {
         self.may_have_mark
     }
 
-    /// The items.
+    /// The items, in the order of the source.
     pub fn items(&self) -> &[Item]
         ensures { result.now ≡ self.now.items }
     {
@@ -100,7 +101,7 @@ impl Piece {
     }
 }
 
-/// A macro.
+/// A macro, which `@d` began. Each `@h` of the web is replaced by all macros.
 #[derive(Drop)]
 pub struct Macro {
     items: Vec<Item>,
@@ -116,14 +117,14 @@ impl Model for Macro {
 }
 
 impl Macro {
-    /// A macro of these items.
     pub(crate) fn new(items: Vec<Item>) -> Self
         ensures { result ≡ items.items }
     {
         Macro { items }
     }
 
-    /// The items; the first is its name.
+    /// The items, in the order of the source. The first one is a word that does not begin with a
+    /// digit, with which the macro's name begins.
     pub fn items(&self) -> &[Item]
         ensures { result.now ≡ self.now }
     {

@@ -1,8 +1,7 @@
-//! The items of a C part without rare tokens. White space between two items of a line is a blank,
-//! and so is white space at the front of a line that continues another; other white space is
-//! dropped. A line mark is after each use and each `@h`, and instead of a line end where the next
-//! source line has another origin than the compiler would count, but not in a line that is
-//! continued.
+//! The items of a C part without rare tokens. White space becomes a blank between two items of a
+//! line, and at the start of a line that continues another; other white space is dropped. A line
+//! mark follows each use and each `@h`. It also replaces a line end if a compiler would count
+//! another origin for the next source line, except at the end of a continued line.
 ghost use Rattle.std.specs.Prelude.{◌≡◌, ◌≤◌, ◌<◌, ◌+◌, ◌^◌, ◌++◌, ◌∷◌, ◌&&◌, ◌||◌, []};
 ghost use Rattle.std.specs.Prelude.{List, max, if◌then◌else◌, true, false, None};
 ghost use Rattle.std.specs.Prelude.{Some, option_to_list, IfOk, OnOk};
@@ -23,26 +22,26 @@ use tangle_lexer::{SpanKind, Token};
 use tangle_lines::{NoMemory, Origin, Source};
 use tangle_text::Span;
 
-/// The origin that a compiler would count, by the marks and line ends so far.
+/// The origin that a C compiler counts at a position, by the marks and line ends before it.
 #[derive(Clone, Copy)]
 pub(crate) struct CountedOrigin {
     pub(crate) file: usize,
     pub(crate) line: usize,
-    /// Whether there is a mark so far.
+    /// Whether a mark was added so far.
     pub(crate) has_mark: bool,
 }
 
 /// The state of a C part while its items are made.
 #[derive(Clone, Copy)]
 struct PartState {
-    /// Whether white space here is a blank, if an item comes: an item is before on the line, or the
-    /// line continues another.
+    /// Whether white space before the next item is a blank: the line has an item so far, or it
+    /// continues another line.
     keeps_white: bool,
     has_white: bool,
     counted: CountedOrigin,
 }
 
-/// The counted origin on a source line.
+/// The counted origin at the front of a C part whose head ends on this source line.
 pub(crate) fn counted_on(source: &Source, line: u32) -> CountedOrigin
     ensures origin { origin_of result ≡ origin_at source.now.lines line }
     ensures limit { result.line < 2 ^ 32 }
@@ -56,7 +55,7 @@ pub(crate) fn counted_on(source: &Source, line: u32) -> CountedOrigin
     }
 }
 
-/// The counted origin on the next line.
+/// The counted origin one line later.
 fn next_line(counted: CountedOrigin) -> CountedOrigin
     requires { counted.line < 2 ^ 63 }
     ensures counted { origin_of result ≡ rules.next_line (origin_of counted) }
@@ -68,7 +67,7 @@ fn next_line(counted: CountedOrigin) -> CountedOrigin
     }
 }
 
-/// The origin of the next source line, where it is not the one that the count expects.
+/// The origin of the next source line, if there is one and the count does not expect that origin.
 fn unexpected_origin(source: &Source, counted: CountedOrigin, line: u32) -> Option<Origin>
     requires { counted.line < 2 ^ 63 }
     ensures { result ≡ (if rules.is_expected source.now.lines (origin_of counted) line then None
@@ -85,7 +84,7 @@ fn unexpected_origin(source: &Source, counted: CountedOrigin, line: u32) -> Opti
     Some(origin)
 }
 
-/// Adds a mark, which sets the counted origin.
+/// Adds a mark with this origin, and returns it as the counted origin.
 fn push_mark(items: &mut Vec<Item>, origin: Origin) -> Result<CountedOrigin, NoMemory>
     ensures items { OnOk result (items.new.items ≡ items.old.items ++ item.LineMark origin ∷ []) }
     ensures counted { IfOk result (λ counted. origin_of counted ≡ origin) }
@@ -100,7 +99,8 @@ fn push_mark(items: &mut Vec<Item>, origin: Origin) -> Result<CountedOrigin, NoM
     })
 }
 
-/// Adds a line end, or the mark that replaces it. In a line that is continued no mark does.
+/// Adds the item for the end of a source line, and returns the counted origin after it. The item is
+/// a line end if the count expects the next source line or the line is continued, else a mark.
 // It is inlined into both loops over the tokens of C parts, so that the counted origin stays in
 // registers.
 #[inline(always)]
@@ -131,7 +131,7 @@ pub(crate) fn push_line_end(
     }
 }
 
-/// Adds a blank, where there is white space that is kept.
+/// Adds a blank if there is white space and it is kept.
 pub(crate) fn push_blank(
     items: &mut Vec<Item>,
     keeps_white: bool,
@@ -146,7 +146,7 @@ pub(crate) fn push_blank(
     Ok(())
 }
 
-/// The item that a span of a kind is.
+/// The item for a span of this kind.
 #[inline(always)]
 pub(crate) fn span_item(kind: SpanKind, span: Span) -> Item
     ensures { result ≡ rules.span_item kind span }
@@ -159,7 +159,7 @@ pub(crate) fn span_item(kind: SpanKind, span: Span) -> Item
     }
 }
 
-/// The item that a token is in C parts and macros alike, if it is one.
+/// The item for a token, if that is the same item in C parts and in macros.
 #[inline(always)]
 pub(crate) fn item_of(token: Token) -> Option<Item>
     ensures { result ≡ passes.item_of token }
@@ -172,7 +172,6 @@ pub(crate) fn item_of(token: Token) -> Option<Item>
     }
 }
 
-/// Adds an item, if there is one.
 pub(crate) fn push_some(items: &mut Vec<Item>, item: Option<Item>) -> Result<(), NoMemory>
     ensures { OnOk result (items.new.items ≡ items.old.items ++ option_to_list item) }
 {
@@ -182,7 +181,7 @@ pub(crate) fn push_some(items: &mut Vec<Item>, item: Option<Item>) -> Result<(),
     Ok(())
 }
 
-/// Adds the item of a token, and a mark after a use and after all macros.
+/// Adds the item of a token, with a mark after a use or `@h`. Returns the counted origin after it.
 // It is inlined for the same reason as `push_line_end`.
 #[inline(always)]
 pub(crate) fn push_item(
@@ -220,7 +219,7 @@ pub(crate) fn push_item(
     }
 }
 
-/// The state directly after a token that is no white space.
+/// The state directly after a token other than white space.
 #[inline(always)]
 fn part_state(keeps_white: bool, counted: CountedOrigin) -> PartState
     ensures { result
@@ -233,7 +232,7 @@ fn part_state(keeps_white: bool, counted: CountedOrigin) -> PartState
     }
 }
 
-/// Whether the next line continues a line that ends with an item.
+/// Whether the next line continues a line whose last item is this one.
 #[inline(always)]
 fn item_continues(source: &Source, item: Item) -> bool
     ensures { result ≡ passes.item_continues (texts_of source.now.lines) item }
@@ -245,8 +244,7 @@ fn item_continues(source: &Source, item: Item) -> bool
     }
 }
 
-/// Whether the next line continues a line that ends with these items. It looks at the last one
-/// alone, and is called once a line.
+/// Whether the next line continues a line that ends after these items.
 #[inline(always)]
 fn is_continued(source: &Source, items: &[Item]) -> bool
     ensures { result ≡ passes.items_continue (texts_of source.now.lines) items.now }
@@ -299,7 +297,7 @@ fn add_token(
     }
 }
 
-/// What is known of a C part whose items were made.
+/// What was noted while the items of a C part were made.
 #[derive(Clone, Copy)]
 pub(crate) struct PartFlags {
     /// Whether some of its tokens are rare.
@@ -308,8 +306,8 @@ pub(crate) struct PartFlags {
     pub(crate) may_have_mark: bool,
 }
 
-/// Makes the items of a C part whose head ends on a line. It stops at the first rare token, and
-/// returns whether there is one.
+/// Replaces `items` by those of a C part whose head ends on this line. At a rare token it stops:
+/// `has_rare` is then set, and the items are not complete.
 pub(crate) fn fill_plain_part(
     source: &Source,
     items: &mut Vec<Item>,

@@ -1,6 +1,7 @@
 //! The items of a C part that has rare tokens, in one pass. A join removes the white space and
-//! the line ends around it, and a blank is put between a word and an ASCII constant, or two
-//! constants, that touch. Line ends are added as they come, and a join removes those of its run.
+//! the line ends around it. A blank goes between a word and an ASCII constant that touch, in either
+//! order, and between two constants that touch. The line ends of a run are added at once, and
+//! removed again if a join follows in the run.
 ghost use Rattle.std.specs.Prelude.{◌≡◌, ◌≤◌, ◌<◌, ◌+◌, ◌^◌, max, if◌then◌else◌, IfOk, OnOk};
 ghost use Rattle.std.specs.Prelude.{List, [], ◌∷◌, ◌++◌, length};
 ghost use Rattle.tangle_lines.specs.Reading.{SourceLine};
@@ -18,18 +19,18 @@ use crate::touching::ends_in_backslash;
 use tangle_lexer::{SpanKind, Token};
 use tangle_lines::{NoMemory, Source};
 
-/// What is last before a position, faults aside.
+/// What is directly before a position, if faults are left out.
 #[derive(Clone, Copy)]
 enum Last {
     /// Nothing, or the end of a line that is not continued.
     Front,
     /// The end of a line that the next one continues.
     Continued,
-    /// White space after that.
+    /// White space after the end of a continued line.
     ContinuedWhite,
     /// A join. White space and line ends after it are dropped.
     Joined,
-    /// An item that is no word and no ASCII constant.
+    /// An item other than a word or an ASCII constant.
     Other,
     Word,
     AsciiConstant,
@@ -37,16 +38,16 @@ enum Last {
     White,
 }
 
-/// Where a run of joins, white space and line ends begins: how many items are before it, and the
-/// counted origin there.
+/// Where a run of joins, white space and line ends begins: the number of items before the run, and
+/// the counted origin there.
 #[derive(Clone, Copy)]
 struct Start {
     items: usize,
     counted: CountedOrigin,
 }
 
-/// The state of a C part while its items are made. `item` is the last item, and `start` is that of
-/// the last run, which is read only where a line end is last, white space after it aside.
+/// The state of a C part while its items are made. `item` is the token of the last item. `start` is
+/// the start of the current run; it has no meaning unless that run has a line end.
 #[derive(Clone, Copy)]
 struct RarePartState<'t> {
     last: Last,
@@ -55,7 +56,6 @@ struct RarePartState<'t> {
     start: Start,
 }
 
-/// Whether a token is an ASCII constant.
 #[inline(always)]
 fn is_constant(token: Token) -> bool
     ensures { result ≡ rules.is_constant token }
@@ -63,7 +63,6 @@ fn is_constant(token: Token) -> bool
     matches!(token, Token::AsciiConstant(..))
 }
 
-/// Whether a token is a word.
 #[inline(always)]
 fn is_word(token: Token) -> bool
     ensures { result ≡ rules.is_word_token token }
@@ -71,7 +70,7 @@ fn is_word(token: Token) -> bool
     matches!(token, Token::Span(SpanKind::Word, _))
 }
 
-/// Whether a blank is needed before a token that is an item.
+/// Whether a blank goes between `last` and a token that is an item.
 #[inline(always)]
 fn needs_blank(last: Last, token: Token) -> bool
     ensures { result ≡ passes.needs_blank last token }
@@ -84,7 +83,7 @@ fn needs_blank(last: Last, token: Token) -> bool
     }
 }
 
-/// Adds a blank before a token that is an item, where one is needed.
+/// Adds a blank if one goes between `last` and this token.
 #[inline(always)]
 fn push_needed_blank(items: &mut Vec<Item>, last: Last, token: Token) -> Result<(), NoMemory>
     ensures { OnOk result (items.new.items
@@ -96,7 +95,7 @@ fn push_needed_blank(items: &mut Vec<Item>, last: Last, token: Token) -> Result<
     Ok(())
 }
 
-/// What is last after white space.
+/// What `last` becomes after white space.
 #[inline(always)]
 fn last_after_white(last: Last) -> Last
     ensures { result ≡ passes.last_after_white last }
@@ -109,7 +108,7 @@ fn last_after_white(last: Last) -> Last
     }
 }
 
-/// What is last after a token that is an item.
+/// What `last` is after a token that is an item.
 #[inline(always)]
 fn last_of(token: Token) -> Last
     ensures { result ≡ passes.last_of token }
@@ -121,7 +120,7 @@ fn last_of(token: Token) -> Last
     }
 }
 
-/// What is last after the end of a line.
+/// What `last` is after the end of a line, which the next line may continue.
 #[inline(always)]
 fn last_after_line_end(is_continued: bool) -> Last
     ensures { result ≡ passes.last_after_line_end is_continued }
@@ -147,7 +146,7 @@ fn rare_state(last: Last, item: &Token, counted: CountedOrigin, start: Start) ->
     }
 }
 
-/// Whether a line end is last, white space after it aside.
+/// Whether only white space was read since a line end, or since the front of the part.
 #[inline(always)]
 fn is_after_line_end(last: Last) -> bool
     ensures { result ≡ passes.is_after_line_end last }
@@ -155,7 +154,8 @@ fn is_after_line_end(last: Last) -> bool
     matches!(last, Last::Front | Last::Continued | Last::ContinuedWhite)
 }
 
-/// Whether the next line continues a line that ends here.
+/// Whether the next line continues a line that ends here: `item` is on the line, as its last item,
+/// and ends in a backslash.
 #[inline(always)]
 fn continues_after(source: &Source, last: Last, item: Token) -> bool
     ensures { result ≡ passes.continues_after (texts_of source.now.lines) last item }
@@ -168,8 +168,8 @@ fn continues_after(source: &Source, last: Last, item: Token) -> bool
     }
 }
 
-/// Where the run begins that a line end is in. One that has no line end yet begins where the items
-/// end.
+/// Where the run of a line end begins: at the known start if the run has a line end already, else
+/// after the items so far.
 #[inline(always)]
 fn start_of_run(at: RarePartState, item_count: usize) -> Start
     ensures { result ≡ (if passes.is_after_line_end at.entry.last then at.entry.start
@@ -184,7 +184,7 @@ fn start_of_run(at: RarePartState, item_count: usize) -> Start
     }
 }
 
-/// Adds a line end.
+/// Adds the item for the end of a source line, unless a join before it in its run removes it.
 #[inline(always)]
 fn add_line_end<'t>(
     source: &Source,
@@ -210,7 +210,8 @@ fn add_line_end<'t>(
     Ok(rare_state(last, at.item, counted, start))
 }
 
-/// Applies a join: it removes the line ends of its run.
+/// Applies a join: removes the line ends of its run, and sets the counted origin back to that at
+/// the start of the run.
 fn apply_join<'t>(items: &mut Vec<Item>, at: RarePartState<'t>) -> RarePartState<'t>
     requires { at.start.items ≤ length items.old.items }
     ensures items { (lines : List SourceLine) (rest : List Token) →
@@ -263,7 +264,7 @@ fn add_rare_part_token<'t>(
     }
 }
 
-/// Makes the items of a C part whose head ends on a line.
+/// Replaces `items` by those of a C part whose head ends on this line.
 pub(crate) fn fill_rare_part(
     source: &Source,
     items: &mut Vec<Item>,

@@ -35,6 +35,7 @@ fn gather(alloc: Global, source: &Source) -> Result<(Gathering, Vec<Occurrence>)
     let first = first_state(source);
     let (mut state, mut next_head) = next_block(source, &mut buffers, &mut ahead, first)?;
     gathering.add_front(alloc, source, &buffers.tokens)?;
+    // One block of tokens is held at a time, in buffers that all blocks use in turn.
     while let Some(head) = next_head {
         (state, next_head) = next_block(source, &mut buffers, &mut ahead, state)?;
         gathering.add_block(alloc, source, &mut macro_buffer, head, &buffers.tokens)?;
@@ -42,8 +43,8 @@ fn gather(alloc: Global, source: &Source) -> Result<(Gathering, Vec<Occurrence>)
     Ok((gathering, buffers.occurrences))
 }
 
-/// The text of a source is short: it has at most 2,000,000 lines, each of at most 65,535 bytes and
-/// a line end. This is proved line by line, and changes nothing.
+/// Proves that the text of a source is short: at most 2,000,000 lines, each of at most 65,535 bytes
+/// and a line end. The loop is for the proof alone, and changes nothing.
 fn text_is_short(source: &Source)
     ensures { length (text_from 0 source.now.lines) < 2 ^ 63 }
 {
@@ -52,19 +53,23 @@ fn text_is_short(source: &Source)
     }
 }
 
-/// Scans the lines of a source: finds its sections, C parts, macros and section names, and what
-/// these are made of.
+/// Scans the lines of a source: finds its sections, C parts, macros and section names, by the rules
+/// of `docs/scanning.md`. No source is refused: what breaks a rule is a fault of the web.
 ///
 /// The web borrows the source. The text of an item is a range of a source line. The ranges of all
-/// pieces are in the order of the source, and so are those of all macros. Each text of a piece is
-/// on the line that a compiler counts by the marks and line ends before it, except after a line
-/// end inside a quoted text, one that a join removed, or that of a continued line where the count
-/// does not expect the next source line, up to the next line end or mark. Items that the source
-/// keeps apart are read apart by a C compiler, which joins lines that end in a backslash.
+/// pieces are in the order of the source, and so are those of all macros.
+///
+/// A C compiler that counts by the marks and line ends of a piece counts for each text the line
+/// that the text is on, except in stretches. A stretch begins at a line end inside a quoted text,
+/// where a join removed line ends, and at the end of a continued line if the count does not expect
+/// the next source line. It ends at the next mark, or at the next line end outside quoted texts.
+///
+/// A C compiler, which joins lines that end in a backslash, reads two items apart if the source
+/// keeps them apart.
 ///
 /// # Errors
 ///
-/// `NoMemory`, where an allocation failed.
+/// `NoMemory`, if an allocation failed.
 pub fn scan<'s, 'a>(alloc: Global, source: &'s Source<'a>) -> Result<Web<'s, 'a>, NoMemory>
     ensures web { IfOk result (λ web. web ≡ web_of source.now) }
     ensures well_formed { IfOk result (λ web. IsWellFormed web) }
@@ -72,7 +77,7 @@ pub fn scan<'s, 'a>(alloc: Global, source: &'s Source<'a>) -> Result<Web<'s, 'a>
     ensures line_truth { IfOk result (λ web. PiecesAreAtTheirLines source.now web) }
     ensures apart { IfOk result (λ web. StaysApart source.now web) }
 {
-    // No section is counted over the limit, since the text has so few bytes.
+    // The count of sections cannot overflow, since each section has a byte of the text.
     text_is_short(source);
     let (gathering, occurrences) = gather(alloc, source)?;
     Ok(Web::new(source, gathering, occurrences))

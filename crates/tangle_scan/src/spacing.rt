@@ -1,6 +1,6 @@
-//! White space between the tokens of a macro. It is put between a word and an ASCII constant, or
-//! two constants, that touch, and after the name. Each run of joins, white space and line ends
-//! that has a join is removed.
+//! White space between the tokens of a macro. It is added between a word and an ASCII constant that
+//! touch, in either order, between two constants that touch, and after the name. Each run of joins,
+//! white space and line ends that has a join is removed.
 ghost use Rattle.std.specs.Prelude.{◌≡◌, ◌++◌, ◌∷◌, [], List, take, if◌then◌else◌};
 ghost use Rattle.std.specs.Prelude.{IfOk, OnOk};
 ghost use Rattle.std.specs.List.{list_any};
@@ -22,7 +22,6 @@ fn is_gap(token: Token) -> bool
     matches!(token, Token::Join | Token::White | Token::LineEnd(_))
 }
 
-/// Whether a token is a join.
 fn is_join(token: Token) -> bool
     ensures { result ≡ rules.is_join token }
 {
@@ -37,7 +36,7 @@ struct Run {
     has_join: bool,
 }
 
-/// Removes a run that has a join.
+/// Removes the run at the end of the list if it has a join.
 fn close_run(spaced: &mut Vec<Token>, run: Run)
     ensures { spaced.new.items ≡ (if run.has_join then take run.start spaced.old.items
         else spaced.old.items) }
@@ -47,7 +46,8 @@ fn close_run(spaced: &mut Vec<Token>, run: Run)
     }
 }
 
-/// Adds a token after a run.
+/// Adds a token to the list, and returns the run at its end. The token continues the run, or ends
+/// it.
 fn add_after_run(spaced: &mut Vec<Token>, run: Run, token: Token) -> Result<Run, NoMemory>
     requires { IsRun spaced.old.items run }
     ensures run { IfOk result (λ next. IsRun spaced.new.items next) }
@@ -71,7 +71,7 @@ fn add_after_run(spaced: &mut Vec<Token>, run: Run, token: Token) -> Result<Run,
     })
 }
 
-/// Adds white space after a run, where it is needed.
+/// Adds white space to the list if `needed`, and returns the run at its end.
 fn add_space(spaced: &mut Vec<Token>, run: Run, needed: bool) -> Result<Run, NoMemory>
     requires { IsRun spaced.old.items run }
     ensures run { IfOk result (λ next. IsRun spaced.new.items next) }
@@ -86,7 +86,7 @@ fn add_space(spaced: &mut Vec<Token>, run: Run, needed: bool) -> Result<Run, NoM
     Ok(run)
 }
 
-/// How far the beginning of a macro was read.
+/// How much of the beginning of a macro was read.
 #[derive(Clone, Copy)]
 enum Stage {
     /// At the front: only white space and line ends were read.
@@ -97,7 +97,7 @@ enum Stage {
     Inside,
 }
 
-/// How far the tokens were spaced.
+/// The state of a macro while its tokens are spaced.
 #[derive(Clone, Copy)]
 struct Spacing {
     run: Run,
@@ -105,7 +105,7 @@ struct Spacing {
     before: Token,
 }
 
-/// Whether two tokens would be read as one with nothing between them.
+/// Whether two tokens would be written as one word or number with nothing between them.
 fn would_merge(before: Token, token: Token) -> bool
     ensures { result ≡ rules.would_merge before token }
 {
@@ -128,7 +128,7 @@ fn may_follow_name(source: &Source, token: Token) -> bool
     }
 }
 
-/// Whether white space is put between two tokens, where the second is read at this stage.
+/// Whether white space is added between two tokens, of which the second is read at this stage.
 fn needs_space(source: &Source, stage: Stage, before: Token, token: Token) -> bool
     ensures { result ≡ passes.needs_space (texts_of source.now.lines) stage before token }
 {
@@ -160,7 +160,7 @@ fn is_skipped(stage: Stage, token: Token) -> bool
     }
 }
 
-/// Adds a token, after the white space that it needs.
+/// Adds a token, with the white space that it needs before it.
 fn space_token(
     source: &Source,
     spaced: &mut Vec<Token>,
@@ -186,7 +186,8 @@ fn space_token(
     })
 }
 
-/// Spaces the tokens of a macro.
+/// Replaces `spaced` by the tokens of a macro with white space added, and without the runs that
+/// have a join.
 fn space(source: &Source, spaced: &mut Vec<Token>, tokens: &[Token]) -> Result<(), NoMemory>
     ensures { OnOk result (spaced.new.items
         ≡ rules.macro_tokens (texts_of source.now.lines) tokens.now) }
@@ -226,7 +227,6 @@ pub(crate) fn is_rare(token: Token) -> bool
     )
 }
 
-/// Whether some of these tokens are rare.
 pub(crate) fn has_rare(tokens: &[Token]) -> bool
     ensures { result ≡ list_any passes.is_rare tokens.now }
 {
@@ -264,7 +264,8 @@ fn is_name_spaced(source: &Source, tokens: &[Token]) -> bool
     }
 }
 
-/// The tokens of a macro that are left for its items.
+/// The tokens of a macro from which its items are made. They are a part of `tokens` if spacing
+/// changes nothing after the front, else they are made in `spaced`.
 pub(crate) fn macro_tokens<'e>(
     source: &Source,
     spaced: &'e mut Vec<Token>,

@@ -7,21 +7,20 @@ use tangle_lexer::{SpanKind, Token};
 use tangle_lines::Source;
 use tangle_text::Span;
 
-/// What an item is to a C compiler, where it is next to another item with no white space between
-/// them.
+/// How a C compiler may join an item to its neighbour if no white space is between the two.
 #[derive(Clone, Copy)]
 pub(crate) enum TouchKind {
-    /// A sign that is one token, and part of no longer one.
+    /// A sign that is a token by itself, and never a part of a longer token.
     Separator,
-    /// A sign that may be part of another operator or of a number.
+    /// A sign that may be a part of a longer operator or of a number.
     Operator,
     /// An identifier or a quoted text.
     Plain,
-    /// All else: a number, verbatim text, an ASCII constant, any other sign.
+    /// All other items: a number, a verbatim text, an ASCII constant, any other sign.
     Other,
 }
 
-/// The byte at a position of a line, or 0.
+/// The byte at this column of a line, or 0 if the line has no such column.
 fn byte_at(line: &[u8], column: usize) -> u8
     ensures { result ≡ get_or line.now column 0 }
 {
@@ -31,14 +30,14 @@ fn byte_at(line: &[u8], column: usize) -> u8
     }
 }
 
-/// The byte at a position of a source line, or 0.
+/// The byte at this column of a source line, or 0 if the source has no such byte.
 fn source_byte(source: &Source, line: u32, column: usize) -> u8
     ensures { result ≡ get_or (get_or (texts_of source.now.lines) line []) column 0 }
 {
     byte_at(source.line(line as usize), column)
 }
 
-/// The byte at the start of a span of the source, or 0.
+/// The byte at the start of a span of the source, or 0 if the source has no such byte.
 pub(crate) fn first_byte(source: &Source, span: Span) -> u8
     ensures { result ≡ rules.first_byte (texts_of source.now.lines) span }
 {
@@ -55,8 +54,8 @@ pub(crate) fn last_byte(source: &Source, span: Span) -> u8
     source_byte(source, span.line, span.end as usize - 1)
 }
 
-/// Whether a token ends in a backslash: a sign or a verbatim text. A C compiler joins the next line
-/// to a line that ends with it.
+/// Whether a token is a sign or a verbatim text that ends in a backslash. A C compiler joins a line
+/// that ends with such a token to the next line.
 pub(crate) fn ends_in_backslash(source: &Source, token: Token) -> bool
     ensures { result ≡ rules.ends_in_backslash (texts_of source.now.lines) token }
 {
@@ -67,7 +66,7 @@ pub(crate) fn ends_in_backslash(source: &Source, token: Token) -> bool
     }
 }
 
-/// What a sign is, by its byte.
+/// The kind of the sign that this byte is.
 fn sign_kind(byte: u8) -> TouchKind
     ensures { result ≡ rules.sign_kind byte }
 {
@@ -92,7 +91,7 @@ fn sign_kind(byte: u8) -> TouchKind
     }
 }
 
-/// What an item is to a C compiler, next to another.
+/// The kind of the item that a token becomes.
 fn touch_kind(source: &Source, token: Token) -> TouchKind
     ensures { result ≡ rules.touch_kind (texts_of source.now.lines) token }
 {
@@ -110,8 +109,8 @@ fn touch_kind(source: &Source, token: Token) -> TouchKind
     }
 }
 
-/// Whether a C compiler reads the same tokens of two items without white space between them as
-/// with it.
+/// Whether two items may touch: a C compiler reads the same tokens with and without white space
+/// between the two.
 pub(crate) fn may_touch(source: &Source, before: Token, after: Token) -> bool
     ensures { result ≡ rules.may_touch (texts_of source.now.lines) before after }
 {

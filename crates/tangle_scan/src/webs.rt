@@ -13,9 +13,9 @@ use tangle_lexer::Occurrence;
 use tangle_lines::{Fault, Origin, Source};
 use tangle_text::Span;
 
-/// A scanned web. It borrows the source, and so has its lines and the names of its files. Every web
-/// is well formed: the texts of its items are ranges of its lines, and the numbers of occurrences
-/// in its uses and pieces are below their count.
+/// A scanned web. It borrows the source, for the bytes of the lines and the names of the files.
+/// Every web is well formed: the texts of its items are ranges of source lines, and the numbers of
+/// occurrences in its uses and pieces are below the count of its occurrences.
 #[derive(Drop)]
 pub struct Web<'s, 'a> {
     source: &'s Source<'a>,
@@ -36,7 +36,7 @@ impl<'s, 'a> Model for Web<'s, 'a> {
 }
 
 impl<'s, 'a> Web<'s, 'a> {
-    /// The web of a source, of what was gathered of it, and of its occurrences.
+    /// The web of a source, from what was gathered of the source and from its occurrences.
     pub(crate) fn new(
         source: &'s Source<'a>,
         gathering: Gathering,
@@ -52,14 +52,15 @@ impl<'s, 'a> Web<'s, 'a> {
         }
     }
 
-    /// How many sections there are.
+    /// The number of sections of the web.
     pub fn section_count(&self) -> usize
         ensures { result ≡ self.now.sections }
     {
         self.gathering.sections
     }
 
-    /// The pieces, in the order of the source. Their uses have numbers of occurrences of this web.
+    /// The pieces, in the order of the source. A use in a piece has the number of an occurrence,
+    /// which is its position in `occurrences`.
     pub fn pieces(&self) -> &[Piece]
         ensures pieces { result.now ≡ self.now.pieces }
         ensures well_formed { IsWellFormed self.now }
@@ -67,8 +68,8 @@ impl<'s, 'a> Web<'s, 'a> {
         self.gathering.pieces.as_slice()
     }
 
-    /// The macros, in the order of the source; one that does not begin with an identifier is
-    /// dropped. They have no uses.
+    /// The macros, in the order of the source, without those that are dropped since they do not
+    /// begin with an identifier. No macro has a use.
     pub fn macros(&self) -> &[Macro]
         ensures macros { result.now ≡ self.now.macros }
         ensures well_formed { IsWellFormed self.now }
@@ -107,7 +108,7 @@ impl<'s, 'a> Web<'s, 'a> {
         (self.occurrences, gathering.faults)
     }
 
-    /// The text of an item with this span: that range of the source.
+    /// The text of an item with this span, which is that range of the source.
     pub fn text(&self, span: Span) -> &[u8]
         requires { IsSpan self.now.texts span }
         ensures { result.now ≡ span_text self.now.texts span }
@@ -116,14 +117,15 @@ impl<'s, 'a> Web<'s, 'a> {
         &line[span.start as usize..span.end as usize]
     }
 
-    /// The bytes of the source line of this number, from 0: none after the last line.
+    /// The bytes of the source line of this number, counted from 0, without the line end; no bytes
+    /// if the source has no such line.
     pub fn line(&self, number: u32) -> &[u8]
         ensures { result.now ≡ get_or self.now.texts number [] }
     {
         self.source.line(number as usize)
     }
 
-    /// How many files there are, one of which each origin of this web is in: at most 256.
+    /// The number of files of the source, at most 256. The file of each origin has a lower number.
     pub fn file_count(&self) -> usize
         ensures count { result ≡ length self.now.file_names }
         ensures limit { result ≤ most_files }
@@ -131,7 +133,7 @@ impl<'s, 'a> Web<'s, 'a> {
         self.source.file_count()
     }
 
-    /// The name of the file of an origin of this web; no bytes, if the web has no such file.
+    /// The name of the file of an origin of this web; no bytes if the web has no such file.
     pub fn file_name(&self, origin: Origin) -> &[u8]
         ensures { result.now ≡ get_or self.now.file_names origin.file [] }
     {

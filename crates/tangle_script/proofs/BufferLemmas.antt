@@ -1,4 +1,4 @@
--- The bytes of a buffer when further bytes were read after them, and when some were dropped at its front.
+-- The bytes of a buffer after more were read at its end, and after some were dropped at its front.
 use Rattle.std.proofs.Common.{◌≡◌, ◌∙◌, ℕ, ◌+◌, ◌-◌, ◌<◌, ◌≤◌, List, ◌++◌, length, take, drop, Option, Some, None, refl, sym, ap, arith}
 use Rattle.std.specs.Prelude.{IfSome}
 use Rattle.std.specs.List.{copy_within}

@@ -1,4 +1,4 @@
--- Laws of reading: lines and commands of a script that comes in pieces.
+-- Laws of reading: the lines and commands of a script that is read in pieces.
 use Rattle.std.proofs.Common.{◌≡◌, ◌∙◌, inl, inr, ℕ, ◌<◌, ◌==◌, Bool, true, false, cond, zero, suc, length, take, drop, take-append-drop, get_or, List, [], ◌∷◌, ◌++◌, Option, Some, None, ap, subst, sym, refl, append_assoc, append-nil, arith, length-append}
 use Rattle.std.specs.Prelude.{⊤, nat_lt}
 use borrow.Author.Tests.{ltb-false}
@@ -172,7 +172,7 @@ again_unended : (w : Option (List ℕ)) (u ys : List ℕ) → Waits w → ended 
 again_unended None u ys h e = unended_after u ys e
 again_unended (Some l) u ys h e = again_rest l u ys h.0 ∙ unended_after u ys e
 
--- The laws: what has ended is answered, and what is pending is in front of what comes.
+-- The laws: each command that has ended is answered, and the pending bytes come before those that are read next.
 
 pub read_waits : (xs : List ℕ) → Waits (waiting None (ended [] xs))
 read_waits xs = waiting_waits None (ended [] xs) tt (ended_no_feed [] xs refl)
@@ -215,7 +215,7 @@ pub pending_waits : (xs : List ℕ) → OnlyWaits (pending xs)
 pending_waits xs = pending_lines (waiting None (ended [] xs)) (unended [] xs) (read_waits xs)
     (unended_no_feed [] xs refl)
 
--- at the end
+-- the end of the script
 
 again_end : (w : Option (List ℕ)) (u : List ℕ) → Waits w → ended [] u ≡ []
     → all_commands (after_waiting_line w u) ≡ commands_of w (last_line u) ++ textless (waiting w (last_line u))
@@ -367,7 +367,7 @@ no_feed_any u v (x ∷ xs) e = by (x == 10) e (no_feed_any (u ++ x ∷ []) (v ++
     by true e h = absurd (cc)
     by false e h = h e
 
--- bytes with one line feed are the line before it and what follows it
+-- bytes with one line feed are the line before it and the bytes after it
 one_line : (u xs l : List ℕ) → ended u xs ≡ l ∷ [] → u ++ xs ≡ l ++ 10 ∷ unended u xs
 one_line u [] l e = absurd (cc)
 one_line u (x ∷ xs) l e = by (x == 10) refl e (one_line (u ++ x ∷ []) xs l)
@@ -420,7 +420,7 @@ pub waits_on : (p xs : List ℕ) → OnlyWaits p → nat_lt 0 (length (ended [] 
     → (ended_commands (p ++ xs) ≡ []) × (pending (p ++ xs) ≡ p ++ xs)
 waits_on p xs waits none = waits_more p xs waits (no_lines (ended [] xs) none)
 
--- so in bytes of which a front waits, and what follows it has no line feed
+-- the same, where some bytes at the front wait, and those after them have no line feed
 pub waits_in : (n : ℕ) (xs : List ℕ) → OnlyWaits (take n xs)
     → nat_lt 0 (length (ended [] (drop n xs))) ≡ false
     → (ended_commands xs ≡ []) × (pending xs ≡ xs)

@@ -1,4 +1,4 @@
--- Dialogues, one after another.
+-- Dialogues that follow each other.
 use Rattle.std.proofs.Common.{◌≡◌, ◌∙◌, ℕ, ◌<◌, ◌≤◌, ◌-◌, drop, length-append, Bool, true, false, length, take, List, [], ◌∷◌, ◌++◌, Option, Some, None, ap, subst, sym, refl, append_assoc, append-nil, arith}
 use Rattle.std.specs.Io.KnownBytes.{Appends}
 use Rattle.std.specs.Prelude.{◌||◌}
@@ -215,7 +215,7 @@ module _ {State : Type 0} (answers : State → Request → List ℕ → State �
   found_quit a b (x ∷ xs) None q h = quit_one a b (record { line = x ∷ xs; text = None }) q h
   found_quit a b line (Some text) q h = quit_one a b (record { line = line; text = Some text }) q h
 
--- the commands in some bytes, of which some are done
+-- the commands in some bytes, of which some are answered already
 
 pub record IsUnder {State : Type 0} (answers : State → Request → List ℕ → State → Type 0)
     (old now : Exchange State) (bytes rest : List ℕ) : Type 0 where

@@ -12,7 +12,7 @@ pub small : (b : Bool) → status_by b < 3
 small true = omega arith
 small false = omega arith
 
--- no byte was read where the same script is left
+-- no byte was read if the same script remains
 none_read : (script read : List ℕ) → Consumes (Some script) (Some script) read → length read ≡ 0
 none_read script read given = omega (arith, ap length given, length-append read script)
 

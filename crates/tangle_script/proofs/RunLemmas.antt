@@ -1,4 +1,4 @@
--- A run that goes on, and the ways in which it ends.
+-- A run while it goes on, and the ways in which it ends.
 use Rattle.std.proofs.Common.{◌≡◌, ◌∙◌, inl, inr, ℕ, ◌<◌, ◌≤◌, ◌+◌, Bool, true, false, length, List, [], ◌∷◌, ◌++◌, Option, Some, None, Result, Ok, Err, ap, subst, sym, refl, append_assoc, append-nil, length-append, arith}
 use Rattle.std.specs.Prelude.{IfOk, IfErr, MatchResult}
 use Rattle.std.specs.Io.KnownBytes.{Consumes, IsAtEnd, Keeps}
@@ -126,7 +126,7 @@ module _ {State : Type 0} (answers : State → Request → List ℕ → State �
       (subst (Failed failures) (sym counted) (Failed-one_more failures))) h.no_quit h.is_answered
       refl
 
-  -- more came than is allowed
+  -- more bytes came than a script may have
   pub ends_too_long : (remaining' : Option (List ℕ)) (more : ℕ) → n ≡ script_limit
       → Consumes remaining remaining' (more ∷ [])
       → ConversationEnds answers has_error old (at a remaining' failures) 3
@@ -135,7 +135,7 @@ module _ {State : Type 0} (answers : State → Request → List ℕ → State �
       (more ∷ []) h.given given)
       (h.counted ∙ full) h.reader_failures h.no_quit h.is_answered refl
 
-  -- the input is at its end, which a reading of no byte showed
+  -- the script is at its end, since a call read no byte
   pub holds_at_end : (remaining' : Option (List ℕ)) → Consumes remaining remaining' []
       → IsMidway answers old (at a remaining' failures) p n
   holds_at_end remaining' none = record {
@@ -182,7 +182,7 @@ module _ {State : Type 0} (answers : State → Request → List ℕ → State �
       (subst (λ (l : List ℕ). short_command < length l) h.buffered_is long) h.no_quit h.is_answered
       refl
 
-  -- the command at the end was answered, or the writer failed in it
+  -- the command at the end was answered, or the writer failed in its answer
   pub ends_last : (b : Exchange State) → n ≤ script_limit → IsAtEnd remaining
       → (r : Result (Unit {0}) End) → IfOk r (λ _. AreAnswered answers a b (all_commands p))
       → IfErr r (λ end. (end ≡ IsFailed) × IsCut answers a b (all_commands p))
@@ -196,7 +196,7 @@ module _ {State : Type 0} (answers : State → Request → List ℕ → State �
   pub waits_now : OnlyWaits p
   waits_now = subst OnlyWaits (sym h.buffered_is) (pending_waits h.read)
 
--- the same by what a probe gave
+-- the same, by the result of probing for another byte
 module _ {State : Type 0} (answers : State → Request → List ℕ → State → Type 0)
     (has_error : State → Bool → Type 0) (old : Conversation State) (a : Exchange State)
     (remaining : Option (List ℕ)) (failures : ℕ) (p : List ℕ) (n : ℕ)

@@ -1,4 +1,4 @@
--- What is pending of a script is no longer than one of its commands.
+-- The pending bytes of a script are no longer than one of its commands.
 use Rattle.std.proofs.Common.{◌≡◌, ◌∙◌, inl, inr, ℕ, ◌<◌, ◌≤◌, ◌==◌, Bool, true, false, cond, length, List, [], ◌∷◌, ◌++◌, Option, Some, None, ap, subst, sym, refl, append_assoc, length-append, arith}
 use Rattle.std.specs.Prelude.{All, slice_index_or}
 use Rattle.std.specs.Io.KnownBytes.{Consumes}
@@ -11,12 +11,12 @@ use Rattle.tangle_script.specs.Short.{HasFailed, HasShortCommands, command_size}
 use Rattle.tangle_script.proofs.CommandLemmas.{Waits, again_lines, again_rest, all_commands-pending, commands-append, ended_after, pending-append, read_waits, commands_of_head, unended_after, unended_no_feed, waiting_head}
 use Rattle.tangle_script.proofs.NothingReadLemmas.{small}
 
--- the lines of some bytes after an unended line, where the script ends after them
+-- the lines of some bytes after an unended line, where the script ends after these bytes
 
 abbrev lines_after : List ℕ → List ℕ → List (List ℕ)
 lines_after u ys = ended u ys ++ last_line (unended u ys)
 
--- the first of these lines is no shorter than the unended one
+-- the first of these lines is no shorter than the unended line
 abbrev Holding : List ℕ → List (List ℕ) → Type 0
 Holding u [] = length u ≡ 0
 Holding u (l ∷ ls) = length u ≤ length l
@@ -36,7 +36,7 @@ holding u (y ∷ ys) = by (y == 10) (holding_less u (y ∷ []) _ (holding (u ++ 
     by true h = omega arith
     by false h = h
 
--- a first command with at least so many bytes
+-- the first command has at least this number of bytes
 
 abbrev FirstHas : ℕ → List Command → Type 0
 FirstHas n [] = ⊥
@@ -91,7 +91,7 @@ first_pending (Some l) u ys h e some =
     (again_rest l u ys h.0 ∙ unended_after u ys e)))
     (first_headed l u (lines_after u ys) h.1 (holding u ys))
 
--- what is pending begins the first command that has not ended
+-- the pending bytes begin the first command that has not ended
 
 all_split : (xs ys : List ℕ) → all_commands (xs ++ ys)
     ≡ ended_commands xs ++ all_commands (pending xs ++ ys)
@@ -129,7 +129,7 @@ pending_fits xs ys short long =
     (unended_no_feed [] xs refl) some) in
     omega (arith, fits, long)
 
--- what was read is a prefix of the script
+-- the bytes read are a prefix of the script
 is_front : (script read : List ℕ) (after : Option (List ℕ)) → Consumes (Some script) after read
     → (rest : List ℕ) × (script ≡ read ++ rest)
 is_front script read None given = absurd given

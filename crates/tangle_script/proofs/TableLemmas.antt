@@ -1,4 +1,4 @@
--- What a command asks for is its row of the table.
+-- The request of a command is that of its row of the table.
 use Rattle.std.proofs.Common.{◌≡◌, ◌∙◌, ◌⊎◌, inl, inr, ℕ, ◌<◌, ◌≤◌, ◌+◌, ◌-◌, ◌*◌, ◌==◌, Bool, true, false, cond, length, take, drop, List, [], ◌∷◌, ◌++◌, Option, Some, None, ap, subst, sym, refl, arith, take-append-drop, bytes_eq}
 use Rattle.std.specs.Prelude.{◌&&◌, codes, nat_lt}
 use Rattle.std.specs.List.{list_all}
@@ -31,7 +31,7 @@ read_number count n (d ∷ ds) file all few some =
     by true all false e h = absurd (cc)
     by false all t e h = absurd (cc)
 
--- and what is so read is that
+-- and what is read like this is digits, one space and a file
 
 pub record IsRead (count n : ℕ) (rest : List ℕ) (number : ℕ) (file : List ℕ) : Type 0 where
   pub digits : List ℕ
@@ -116,7 +116,7 @@ module _ (c : Command) where
   row_asked Quit h = asked_at _ h.0 _ h.1
   row_asked BadCommand h = absurd h
 
--- what is no bad command is a row
+-- a command that is not bad is in a row
 
 abbrev IsRowOrBad : Command → Request → Type 0
 IsRowOrBad c r = IsRow c r ⊎ (r ≡ BadCommand)
@@ -209,7 +209,7 @@ module _ (c : Command) where
   no_row : request_of c ≡ BadCommand → (r : Request) → IsRow c r → ⊥
   no_row bad r h = subst (IsRow c) (sym (row_asked c r h) ∙ bad) h
 
-  -- a row is no bad command
+  -- a command that is in a row is not bad
   row_asks : (r : Request) → IsRow c r → CommandAsks c r
   row_asks (Insert at file text) h = h
   row_asks (Replace at file text) h = h

@@ -1,9 +1,9 @@
--- What a clause reads of a buffer. No public clause cites this module.
+-- The bytes of a buffer, as private contracts mention them.
 use Rattle.std.specs.Prelude.{ℕ, List, length, take}
 use Rattle.tangle_script.specs.BufferSpace.{in_use}
 use Rattle.tangle_script.specs.declared.buffer.Buffer.{Buffer}
 
--- the bytes in it
+-- the bytes in the buffer
 abbrev pub bytes : Buffer → List ℕ
 bytes b = take b.len (in_use b.short b.long.items)
 

@@ -10,21 +10,21 @@ use Rattle.tangle_script.specs.Script.{IsCut, IsQuit, AreAnswered, Conversation,
 abbrev pub script_limit : ℕ
 script_limit = 67108864
 
--- the most bytes of one command, with its line feeds, for which a run needs no allocation
+-- the most bytes of a command, with its line feeds, for which a run allocates nothing
 abbrev pub short_command : ℕ
 short_command = 4096
 
--- the status of a run that came to its end: whether an error is among the faults
+-- the status of a run that came to its end, by whether an error is among the faults
 abbrev pub status_by : Bool → ℕ
 status_by has_error = if has_error then 1 else 0
 
--- so the status is in this state, of a project that says whether an error is among its faults
+-- the status of a run that came to its end in this state, by the faults of the state
 abbrev pub IsStatus : {State : Type 0} → (State → Bool → Type 0) → State → ℕ → Type 0
 IsStatus has_error state status =
     (error : Bool) × has_error state error × (status ≡ status_by error)
 
--- the writer failed in the answer to a command that had ended in these bytes, or to the last one
--- where no more come
+-- the writer failed in the answer to a command that had ended in these bytes or, at the end of the
+-- script, to the last command
 abbrev pub IsCutIn : {State : Type 0} → (State → Request → List ℕ → State → Type 0)
     → Conversation State → Conversation State → List ℕ → Type 0
 IsCutIn answers old new read =
@@ -32,7 +32,7 @@ IsCutIn answers old new read =
     ⊎ (IsAtEnd new.remaining × (has_quit (ended_commands read) ≡ false)
     × IsCut answers old.exchange new.exchange (all_commands read))
 
--- How a run ends, by what was read of the script.
+-- How a run ends, by the bytes that were read of the script.
 pub data ConversationEnds {State : Type 0} (answers : State → Request → List ℕ → State → Type 0)
     (has_error : State → Bool → Type 0) (old new : Conversation State) (status : ℕ) : Type 0 where
   -- 0 or 1: a `quit` was read, and all commands up to it are answered
@@ -51,7 +51,8 @@ pub data ConversationEnds {State : Type 0} (answers : State → Request → List
       → Failed old.reader_failures new.reader_failures → has_quit (ended_commands read) ≡ false
       → AreAnswered answers old.exchange new.exchange (ended_commands read)
       → status ≡ 3 → ConversationEnds answers has_error old new status
-  -- 3: a byte came past the most of a script, and the commands that had ended are answered
+  -- 3: a byte came after the most bytes that a script may have, and the commands that had ended are
+  -- answered
   IsTooLong : (read : List ℕ) (more : ℕ) → Consumes old.remaining new.remaining (read ++ more ∷ [])
       → length read ≡ script_limit → new.reader_failures ≡ old.reader_failures
       → has_quit (ended_commands read) ≡ false
@@ -62,8 +63,8 @@ pub data ConversationEnds {State : Type 0} (answers : State → Request → List
   IsUnwritten : (read : List ℕ) → Consumes old.remaining new.remaining read → length read ≤ script_limit
       → new.reader_failures ≡ old.reader_failures
       → IsCutIn answers old new read → status ≡ 3 → ConversationEnds answers has_error old new status
-  -- 3: out of memory for a command of which more bytes came than a short one has, and the commands
-  -- that had ended are answered
+  -- 3: memory ran out for a command that is longer than a short one, and the commands that had
+  -- ended are answered
   IsOutOfMemory : (read : List ℕ) → Consumes old.remaining new.remaining read → length read ≤ script_limit
       → new.reader_failures ≡ old.reader_failures
       → short_command < length (pending read) → has_quit (ended_commands read) ≡ false

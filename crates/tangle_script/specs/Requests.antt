@@ -1,15 +1,15 @@
--- The table of script lines: what a command asks for.
+-- The table of script lines: the request of each command.
 use Rattle.std.specs.Prelude.{ℕ, ◌+◌, ◌-◌, ◌*◌, ◌==◌, ◌&&◌, ◌||◌, Bool, true, false, nat_lt, nat_le, List, [], ◌∷◌, codes, length, take, drop, Option, None, Some, is_some, if◌then◌else◌}
 use Rattle.std.specs.Str.{bytes_eq}
 use Rattle.tangle_script.specs.declared.request.Request.{Request as Asked}
 use Rattle.tangle_script.specs.declared.request.Request.TheVariants as variant
 
--- a script line, and the line after it where that is its text
+-- a command: a script line, and its text, which is the next line, if it takes one
 pub record Command : Type 0 where
   pub line : List ℕ
   pub text : Option (List ℕ)
 
--- what it asks for
+-- the request of a command
 pub data Request : Type 0 where
   Insert : (at : ℕ) (file text : List ℕ) → Request
   Replace : (at : ℕ) (file text : List ℕ) → Request
@@ -17,10 +17,10 @@ pub data Request : Type 0 where
   Create : (file : List ℕ) → Request
   Discard : (file : List ℕ) → Request
   Show : (file : List ℕ) → Request
-  -- line marks are to be written in full, or as line feeds alone
+  -- line marks are written in full from here on, or as line feeds
   MarksFull : Request
   MarksNone : Request
-  -- a list of edits is to be open, committed, or dropped
+  -- a list of edits is opened, committed or dropped
   Begin : Request
   Commit : Request
   Cancel : Request
@@ -29,7 +29,7 @@ pub data Request : Type 0 where
   Quit : Request
   BadCommand : Request
 
--- a request by the bytes of its file and text
+-- a request, with the bytes of its file and text
 abbrev pub request_read : Asked → Request
 request_read (variant.Insert at file text) = Insert at file.now text.now
 request_read (variant.Replace at file text) = Replace at file.now text.now
@@ -47,13 +47,13 @@ request_read variant.Work = Work
 request_read variant.Quit = Quit
 request_read variant.BadCommand = BadCommand
 
--- what follows a word at the front of a line
+-- the rest of the line, if it begins with this word
 abbrev pub after_word : List ℕ → List ℕ → Option (List ℕ)
 after_word word line =
     if bytes_eq (take (length word) line) word then Some (drop (length word) line) else None
 
--- one to nine decimal digits and a space, and what follows it; so many digits of this number came
--- before
+-- the number that one to nine decimal digits and a space give, and the rest of the line; `count`
+-- digits, with the value `number`, came before
 abbrev pub number_and_file : ℕ → ℕ → List ℕ → Option (ℕ × List ℕ)
 number_and_file count number [] = None
 number_and_file count number (b ∷ bs) =
@@ -62,18 +62,18 @@ number_and_file count number (b ∷ bs) =
     else if (b == 32) && nat_lt 0 count then Some (number, bs)
     else None
 
--- the request of a row of the table, where the line begins with its word; else that of the rows
--- after it
+-- the request of a row of the table, if the line begins with the row's word; else the request
+-- `other`, which the later rows give
 abbrev pub row : Option (List ℕ) → (List ℕ → Request) → Request → Request
 row None request other = other
 row (Some rest) request other = request rest
 
--- a number and a file after the word, or no row
+-- the request for a number and a file, or a bad command where the line has none
 abbrev pub numbered : (ℕ → List ℕ → Request) → Option (ℕ × List ℕ) → Request
 numbered request None = BadCommand
 numbered request (Some p) = request p.0 p.1
 
--- a line that is one of these words
+-- the request of a line that is one of the fixed lines of the table
 abbrev pub word_request : List ℕ → Request
 word_request line =
     if bytes_eq line (codes "marks full") then MarksFull
@@ -86,7 +86,7 @@ word_request line =
     else if bytes_eq line (codes "quit") then Quit
     else BadCommand
 
--- a line without a text
+-- the request of a line without a text
 abbrev pub file_request : List ℕ → Request
 file_request line =
     row (after_word (codes "remove ") line) (λ rest. numbered Remove (number_and_file 0 0 rest))
@@ -94,7 +94,7 @@ file_request line =
     (row (after_word (codes "discard ") line) Discard
     (row (after_word (codes "show ") line) Show (word_request line))))
 
--- a line with a text
+-- the request of a line with a text
 abbrev pub text_request : List ℕ → List ℕ → Request
 text_request line text =
     row (after_word (codes "insert ") line)
@@ -106,11 +106,11 @@ abbrev pub request_with : List ℕ → Option (List ℕ) → Request
 request_with line None = file_request line
 request_with line (Some text) = text_request line text
 
--- what a command asks for
+-- the request of a command
 unfoldable pub request_of : Command → Request
 request_of c = request_with c.line c.text
 
--- the next line is always the text of such a one
+-- whether the line takes the next line as its text
 abbrev pub takes_text : List ℕ → Bool
 takes_text line =
     is_some (after_word (codes "insert ") line) || is_some (after_word (codes "replace ") line)

@@ -1,11 +1,11 @@
--- How a script is answered.
+-- How the commands of a script are answered.
 use Rattle.std.specs.Prelude.{◌≡◌, ◌<◌, ◌⊎◌, ℕ, Bool, true, false, List, [], ◌∷◌, ◌++◌, codes, length, take, Option, Result, Ok, Err}
 use Rattle.std.specs.List.{list_any}
 use Rattle.std.specs.Io.KnownBytes.{Appends}
 use Rattle.tangle_streams.specs.Streams.{Failed, Stream, TakesAll, TakesPrefix}
 use Rattle.tangle_script.specs.Requests.{Command, Request, is_edit, is_quit, request_of}
 
--- a project and a writer at a moment
+-- the states of a project and a writer at a moment
 pub record Exchange (State : Type 0) : Type 0 where
   pub state : State
   pub stream : Stream
@@ -13,7 +13,7 @@ pub record Exchange (State : Type 0) : Type 0 where
 abbrev pub exchange : {State : Type 0} → State → Stream → Exchange State
 exchange state stream = record { state = state; stream = stream }
 
--- and a reader
+-- the same, with the state of a reader
 pub record Conversation (State : Type 0) : Type 0 where
   pub exchange : Exchange State
   pub remaining : Option (List ℕ)
@@ -26,18 +26,18 @@ conversation state stream remaining reader_failures = record {
   reader_failures = reader_failures;
 }
 
--- An answer was written: the writer has all of it and did not fail, or has a prefix of it and failed.
+-- An answer was written: the writer took all of it, or it failed and took a prefix of the answer.
 abbrev pub WritesAnswer : {T E : Type 0} → Stream → Stream → List ℕ → Result T E → Type 0
 WritesAnswer old new output (Ok done) = TakesAll old new output
 WritesAnswer old new output (Err fault) = TakesPrefix old new output
 
--- some command ends the run
+-- whether a command ends the run
 abbrev pub has_quit : List Command → Bool
 has_quit commands = list_any (λ c. is_quit (request_of c)) commands
 
--- A project says which output answers a request, and which state comes after it.
+-- A project defines which output answers a request, and which state follows.
 module _ {State : Type 0} (answers : State → Request → List ℕ → State → Type 0) where
-  -- one answer: the project's own, or out of memory for an edit, which then changes nothing
+  -- one answer: the project's own or, for an edit, that memory ran out, and then nothing changes
   abbrev pub Replies : State → Request → List ℕ → State → Type 0
   Replies s r output t =
       answers s r output t ⊎ ((is_edit r ≡ true) × (output ≡ codes "no NoMemory\n") × (t ≡ s))
@@ -49,14 +49,14 @@ module _ {State : Type 0} (answers : State → Request → List ℕ → State �
       (first rest : List ℕ) × (mid : State) × Replies s (request_of c) first mid
       × Dialogue mid cs rest t × (output ≡ first ++ rest)
 
-  -- these commands were answered, and the writer has just the answers and did not fail
+  -- these commands were answered; the writer has exactly the answers and did not fail
   pub record AreAnswered (old new : Exchange State) (commands : List Command) : Type 0 where
     pub output : List ℕ
     pub answered : Dialogue old.state commands output new.state
     pub written : Appends old.stream.taken new.stream.taken output
     pub failures : new.stream.failures ≡ old.stream.failures
 
-  -- the writer failed, and has the answers to a prefix of the commands and a prefix of one more
+  -- the writer failed; it has the answers to the first commands, and a prefix of the next answer
   pub record IsCut (old new : Exchange State) (commands : List Command) : Type 0 where
     pub front : List Command
     pub last : Command

@@ -10,7 +10,7 @@ abbrev pub text_size : Option (List ℕ) → ℕ
 text_size None = 0
 text_size (Some text) = length text + 1
 
--- the bytes of a command, with a line feed after its line and after its text
+-- the number of bytes of a command, with a line feed after its line and after its text
 abbrev pub command_size : Command → ℕ
 command_size c = length c.line + 1 + text_size c.text
 
@@ -18,14 +18,15 @@ command_size c = length c.line + 1 + text_size c.text
 abbrev pub HasShortCommands : List ℕ → Type 0
 HasShortCommands script = All (λ c. command_size c ≤ short_command) (all_commands script)
 
--- the reader or the writer failed, or the script is longer than a script may be
+-- the reader or the writer failed, or the script is too long
 abbrev pub HasFailed : {State : Type 0} → Conversation State → Conversation State → List ℕ → Type 0
 HasFailed old new script =
     Failed old.reader_failures new.reader_failures
     ⊎ (Failed old.exchange.stream.failures new.exchange.stream.failures
     ⊎ (script_limit < length script))
 
--- a run over such a script that ends with status 3 has failed so: it was not out of memory
+-- where a run over such a script ends with status 3, something failed or the script is too long:
+-- memory did not run out
 abbrev pub ShortNeedsNoMemory : {State : Type 0} → (State → Request → List ℕ → State → Type 0)
     → (State → Bool → Type 0) → Type 0
 ShortNeedsNoMemory {State} answers has_error =

@@ -13,7 +13,7 @@ pub record IsNumber (digits : List ℕ) : Type 0 where
   pub few : length digits ≤ 9
   pub decimal : list_all is_digit digits ≡ true
 
--- the number that digits write, where the number before them is this
+-- the number that digits give, where the digits before them gave `n`
 abbrev pub value_after : ℕ → List ℕ → ℕ
 value_after n [] = n
 value_after n (d ∷ ds) = value_after (n * 10 + (d - 48)) ds
@@ -25,7 +25,7 @@ pub record IsNumbered (word : List ℕ) (number : ℕ) (file line : List ℕ) : 
   pub value : value_after 0 digits ≡ number
   pub whole : line ≡ word ++ (digits ++ 32 ∷ file)
 
--- a line, with its text if it takes one, is the row of the request
+-- the line, with its text if it takes one, is the row of this request
 abbrev pub IsRow : Command → Request → Type 0
 IsRow c (Insert at file text) = IsNumbered (codes "insert ") at file c.line × (c.text ≡ Some text)
 IsRow c (Replace at file text) = IsNumbered (codes "replace ") at file c.line × (c.text ≡ Some text)
@@ -43,11 +43,11 @@ IsRow c Work = (c.line ≡ codes "work") × (c.text ≡ None)
 IsRow c Quit = (c.line ≡ codes "quit") × (c.text ≡ None)
 IsRow c BadCommand = ⊥
 
--- a command asks for the request of its row; one that is no row is a bad command
+-- a command gives the request of its row; one that is in no row is a bad command
 abbrev pub CommandAsks : Command → Request → Type 0
 CommandAsks c BadCommand = (r : Request) → IsRow c r → ⊥
 CommandAsks c r = IsRow c r
 
--- a command asks for one request, which is the one that the table of answers is about
+-- a command has exactly one request, which `request_of` gives
 abbrev pub AsksForItsRow : Command → Type 0
 AsksForItsRow c = CommandAsks c (request_of c) × ((r : Request) → CommandAsks c r → r ≡ request_of c)

@@ -1,4 +1,4 @@
--- A run that goes on, turn by turn, and why one ends it.
+-- A run while it goes on, and the reasons for which it ends.
 use Rattle.std.specs.Prelude.{◌≡◌, ℕ, Bool, true, false, List, [], ◌∷◌, length, Option, None, Some}
 use Rattle.std.specs.Io.KnownBytes.{Consumes, IsAtEnd, Keeps}
 use Rattle.tangle_streams.specs.Streams.{one_more_failure}
@@ -10,12 +10,12 @@ use Rattle.tangle_script.specs.declared.answering.End.{End}
 use Rattle.tangle_script.specs.declared.answering.End.TheVariants.{Done, Failed as IsFailed}
 
 module _ {State : Type 0} (answers : State → Request → List ℕ → State → Type 0) where
-  -- the commands in some bytes were answered, up to a `quit` or a failure of the writer
+  -- these commands were answered up to a `quit` or up to a failure of the writer
   abbrev pub Breaks : End → Exchange State → Exchange State → List Command → Type 0
   Breaks Done old new commands = IsQuit answers old new commands
   Breaks IsFailed old new commands = IsCut answers old new commands
 
-  -- so many bytes were read, the commands that ended in them are answered, and these bytes are in the
+  -- `count` bytes were read, the commands that ended in them are answered, and `buffered` is in the
   -- buffer
   pub record IsMidway (old now : Conversation State) (buffered : List ℕ) (count : ℕ) : Type 0 where
     pub read : List ℕ
@@ -32,12 +32,12 @@ module _ {State : Type 0} (answers : State → Request → List ℕ → State �
       (status : ℕ) → IsStatus has_error new.exchange.state status
       → ConversationEnds answers has_error old new status
 
-  -- why a run ends
+  -- how a run ends for this reason
   abbrev pub EndsBy : (State → Bool → Type 0) → End → Conversation State → Conversation State → Type 0
   EndsBy has_error Done old new = EndsAnswered has_error old new
   EndsBy has_error IsFailed old new = ConversationEnds answers has_error old new 3
 
--- whether more of a script comes
+-- whether the script has another byte; `None` where the reader failed
 abbrev pub Probes : Option (List ℕ) → Option (List ℕ) → Option Bool → Type 0
 Probes old new None = Keeps old new
 Probes old new (Some true) = Consumes old new [] × IsAtEnd new

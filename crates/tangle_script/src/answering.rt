@@ -1,4 +1,4 @@
-//! The commands in some bytes are answered.
+//! Answers the commands in a part of a script.
 ghost use Rattle.std.specs.Prelude.{◌≡◌, ◌≤◌, drop, length, false, IfErr, IfOk};
 ghost use Rattle.std.specs.Option.{option_copied};
 ghost use Rattle.tangle_script.specs.Commands.{OnlyWaits, all_commands, ended_commands};
@@ -18,7 +18,7 @@ use tangle_streams::Sink;
 pub enum End {
     /// A `quit` was answered.
     Done,
-    /// The reader or the writer failed, or the run is out of memory.
+    /// The reader or the writer failed, or memory ran out.
     Failed,
 }
 
@@ -31,8 +31,7 @@ fn is_no_command(line: &[u8], text: Option<&[u8]>) -> bool
     }
 }
 
-// Answers a line with its text, and returns whether the run ends after it. An empty line is no
-// command.
+// Answers a line with its text. Returns whether the run ends after it. An empty line is no command.
 fn answer_line<P: Project, S: Sink>(
     alloc: Global,
     session: &mut P::Session,
@@ -62,11 +61,11 @@ fn answer_line<P: Project, S: Sink>(
     }
 }
 
-/// Answers the commands that have ended in the bytes, and returns how many bytes these are.
+/// Answers the commands that have ended in these bytes. Returns the number of their bytes.
 ///
 /// # Errors
 ///
-/// `End::Done` where one of them is `quit`, after its answer; `End::Failed` where the sink failed
+/// `End::Done` where one of them is `quit`, which is answered; `End::Failed` where the sink failed
 /// before it took all of an answer.
 pub fn answer_all<P: Project, S: Sink>(
     alloc: Global,
@@ -99,8 +98,8 @@ pub fn answer_all<P: Project, S: Sink>(
     Ok(bytes.len() - rest.len())
 }
 
-/// Answers the command at the end of a script: a line without a line feed, or one whose text has
-/// not ended.
+/// Answers the command at the end of a script: a line without a line feed, or one whose text is
+/// missing or has no line feed.
 ///
 /// # Errors
 ///

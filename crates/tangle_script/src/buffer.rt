@@ -1,4 +1,4 @@
-//! The bytes of a script that wait for the rest of their command.
+//! The bytes of a script that wait until their command is complete.
 ghost use Rattle.std.specs.Prelude.{◌≡◌, ◌<◌, ◌≤◌, ◌+◌, ℕ, List, [], ◌++◌, length, take, drop};
 ghost use Rattle.std.specs.Prelude.{IfSome, IfNone, OnOk, OnErr};
 ghost use Rattle.std.specs.Io.KnownBytes.{Consumes, IsAtEnd, Keeps};
@@ -8,14 +8,14 @@ ghost use Rattle.tangle_script.specs.BufferSpace.{in_use, chunk, stack_size};
 use std::alloc::{AllocError, Global};
 use tangle_streams::Feed;
 
-/// The most bytes of one reading.
+/// The most bytes that one call reads.
 pub const CHUNK: usize = 4096;
 
-/// The size of the buffer on the stack: for one short command, and a chunk after it.
+/// The size of the buffer on the stack: enough for one short command and a chunk after it.
 const STACK_SIZE: usize = 2 * CHUNK;
 
-/// The bytes that were read and are not answered yet. They are on the stack until one command has
-/// more than 4,096 of them. Until then a further chunk fits after them.
+/// The bytes that were read and are not yet answered. They are on the stack until a command with
+/// more than 4,096 bytes comes. Until then a chunk fits after them.
 #[derive(Drop)]
 pub struct Buffer {
     short: [u8; STACK_SIZE],
@@ -25,8 +25,8 @@ pub struct Buffer {
     ghost large: { stack_size ≤ length (in_use short long.items) },
 }
 
-// Reads so many bytes at most into the space, after the first ones, and returns how many: 0 at the
-// end, `None` where the reader failed.
+// Reads at most `most` bytes into the space, after the first `len`. Returns the number of bytes
+// read: 0 at the end, `None` where the reader failed.
 fn fill_after<R: Feed>(feed: &mut R, space: &mut [u8], len: usize, most: usize) -> Option<usize>
     requires some { 0 < most }
     requires within { len + most ≤ length space.old }
@@ -42,7 +42,7 @@ fn fill_after<R: Feed>(feed: &mut R, space: &mut [u8], len: usize, most: usize) 
     feed.fill(&mut space[len..len + most])
 }
 
-// Moves these bytes to the front of the space.
+// Moves the bytes from `from` to `len` to the front of the space.
 fn move_to_front(space: &mut [u8], from: usize, len: usize)
     requires ordered { from ≤ len }
     requires within { len ≤ length space.old }
@@ -55,7 +55,7 @@ fn move_to_front(space: &mut [u8], from: usize, len: usize)
 impl Buffer {
     ghost use Rattle.tangle_script.specs.Buffer.{bytes, size};
 
-    /// A buffer without bytes.
+    /// An empty buffer.
     pub fn new(alloc: Global) -> Self
         ensures { bytes result ≡ [] }
     {
@@ -66,7 +66,7 @@ impl Buffer {
         }
     }
 
-    /// Its bytes.
+    /// The bytes in the buffer.
     pub fn as_slice(&self) -> &[u8]
         ensures { result.now ≡ bytes self.now }
     {
@@ -76,11 +76,12 @@ impl Buffer {
         &self.long.as_slice()[..self.len]
     }
 
-    /// Makes space for a whole further chunk after the bytes.
+    /// Makes space for another whole chunk after the bytes.
     ///
     /// # Errors
     ///
-    /// The allocation failed. It is tried for more than 4,096 bytes alone.
+    /// `AllocError` where the allocation failed. Nothing is allocated while there are at most 4,096
+    /// bytes.
     pub fn make_space(&mut self) -> Result<(), AllocError>
         ensures bytes { OnOk result (bytes self.new ≡ bytes self.old) }
         ensures space { OnOk result (length (bytes self.new) + chunk ≤ size self.new) }
@@ -98,8 +99,8 @@ impl Buffer {
         self.long.resize(self.len + CHUNK, 0)
     }
 
-    /// Reads so many bytes at most, after the others, and returns how many: 0 at the end, `None`
-    /// where the reader failed.
+    /// Reads at most `most` bytes after those in the buffer. Returns the number of bytes read: 0 at
+    /// the end, `None` where the reader failed.
     pub fn read<R: Feed>(&mut self, feed: &mut R, most: usize) -> Option<usize>
         requires some { 0 < most }
         requires space { length (bytes self.old) + most ≤ size self.old }
@@ -121,7 +122,7 @@ impl Buffer {
         Some(count)
     }
 
-    /// Drops so many bytes at the front.
+    /// Drops the first `used` bytes.
     pub fn discard(&mut self, used: usize)
         requires { used ≤ length (bytes self.old) }
         ensures { bytes self.new ≡ drop used (bytes self.old) }

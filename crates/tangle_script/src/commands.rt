@@ -1,4 +1,4 @@
-//! The commands in some bytes of a script.
+//! Finds the commands in a part of a script.
 ghost use Rattle.std.specs.Prelude.{◌≡◌, ◌<◌, ℕ, List, [], ◌∷◌, ◌++◌, length, nat_lt, IfSome};
 ghost use Rattle.std.specs.Prelude.{IfNone};
 ghost use Rattle.std.specs.Option.{option_copied};
@@ -8,7 +8,7 @@ ghost use Rattle.tangle_script.specs.Commands.{ended_commands, found_commands, p
 use crate::request::takes_text;
 use memchr::memchr;
 
-/// A line, its text if it takes one, and the bytes after them.
+/// A command, which is a line with its text if it takes one, and the bytes after the command.
 #[derive(Clone, Copy, Drop)]
 pub struct Found<'a> {
     pub line: &'a [u8],
@@ -16,7 +16,7 @@ pub struct Found<'a> {
     pub rest: &'a [u8],
 }
 
-/// The first line, and the bytes after its line feed.
+/// The first line, and the bytes after its line feed, if there is one.
 fn split_line(bytes: &[u8]) -> Option<(&[u8], &[u8])>
     ensures some { IfSome result (λ p. (ended [] bytes.now ≡ p.0.now ∷ ended [] p.1.now)
         × (unended [] bytes.now ≡ unended [] p.1.now)
@@ -29,7 +29,7 @@ fn split_line(bytes: &[u8]) -> Option<(&[u8], &[u8])>
     }
 }
 
-/// Whether a line ends in the bytes.
+/// Whether the bytes have a line feed.
 pub fn ends_a_line(bytes: &[u8]) -> bool
     ensures { result ≡ nat_lt 0 (length (ended [] bytes.now)) }
 {
@@ -39,7 +39,7 @@ pub fn ends_a_line(bytes: &[u8]) -> bool
     }
 }
 
-/// The first command that has ended.
+/// The first command that has ended in these bytes, if there is one.
 pub fn first_command(bytes: &[u8]) -> Option<Found<'_>>
     ensures commands { IfSome result (λ f. ended_commands bytes.now
         ≡ found_commands f.line.now (option_copied f.text) ++ ended_commands f.rest.now) }
@@ -65,7 +65,8 @@ pub fn first_command(bytes: &[u8]) -> Option<Found<'_>>
     })
 }
 
-/// The command at the end of a script: a line without a line feed, or one whose text has not ended.
+/// The command at the end of a script: a line without a line feed, or one whose text is missing or
+/// has no line feed.
 pub fn last_command(bytes: &[u8]) -> (&[u8], Option<&[u8]>)
     requires { OnlyWaits bytes.now }
     ensures { all_commands bytes.now ≡ found_commands result.0.now (option_copied result.1) }

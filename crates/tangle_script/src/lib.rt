@@ -1,8 +1,8 @@
-//! A script of edits and questions: its lines, what they ask for, and a run that answers them.
+//! A script of edits and questions: its lines, their requests, and a run that answers them.
 //!
 //! [`parse`] reads a line, with its text if it takes one, as a [`Request`] of the table.
-//! [`run_script`] reads a script and has a [`Project`] answer it, each command before more is read.
-//! What a run does is proved for every project, reader and writer.
+//! [`run_script`] reads a script and has a [`Project`] answer each command before more is read. The
+//! contract of a run holds for every project, reader and writer.
 #![tactic(auto)]
 
 mod answering;

@@ -1,4 +1,4 @@
-//! What answers a script.
+//! The project that answers a script.
 ghost use Rattle.std.specs.Prelude.{ℕ, List, Bool};
 ghost use Rattle.tangle_script.specs.Requests.{Request, request_read};
 ghost use Rattle.tangle_script.specs.Script.{Replies, WritesAnswer};
@@ -13,29 +13,31 @@ pub struct SinkFailed;
 
 /// A project that answers a script.
 pub trait Project {
-    /// The session that answers, which changes as edits are made.
+    /// The session that answers requests, and that edits change.
     type Session;
 
-    /// What a run keeps besides, and drops at its end: the list of edits that is open, if one is.
+    /// What a run keeps beside the session, and drops at its end: the open list of edits, if there
+    /// is one.
+    // Apart from the session: a struct of both would need a clause on the session in each function.
     type Draft;
 
-    // What clauses say of a session with its draft.
+    // What contracts say of a session with its draft.
     ghost State: { Type 0 };
 
     // The state of a session with its draft.
     ghost state: { Self.Session → Self.Draft → State };
 
-    // In the first state the request is answered by these bytes, and the second state follows.
+    // The request is answered in the first state by these bytes, and leads to the second state.
     ghost answers: { State → Request → List ℕ → State → Type 0 };
 
-    // Whether an error is among the faults.
+    // Whether an error is among the faults in this state.
     ghost has_error: { State → Bool → Type 0 };
 
-    /// Does what is asked, and writes the answer.
+    /// Carries out the request, and writes the answer.
     ///
     /// # Errors
     ///
-    /// The sink failed. What was asked is done all the same.
+    /// `SinkFailed` where the sink failed. The request is carried out all the same.
     fn answer<S: Sink>(
         alloc: Global,
         session: &mut Self::Session,
@@ -48,7 +50,7 @@ pub trait Project {
             (state session.new draft.new)
             × WritesAnswer (S.stream sink.old) (S.stream sink.new) output result };
 
-    /// Whether an error is among the faults.
+    /// Whether an error is among the faults of the session.
     fn has_error(session: &Self::Session) -> bool
         ensures { (draft : Self.Draft) → has_error (state session.now draft) result };
 }

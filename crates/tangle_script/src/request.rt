@@ -1,4 +1,4 @@
-//! What a script line asks for.
+//! The requests of script lines.
 ghost use Rattle.std.specs.Prelude.{◌≡◌};
 ghost use Rattle.std.specs.Option.{option_copied, option_map};
 ghost use Rattle.tangle_script.specs.Requests.{Command, after_word, request_read, word_request};
@@ -6,60 +6,60 @@ ghost use Rattle.tangle_script.specs.Requests.{file_request, is_quit, number_and
 ghost use Rattle.tangle_script.specs.Requests.{takes_text, text_request};
 ghost use Rattle.tangle_script.specs.Table.{AsksForItsRow};
 
-/// What a line of a script asks for, with the line after it where that is its text.
+/// The request of a script line. Some lines take the line after them as their text.
 #[derive(Clone, Copy, Debug, PartialEq, Eq)]
 pub enum Request<'a> {
-    /// The text becomes this line of the file.
+    /// Insert the text before this line of the file, so that it gets the line's number.
     Insert {
         at: u32,
         file: &'a [u8],
         text: &'a [u8],
     },
-    /// The text replaces this line of the file.
+    /// Replace this line of the file by the text.
     Replace {
         at: u32,
         file: &'a [u8],
         text: &'a [u8],
     },
-    /// This line of the file is removed.
+    /// Remove this line of the file.
     Remove {
         at: u32,
         file: &'a [u8],
     },
-    /// A file without lines is added.
+    /// Add a file without lines.
     Create {
         file: &'a [u8],
     },
-    /// The file is removed.
+    /// Remove the file.
     Discard {
         file: &'a [u8],
     },
-    /// The output of this name is to be written.
+    /// Write the output of this name.
     Show {
         file: &'a [u8],
     },
-    /// Line marks are to be written in full from here on.
+    /// From here on, write line marks in full.
     MarksFull,
-    /// They are to be written as line feeds alone.
+    /// From here on, write line marks as line feeds.
     MarksNone,
-    /// A list of edits is to be open: edits are held until the list is committed or dropped.
+    /// Open a list of edits, which holds edits until it is committed or dropped.
     Begin,
-    /// The edits of the list are to be made, all or none.
+    /// Make all edits of the open list, or none.
     Commit,
-    /// The list is to be dropped.
+    /// Drop the open list.
     Cancel,
-    /// The faults are to be listed.
+    /// List the faults.
     Faults,
-    /// The last work is to be given.
+    /// Give the number of nodes that were expanded last.
     Work,
-    /// The run is to end.
+    /// End the run.
     Quit,
-    /// The line is none of the table, or takes a text and has none.
+    /// The line is not in the table, or it takes a text and has none.
     BadCommand,
 }
 
 impl Request<'_> {
-    /// Whether the run ends after it.
+    /// Whether the run ends after this request.
     pub fn is_quit(&self) -> bool
         ensures { result ≡ is_quit (request_read self.now) }
     {
@@ -67,14 +67,14 @@ impl Request<'_> {
     }
 }
 
-// What follows a word at the front of the line.
+// The rest of the line, if it begins with this word.
 fn after_word<'a>(line: &'a [u8], word: &[u8]) -> Option<&'a [u8]>
     ensures { option_copied result ≡ after_word word.now line.now }
 {
     line.strip_prefix(word)
 }
 
-// One to nine digits and a space, and what follows them.
+// Reads one to nine digits and a space. Returns their number and the rest of the line.
 fn number_and_file(rest: &[u8]) -> Option<(u32, &[u8])>
     ensures { option_map (λ p. (p.0, p.1.now)) result ≡ number_and_file 0 0 rest.now }
 {
@@ -91,7 +91,7 @@ fn number_and_file(rest: &[u8]) -> Option<(u32, &[u8])>
     None
 }
 
-// A line that is one of these words.
+// The request of a line that is one of the fixed lines of the table.
 fn word_request<'a>(line: &'a [u8]) -> Request<'a>
     ensures { request_read result ≡ word_request line.now }
 {
@@ -122,7 +122,7 @@ fn word_request<'a>(line: &'a [u8]) -> Request<'a>
     Request::BadCommand
 }
 
-// A line with a file, or without.
+// The request of a line without a text, which may name a file.
 fn file_request<'a>(line: &'a [u8]) -> Request<'a>
     ensures { request_read result ≡ file_request line.now }
 {
@@ -144,7 +144,7 @@ fn file_request<'a>(line: &'a [u8]) -> Request<'a>
     word_request(line)
 }
 
-// A line with a text.
+// The request of a line with a text.
 fn text_request<'a>(line: &'a [u8], text: &'a [u8]) -> Request<'a>
     ensures { request_read result ≡ text_request line.now text.now }
 {
@@ -163,14 +163,14 @@ fn text_request<'a>(line: &'a [u8], text: &'a [u8]) -> Request<'a>
     Request::BadCommand
 }
 
-/// Whether the next line is always the text of this one.
+/// Whether the line takes the next line as its text.
 pub fn takes_text(line: &[u8]) -> bool
     ensures { result ≡ takes_text line.now }
 {
     after_word(line, b"insert ").is_some() || after_word(line, b"replace ").is_some()
 }
 
-/// What a line asks for, with its text.
+/// The request of a line, with its text if there is one.
 #[tactic(auto, unfolding(crate::specs::Requests::request_of))]
 pub fn parse<'a>(line: &'a [u8], text: Option<&'a [u8]>) -> Request<'a>
     ensures { request_read result
@@ -182,8 +182,8 @@ pub fn parse<'a>(line: &'a [u8], text: Option<&'a [u8]>) -> Request<'a>
     }
 }
 
-/// A command asks for the request of its row in the table of script lines, and for no other; one
-/// that is no row is a bad command, and no other is.
+/// A command gives the request of its row in the table of script lines, and no other. It is a bad
+/// command exactly if it is in no row.
 pub fn each_command_asks_for_its_row()
     ensures { (command : Command) → AsksForItsRow command }
 {}

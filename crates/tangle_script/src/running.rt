@@ -1,4 +1,4 @@
-//! A run: each command is answered before more of the script is read.
+//! Runs a script: each command is answered before more of the script is read.
 ghost use Rattle.std.specs.Prelude.{◌≡◌, ◌<◌, ◌≤◌, ◌+◌, ℕ, length, take, false};
 ghost use Rattle.std.specs.Prelude.{IfErr, IfOk, MatchResult, OnOk};
 ghost use Rattle.std.specs.Io.KnownBytes.{IsAtEnd};
@@ -23,9 +23,9 @@ use tangle_streams::{Feed, Sink};
 /// The most bytes of a script.
 pub const SCRIPT_LIMIT: usize = 67_108_864;
 
-// Answers the commands that have ended in the buffer, none of them in so many bytes at its front,
-// and drops them. The bytes at the front are searched again only where a line feed came, so a long
-// line costs no more than its length.
+// Answers the commands that have ended in the buffer, and drops their bytes. None of them ends in
+// the first `searched` bytes, which are searched again only where a line feed comes after them; so
+// a long line costs no more than its length.
 fn answer_chunk<P: Project, S: Sink>(
     alloc: Global,
     session: &mut P::Session,
@@ -55,7 +55,8 @@ fn answer_chunk<P: Project, S: Sink>(
     Ok(())
 }
 
-// Reads once, and answers the commands that have ended. 0 is the end of the script.
+// Reads once, and answers the commands that have ended. Returns the number of bytes read: 0 at the
+// end of the script.
 fn turn<P: Project, R: Feed, S: Sink>(
     alloc: Global,
     session: &mut P::Session,
@@ -98,8 +99,7 @@ fn turn<P: Project, R: Feed, S: Sink>(
     }
 }
 
-// Whether the script ends here, where as much was read as is allowed; `None` where the reader
-// failed.
+// Whether the script ends at the limit of its length; `None` where the reader failed.
 fn ends_here<R: Feed>(feed: &mut R) -> Option<bool>
     ensures read { Probes (R.remaining feed.old) (R.remaining feed.new) result }
     ensures failed { R.failures feed.new ≡ counted_probe (R.failures feed.old) result }
@@ -109,7 +109,7 @@ fn ends_here<R: Feed>(feed: &mut R) -> Option<bool>
     Some(count == 0)
 }
 
-// Ends where as much was read as is allowed.
+// Ends a run that has read as many bytes as a script may have.
 fn end_full<P: Project, R: Feed, S: Sink>(
     alloc: Global,
     session: &mut P::Session,
@@ -139,7 +139,7 @@ fn end_full<P: Project, R: Feed, S: Sink>(
     }
 }
 
-// Reads the script to its end.
+// Reads the script to its end, and answers its commands.
 fn read_script<P: Project, R: Feed, S: Sink>(
     alloc: Global,
     session: &mut P::Session,
@@ -182,9 +182,9 @@ fn status_at_end<P: Project>(session: &P::Session) -> u8
     if P::has_error(session) { 1 } else { 0 }
 }
 
-/// Answers a script, and returns the status of the run: 1 where an error is among the faults at its
-/// end, else 0. It is 3 where the reader or the writer failed, the script is longer than
-/// [`SCRIPT_LIMIT`], or the run is out of memory for a command of more than 4,096 bytes.
+/// Answers a script. Returns the status of the run: 1 where an error is among the faults at its
+/// end, else 0. The status is 3 where the reader or the writer failed, the script is longer than
+/// [`SCRIPT_LIMIT`], or memory ran out for a command of more than 4,096 bytes.
 pub fn run_script<P: Project, R: Feed, S: Sink>(
     alloc: Global,
     session: &mut P::Session,
@@ -206,15 +206,15 @@ pub fn run_script<P: Project, R: Feed, S: Sink>(
     }
 }
 
-/// Where no byte of the script was read and neither the reader nor the writer failed, a run does
-/// not end with status 3. So a body that ends every run with status 3 is refused.
+/// A run in which no byte of the script was read and neither the reader nor the writer failed does
+/// not end with status 3. So the contract refuses a body that always returns 3.
 pub fn status_3_needs_a_failure<P: Project>()
     ensures { Status3NeedsFailure P.answers P.has_error }
 {}
 
-/// A run over a script whose commands have at most 4,096 bytes each, with a line feed after their
-/// line and one after their text, takes no memory of its own: it ends with status 3 only where the
-/// reader or the writer failed, or the script is longer than [`SCRIPT_LIMIT`].
+/// If each command of a script has at most 4,096 bytes, with a line feed after its line and one
+/// after its text, a run allocates nothing of its own. It ends with status 3 only where the reader
+/// or the writer failed, or the script is longer than [`SCRIPT_LIMIT`].
 pub fn short_commands_need_no_memory<P: Project>()
     ensures { ShortNeedsNoMemory P.answers P.has_error }
 {}

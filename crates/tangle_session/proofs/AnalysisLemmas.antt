@@ -1,4 +1,4 @@
--- The analysis of a web is what the files make.
+-- The analysis of a web is made from its files and roles.
 use Rattle.std.proofs.Common.{◌≡◌, ◌∙◌, ◌++◌, ℕ, Bool, List, [], ap, sym, subst, append_assoc}
 use Rattle.tangle_faults.specs.Faults.{FaultRead}
 use Rattle.tangle_files.specs.Lines.{FileTable}
@@ -17,7 +17,7 @@ use Rattle.tangle_session.specs.Files.{shapes_of, source_at, web_at}
 use Rattle.tangle_session.specs.Sessions.{IsAnalysis, IsAnalysisOf, IsAnalysisAt}
 use Rattle.tangle_session.specs.declared.analysis.Analysis.{Analysis}
 
--- bodies that are kept stay so, where the store's faults are taken
+-- the bodies that a store keeps do not depend on its faults
 pub kept_apart : (old store : StoreRead) (faults : List FaultRead) (flags : List Bool) → KeepsBodies old store flags → KeepsBodies old (record store { faults = faults }) flags
 kept_apart old store faults flags keeps = λ n e.
     let kept = keeps n e in
@@ -31,7 +31,7 @@ kept_apart old store faults flags keeps = λ n e.
       uses = kept.uses;
     }
 
--- what a store says of its nodes stays, where its faults are taken
+-- whether a store is that of the shapes does not depend on its faults
 pub faults_apart : (p : Shapes) (store : StoreRead) (faults : List FaultRead) → IsStoreOf p store → IsStoreOf p (record store { faults = faults })
 faults_apart p store faults is = record {
   once = is.once;
@@ -95,12 +95,12 @@ module _ (files : FileTable) (roles : RolesRead) (source : SourceRead) (web : We
       (subst (λ o. IsAnalysisOf source web o marks after) out_is
       (subst (IsAnalysisOf source web out marks) (sym others) made)))
 
--- an analysis whose line marks are written as the roles say is theirs
+-- an analysis whose line marks are written as the roles say is that of the roles
 pub analysis_of : (files : FileTable) (roles : RolesRead) (marks : MarkMode) (analysis : Analysis) → marks ≡ roles.marks
     → IsAnalysisAt files (record roles { marks = marks }) analysis → IsAnalysisAt files roles analysis
 analysis_of files roles marks analysis same is = subst (λ m. IsAnalysisAt files (record roles { marks = m }) analysis) same is
 
--- the table of an analysis is that of its occurrences
+-- the table of an analysis is that of the analysis's occurrences
 pub table_before : (analysis : Analysis) → IsAnalysis analysis → analysis.table ≡ table_over analysis.occurrences.items analysis.table.faults
 table_before analysis is =
     let made = is.made in

@@ -7,9 +7,9 @@ use Rattle.std.specs.Str.{bytes_eq}
 use Rattle.std.proofs.lemmas.Bool.{and_parts, and_from}
 use Rattle.std.proofs.lemmas.Slice.Eq.{bytes_eq-Decides}
 use Rattle.tangle_files.specs.Edited.{edited, edited_all, with_lines_edited}
-use Rattle.tangle_files.specs.Edits.{edit_refusal, or_else, refusal_if}
+use Rattle.tangle_files.specs.Edits.{edit_refusal, refusal_if}
 use Rattle.tangle_files.specs.Lines.{FileTable, lines_of}
-use Rattle.tangle_files.specs.Adding.{has_file}
+use Rattle.tangle_files.specs.Adding.{has_file, or_else}
 use Rattle.tangle_files.specs.Roles.{RolesRead, fits, has_file_if_any}
 use Rattle.tangle_files.specs.declared.edits.Edit.{Edit}
 use Rattle.tangle_files.specs.declared.edits.Edit.TheVariants.{Insert, Remove, Replace, Create, Discard, Marks}
@@ -19,7 +19,7 @@ use Rattle.tangle_files.specs.declared.refusal.Refusal.TheVariants.{NoMemory, Ro
 use Rattle.tangle_session.specs.Edits.{first_refused, has_role, list_memory, list_refusal, numbered, of_first, role_refusal, session_refusal}
 use Rattle.tangle_session.specs.declared.refusing.ListRefusal.{ListRefusal}
 
--- where neither of two refusals applies
+-- neither of two refusals applies
 both_none : (a b : Option Refusal) → None ≡ or_else a b → (None ≡ a) × (None ≡ b)
 both_none None b h = (refl, h)
 both_none (Some e) b h = absurd (cc)
@@ -32,7 +32,7 @@ neither : (a b : Bool) → (a || b) ≡ false → (a ≡ false) × (b ≡ false)
 neither false b h = (refl, h)
 neither true b h = absurd (cc)
 
--- no file goes where lines change
+-- no file is removed where lines change
 kept_changed : (files : FileTable) (name other : List ℕ) (lines : List (List ℕ)) → is_some (lookup (bytes_eq other) (set_value (bytes_eq name) files lines)) ≡ is_some (lines_of files other)
 kept_changed [] name other lines = refl
 kept_changed (f ∷ files) name other lines = by (bytes_eq name f.0) (kept_changed files name other lines)
@@ -67,7 +67,7 @@ kept_after (f ∷ files) name other h = by (bytes_eq other f.0) h (kept_after fi
     by true h rest = refl
     by false h rest = rest h
 
--- another file than the one that is discarded stays
+-- a file other than the discarded one stays
 kept_apart : (files : FileTable) (name other : List ℕ) → bytes_eq name other ≡ false → is_some (lookup (bytes_eq other) (remove_entry (bytes_eq name) files)) ≡ is_some (lines_of files other)
 kept_apart [] name other apart = refl
 kept_apart (f ∷ files) name other apart = by (bytes_eq name f.0) refl (kept_apart files name other apart)
@@ -134,7 +134,7 @@ fits_edited files roles edit h none =
     and_from (has_file (edited files edit) roles.web) (has_file_if_any (edited files edit) roles.change)
     (stays_there files edit roles.web parts.0 spared.0) (any_stays files edit roles.change parts.1 spared.1)
 
--- where no edit of a list is refused, neither the first is, nor one of those after it
+-- where no edit of a list is refused, neither the first nor a later one is
 none_first : (first : Option Refusal) (after : Option ListRefusal) → first_refused first after ≡ None
     → (None ≡ first) × (after ≡ None)
 none_first None None h = (refl, refl)
@@ -154,7 +154,7 @@ pub one_refused : (o : Option Refusal) → first_refused o None ≡ option_map o
 one_refused None = refl
 one_refused (Some refusal) = refl
 
--- The first refusal of the edits that are left, where the first of them has this number.
+-- The first refusal of the remaining edits, the first of which has this number.
 abbrev pub refused_at : ℕ → Option Refusal → Option ListRefusal → Option ListRefusal
 refused_at at (Some refusal) after = Some (record { at = at; refusal = refusal })
 refused_at at None after = after
@@ -189,7 +189,7 @@ later_by_none (Some refused) =
     let same : refused.at + 0 ≡ refused.at = omega arith in
     ap (λ n. Some (record { at = n; refusal = refused.refusal })) same
 
--- counted from 0 it is the refusal of the list
+-- numbered from 0, it is the refusal of the list
 pub from_none : (files : FileTable) (roles : RolesRead) (edits : List Edit)
     → refused_from 0 files roles edits ≡ list_refusal files roles edits
 from_none files roles edits = from_later 0 files roles edits ∙ later_by_none (list_refusal files roles edits)
@@ -208,7 +208,7 @@ refused_alike files roles marks (Marks mode) = refl
 pub files_take : (files : FileTable) (roles : RolesRead) (edit : Edit) → None ≡ session_refusal files roles edit → None ≡ edit_refusal files edit
 files_take files roles edit none = (both_none (edit_refusal files edit) (role_refusal roles edit) none).0
 
--- where nothing refuses, what holds of a refusal holds
+-- if there is no refusal, whatever is claimed of a refusal holds
 pub of_none : (o : Option Refusal) (P : Refusal → Type 0) → None ≡ o → IfSome o P
 of_none None P h = tt
 of_none (Some e) P h = absurd (cc)
@@ -220,7 +220,7 @@ none_or (Some e) P h = tt
 abbrev failed : {T : Type 0} → Refusal → Result T Refusal
 failed refusal = Err refusal
 
--- An edit of the files failed: it is refused in a session with a role, or memory ran out.
+-- An edit of the files failed: the session refuses it, for its file or for its role, or memory ran out.
 pub refused_in_session : (T : Type 0) (of_files of_role : Option Refusal) (refusal : Refusal)
     → IfSome of_files (λ e. failed {T = T} refusal ≡ Err e) → IfNone of_files (IsOkUnless (failed {T = T} refusal) NoMemory)
     → IfSome (or_else of_files of_role) (λ e. (failed {T = T} refusal ≡ Err e) ⊎ (failed {T = T} refusal ≡ Err NoMemory))
@@ -239,7 +239,7 @@ own_number : (at : ℕ) (refusal : Refusal) → (Some (record { at = at; refusal
 own_number at NoMemory = inr refl
 own_number at refusal = inl refl
 
--- the first edit that is left was not made: the list is refused for it, or memory ran out
+-- the first remaining edit was not made: the list is refused for it, or memory ran out
 pub numbered_refusal : (T : Type 0) (at : ℕ) (of_edit : Option Refusal) (after : Option ListRefusal) (refusal : Refusal)
     → IfSome of_edit (λ e. (failed {T = T} refusal ≡ Err e) ⊎ (failed {T = T} refusal ≡ Err NoMemory)) → IfNone of_edit (IsOkUnless (failed {T = T} refusal) NoMemory)
     → (refused_at at of_edit after ≡ Some (numbered at refusal)) ⊎ (numbered at refusal ≡ list_memory)

@@ -1,4 +1,4 @@
--- What a history leaves: the files with the accepted edits made, and what is shown of them.
+-- The state that a history leaves: the files with the accepted edits made, and what is shown of them.
 use Rattle.std.proofs.Common.{◌≡◌, ◌∙◌, ℕ, List, [], ◌∷◌, ◌++◌, length, map, refl, ap, sym, subst, arith, inl, inr, append_assoc, append-nil}
 use Rattle.std.specs.Prelude.{◌⊎◌, Option, None, Some, Ok, Err, Result, option_map, unwrap_or, zip, IfNone, IfSome, IsOkUnless, OnErr, OnOk}
 use Rattle.tangle_streams.specs.Streams.{Stream}
@@ -23,7 +23,7 @@ use Rattle.tangle_session.specs.Writes.{IsTrueFile, WritesOutput}
 use Rattle.tangle_session.specs.declared.headline.Shown.{Shown}
 use Rattle.tangle_session.specs.declared.refusing.ListRefusal.{ListRefusal}
 
--- one call more
+-- one more call
 
 accepted_one : (edits : EditsRead) (done : Unit {0}) (calls : List Call)
     → accepted (calls ++ (edits, Ok done) ∷ []) ≡ accepted calls ++ edits_of edits ∷ []
@@ -67,7 +67,7 @@ zip_more [] (b ∷ ys) x y e = absurd (omega (arith, e))
 zip_more (a ∷ xs) [] x y e = absurd (omega (arith, e))
 zip_more (a ∷ xs) (b ∷ ys) x y e = ap (λ l. (a, b) ∷ l) (zip_more xs ys x y (let shorter : length xs ≡ length ys = omega (arith, e) in shorter))
 
--- what a history leaves
+-- the state that a history leaves
 
 pub record IsReached (files : FileTable) (roles : RolesRead) (lists : List (List Edit)) (session : SessionRead) : Type 0 where
   pub files_are : session.files ≡ files_after files lists
@@ -114,7 +114,7 @@ reached {files = files} {roles = roles} (Started {session = session} none same_f
 reached {files = files} {roles = roles} (Edited {calls = calls} {after = after} before edits answer history is) =
     reached_edited files roles calls before after edits answer (reached history) is
 
--- a step, from what the clauses of the calls say
+-- one more step of a history, from the clauses of the calls
 
 no_refusal : (o : Option Refusal) (done : Unit {0}) → IfSome o (λ refusal. Ok done ≡ Err refusal) → o ≡ None
 no_refusal None done h = refl
@@ -175,15 +175,15 @@ not_refused (Some refusal) give r a is h = absurd (cc)
 
 -- what is shown
 
-read_at : (files : FileTable) (roles : RolesRead) → source_at files roles ≡ source_of files roles
+pub read_at : (files : FileTable) (roles : RolesRead) → source_at files roles ≡ source_of files roles
 unfolding source_at
 read_at files roles = refl
 
-scanned_at : (files : FileTable) (roles : RolesRead) → web_at files roles ≡ web_of (source_at files roles)
+pub scanned_at : (files : FileTable) (roles : RolesRead) → web_at files roles ≡ web_of (source_at files roles)
 unfolding web_at
 scanned_at files roles = refl
 
-abbrev plain_at : (files : FileTable) (roles : RolesRead) (faults : List _) → AreFaultsOf files roles faults → IsPlainTangling files roles (outputs_of files roles) faults
+abbrev pub plain_at : (files : FileTable) (roles : RolesRead) (faults : List _) → AreFaultsOf files roles faults → IsPlainTangling files roles (outputs_of files roles) faults
 plain_at files roles faults are = record {
   source = source_at files roles;
   reading = read_at files roles;

@@ -1,4 +1,5 @@
--- What is written alike at other origins has the same shapes, and expands nothing.
+-- Webs that are written the same, apart from origins, have the same shapes, so an edit from one to the other expands
+-- nothing.
 use Rattle.std.proofs.Common.{◌≡◌, ◌∙◌, ℕ, Bool, true, false, not, cond, List, [], ◌∷◌, map, filter, refl, ap, sym, arith}
 use Rattle.std.specs.Prelude.{Option, None, Some, if◌then◌else◌}
 use Rattle.tangle_lexer.specs.Occurrences.{OccurrenceRead}
@@ -26,7 +27,7 @@ map_of_map : {A B C : Type 0} (f : B → C) (g : A → B) (xs : List A) → map 
 map_of_map f g [] = refl
 map_of_map f g (x ∷ xs) = ap (λ l. f (g x) ∷ l) (map_of_map f g xs)
 
--- the names, by how their occurrences are written
+-- the names depend only on how their occurrences are written
 
 abbrev SaidOccurrence : Type 0
 SaidOccurrence = NameText × Bool
@@ -64,7 +65,7 @@ resolved_same os =
     ∙ ap (λ full. map (λ o. resolved_meaning (names_said (map said_occurrence os)) (meaning full o)) os) (full_same os)
     ∙ sym (map_of_map (λ s. resolved_meaning (names_said (map said_occurrence os)) (meaning_said (full_said (map said_occurrence os)) s)) said_occurrence os)
 
--- the shapes, by how the pieces are written
+-- the shapes depend only on how the pieces are written
 
 abbrev SaidItem : Type 0
 SaidItem = ShapeItem × Option ℕ
@@ -114,7 +115,7 @@ module _ (table : TableRead) where
       one_shape texts p (filter (is_piece_of table node) pieces) (filter (λ s. is_node table node (node_of_occurrence table s.0)) (map (said_piece texts) pieces))
       (is_piece_of table node p) (shape_same texts node pieces)
 
--- the shapes of a web are a function of how it is written
+-- the shapes of a web are a function of how the web is written
 shapes_same : (web : WebRead) (node : Title)
     → shapes_of web node ≡ shapes_said (table_with (names_said (map said_occurrence web.occurrences)) (resolved_said (map said_occurrence web.occurrences))) (map (said_piece web.texts) web.pieces) node
 shapes_same web node =

@@ -1,4 +1,4 @@
--- No two outputs of a web have one name.
+-- No two outputs of a web have the same name.
 use Rattle.std.proofs.Common.{◌≡◌, ◌≢◌, ◌∙◌, ◌<◌, ◌==◌, ◌&&◌, ◌||◌, ◌++◌, ℕ, Bool, true, false, List, [], ◌∷◌, length, map, filter, get_or, refl, ap, sym, subst, arith}
 use Rattle.std.specs.Prelude.{not, if◌then◌else◌, Some, All, AllPairs, Contains}
 use Rattle.std.specs.List.{IsDistinct}

@@ -32,7 +32,7 @@ use Rattle.tangle_graph.proofs.StoreLemmas.{expandable_is, mapped_contains}
 use Rattle.tangle_affected.specs.Keeping.{KeepsJust}
 use Rattle.tangle_session.specs.Files.{shapes_of, output_bytes, named_bytes}
 
--- what holds of each output file: its node is the program or a name, and is expandable if it has a piece
+-- of each output file: its node is the program or a name, and is expandable if it has a piece
 pub record IsFit (shapes : Shapes) (names : List (List ℕ)) (output : OutputRead) : Type 0 where
   pub inside : IsNodeOf names output.node
   pub there : output.has_piece ≡ true → IsExpandableNode shapes (title_of_node names output.node)
@@ -106,7 +106,7 @@ module _ (web : WebRead) (table : TableRead) (resolves : ResolvesInside table) (
         subst (IsFit (shapes web table) table.names) found.2 (named_fits found.0 low is))
   ]
 
--- An output that fits is ready to be written, and its bytes are those that its node expands to.
+-- The node of such an output is ready to be written, and the output's bytes are those of the node's expansion.
 module _ (web : WebRead) (store : StoreRead) (kept : Kept) (is : IsStoreOf (shapes_of web) store) (names_are : store.names ≡ (table_of web).names)
     (keeps : KeepsJust (shapes_of web) store kept) (marks : MarkMode) (output : OutputRead) (fit : IsFit (shapes_of web) (table_of web).names output) where
   titled : title_in_store store output.node ≡ title_of_node (table_of web).names output.node
@@ -147,7 +147,7 @@ module _ (web : WebRead) (store : StoreRead) (kept : Kept) (is : IsStoreOf (shap
           ap (λ p. output_file_bytes (numbers_of web (table_of web) marks) output.has_macros p (node_symbols kept output.node)) e
           ∙ ap (λ p. output_file_bytes (numbers_of web (table_of web) marks) output.has_macros p (flat_of (shapes_of web) (title_of_node (table_of web).names output.node))) (sym e)
 
--- the bytes of a name are those of the output that is found by it
+-- looking up a name among the output files gives the bytes of the output with that name
 pub look_up : (web : WebRead) (marks : MarkMode) (name : List ℕ) (os : List OutputRead)
     → lookup (bytes_eq name) (map (named_bytes web marks) os) ≡ option_map (output_bytes web marks) (find (λ o. bytes_eq name o.name) os)
 look_up web marks name [] = refl
@@ -159,7 +159,7 @@ look_up web marks name (o ∷ os) = by (bytes_eq name o.name) (look_up web marks
     by true e = refl
     by false e = e
 
--- what is found is of the list
+-- an item that is found in a list is an item of the list
 pub found_in : {X : Type 0} (p : X → Bool) (xs : List X) (x : X) → find p xs ≡ Some x → Contains xs x
 found_in p [] x e = absurd (let no : None ≡ Some x = e in cc)
 found_in p (y ∷ xs) x e = by (p y) refl e (found_in p xs x)
@@ -168,7 +168,7 @@ found_in p (y ∷ xs) x e = by (p y) refl e (found_in p xs x)
     by true t d next = (0, omega arith, (let same : Some y ≡ Some x = d in cc))
     by false f d next = (let rest = next d in (suc rest.0, (let h = rest.1 in omega (arith, h)), rest.2))
 
--- one more that was looked at
+-- one more item is looked at
 find_step : {X : Type 0} (p : X → Bool) (xs : List X) (i : ℕ) (x : X) → i < length xs → x ≡ get_or xs i x → find p (drop i xs) ≡ cond (p x) (Some x) (find p (drop (i + 1) xs))
 find_step p xs i x h e = ap (find p) (drop-cons xs i x h ∙ ap (λ y. y ∷ drop (suc i) xs) (sym e)) ∙ (let one : suc i ≡ i + 1 = omega arith in ap (λ k. cond (p x) (Some x) (find p (drop k xs))) one)
 
@@ -181,19 +181,19 @@ find_miss p xs i x h e f sofar = sym (find_step p xs i x h e ∙ ap (λ b. cond 
 pub find_end : {X : Type 0} (p : X → Bool) (xs : List X) (i : ℕ) → length xs ≤ i → find p (drop i xs) ≡ find p xs → None ≡ find p xs
 find_end p xs i h sofar = sym (ap (find p) (drop_all i xs h)) ∙ sofar
 
--- the names of the outputs as they are written
+-- the names of the outputs are the names of the output files
 pub names_written : (web : WebRead) (marks : MarkMode) (os : List OutputRead) → map (λ o. o.name) os ≡ map (λ o. o.0) (map (named_bytes web marks) os)
 names_written web marks [] = refl
 names_written web marks (o ∷ os) = ap (λ l. o.name ∷ l) (names_written web marks os)
 
--- what holds of all names holds of that of the output at an index
+-- what holds of all output names holds of the one at an index
 name_at_index : (P : List ℕ → Type 0) (os : List OutputRead) (i : ℕ) (o : OutputRead) → AllByRecursion P (map (λ (o : OutputRead). o.name) os)
     → i < length os → o ≡ get_or os i o → P o.name
 name_at_index P [] i o all less at = absurd (omega arith)
 name_at_index P (p ∷ os) zero o all less at = subst (λ (q : OutputRead). P q.name) (sym at) all.0
 name_at_index P (p ∷ os) (suc i) o all less at = name_at_index P os i o all.1 (omega (arith, less)) at
 
--- where no two outputs have one name, the one at an index is found by its name
+-- where no two outputs have the same name, the one at an index is found by its name
 pub find_here : (name : List ℕ) (os : List OutputRead) (i : ℕ) (o : OutputRead) → IsDistinct bytes_eq (map (λ (o : OutputRead). o.name) os)
     → i < length os → o ≡ get_or os i o → bytes_eq name o.name ≡ true → Some o ≡ find (λ (o : OutputRead). bytes_eq name o.name) os
 find_here name [] i o distinct less at t = absurd (omega arith)

@@ -1,4 +1,4 @@
--- What the state of a session has of the files, by its fields, which are made one after another.
+-- The fields of a session's state, which are made one after another, agree with the files.
 use Rattle.std.proofs.Common.{◌≡◌, ◌∙◌, ◌≤◌, ◌&&◌, arith, ℕ, Bool, true, false, List, [], ◌∷◌, length, refl, ap, sym, subst, Bor, Contains, map}
 use Rattle.std.specs.List.{IsDistinct}
 use Rattle.std.specs.Option.{option_copied, option_map}
@@ -35,7 +35,7 @@ use Rattle.tangle_session.specs.Writes.{IsTrueFile, WritesOutput}
 use Rattle.tangle_session.specs.declared.tangling.SessionState.{SessionState}
 use Rattle.tangle_session.proofs.OutputLemmas.{IsFit, found_in, look_up, names_written, outputs_fit, ready, same_bytes}
 
--- the list of the store's nodes, as one of the web's
+-- the list that has each expandable node of the store has each of the web
 pub lists_nodes : (web : WebRead) (store : StoreRead) (nodes : List Node) → IsStoreOf (shapes_of web) store → store.names ≡ (table_of web).names → keeping.ListsExpandable store nodes → ListsExpandableOfWeb web nodes
 lists_nodes web store nodes is names_are lists = record {
   once = lists.once;
@@ -47,7 +47,7 @@ lists_nodes web store nodes is names_are lists = record {
   );
 }
 
--- so it is of the affected ones, which are said of titles
+-- the same for the affected nodes, which are defined by titles
 pub lists_titles : (old new : WebRead) (store : StoreRead) (nodes : List Node) → IsStoreOf (shapes_of new) store → store.names ≡ (table_of new).names
     → affected.ListsAffected (shapes_of old) (shapes_of new) store nodes → ListsAffectedOfWebs old new nodes
 lists_titles old new store nodes is names_are lists = record {
@@ -64,13 +64,13 @@ lists_titles old new store nodes is names_are lists = record {
   );
 }
 
--- the web does not depend on how line marks are written
+-- the web does not depend on the setting for line marks
 pub same_web : (files : FileTable) (roles : RolesRead) (marks : MarkMode)
     → web_at files (record roles { marks = marks }) ≡ web_at files roles
 unfolding web_at source_at
 same_web files roles marks = refl
 
--- a web whose shapes are what they were affects no node
+-- an edit that leaves the web unchanged affects no node
 pub expands_nothing : (web : WebRead) (nodes : List Node) → ListsAffectedOfWebs web web nodes → nodes ≡ []
 expands_nothing web [] lists = refl
 expands_nothing web (node ∷ nodes) lists = absurd (((lists.just node).0 (0, omega arith, refl)).1.changed refl)
@@ -100,7 +100,7 @@ no_web files roles missing = by (has_file files roles.web) missing
     by true t = absurd (let no : true ≡ false = t in cc)
     by false t = refl
 
--- where there is none, the files fit the roles
+-- where no refusal to start applies, the files fit the roles
 pub fit_to_start : (files : FileTable) (roles : RolesRead) → None ≡ start_refusal files roles → fits files roles ≡ true
 fit_to_start files roles e = by (has_file files roles.web) (has_file_if_any files roles.change) e
   where
@@ -113,7 +113,7 @@ pub some_copied : {X : Type 0} (o : Option (Bor X)) → is_some (option_copied o
 some_copied None = refl
 some_copied (Some x) = refl
 
--- What is found by a name, where the state is what the files make.
+-- Finding an output by its name, where the state is made from the files.
 module _ (files : FileTable) (roles : RolesRead) (state : SessionState) (hold : AgreesWithFiles files roles state) (name : List ℕ) where
   abbrev named : OutputRead → Bool
   named o = bytes_eq name o.name
@@ -123,7 +123,7 @@ module _ (files : FileTable) (roles : RolesRead) (state : SessionState) (hold : 
       look_up (web_at files roles) roles.marks name (outputs (web_at files roles) (table_of (web_at files roles)) roles.out)
       ∙ ap (λ os. option_map (output_bytes (web_at files roles) roles.marks) (find named os)) (sym hold.analysis.outputs_are)
 
-  -- no two outputs of the store have one name
+  -- no two outputs of the store have the same name
   pub names_apart : IsDistinct bytes_eq (map (λ o. o.0) (outputs_of files roles)) → IsDistinct bytes_eq (map (λ (o : OutputRead). o.name) state.analysis.store.outputs)
   names_apart distinct =
       subst (λ os. IsDistinct bytes_eq (map (λ (o : OutputRead). o.name) os)) (sym hold.analysis.outputs_are)

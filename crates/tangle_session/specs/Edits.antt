@@ -3,7 +3,8 @@ use Rattle.std.specs.Prelude.{ℕ, ◌+◌, List, [], ◌∷◌, Bool, false, �
 use Rattle.std.specs.Option.{option_map, option_map_or}
 use Rattle.std.specs.Str.{bytes_eq}
 use Rattle.tangle_files.specs.Edited.{edited}
-use Rattle.tangle_files.specs.Edits.{edit_refusal, or_else, refusal_if}
+use Rattle.tangle_files.specs.Adding.{or_else}
+use Rattle.tangle_files.specs.Edits.{edit_refusal, refusal_if}
 use Rattle.tangle_files.specs.Lines.{FileTable}
 use Rattle.tangle_files.specs.Roles.{RolesRead}
 use Rattle.tangle_files.specs.declared.edits.Edit.{Edit}
@@ -25,36 +26,36 @@ role_refusal roles (Replace file at text) = None
 role_refusal roles (Create file) = None
 role_refusal roles (Marks mode) = None
 
--- The first refusal that applies to an edit. Files refuse to discard only what is no name or isn't
--- there, which comes before the role.
+-- The first refusal that applies to an edit. The files refuse to discard what is no file name or
+-- isn't there; this refusal comes before that of the role.
 abbrev pub session_refusal : FileTable → RolesRead → Edit → Option Refusal
 session_refusal files roles edit = or_else (edit_refusal files edit) (role_refusal roles edit)
 
--- the refusal of the first edit of a list
+-- the refusal of a list whose first edit is refused
 abbrev pub of_first : Refusal → ListRefusal
 of_first refusal = record { at = 0; refusal = refusal }
 
--- the same refusal, in a list with one more edit in front
+-- the same refusal, where one more edit is put before the list
 abbrev pub one_later : ListRefusal → ListRefusal
 one_later refused = record { at = refused.at + 1; refusal = refused.refusal }
 
--- the refusal of the first edit, if it has one, else that of the edits after it
+-- the refusal of the first edit, if it is refused, else that of the edits after it
 abbrev pub first_refused : Option Refusal → Option ListRefusal → Option ListRefusal
 first_refused (Some refusal) after = Some (of_first refusal)
 first_refused None after = option_map one_later after
 
--- The first refusal that applies to a list of edits, each made on what the earlier ones left. No
--- edit changes the names that have roles.
+-- The first refusal that applies to a list of edits, each made in the files that the earlier ones
+-- left. No edit changes the names that have roles.
 abbrev pub list_refusal : FileTable → RolesRead → List Edit → Option ListRefusal
 list_refusal files roles [] = None
 list_refusal files roles (edit ∷ edits) =
     first_refused (session_refusal files roles edit) (list_refusal (edited files edit) roles edits)
 
--- out of memory is no edit's own refusal: it has the number 0
+-- running out of memory belongs to no single edit, so its number is 0
 abbrev pub list_memory : ListRefusal
 list_memory = of_first NoMemory
 
--- the refusal of the edit with this number, or out of memory
+-- the refusal of the edit with this number; out of memory has the number 0
 abbrev pub numbered : ℕ → Refusal → ListRefusal
 numbered at NoMemory = list_memory
 numbered at refusal = record { at = at; refusal = refusal }

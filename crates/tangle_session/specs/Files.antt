@@ -18,7 +18,7 @@ use Rattle.tangle_graph.specs.Outputs.{outputs}
 unfoldable pub source_at : FileTable → RolesRead → SourceRead
 source_at files roles = source_of files roles
 
--- the web that is scanned from it
+-- the web that is scanned from this source
 unfoldable pub web_at : FileTable → RolesRead → WebRead
 web_at files roles = web_of (source_at files roles)
 
@@ -28,16 +28,17 @@ module _ (web : WebRead) where
   shapes_of = shapes web (table_of web)
 
   module _ (marks : MarkMode) where
-    -- the bytes of an output file of a web whose line marks are written so
+    -- the bytes of an output file of a web, with this setting for line marks
     abbrev pub output_bytes : OutputRead → List ℕ
     output_bytes output =
         output_file_bytes (numbers_of web (table_of web) marks) output.has_macros output.has_piece
         (flat_of shapes_of (title_of_node (table_of web).names output.node))
 
-    -- the name of an output, and its bytes
+    -- an output as its name and its bytes
     abbrev pub named_bytes : OutputRead → List ℕ × List ℕ
     named_bytes output = (output.name, output_bytes output)
 
-    -- the output files of a web with a main file of this name, in order: each a name and its bytes
+    -- the output files of a web with a main file of this name, in order, each as its name and its
+    -- bytes
     abbrev pub output_files : List ℕ → List (List ℕ × List ℕ)
     output_files out = map named_bytes (outputs web (table_of web) out)

@@ -1,19 +1,21 @@
 -- The headline on one page: a session that was edited shows what plain tangling gives.
 --
--- A project is started, edits of its web, include and change files and of its setting for line marks
--- are passed to it, one by one or several as one list, and it is asked. It shows the output files
--- and the faults that plain tangling gives for the files and the setting with just the accepted
--- edits made, whatever was accepted and refused on the way; a refused edit changes nothing. No
--- output file reaches a name that contains itself, and each such name has its fault.
+-- A project is started. Then edits of its web, include and change files, and of its setting for
+-- line marks, are passed to it, one by one or several as one list. Whatever was accepted and
+-- refused on the way, it shows the output files and the faults that plain tangling gives for the
+-- files and the setting with the accepted edits made; a refused edit changes nothing. No output
+-- file reaches a name that contains itself, and each such name has its fault.
 --
 -- Below are plain tangling (1), a history of edits (2), and what is shown at its end (3). The calls
 -- that promise it:
--- - `start_and_edit` starts a session and gives it any edits. These edits, each with the answer that
---   was given, are a `History`, and it ends with the session that is given.
--- - `ask_all` asks a session everything. At the end of any `History` it `ShowsPlainTangling` of the
---   files and roles of the start with the accepted edits made, and it `ShowsLastWork`.
--- - `run_retangle` of `ctangle_cli` answers a script. The edits of a script, each with its answer,
---   are a `History`, by `the_answers_of_a_script_are_a_history`.
+-- - `start_and_edit` starts a session and passes any edits to it. These edits and their answers are
+--   a `History`, which ends with the returned session.
+-- - `ask_all` asks a session for everything. At the end of any `History` the session
+--   `ShowsPlainTangling` of the files and roles of the start with the accepted edits made, and it
+--   `ShowsLastWork`.
+-- - `run_retangle` of `ctangle_cli` answers a script. The edits of a script and their answers are a
+--   `History`, by `the_answers_of_a_script_are_a_history`. The files and the faults that it shows are
+--   those of plain tangling, by `scripts_show_plain_tangling`.
 -- Text that only moves affects no node: `moved_text_expands_nothing`, over `Moves.antt`.
 use Rattle.std.specs.Prelude.{◌≡◌, ◌⊎◌, ◌++◌, ◌∷◌, [], ℕ, List, length, map, Contains}
 use Rattle.std.specs.Prelude.{None, Some, option_map}
@@ -52,17 +54,17 @@ use Rattle.tangle_session.specs.declared.headline.Edits.TheVariants as variant
 use Rattle.tangle_session.specs.declared.headline.Shown.{Shown}
 use Rattle.tangle_session.specs.declared.refusing.ListRefusal.{ListRefusal}
 
--- 1. Plain tangling of files. Their roles are the names of the web, of the change file, if there is
--- one, and of the main output file, and how line marks are written.
+-- 1. Plain tangling of files. The roles are the names of the web, of the change file, if there is
+-- one, and of the main output file, and the setting for line marks.
 
--- the bytes of an output file: all macros, if they begin it, and then what its node expands to,
+-- the bytes of an output file: all macros, if they begin it, and then the expansion of its node,
 -- with section numbers and line marks
 abbrev pub output_of_web : WebRead → TableRead → MarkMode → OutputRead → List ℕ
 output_of_web web table marks output =
     output_file_bytes (numbers_of web table marks) output.has_macros output.has_piece
     (flat_of (shapes web table) (title_of_node table.names output.node))
 
--- Each step is a function of what the steps before it gave, and of the roles; of nothing else.
+-- Each step is a function of the results of earlier steps, and of the roles; of nothing else.
 pub record IsPlainTangling (files : FileTable) (roles : RolesRead)
     (output_files : List (List ℕ × List ℕ)) (faults : List FaultRead) : Type 0 where
   -- files to source: the lines of the web, with files included and the change file's changes made
@@ -79,14 +81,15 @@ pub record IsPlainTangling (files : FileTable) (roles : RolesRead)
   pub writing : output_files ≡
       map (λ output. (output.name, output_of_web web table roles.marks output))
       (outputs web table roles.out)
-  -- and to faults: those of reading, of scanning, of names, and of what uses what, in this order
+  -- and to faults: those of reading, of scanning, of names, and of the graph of names, in this
+  -- order
   pub of_graph : List FaultRead
   pub are_of_graph : AreGraphFaults web table roles.out of_graph
   pub reporting : faults ≡ source.faults ++ (web.faults ++ (table.faults ++ of_graph))
 
 -- 2. A history: edits from a start on, each with its answer.
 
--- what is passed at once: one edit, or a list of edits that are made all or none
+-- what one call passes: one edit, or a list of edits of which all are made or none
 pub data EditsRead : Type 0 where
   Single : (edit : Edit) → EditsRead
   Several : (edits : List Edit) → EditsRead
@@ -95,8 +98,8 @@ abbrev pub edits_read : Edits → EditsRead
 edits_read (variant.Single edit) = Single edit
 edits_read (variant.Several edits) = Several edits.items
 
--- the edits, and their answer: they are accepted (`Ok`), or refused for a reason (`Err`), which has
--- the number of the first edit that is refused
+-- the edits of one call, and their answer: they are accepted (`Ok`), or refused (`Err`) for a
+-- reason, with the number of the first refused edit
 abbrev pub Call : Type 0
 Call = EditsRead × Result (Unit {0}) ListRefusal
 
@@ -110,17 +113,17 @@ accepted [] = []
 accepted ((edits, Ok done) ∷ calls) = edits_of edits ∷ accepted calls
 accepted ((edits, Err refused) ∷ calls) = accepted calls
 
--- the files and the roles with these edits made, each on what the earlier ones left
+-- the files and the roles with these edits made, one after another
 abbrev pub files_after : FileTable → List (List Edit) → FileTable
 files_after files lists = edited_all files (joined lists)
 
 abbrev pub roles_with : RolesRead → List (List Edit) → RolesRead
 roles_with roles lists = roles_after roles (joined lists)
 
--- Between these two states of a session one edit, or a list of edits, was answered so. It is accepted
--- only where no refusal applies to it. It is refused for the first reason that applies or, where
--- none does, out of memory, which may come before any other reason is found in a list; then nothing
--- changes.
+-- One edit, or a list of edits, is passed to a session in the state `before`, and answered; `after`
+-- is the state then. The call is accepted only where no refusal applies. A single edit is refused
+-- for the first refusal that applies or, where none does, because memory ran out; for a list,
+-- memory may run out before the first refused edit is found. A refused call changes nothing.
 abbrev pub IsAnswered : SessionRead → EditsRead → Result (Unit {0}) ListRefusal → SessionRead → Type 0
 IsAnswered before (Single edit) (Ok done) after =
     (session_refusal before.files before.roles edit ≡ None) × AreMade before (edit ∷ []) after
@@ -133,8 +136,8 @@ IsAnswered before (Several edits) (Err refused) after =
     ((list_refusal before.files before.roles edits ≡ Some refused) ⊎ (refused ≡ list_memory))
     × (after ≡ before)
 
--- The session was started with these files and roles, which expanded each node that can be
--- expanded; then the calls were made and answered, in this order.
+-- The session was started with these files and roles, which expanded each expandable node; then the
+-- calls were made and answered, in this order.
 pub data History (files : FileTable) (roles : RolesRead) : List Call → SessionRead → Type 0 where
   Started : {session : SessionRead} → start_refusal files roles ≡ None
       → session.files ≡ files → session.roles ≡ roles
@@ -146,9 +149,10 @@ pub data History (files : FileTable) (roles : RolesRead) : List Call → Session
       → History files roles (calls ++ (edits, answer) ∷ []) after
 
 -- 3. What is shown at the end of a history. Below, `files` and `roles` are those of the start with
--- the accepted edits made; no history is in what is shown.
+-- the accepted edits made. Nothing else of the history counts.
 
--- no output file reaches a name that contains itself; the main file reaches what the program does
+-- no output file reaches a name that contains itself; the main file reaches what the unnamed
+-- program reaches
 abbrev pub NoOutputReachesACycle : WebRead → TableRead → List ℕ → Type 0
 NoOutputReachesACycle web table out =
     (output : OutputRead) (other : Title) → Contains (outputs web table out) output
@@ -161,8 +165,8 @@ EachCycleIsReported web table faults =
     (name : List ℕ) → ContainsItself (shapes web table) (Named name)
     → IsReportedSelfContaining web name faults
 
--- A session was asked for everything that it shows, and for the output file of this name, whatever
--- the name, with a writer that was in the state old and then in the state new.
+-- What a session shows when it is asked for everything, and writes the output file of this name,
+-- which may be any name. `old` and `new` are the states of the writer before and after.
 pub record ShowsPlainTangling (files : FileTable) (roles : RolesRead) (name : List ℕ)
     (old new : Stream) (shown : Shown) : Type 0 where
   pub files_are : shown.files.now ≡ files
@@ -174,12 +178,12 @@ pub record ShowsPlainTangling (files : FileTable) (roles : RolesRead) (name : Li
   pub names : shown.names ≡ map (λ file. file.0) output_files
   -- the length of the file of this name, if there is one
   pub size : shown.size ≡ option_map length (lookup (bytes_eq name) output_files)
-  -- its bytes were written, or the first so many of them and the writer failed; where there is no
-  -- such file, nothing was written, and it is refused
+  -- its bytes were written, or a prefix of them and then the writer failed; where there is no such
+  -- file, nothing was written, and the call is refused
   pub written : WritesOutput (lookup (bytes_eq name) output_files) old new shown.written
-  -- where all are written, with line marks in full, each byte of a word, a sign, a quoted or verbatim
-  -- text or an ASCII constant is on the line that the compiler counts as its own, but for those after
-  -- a line end that a quoted text or a join took, up to the next line end or mark
+  -- where all are written, with line marks in full, the compiler counts the line of the source at
+  -- each byte of a word, a sign, a quoted or verbatim text or an ASCII constant, except after a
+  -- line end that a quoted text contains or a join removes, up to the next line end or mark
   pub line_truth : roles.marks ≡ Full → OnOk shown.written (IsTrueFile files roles name)
   pub no_cycle : NoOutputReachesACycle plain.web plain.table roles.out
   pub cycles : EachCycleIsReported plain.web plain.table shown.faults.now
@@ -188,7 +192,7 @@ pub record ShowsPlainTangling (files : FileTable) (roles : RolesRead) (name : Li
 abbrev pub web_after : FileTable → RolesRead → List (List Edit) → WebRead
 web_after files roles lists = web_at (files_after files lists) (roles_with roles lists)
 
--- the nodes that the last call affected; before the first call, those that can be expanded
+-- the nodes that the last accepted call affected; before any, the expandable nodes
 pub data ListsLastExpanded (files : FileTable) (roles : RolesRead) (nodes : List Node) :
     List (List Edit) → Type 0 where
   ByStart : ListsExpandableOfWeb (web_at files roles) nodes → ListsLastExpanded files roles nodes []
@@ -197,8 +201,8 @@ pub data ListsLastExpanded (files : FileTable) (roles : RolesRead) (nodes : List
       (web_after files roles (earlier ++ last ∷ [])) nodes
       → ListsLastExpanded files roles nodes (earlier ++ last ∷ [])
 
--- The count that is shown is that of these nodes. Here the files and the roles are those of the
--- start, and the edits those of the calls that were accepted.
+-- The count that is shown is the number of these nodes. Here the files and the roles are those of
+-- the start, and the edits are those of the accepted calls.
 pub record ShowsLastWork (files : FileTable) (roles : RolesRead) (lists : List (List Edit))
     (shown : Shown) : Type 0 where
   pub nodes : List Node

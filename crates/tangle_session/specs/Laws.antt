@@ -1,4 +1,4 @@
--- What the laws of the headline say.
+-- The fault of a name that contains itself, which a law of the headline promises.
 use Rattle.std.specs.Prelude.{◌≡◌, ℕ, List, Some, Contains}
 use Rattle.tangle_faults.specs.Faults.{FaultRead, fault_about}
 use Rattle.tangle_faults.specs.declared.faults.FaultKind.TheVariants.{SelfContaining}
@@ -7,7 +7,8 @@ use Rattle.tangle_scan.specs.Web.{WebRead}
 use Rattle.tangle_names.specs.Faults.{named_place_of}
 use Rattle.tangle_names.specs.Resolving.{first_occurrence}
 
--- among the faults is that the name contains itself, at its first occurrence
+-- among the faults is one at the first occurrence of the name, which says that the name contains
+-- itself
 pub record IsReportedSelfContaining (web : WebRead) (name : List ℕ) (faults : List FaultRead) : Type 0 where
   pub occurrence : OccurrenceRead
   pub is_first : first_occurrence web.occurrences name ≡ Some occurrence

@@ -1,4 +1,4 @@
--- Webs whose occurrences and pieces are written alike, apart from their origins.
+-- Webs whose occurrences and pieces are written the same, apart from their origins.
 use Rattle.std.specs.Prelude.{◌≡◌, ℕ, Bool, List, [], map, Option, None, Some}
 use Rattle.tangle_lexer.specs.Occurrences.{OccurrenceRead}
 use Rattle.tangle_scan.specs.Web.{WebRead, PieceRead}
@@ -9,7 +9,7 @@ use Rattle.tangle_plans.specs.WebShapes.{shape_item}
 use Rattle.tangle_plans.specs.Shapes.{ShapeItem, Title}
 use Rattle.tangle_session.specs.Files.{shapes_of}
 
--- each node has the shape that it had
+-- each node keeps its shape
 abbrev pub HaveSameShapes : WebRead → WebRead → Type 0
 HaveSameShapes old new = (node : Title) → shapes_of new node ≡ shapes_of old node
 
@@ -23,24 +23,26 @@ no_names = record {
   faults = [];
 }
 
--- the number of the occurrence that an item uses
+-- the number of the occurrence, if the item is a use
 abbrev pub used_occurrence : Item → Option ℕ
 used_occurrence (UseOf occurrence) = Some occurrence
 used_occurrence _ = None
 
--- how an item is written: its bytes without their origin, or the number of the occurrence that it uses
+-- how an item is written: its bytes without their origin, or the number of the occurrence of its
+-- use
 abbrev pub said_item : List (List ℕ) → Item → ShapeItem × Option ℕ
 said_item texts item = (shape_item texts no_names item, used_occurrence item)
 
--- how a piece is written: the number of its name's occurrence, and its items, without its section
+-- how a piece is written: the number of the occurrence that defines it, and its items, without its
+-- section
 abbrev pub said_piece : List (List ℕ) → PieceRead → Option ℕ × List (ShapeItem × Option ℕ)
 said_piece texts piece = (piece.occurrence, map (said_item texts) piece.items)
 
--- how an occurrence of a name is written
+-- how an occurrence is written: its text, and whether it is an abbreviation
 abbrev pub said_occurrence : OccurrenceRead → List ℕ × Bool
 said_occurrence occurrence = (occurrence.text, occurrence.is_abbreviation)
 
--- The occurrences and the pieces are written alike, one after another. Lines, origins, files,
+-- The occurrences and the pieces are written the same, in the same order. Lines, origins, files,
 -- section numbers, macros and faults may differ.
 pub record IsMoved (old new : WebRead) : Type 0 where
   pub occurrences : map said_occurrence new.occurrences ≡ map said_occurrence old.occurrences

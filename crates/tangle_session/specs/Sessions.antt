@@ -1,4 +1,4 @@
--- What a session shows, and its state besides.
+-- The state of a session, what of it is shown, and what an edit leaves.
 use Rattle.std.specs.Prelude.{◌≡◌, ◌≢◌, ◌↔◌, ℕ, true, List, [], None, Some, Option, AllPairs, Contains, if◌then◌else◌}
 use Rattle.tangle_files.specs.Edited.{edited_all, roles_after}
 use Rattle.tangle_files.specs.Lines.{FileTable}
@@ -31,7 +31,7 @@ pub record SessionRead : Type 0 where
   pub roles : RolesRead
   pub work : List Node
 
--- the first refusal that applies to a start, but for lack of memory
+-- the first refusal that applies to a start, other than out of memory
 abbrev pub start_refusal : FileTable → RolesRead → Option Refusal
 start_refusal files roles =
     if has_file files roles.web then (if has_file_if_any files roles.change then None else Some NoChange) else Some NoWeb
@@ -48,15 +48,15 @@ pub record ListsAffectedOfWebs (old new : WebRead) (nodes : List Node) : Type 0 
   pub just : (node : Node) → Contains nodes node
       ↔ (IsNodeOf (table_of new).names node × IsAffected levels heaviest (shapes_of old) (shapes_of new) (title_of_node (table_of new).names node))
 
--- Between these two states of a session a list of edits was made, each on what the earlier ones
--- left. Just the nodes that the whole list affects were expanded.
+-- A list of edits was made, each in the files that the earlier ones left, from one state of a
+-- session to the other. Exactly the nodes that the whole list affects were expanded.
 pub record AreMade (before : SessionRead) (edits : List Edit) (after : SessionRead) : Type 0 where
   pub files : after.files ≡ edited_all before.files edits
   pub roles : after.roles ≡ roles_after before.roles edits
   pub work : ListsAffectedOfWebs (web_at before.files before.roles) (web_at after.files after.roles) after.work
 
--- The analysis is what the web of a source makes, for a main file of this name and line marks that
--- are written so: its occurrences, its names, its store and its numbers, and the faults.
+-- The analysis is made from the web of a source, for a main file of this name and this setting for
+-- line marks: its occurrences, its names, its store and its numbers, and the faults.
 pub record IsAnalysisOf (source : SourceRead) (web : WebRead) (out : List ℕ) (marks : MarkMode)
     (analysis : Analysis) : Type 0 where
   pub occurrences : analysis.occurrences.items ≡ web.occurrences
@@ -68,18 +68,19 @@ pub record IsAnalysisOf (source : SourceRead) (web : WebRead) (out : List ℕ) (
   pub faults : AreFaults source web out analysis.faults.items
   pub line_truth : PiecesAreAtTheirLines source web
 
--- the analysis is what the files make
+-- the analysis is made from these files and roles
 abbrev pub IsAnalysisAt : FileTable → RolesRead → Analysis → Type 0
 IsAnalysisAt files roles analysis =
     IsAnalysisOf (source_at files roles) (web_at files roles) roles.out roles.marks analysis
 
--- the analysis of some files and roles
+-- the analysis is made from some files and roles
 pub record IsAnalysis (analysis : Analysis) : Type 0 where
   pub files : FileTable
   pub roles : RolesRead
   pub made : IsAnalysisAt files roles analysis
 
--- The state is what the files make, with what each expandable node expands to; and the web and the change file are there.
+-- The state is made from the files, which have the web and the change file, and keeps the expansion
+-- of each expandable node.
 pub record AgreesWithFiles (files : FileTable) (roles : RolesRead) (state : SessionState) : Type 0 where
   pub files_fit : fits files roles ≡ true
   pub analysis : IsAnalysisAt files roles state.analysis

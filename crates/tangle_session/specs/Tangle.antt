@@ -8,7 +8,7 @@ use Rattle.tangle_files.specs.Roles.{RolesRead}
 use Rattle.tangle_session.specs.Faults.{AreFaults}
 use Rattle.tangle_session.specs.Files.{source_at, web_at, output_files}
 
--- the faults in order, and the output files: each a name and its bytes
+-- the faults in order, and the output files, each as its name and its bytes
 pub record Tangling : Type 0 where
   pub faults : List FaultRead
   pub outputs : List (List ℕ × List ℕ)
@@ -26,7 +26,7 @@ module _ (files : FileTable) (roles : RolesRead) where
   abbrev pub AreFaultsOf : List FaultRead → Type 0
   AreFaultsOf faults = AreFaults (source_at files roles) (web_at files roles) roles.out faults
 
--- what tangling of the files gives
+-- tangling the files gives these faults and outputs
 pub record IsTanglingOf (files : FileTable) (roles : RolesRead) (tangling : Tangling) : Type 0 where
   pub faults : AreFaultsOf files roles tangling.faults
   pub outputs : tangling.outputs ≡ outputs_of files roles

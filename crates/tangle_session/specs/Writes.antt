@@ -1,4 +1,4 @@
--- How the writing of an output ends, and that its bytes are true to the lines of the source.
+-- How writing an output ends, and that each of its bytes is at its line of the source.
 use Rattle.std.specs.Prelude.{◌≡◌, ℕ, List, [], ◌∷◌, ◌++◌, if◌then◌else◌, Option, Some, None, Result, Ok, Err, find}
 use Rattle.std.specs.Str.{bytes_eq}
 use Rattle.tangle_files.specs.Bytes.{line_feed}
@@ -18,29 +18,30 @@ use Rattle.tangle_graph.specs.Outputs.{outputs}
 use Rattle.tangle_session.specs.Files.{source_at, web_at}
 use Rattle.tangle_session.specs.Tangle.{output_at}
 
--- An output of these bytes was written. At Ok the writer has all of them; at a fault of the writer exactly the prefix that the
--- number says. There is no other refusal.
+-- An output of these bytes was written. At `Ok` the writer has all of them; at `WriteFault n` it
+-- has the first `n`. There is no other refusal.
 abbrev pub WritesOut : Stream → Stream → List ℕ → Result ℕ Refusal → Type 0
 WritesOut old new bytes (Ok n) = IsWritten old new bytes (Ok n)
 WritesOut old new bytes (Err (refusal.WriteFault n)) = IsWritten old new bytes (Err (record { 0 = n }))
 WritesOut old new bytes (Err _) = ⊥
 
--- The output of a name is written, where it has these bytes; where there is none, nothing is written, and it is refused.
+-- The output of a name is written, if it has these bytes; if there is none, nothing is written, and
+-- the call is refused.
 abbrev pub WritesOutput : Option (List ℕ) → Stream → Stream → Result ℕ Refusal → Type 0
 WritesOutput None old new result = (result ≡ Err refusal.NoOutput) × (new ≡ old)
 WritesOutput (Some bytes) old new result = WritesOut old new bytes result
 
--- Where line marks are written in full, the bytes of an output are the macros, if they begin it, and
--- the bytes of its node and a line feed, if the node has a piece; and each of these bytes that is of a
--- word, a sign, a quoted or verbatim text or an ASCII constant, and in no stretch, is at the counted
--- origin that is its own.
+-- Where line marks are written in full, the bytes of an output are the macros, if they begin it,
+-- and the bytes of its node and a line feed, if the node has a piece. At each of these bytes that
+-- belongs to a word, a sign, a quoted or verbatim text or an ASCII constant, and is in no stretch,
+-- the counted origin is that of the byte's source line.
 pub record IsTrueOutput (source : SourceRead) (web : WebRead) (output : OutputRead) (bytes : List ℕ) : Type 0 where
   pub of_node : List ℕ
   pub made : bytes ≡ front_bytes (numbers_of web (table_of web) Full) output.has_macros
       ++ (if output.has_piece then of_node ++ line_feed ∷ [] else [])
   pub true_to_lines : IsTrueToLines source web (title_of_node (table_of web).names output.node) of_node
 
--- the output file of this name, and its bytes, which are true to the lines of the source
+-- the output file of this name, and its bytes, each at its line of the source
 pub record IsTrueFile (files : FileTable) (roles : RolesRead) (name : List ℕ) : Type 0 where
   pub output : OutputRead
   pub named : find (λ o. bytes_eq name o.name) (outputs (web_at files roles) (table_of (web_at files roles)) roles.out) ≡ Some output

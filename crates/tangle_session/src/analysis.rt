@@ -1,4 +1,4 @@
-//! The analysis of a web: what is known of a web before a node of it is expanded.
+//! The analysis of a web: what is known of the web before any of its nodes is expanded.
 ghost use Rattle.std.specs.Prelude.{◌≡◌, ◌++◌, [], true, IfOk, IfSome, OnOk};
 ghost use Rattle.tangle_files.specs.Roles.{fits};
 ghost use Rattle.tangle_names.specs.NameTable.{table_of, table_over};
@@ -18,20 +18,20 @@ use tangle_names::NameTable;
 use tangle_scan::{Occurrence, Web, scan};
 
 /// The occurrences, the names, the store and the numbers of a web, and the faults of its files. The
-/// occurrences are kept for the next edit: where its occurrences are written alike, what the names
-/// resolve to is kept.
+/// occurrences are kept for the next edit: if the new web's occurrences are written the same, the
+/// old resolution of the names is shared.
 #[derive(Drop)]
 pub(crate) struct Analysis {
     pub(crate) occurrences: Vec<Occurrence>,
     pub(crate) table: NameTable,
     pub(crate) store: Store,
-    /// Of each node, whether it has its old body, and uses names as before.
+    /// For each node, whether it has its old body and the names that it uses are unchanged.
     pub(crate) are_as_before: Vec<bool>,
     pub(crate) numbers: Numbers,
     pub(crate) faults: Vec<Fault>,
 }
 
-/// The table of a web's names, built over those of the old analysis, if there is one.
+/// Makes the table of a web's names, from the table of the old analysis if there is one.
 fn name_table(alloc: Global, web: &Web, old: Option<&Analysis>) -> Result<NameTable, NoMemory>
     requires { IfSome old (λ before. IsAnalysis before.now) }
     ensures { IfOk result (λ table. table ≡ table_of web.now) }
@@ -42,8 +42,8 @@ fn name_table(alloc: Global, web: &Web, old: Option<&Analysis>) -> Result<NameTa
     }
 }
 
-/// The store of a web with its table of names, built over that of the old analysis, if there is
-/// one. Without one no body is kept.
+/// Makes the store of a web with its table of names, from the store of the old analysis if there is
+/// one. Without an old analysis the list of flags is empty.
 fn store(
     alloc: Global,
     web: &Web,
@@ -70,9 +70,9 @@ fn store(
 }
 
 impl Analysis {
-    /// The analysis of a web, for a main file of this name and line marks that are written so. Its
-    /// occurrences are still the web's, and its faults are those of names; the store has those of
-    /// the graph.
+    /// Makes the analysis of a web, for a main file of this name and this setting for line marks.
+    /// Two fields are filled later: the list of occurrences is empty, and the faults are only those
+    /// of names, while the store still has those of the graph.
     fn of_web(
         alloc: Global,
         web: &Web,
@@ -110,8 +110,8 @@ impl Analysis {
         })
     }
 
-    /// Adds the faults of a source and of its web before those of names, and those of the store,
-    /// which has none from then on, after them.
+    /// Puts the faults of a source and of its web before the faults of names, and moves the faults
+    /// of the store to the end.
     fn join_faults(
         &mut self,
         mut faults: Vec<Fault>,
@@ -132,9 +132,9 @@ impl Analysis {
         Ok(())
     }
 
-    /// Reads and scans the files, which have the web and the change file that is named. Line marks
-    /// are to be written so, whatever the roles say. The names and the store are built over those
-    /// of the old analysis, if there is one.
+    /// Reads and scans the files, which must have the web and the change file, if one is named.
+    /// Line marks are written by `marks`, whatever the roles say. The names and the store are made
+    /// from those of the old analysis, if there is one.
     pub(crate) fn build(
         alloc: Global,
         files: &Files,

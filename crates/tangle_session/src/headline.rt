@@ -1,5 +1,8 @@
 //! The headline: a session that was edited shows what plain tangling gives.
 //! `specs/Headline.antt` has it on one page.
+//!
+//! No program calls these functions. Their clauses are about histories, since a session by itself
+//! says little.
 ghost use Rattle.std.specs.Prelude.{◌≡◌, [], List, length, map, zip};
 ghost use Rattle.std.specs.Prelude.{IfOk, IfSome, IfNone, IsOkUnless, Err};
 ghost use Rattle.std.specs.Vec.{vec_capacity};
@@ -18,8 +21,8 @@ use crate::session::{Session, refusal_to_start};
 use std::alloc::Global;
 use tangle_lines::{Edit, Fault, Files, Refusal, Roles, Sink};
 
-/// What a session shows: what each of its calls returned, and of one output file how many bytes it
-/// has and how writing it ended.
+/// What a session shows: the results of its calls, and for one output file its size and how writing
+/// it ended.
 #[derive(Drop)]
 pub struct Shown<'a> {
     pub files: &'a Files,
@@ -31,7 +34,7 @@ pub struct Shown<'a> {
     pub work: u64,
 }
 
-/// What is passed to a session at once.
+/// What one call passes to a session.
 #[derive(Drop)]
 pub enum Edits {
     /// One edit.
@@ -40,7 +43,8 @@ pub enum Edits {
     Several(Vec<Edit>),
 }
 
-/// Gives one edit, or a list of edits, to a session. The refusal of one edit has the number 0.
+/// Passes one edit, or a list of edits, to a session. The refusal of a single edit has the number
+/// 0.
 fn apply_edits(session: &mut Session, edits: &Edits) -> Result<(), ListRefusal>
     ensures { IsAnswered session.old (edits_read edits.now) result session.new }
 {
@@ -53,7 +57,7 @@ fn apply_edits(session: &mut Session, edits: &Edits) -> Result<(), ListRefusal>
     }
 }
 
-/// Gives edits to a session, one call after another, and adds to the list how each was answered.
+/// Passes edits to a session, one call after another, and pushes the answer of each call.
 fn edit_each(
     session: &mut Session,
     edits: &[Edits],
@@ -65,19 +69,20 @@ fn edit_each(
     ensures history { (files : FileTable) (roles : RolesRead) → History files roles [] session.old
         → History files roles (zip (map edits_read edits.now) result.items) session.new }
 {
+    // The session is borrowed, so that it is dropped at no exit.
     for one in edits {
         answers.push_reserved(apply_edits(session, one));
     }
     answers
 }
 
-/// Starts a session and gives it edits, one call after another: the session, and how each call was
-/// answered.
+/// Starts a session and passes edits to it, one call after another. Returns the session and the
+/// answer of each call.
 ///
 /// # Errors
 ///
-/// Those of [`Session::start`], with the files and the roles as they were. An edit that is refused
-/// is no error: it is answered so, and the next one is passed.
+/// Those of [`Session::start`], with the files and the roles unchanged. A refused edit is no error:
+/// its answer is the refusal, and the next edit is passed.
 pub fn start_and_edit(
     alloc: Global,
     files: Files,
@@ -104,9 +109,9 @@ pub fn start_and_edit(
     Ok((session, answers))
 }
 
-/// Asks a session for everything that it shows, and writes the output file of this name. What is
-/// shown is what plain tangling gives for the files and roles of the start with just the accepted
-/// edits made, whatever edits brought the session here.
+/// Asks a session for all that it shows, and writes the output file of this name. The result is
+/// what plain tangling gives for the files and roles of the start with the accepted edits made,
+/// whatever edits were passed.
 pub fn ask_all<'a, S: Sink>(session: &'a Session, name: &[u8], sink: &mut S) -> Shown<'a>
     ensures state { (files : FileTable) (roles : RolesRead) (calls : List Call)
         → History files roles calls session.now

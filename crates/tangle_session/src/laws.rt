@@ -20,17 +20,18 @@ ghost use Rattle.tangle_session.specs.Tangle.{Tangling, AreFaultsOf, IsTanglingO
 ghost use Rattle.tangle_session.specs.Tangle.{outputs_of};
 ghost use Rattle.tangle_session.specs.Edits.{list_refusal, of_first, session_refusal};
 ghost use Rattle.tangle_session.specs.Files.{shapes_of, web_at};
+ghost use Rattle.tangle_session.specs.Headline.{Call, History, IsPlainTangling, ListsLastExpanded};
+ghost use Rattle.tangle_session.specs.Headline.{accepted, files_after, roles_with};
 ghost use Rattle.tangle_session.specs.Laws.{IsReportedSelfContaining};
 ghost use Rattle.tangle_session.specs.Moves.{HaveSameShapes, IsMoved};
-ghost use Rattle.tangle_session.specs.Sessions.{ListsAffectedOfWebs};
+ghost use Rattle.tangle_session.specs.Sessions.{ListsAffectedOfWebs, SessionRead};
 
 use tangle_expansion::expandable_nodes_reach_no_cycle;
 use tangle_graph::graph_faults_are_one_list;
 use tangle_names::names_are_the_full_names;
 use tangle_plans::names_resolve_inside;
 
-/// Tangling gives one thing: which faults and which outputs is determined by the files and the
-/// roles.
+/// The files and the roles determine the faults and the outputs: no two tanglings of them differ.
 pub fn tangling_is_one()
     ensures { (files : FileTable) (roles : RolesRead) (a b : Tangling)
         → IsTanglingOf files roles a → IsTanglingOf files roles b → a ≡ b }
@@ -38,7 +39,7 @@ pub fn tangling_is_one()
     graph_faults_are_one_list();
 }
 
-/// No two output files have one name: each is found by its own.
+/// No two output files have the same name, so each is found by its own.
 pub fn outputs_are_found_by_their_names()
     ensures distinct { (files : FileTable) (roles : RolesRead)
         → IsDistinct bytes_eq (map (λ output. output.0) (outputs_of files roles)) }
@@ -74,16 +75,16 @@ pub fn self_containing_names_are_reported()
     names_are_the_full_names();
 }
 
-/// An edit that leaves each shape as it was expands nothing. So it is where text only moves: where
-/// lines, files, section numbers and macros change, and occurrences and pieces are written as they
-/// were, apart from their origins.
+/// An edit that leaves each shape unchanged expands nothing. This holds where text only moves:
+/// lines, files, section numbers and macros may change, while occurrences and pieces change nothing
+/// but their origins.
 pub fn moved_text_expands_nothing()
     ensures nothing { (old new : WebRead) (nodes : List Node) → HaveSameShapes old new
         → ListsAffectedOfWebs old new nodes → nodes ≡ [] }
     ensures moved { (old new : WebRead) → IsMoved old new → HaveSameShapes old new }
 {}
 
-/// A list of one edit leaves what the edit leaves, and is refused where the edit is.
+/// A list of one edit has the same effect as the edit, and is refused where the edit is.
 pub fn one_edit_is_a_list()
     ensures files { (files : FileTable) (edit : Edit)
         → edited_all files (edit ∷ []) ≡ edited files edit }
@@ -94,8 +95,8 @@ pub fn one_edit_is_a_list()
         ≡ option_map of_first (session_refusal files roles edit) }
 {}
 
-/// What leaves the web as it was expands nothing. How line marks are written changes neither the
-/// web nor why an edit is refused.
+/// An edit that leaves the web unchanged expands nothing. The setting for line marks changes
+/// neither the web nor why an edit is refused.
 pub fn what_leaves_the_web_expands_nothing()
     ensures nothing { (web : WebRead) (nodes : List Node) → ListsAffectedOfWebs web web nodes
         → nodes ≡ [] }
@@ -104,4 +105,25 @@ pub fn what_leaves_the_web_expands_nothing()
     ensures refusals { (files : FileTable) (roles : RolesRead) (marks : MarkMode) (edit : Edit)
         → session_refusal files (record roles { marks = marks }) edit
         ≡ session_refusal files roles edit }
+{}
+
+/// A history leaves a session with the files and the roles of the start in which the accepted edits
+/// are made. The session's work is that of the last accepted call, or of the start.
+pub fn histories_make_the_accepted_edits()
+    ensures files { (files : FileTable) (roles : RolesRead) (calls : List Call)
+        (session : SessionRead) → History files roles calls session
+        → session.files ≡ files_after files (accepted calls) }
+    ensures roles { (files : FileTable) (roles : RolesRead) (calls : List Call)
+        (session : SessionRead) → History files roles calls session
+        → session.roles ≡ roles_with roles (accepted calls) }
+    ensures work { (files : FileTable) (roles : RolesRead) (calls : List Call)
+        (session : SessionRead) → History files roles calls session
+        → ListsLastExpanded files roles session.work (accepted calls) }
+{}
+
+/// The output files and the faults of files are those of plain tangling.
+pub fn tangling_is_plain()
+    ensures { (files : FileTable) (roles : RolesRead) (faults : List FaultRead)
+        → AreFaultsOf files roles faults
+        → IsPlainTangling files roles (outputs_of files roles) faults }
 {}

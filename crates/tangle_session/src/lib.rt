@@ -1,8 +1,9 @@
-//! The project as one object: a session tangles files with roles, and has their outputs and faults.
+//! A project as one object: a session tangles files with roles, and shows their outputs and faults.
 //!
-//! [`Session::start`] takes the files and the roles. What it shows is defined over these two alone:
-//! the output files and their bytes, and the list of faults. [`Session::apply`] makes an edit and
-//! [`Session::apply_all`] a list of edits, and the session then shows what they left.
+//! [`Session::start`] takes the files and the roles. They alone define what the session shows: the
+//! output files with their bytes, and the list of faults. [`Session::apply`] makes an edit and
+//! [`Session::apply_all`] a list of edits; the session then shows the outputs and faults of the
+//! edited files.
 #![tactic(auto)]
 
 mod analysis;
@@ -15,9 +16,9 @@ mod tangling;
 
 pub use headline::{Edits, Shown, ask_all, start_and_edit};
 pub use laws::{
-    moved_text_expands_nothing, no_output_reaches_a_cycle, one_edit_is_a_list,
-    outputs_are_found_by_their_names, self_containing_names_are_reported, tangling_is_one,
-    what_leaves_the_web_expands_nothing,
+    histories_make_the_accepted_edits, moved_text_expands_nothing, no_output_reaches_a_cycle,
+    one_edit_is_a_list, outputs_are_found_by_their_names, self_containing_names_are_reported,
+    tangling_is_one, tangling_is_plain, what_leaves_the_web_expands_nothing,
 };
 pub use outputs::OutputNames;
 pub use refusing::ListRefusal;

@@ -5,7 +5,7 @@ ghost use Rattle.std.specs.Iterator.{YieldsFirstRef, item_count};
 use std::marker::Model;
 use tangle_expansion::Output;
 
-/// The names of output files, in order: an iterator, which takes no memory.
+/// The names of output files, in order: an iterator that allocates nothing.
 #[derive(Drop)]
 pub struct OutputNames<'a> {
     outputs: &'a [Output],
@@ -20,7 +20,7 @@ impl<'a> Model for OutputNames<'a> {
 }
 
 impl<'a> OutputNames<'a> {
-    /// The names of these output files.
+    /// Iterates over the names of these output files.
     pub(crate) fn new(outputs: &'a [Output]) -> OutputNames<'a>
         ensures { result ≡ map (λ o. o.name) outputs.now }
     {

@@ -4,18 +4,18 @@ ghost use Rattle.tangle_session.specs.Edits.{has_role, numbered, role_refusal, s
 
 use tangle_lines::{Edit, Files, NoMemory, Refusal, Roles};
 
-/// Why a list of edits is refused: the number of the first edit that is refused, from 0, and its
-/// refusal. Out of memory has the number 0, whichever edit ran out of it.
+/// Why a list of edits is refused: the number of the first refused edit, from 0, and its refusal.
+/// Out of memory has the number 0, whichever edit ran out of it.
 #[derive(Clone, Copy, Debug, PartialEq, Eq)]
 pub struct ListRefusal {
-    /// How many edits of the list are in front of it.
+    /// The number of edits before the refused one.
     pub at: usize,
-    /// Why it is refused.
+    /// Why this edit is refused.
     pub refusal: Refusal,
 }
 
 impl ListRefusal {
-    /// Why a list is refused where the edit with this number is.
+    /// The refusal of a list whose edit with this number is refused.
     pub(crate) fn of_edit(at: usize, refusal: Refusal) -> Self
         ensures { result ≡ numbered at refusal }
     {
@@ -40,7 +40,7 @@ impl From<NoMemory> for ListRefusal {
     }
 }
 
-/// Whether the file of this name is the web or the change file.
+/// Whether the name is that of the web or of the change file.
 fn has_role(roles: &Roles, name: &[u8]) -> bool
     ensures { result ≡ has_role roles.now name.now }
 {
@@ -53,7 +53,7 @@ fn has_role(roles: &Roles, name: &[u8]) -> bool
     }
 }
 
-/// Why an edit is refused for the role of its file.
+/// Refuses to discard a file that has a role.
 pub(crate) fn refusal_of_role(roles: &Roles, edit: &Edit) -> Option<Refusal>
     ensures { result ≡ role_refusal roles.now edit.now }
 {
@@ -68,7 +68,7 @@ pub(crate) fn refusal_of_role(roles: &Roles, edit: &Edit) -> Option<Refusal>
     }
 }
 
-/// Why an edit is refused in a session, but for lack of memory. A role is a reason only where the
+/// Why a session refuses an edit, other than out of memory. The role of a file counts only if the
 /// file is there.
 pub(crate) fn refusal_to_apply(files: &Files, roles: &Roles, edit: &Edit) -> Option<Refusal>
     ensures { result ≡ session_refusal files.now roles.now edit.now }

@@ -1,4 +1,4 @@
-//! A started session.
+//! A session: a project in memory, which is tangled again after each accepted edit.
 ghost use Rattle.std.specs.Prelude.{◌≡◌, ◌⊎◌, [], length, map, IfOk, OnOk, OnErr, IfSome, IfNone};
 ghost use Rattle.std.specs.Prelude.{IsOkUnless, Err};
 ghost use Rattle.std.specs.Option.{option_map};
@@ -26,8 +26,8 @@ use tangle_expansion::{
 use tangle_lines::{Edit, Fault, Files, Refusal, Roles, Sink, WriteFault};
 use tangle_plans::names_resolve_inside;
 
-/// A project that is tangled: its files and roles, its output files and its faults. It holds no
-/// bytes of outputs; these are made as they are written.
+/// A tangled project: its files and roles, its output files and its faults. It stores no bytes of
+/// outputs; these are made as they are written.
 #[derive(Drop)]
 pub struct Session {
     roles: Roles,
@@ -45,7 +45,7 @@ impl Model for Session {
     ghost invariant = { λ s. AgreesWithFiles s.state.files s.roles s.state };
 }
 
-/// Why a session is not to be started with these files and roles, but for lack of memory.
+/// Why a session cannot start with these files and roles, other than out of memory.
 pub(crate) fn refusal_to_start(files: &Files, roles: &Roles) -> Option<Refusal>
     ensures { result ≡ start_refusal files.now roles.now }
 {
@@ -61,13 +61,13 @@ pub(crate) fn refusal_to_start(files: &Files, roles: &Roles) -> Option<Refusal>
 
 impl Session {
     /// Starts a session: reads, scans and tangles the web of these roles, with its change file.
-    /// Each node that can be expanded is expanded once.
+    /// Each expandable node is expanded once.
     ///
     /// # Errors
     ///
-    /// `NoWeb` where the web isn't among the files, else `NoChange` where the change file that is
-    /// named isn't, else `NoMemory`, where an allocation failed. The files and the roles are
-    /// returned as they were.
+    /// `NoWeb` where the web isn't among the files, else `NoChange` where a change file is named
+    /// and isn't among them, else `NoMemory` where an allocation failed. The files and the roles
+    /// are returned unchanged.
     pub fn start(
         alloc: Global,
         files: Files,
@@ -106,15 +106,14 @@ impl Session {
     }
 
     /// Makes an edit of the files, or sets how line marks are written, and tangles the project
-    /// anew. Just those nodes are expanded that can be expanded and reach one whose shape isn't
-    /// what it was, each once; of the others the expansions are kept. The new state is built beside
-    /// the old one and replaces it at once. What is left is what [`Session::apply_all`] leaves for
-    /// a list of this edit alone.
+    /// again. Exactly the affected nodes are expanded, each once; the expansions of the others are
+    /// kept. The new state is built beside the old one, which it replaces when it is whole.
+    /// [`Session::apply_all`] has the same effect for a list of this edit alone.
     ///
     /// # Errors
     ///
     /// That of [`Files::refusal_to_edit`] if there is one, else `RoleFile` where the web or the
-    /// change file is to be discarded, else `NoMemory`, where an allocation failed; and then
+    /// change file is to be discarded, else `NoMemory` where an allocation failed. On an error
     /// nothing changes.
     pub fn apply(&mut self, edit: &Edit) -> Result<(), Refusal>
         ensures files { OnOk result (self.new.files ≡ edited self.old.files edit.now) }
@@ -137,14 +136,14 @@ impl Session {
         }
     }
 
-    /// Makes a list of edits, each on what the earlier ones left, and then tangles the project
-    /// once. Just those nodes are expanded that can be expanded and reach one whose shape isn't
-    /// what it was before the list, each once: none, if the list is empty.
+    /// Makes a list of edits, each in the files that the earlier ones left, and then tangles the
+    /// project once. Exactly the nodes that the whole list affects are expanded, each once; an
+    /// empty list expands none.
     ///
     /// # Errors
     ///
-    /// That of the first edit that is refused, with its number from 0; or `NoMemory` with the
-    /// number 0, where an allocation failed, which may come before such an edit is found; and then
+    /// That of the first refused edit, with its number from 0; or `NoMemory` with the number 0
+    /// where an allocation failed, which may happen before a refused edit is found. On an error
     /// nothing changes.
     pub fn apply_all(&mut self, edits: &[Edit]) -> Result<(), ListRefusal>
         ensures files { OnOk result (self.new.files ≡ edited_all self.old.files edits.now) }
@@ -161,9 +160,9 @@ impl Session {
         self.make_all(edits, work)
     }
 
-    /// Makes the edits, all or none, for `apply` and `apply_all`. The work has no node yet. The
-    /// setting of line marks changes last, when the new state is whole, since it cannot fail;
-    /// source, web, faults and refusals do not depend on it.
+    /// Makes all the edits or none, for `apply` and `apply_all`. The setting of line marks, on
+    /// which source, web, faults and refusals do not depend, is changed last: this cannot fail, and
+    /// by then the new state is whole.
     fn make_all(&mut self, edits: &[Edit], work: Work) -> Result<(), ListRefusal>
         requires { work ≡ [] }
         ensures files { OnOk result (self.new.files ≡ edited_all self.old.files edits.now) }
@@ -184,7 +183,7 @@ impl Session {
     }
 
     /// The names of the output files, in the order in which they are to be written: the main file
-    /// first, if the program has no piece or can be expanded, and then the named files in the order
+    /// first, if the program has no piece or is expandable, and then the named files in the order
     /// of their first occurrences with `@(`.
     pub fn output_names(&self) -> OutputNames<'_>
         ensures { result ≡ map (λ output. output.0) (outputs_of self.now.files self.now.roles) }
@@ -192,7 +191,7 @@ impl Session {
         OutputNames::new(self.state.analysis.store.outputs())
     }
 
-    /// How many bytes the output file of this name has: `None` where no output file has the name.
+    /// The size in bytes of the output file of this name: `None` where no output file has the name.
     pub fn output_size(&self, name: &[u8]) -> Option<u128>
         ensures { result ≡ option_map length (output_at self.now.files self.now.roles name.now) }
     {
@@ -204,10 +203,11 @@ impl Session {
         }
     }
 
-    /// Writes the output file of this name, and returns how many bytes it has. At Ok, and where
-    /// line marks are written in full, each byte of a word, a sign, a quoted or verbatim text or an
-    /// ASCII constant is at the counted origin that is its own, but for those after a line end that
-    /// a quoted text or a join took, up to the next line end or mark.
+    /// Writes the output file of this name, and returns its size in bytes. If all was written, and
+    /// line marks are written in full, the counted origin at each byte of a word, a sign, a quoted
+    /// or verbatim text or an ASCII constant is that of the byte's source line. This does not hold
+    /// after a line end that a quoted text contains or a join removes, up to the next line end or
+    /// mark.
     ///
     /// # Errors
     ///
@@ -223,8 +223,8 @@ impl Session {
     }
 
     /// Writes the output file of this name as [`Session::write_output`] does. The output at this
-    /// index of [`Session::output_names`] is compared first, and the others only where it has
-    /// another name: so a caller that iterates over the names needs no search for each.
+    /// index of [`Session::output_names`] is compared first, so that a caller that iterates over
+    /// the names needs no search for each; the others are compared only where it has another name.
     ///
     /// # Errors
     ///
@@ -255,29 +255,30 @@ impl Session {
         }
     }
 
-    /// The faults: those of the change file and of reading, of scanning, of names, and of the graph
-    /// of names, each in its order.
+    /// The faults: those of reading the web and the change file, then those of scanning, of names,
+    /// and of the graph of names, each kind in its own order.
     pub fn faults(&self) -> &[Fault]
         ensures { AreFaultsOf self.now.files self.now.roles result.now }
     {
         self.state.analysis.faults.as_slice()
     }
 
-    /// The files.
+    /// The files with all accepted edits made.
     pub fn files(&self) -> &Files
         ensures { result.now ≡ self.now.files }
     {
         &self.state.files
     }
 
-    /// The roles.
+    /// The roles with all accepted edits made.
     pub fn roles(&self) -> &Roles
         ensures { result.now ≡ self.now.roles }
     {
         &self.roles
     }
 
-    /// How many nodes were expanded in the start or in the last accepted edit.
+    /// The number of nodes that were expanded in the start or, once an edit was accepted, in the
+    /// last accepted one.
     pub fn last_work(&self) -> u64
         ensures { result ≡ length self.now.work }
     {

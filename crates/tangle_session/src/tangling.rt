@@ -19,7 +19,8 @@ use tangle_affected::expand_again;
 use tangle_expansion::{Kept, Output, Work};
 use tangle_lines::{Edit, Files, MarkMode, NoMemory, Refusal, Roles};
 
-/// Files that are tangled: their analysis, the expansions, and which nodes were expanded for them.
+/// Files with what tangling makes of them: the analysis, the expansions, and the list of the nodes
+/// that were expanded.
 #[derive(Drop)]
 pub(crate) struct SessionState {
     pub(crate) files: Files,
@@ -42,7 +43,8 @@ impl SessionState {
         None
     }
 
-    /// The same. The output at this index is compared first, so no two outputs may have one name.
+    /// The output file of this name, if there is one. The output at this index is compared first,
+    /// so no two outputs may have the same name.
     pub(crate) fn find_output_at(&self, index: usize, name: &[u8]) -> Option<&Output>
         requires { IsDistinct bytes_eq
             (map (λ output. output.name) self.now.analysis.store.outputs) }
@@ -56,7 +58,8 @@ impl SessionState {
     }
 }
 
-/// How line marks are written after a list of edits: as the last edit of them sets it, if any does.
+/// The setting for line marks after a list of edits: that of the last edit which sets it, if any
+/// does.
 pub(crate) fn marks_after(roles: &Roles, edits: &[Edit]) -> MarkMode
     ensures { record roles.now { marks = result } ≡ roles_after roles.now edits.now }
 {
@@ -69,8 +72,8 @@ pub(crate) fn marks_after(roles: &Roles, edits: &[Edit]) -> MarkMode
     marks
 }
 
-/// Makes an edit in a copy of the files. An edit that is refused for the role of its file is made
-/// too, and the copy is then of no use.
+/// Makes an edit in a copy of the files. If the edit is refused for the role of its file, the copy
+/// is already edited and must be dropped.
 fn edit_copy(copy: &mut Files, roles: &Roles, edit: &Edit) -> Result<(), Refusal>
     ensures made { OnOk result (copy.new ≡ edited copy.old edit.now) }
     ensures refused { IfSome (session_refusal copy.old roles.now edit.now)
@@ -85,7 +88,7 @@ fn edit_copy(copy: &mut Files, roles: &Roles, edit: &Edit) -> Result<(), Refusal
     }
 }
 
-/// A copy of the files in which the edits are made, each on what the earlier ones left.
+/// Copies the files and makes the edits in the copy, each in what the earlier ones left.
 fn edited_copy(files: &Files, roles: &Roles, edits: &[Edit]) -> Result<Files, ListRefusal>
     ensures made { IfOk result (λ copy. copy ≡ edited_all files.now edits.now) }
     ensures unrefused { OnOk result (list_refusal files.now roles.now edits.now ≡ None) }
@@ -101,8 +104,8 @@ fn edited_copy(files: &Files, roles: &Roles, edits: &[Edit]) -> Result<Files, Li
     Ok(copy)
 }
 
-/// The state with this analysis of the files. Expansions that no change affects are shared with the
-/// old state. The work has no node yet.
+/// Makes the state for this analysis of the files. The expansions of unaffected nodes are shared
+/// with the old state.
 fn expand_over(
     alloc: Global,
     old: &SessionState,
@@ -138,9 +141,8 @@ fn expand_over(
     })
 }
 
-/// The state after a list of edits, after which line marks are written so: the files are tangled
-/// anew, and the expansions that no change affects are kept. The work has no node yet; the nodes
-/// that are expanded are added to it.
+/// The state after a list of edits, with this setting for line marks: the files are tangled again,
+/// and the expansions of unaffected nodes are kept. The expanded nodes are added to the work.
 pub(crate) fn tangle_again(
     alloc: Global,
     old: &SessionState,

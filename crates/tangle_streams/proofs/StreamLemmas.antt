@@ -1,4 +1,4 @@
--- What one write after another writes.
+-- Consecutive writes append their bytes one after the other.
 use Rattle.std.proofs.Common.{◌≡◌, ℕ, ◌+◌, ◌-◌, ◌^◌, ◌<◌, ◌≤◌, inl, inr, Bool, true, false, cond, List, [], ◌∷◌, ◌++◌, length, take, drop, refl, sym, ap, ◌∙◌, append_assoc, append-nil, Option, None, Some, Ok, Err, arith, length-append}
 use Rattle.std.proofs.lemmas.List.{take-append-drop, length-take-le}
 use Rattle.std.proofs.Math.Seq.{take-append_seam}
@@ -31,7 +31,7 @@ Failed-one_more n = by (nat_lt n (2 ^ 64 - 1)) refl
     by true e = let h : n < 2 ^ 64 - 1 = omega (arith, ltb-true n (2 ^ 64 - 1) e) in inl (omega arith)
     by false e = let h : 2 ^ 64 - 1 ≤ n = omega (arith, ltb-false n (2 ^ 64 - 1) e) in inr (omega arith)
 
--- the output and a prefix of the bytes were written, and the rest is still to be written
+-- the state of the loop in `write_after`: the output and `front` are written, `rest` is not
 pub record IsHalfway (old new : Stream) (count : ℕ) (output bytes rest : List ℕ) : Type 0 where
   pub front : List ℕ
   pub whole : bytes ≡ front ++ rest
@@ -76,20 +76,20 @@ halfway_fault a b c count output bytes rest h some kept failed =
       rw (failed, h.unfailed) (Failed-one_more a.failures),
     )
 
--- to append nothing is to stay
+-- appending no bytes keeps the reported ones
 pub Keeps-none : (a b : Option (List ℕ)) → Appends a b [] → Keeps a b
 Keeps-none None b h = tt
 Keeps-none (Some xs) None h = absurd h
 Keeps-none (Some xs) (Some ys) h = h ∙ simp append-nil
 
--- to take no byte of some is a failure
+-- a write that takes no byte, although there are bytes, adds one to the count of failures
 pub failed_at_none : (g g' n : ℕ) (rest : List ℕ) → n ≡ 0 → 0 < length rest → g' ≡ counted_write g rest (Some n) → g' ≡ one_more_failure g
 failed_at_none g g' n rest none some e =
     let h : nat_lt 0 (length rest) ≡ true = lt-ltb 0 (length rest) some in
     let k : g' ≡ counted_write g rest (Some 0) = e ∙ ap (λ m. counted_write g rest (Some m)) none in
     k ∙ ap (λ t. cond t (one_more_failure g) g) h
 
--- the count and the rest are as many bytes as the output and the bytes
+-- the count of bytes written and the length of `rest` add up to all bytes
 pub count_and_rest : (old new : Stream) (count : ℕ) (output bytes rest : List ℕ)
     → IsHalfway old new count output bytes rest → count + length rest ≡ length output + length bytes
 count_and_rest old new count output bytes rest h = omega (arith, h.so_far, ap length h.whole, length-append h.front rest)
@@ -98,6 +98,6 @@ pub empty_list : (xs : List ℕ) → length xs ≡ 0 → xs ≡ []
 empty_list [] h = refl
 empty_list (x ∷ xs) h = absurd (omega arith)
 
--- nothing is written at first
+-- the empty output is written before any write
 pub IsWritten-none : (a : Stream) → IsWritten a a [] (Ok 0)
 IsWritten-none a = (refl, Appends-none a.taken, refl)

@@ -1,4 +1,4 @@
-//! Why a call whose arguments are right may fail.
+//! Failures that do not depend on the arguments: of an allocation, of a writer.
 use std::alloc::{AllocError, AllocFailed};
 use thiserror::Error;
 
@@ -7,7 +7,7 @@ use thiserror::Error;
 #[error("no memory")]
 pub struct NoMemory;
 
-/// The writer failed or took no byte, after so many bytes.
+/// The writer failed or took no byte. The number counts the bytes already written.
 #[derive(Clone, Copy, Debug, PartialEq, Eq, Error)]
 #[error("the writer failed after {0} bytes")]
 pub struct WriteFault(pub u128);

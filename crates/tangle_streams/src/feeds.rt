@@ -6,25 +6,25 @@ use std::io::Read;
 
 /// A reader of bytes.
 pub trait Feed {
-    // The bytes that it has left, where it reports them.
+    // The bytes left to read; `None` if the reader does not report them.
     ghost remaining: { Self → Option (List ℕ) } = { λ _. None };
 
-    // How often it failed; at its last value the count stays.
+    // The number of failed calls, which saturates at 2^64 - 1.
     ghost failures: { Self → ℕ };
 
-    /// Fills the front of the buffer, and returns how many bytes it gave. No byte, where the buffer
-    /// is not empty, is the end. `None` is a failure.
+    /// Reads into the front of the buffer, and returns the number of bytes read: 0 is the end,
+    /// unless the buffer is empty. `None` is a failure, which is counted.
     fn fill(&mut self, buffer: &mut [u8]) -> Option<usize>
         ensures within { IfSome result (λ n. n ≤ length buffer.old) }
         ensures reported { Gives (remaining self.old) (remaining self.new) buffer.new result }
         ensures failed { failures self.new ≡ counted_read (failures self.old) result };
 
-    /// How often it failed.
+    /// The number of failed calls, which saturates at 2^64 - 1.
     fn failures(&self) -> u64
         ensures { result ≡ failures self.now };
 }
 
-/// A feed made of any reader.
+/// A feed that reads from any `Read`, and counts the errors.
 #[derive(Drop)]
 pub struct IoFeed<R> {
     inner: R,
@@ -32,10 +32,13 @@ pub struct IoFeed<R> {
 }
 
 impl<R: Read> IoFeed<R> {
-    /// A feed that has not failed.
+    /// A feed of this reader, with no failure counted. It reports the bytes that the reader
+    /// reports.
     pub fn new(inner: R) -> Self
         ensures inner { result.inner ≡ inner }
         ensures unfailed { result.failures ≡ 0 }
+        ensures reports { ⟦<IoFeed<R> as Feed>⟧.remaining result ≡ R.remaining inner }
+        ensures reports_no_failure { ⟦<IoFeed<R> as Feed>⟧.failures result ≡ 0 }
     {
         IoFeed { inner, failures: 0 }
     }

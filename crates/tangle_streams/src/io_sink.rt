@@ -6,7 +6,7 @@ ghost use Rattle.tangle_streams.specs.Streams.{one_more_failure};
 use crate::sinks::Sink;
 use std::io::Write;
 
-/// A sink made of any writer.
+/// A sink that writes to any `Write`, and counts the failures.
 #[derive(Drop)]
 pub struct IoSink<W> {
     inner: W,
@@ -14,16 +14,19 @@ pub struct IoSink<W> {
 }
 
 impl<W: Write> IoSink<W> {
-    /// A sink that has not failed.
+    /// A sink over this writer, with no failure counted. It reports the bytes that the writer
+    /// reports.
     pub fn new(inner: W) -> Self
         ensures inner { result.inner ≡ inner }
         ensures unfailed { result.failures ≡ 0 }
+        ensures reports { ⟦<IoSink<W> as Sink>⟧.stream result
+            ≡ record { taken = W.contents inner; failures = 0 } }
     {
         IoSink { inner, failures: 0 }
     }
 
-    /// Writes what the writer has buffered. A flush that fails counts as one failure more. The
-    /// library's contract does not say when a flush fails, so no clause here does; tests show it.
+    /// Flushes the writer. A failed flush adds one to the count of failures. The library's contract
+    /// does not say when a flush fails, so no clause does here: tests show that it is counted.
     pub fn flush(&mut self)
         ensures kept { Keeps (W.contents self.old.inner) (W.contents self.new.inner) }
         ensures failed { (self.new.failures ≡ self.old.failures)

@@ -2,8 +2,8 @@
 //!
 //! A [`Feed`] is such a reader, and [`IoFeed`] makes one of any reader.
 //!
-//! [`Sink`] is such a writer, and [`IoSink`] makes one of any writer. [`write_after`] writes bytes
-//! after those that were written before.
+//! A [`Sink`] is such a writer, and [`IoSink`] makes one of any writer. [`write_after`] writes
+//! bytes to a sink and counts them, until the first failure.
 #![tactic(auto)]
 
 mod failures;

@@ -4,19 +4,19 @@ ghost use Rattle.tangle_streams.specs.Streams.{Stream, Takes, counted_write};
 
 /// A writer of bytes.
 pub trait Sink {
-    // The bytes that it has taken, where it reports them, and how often it failed; at its last
-    // value the count stays.
+    // The bytes that the writer has taken, if it reports them, and the number of its failures,
+    // which saturates at 2^64 - 1.
     ghost stream: { Self → Stream };
 
-    /// Takes bytes from the front, and returns how many it took. `None`, or 0 where there are
-    /// bytes, is a failure.
+    /// Writes a prefix of the bytes, and returns its length. `None` is a failure, and so is 0
+    /// unless there are no bytes; failures are counted.
     fn take(&mut self, bytes: &[u8]) -> Option<usize>
         ensures within { IfSome result (λ n. n ≤ length bytes.now) }
         ensures reported { Takes (stream self.old).taken (stream self.new).taken bytes.now result }
         ensures failed { (stream self.new).failures
             ≡ counted_write (stream self.old).failures bytes.now result };
 
-    /// How often it failed.
+    /// The number of failures, which saturates at 2^64 - 1.
     fn failures(&self) -> u64
         ensures { result ≡ (stream self.now).failures };
 }

@@ -1,16 +1,16 @@
-//! Writing bytes.
+//! Writing bytes to a sink, and counting them.
 ghost use Rattle.tangle_streams.specs.Streams.{IsWrittenAfter};
 
 use crate::failures::WriteFault;
 use crate::sinks::Sink;
 
-/// Writes the bytes after what was written so far, unless that met a fault: how many bytes were
-/// written in all.
+/// Writes the bytes, unless `so_far` is an error. Returns the total: the count in `so_far`, plus
+/// the bytes written by this call.
 ///
 /// # Errors
 ///
-/// The fault so far, or `WriteFault(n)` where the sink fails, or takes no byte, after `n` bytes in
-/// all.
+/// The error in `so_far`, or `WriteFault(n)` if the sink fails or takes no byte, where `n` is the
+/// total of bytes written before.
 pub fn write_after<S: Sink>(
     sink: &mut S,
     so_far: Result<u128, WriteFault>,
@@ -18,6 +18,8 @@ pub fn write_after<S: Sink>(
 ) -> Result<u128, WriteFault>
     ensures { IsWrittenAfter (S.stream sink.old) (S.stream sink.new) so_far bytes.now result }
 {
+    // `so_far` is a `Result` so that calls can be chained: each `?` in a caller is one exit more
+    // to prove.
     let mut count = so_far?;
     let mut rest = bytes;
     while !rest.is_empty() {

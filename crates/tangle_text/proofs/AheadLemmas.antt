@@ -52,7 +52,7 @@ front_column-rest lines bytes line column done is =
       | inr past ↦ rw is (ap front_column (rest_of-line_end lines bytes line column past.0))
     ]
 
--- something is at a position of a line
+-- the text isn't at its end at a position of a line
 pub rest-inside : (lines : List SourceLine) (bytes : List ℕ) (line column : ℕ) (done : Bool) → done ≡ false → 0 < length (rest_of lines bytes line column done)
 rest-inside lines bytes line column done is =
     elim ((slice_get_cases bytes column).1) [
@@ -83,7 +83,7 @@ front-line_end lines bytes line column done is h =
           rw (is, e, past.1) (record { inside = omega arith; byte = refl; next = refl })
     ]
 
--- after a byte
+-- advancing over a byte
 pub advance-byte : (lines : List SourceLine) (bytes : List ℕ) (line column : ℕ) (done : Bool) → column < length bytes →
     rest_of lines bytes line (column + 1) done ≡ drop 1 (rest_of lines bytes line column done)
 advance-byte lines bytes line column true h = refl
@@ -96,7 +96,7 @@ advance-byte lines bytes line column false h =
 none-some : IsSome {T = ℕ} None → ⊥
 none-some h = cc
 
--- where a byte is, the column lies inside its line
+-- if there is a byte, the column is inside its line
 pub byte-inside : (lines : List SourceLine) (bytes : List ℕ) (line column : ℕ) (done : Bool) → IsSome (byte_at 0 (rest_of lines bytes line column done)) →
     (done ≡ false) × (column < length bytes)
 byte-inside lines bytes line column true h = absurd (none-some h)
@@ -114,7 +114,7 @@ span_at-rest lines bytes line column count =
       | inr past ↦ ap (span_at count) (rest_of-line_end lines bytes line column past.0)
     ]
 
--- the cell at a distance is the first one further on
+-- the byte at a distance is the first one after that many cells
 pub byte_at-drop : (n : ℕ) (text : List Cell) → byte_at n text ≡ byte_at 0 (drop n text)
 byte_at-drop zero text = refl
 byte_at-drop (suc n) [] = refl

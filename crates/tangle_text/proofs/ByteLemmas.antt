@@ -1,9 +1,9 @@
--- The tables of bytes have each byte's class at its position.
+-- The tables of bytes have the class of each byte at its index.
 use Rattle.std.proofs.Common.{◌≡◌, ◌<◌, ◌+◌, ℕ, zero, suc, Bool, true, false, List, [], ◌∷◌, get_or, refl, ap, ◌∙◌, arith}
 use Rattle.tangle_text.specs.Bytes.{is_word_byte}
 use Rattle.tangle_text.specs.Regions.{is_ordinary}
 
--- the classes of so many bytes from one on
+-- the classes of this number of bytes, from one byte on
 unfoldable pub classes : (ℕ → Bool) → ℕ → ℕ → List Bool
 classes class zero from = []
 classes class (suc n) from = class from ∷ classes class n (suc from)

@@ -4,3 +4,4 @@ pub mod ChunkLemmas
 pub mod OrdinaryBytes
 pub mod RegionLemmas
 pub mod RunLemmas
+pub mod UnitLemmas

@@ -1,4 +1,4 @@
--- Bytes without a meaning are passed over one by one.
+-- Ordinary bytes, which have no meaning, are skipped one by one.
 use Rattle.std.proofs.Common.{◌≡◌, ℕ, ◌+◌, zero, suc, Bool, true, false, not, ◌||◌, List, [], ◌∷◌, ◌++◌, Option, Some, None, drop, refl, sym, ◌∙◌, arith}
 use Rattle.tangle_text.specs.declared.regions.Region.{Region}
 use Rattle.tangle_text.specs.declared.regions.Region.TheVariants as region
@@ -20,7 +20,7 @@ pub or-false : (a b : Bool) → not (a || b) ≡ true → (not a ≡ true) × (b
 or-false true b h = absurd (not-true h)
 or-false false b h = (refl, not-false b h)
 
--- in each region that skips them such a byte is a unit of its own
+-- in each region that skips ordinary bytes, such a byte is a unit of its own
 byte-one : (r : Region) (b : ℕ) (next : Option ℕ) → skips_ordinary r ≡ true → is_ordinary b ≡ true → unit_of r (Some b) next ≡ unit.One
 byte-one r b next skips h =
     let greater = or-false _ _ h in
@@ -55,7 +55,7 @@ region_end-ordinary r is (suc n) [] h = refl
 region_end-ordinary r is (suc n) (c ∷ cs) h =
     region_end-ordinary r is n cs h.1 ∙ sym (region_end-one r (c ∷ cs) (cell-one r c.byte (byte_at 0 cs) is h.0))
 
--- the run of such bytes in a line
+-- the run of ordinary bytes in a line
 pub run-ordinary : (line column : ℕ) (bytes : List ℕ) (rest : List Cell) → AreOrdinary (run_length is_ordinary bytes) (line_text line column bytes ++ rest)
 run-ordinary line column [] rest = tt
 run-ordinary line column (b ∷ bs) rest = go (is_ordinary b) refl (run-ordinary line (column + 1) bs rest)

@@ -1,5 +1,5 @@
 -- Regions, unit by unit.
-use Rattle.std.proofs.Common.{◌≡◌, ℕ, ◌+◌, suc, List, [], ◌∷◌, drop, refl, sym, ◌∙◌, arith}
+use Rattle.std.proofs.Common.{◌≡◌, ℕ, ◌+◌, suc, List, [], ◌∷◌, drop, refl, ap, sym, ◌∙◌, arith}
 use Rattle.tangle_text.specs.declared.regions.Region.{Region}
 use Rattle.tangle_text.specs.declared.regions.Unit.{Unit as Unit-of}
 use Rattle.tangle_text.specs.declared.regions.Unit.TheVariants as unit
@@ -7,6 +7,7 @@ use Rattle.tangle_text.specs.Text.{Cell}
 use Rattle.tangle_text.specs.declared.ahead.Front.{Front}
 use Rattle.tangle_text.specs.Ahead.{IsFront}
 use Rattle.tangle_text.specs.Regions.{unit_of, unit_at, count_before, more_by, region_end}
+use Rattle.tangle_text.proofs.UnitLemmas.{counted, count-is}
 
 drop-more : (n : ℕ) (c : Cell) (cs : List Cell) → drop (1 + n) (c ∷ cs) ≡ drop n cs
 drop-more n c cs = let e : 1 + n ≡ suc n = omega arith in rw e refl
@@ -15,33 +16,47 @@ pub region_end-nothing : (r : Region) → region_end r [] ≡ []
 unfolding region_end
 region_end-nothing r = refl
 
-pub region_end-stop : (r : Region) (text : List Cell) → unit_at r text ≡ unit.Stop → region_end r text ≡ text
+-- the text after a region, by its cells counted one by one
+region_end-counted : (r : Region) (text : List Cell) → region_end r text ≡ drop (counted r 0 text) text
 unfolding region_end
-region_end-stop r [] h = refl
-region_end-stop r (c ∷ cs) h = rw h refl
+region_end-counted r text = ap (λ n. drop n text) (count-is r text)
+
+pub region_end-stop : (r : Region) (text : List Cell) → unit_at r text ≡ unit.Stop → region_end r text ≡ text
+region_end-stop r [] h = region_end-nothing r
+region_end-stop r (c ∷ cs) h = region_end-counted r (c ∷ cs) ∙ none
+  where
+    none : drop (counted r 0 (c ∷ cs)) (c ∷ cs) ≡ c ∷ cs
+    none = rw h refl
 
 pub region_end-one : (r : Region) (text : List Cell) → unit_at r text ≡ unit.One → region_end r text ≡ region_end r (drop 1 text)
-unfolding region_end
 region_end-one r [] h = refl
-region_end-one r (c ∷ cs) h = rw h (drop-more (count_before r 0 cs) c cs)
+region_end-one r (c ∷ cs) h = region_end-counted r (c ∷ cs) ∙ passed ∙ sym (region_end-counted r cs)
+  where
+    passed : drop (counted r 0 (c ∷ cs)) (c ∷ cs) ≡ drop (counted r 0 cs) cs
+    passed = rw h (drop-more (counted r 0 cs) c cs)
 
 region_end-two : (r : Region) (text : List Cell) → unit_at r text ≡ unit.Two → region_end r text ≡ region_end r (drop 1 (drop 1 text))
-unfolding region_end
 region_end-two r [] h = refl
-region_end-two r (c ∷ []) h = rw h refl
-region_end-two r (c ∷ d ∷ cs) h = rw h (drop-more (1 + count_before r 0 cs) c (d ∷ cs) ∙ drop-more (count_before r 0 cs) d cs)
+region_end-two r (c ∷ []) h = region_end-counted r (c ∷ []) ∙ passed ∙ sym (region_end-counted r [])
+  where
+    passed : drop (counted r 0 (c ∷ [])) (c ∷ []) ≡ drop (counted r 0 []) []
+    passed = rw h refl
+region_end-two r (c ∷ d ∷ cs) h = region_end-counted r (c ∷ d ∷ cs) ∙ passed ∙ sym (region_end-counted r cs)
+  where
+    passed : drop (counted r 0 (c ∷ d ∷ cs)) (c ∷ d ∷ cs) ≡ drop (counted r 0 cs) cs
+    passed = rw h (drop-more (1 + counted r 0 cs) c (d ∷ cs) ∙ drop-more (counted r 0 cs) d cs)
 
--- a unit that isn't the end of a region is passed over
+-- a unit that isn't the end of a region is skipped
 pub region_end-go : (r : Region) (text : List Cell) (u : Unit-of) → unit_at r text ≡ u → (u ≡ unit.Stop → ⊥) →
     region_end r text ≡ region_end r (drop (more_by u) (drop 1 text))
 region_end-go r text unit.Stop h go = absurd (go refl)
 region_end-go r text unit.One h go = region_end-one r text h
 region_end-go r text unit.Two h go = region_end-two r text h
 
--- the unit at the front of a text, by what is there
+-- the unit at the front of a text, by the first two bytes
 pub unit_at-front : (r : Region) (text : List Cell) (front : Front) (u : Unit-of) → IsFront text front → u ≡ unit_of r front.byte front.next → unit_at r text ≡ u
 unit_at-front r text front u here is = rw (here.byte, here.next) (sym is)
 
-pub region_end-is : (r : Region) (text : List Cell) → region_end r text ≡ drop (count_before r 0 text) text
+pub region_end-is : (r : Region) (text : List Cell) → region_end r text ≡ drop (count_before r text) text
 unfolding region_end
 region_end-is r text = refl

@@ -1,8 +1,8 @@
--- Bytes and their classes. A cell of the text holds a byte, or none where a line ends.
+-- Bytes and their classes. A cell of the text has a byte, or `None` at a line end.
 use Rattle.std.specs.Prelude.{ℕ, ◌+◌, Bool, true, false, ◌==◌, nat_le, ◌&&◌, ◌||◌, if◌then◌else◌, Option, Some, None}
 use Rattle.tangle_lines.specs.Bytes.{at_sign, is_white}
 
--- the bytes with a meaning of their own, besides those of the rules of reading
+-- the bytes with a meaning in CWEB or in C, besides those of the rules of reading
 
 abbrev pub number_sign : ℕ
 number_sign = 35
@@ -47,11 +47,11 @@ abbrev pub is_word_byte : ℕ → Bool
 is_word_byte b =
     is_between 97 122 b || is_between 65 90 b || is_digit b || b == 95 || b == 36 || is_between 128 255 b
 
--- this byte, or the small letter of a capital one
+-- the small letter of a capital one; any other byte unchanged
 abbrev pub lower : ℕ → ℕ
 lower b = if is_between 65 90 b then b + 32 else b
 
--- classes of cells, by the byte that they hold
+-- classes of cells, by the byte of the cell
 
 -- this byte
 abbrev pub holds : ℕ → Option ℕ → Bool
@@ -89,14 +89,14 @@ is_octal (Some b) = is_between 48 55 b
 abbrev pub are_bytes : ℕ → ℕ → Option ℕ → Option ℕ → Bool
 are_bytes first second b next = holds first b && holds second next
 
--- @ before white space or a line end, and @*
+-- `@` before white space or a line end, and `@*`
 abbrev pub is_section_start : Option ℕ → Option ℕ → Bool
 is_section_start b next = holds at_sign b && (is_white_or_line_end next || holds asterisk next)
 
--- @< and @(
+-- `@<` and `@(`
 abbrev pub is_name_start : Option ℕ → Option ℕ → Bool
 is_name_start b next = holds at_sign b && (holds less_sign next || holds left_parenthesis next)
 
--- @>
+-- `@>`
 abbrev pub is_end_code : Option ℕ → Option ℕ → Bool
 is_end_code b next = are_bytes at_sign greater_sign b next

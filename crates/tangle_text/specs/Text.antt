@@ -3,13 +3,14 @@ use Rattle.std.specs.Prelude.{ℕ, zero, suc, ◌+◌, List, [], ◌∷◌, ◌+
 use Rattle.tangle_lines.specs.Reading.{SourceLine}
 use Rattle.tangle_text.specs.declared.spans.Span.{Span}
 
--- a byte of the text, or none at a line end, with the number of its source line and its column there, both from 0
+-- a byte of the text, or `None` at a line end, with the number of its source line and its column
+-- there, both from 0
 pub record Cell : Type 0 where
   pub line : ℕ
   pub column : ℕ
   pub byte : Option ℕ
 
--- the cells of a line from a column on, and its line end
+-- the cells of a line from a column on, with its line end
 abbrev pub line_text : ℕ → ℕ → List ℕ → List Cell
 line_text line column [] = record { line = line; column = column; byte = None } ∷ []
 line_text line column (b ∷ bs) = record { line = line; column = column; byte = Some b } ∷ line_text line (column + 1) bs
@@ -23,27 +24,28 @@ text_from line (l ∷ ls) = line_text line 0 l.bytes ++ text_from (line + 1) ls
 abbrev pub bytes_of : List Cell → List ℕ
 bytes_of cells = flat_map (λ c. option_to_list c.byte) cells
 
--- what the cell at a distance from the front holds; after the end of the text there are line ends
+-- the byte of the cell at this distance from the front; after the end of the text there are line
+-- ends
 abbrev pub byte_at : ℕ → List Cell → Option ℕ
 byte_at k [] = None
 byte_at zero (c ∷ cs) = c.byte
 byte_at (suc k) (c ∷ cs) = byte_at k cs
 
--- the line of the front of a text; at the end of the source this is its last line
+-- the line of the front of a text; `last` at the end of the source
 abbrev pub front_line : ℕ → List Cell → ℕ
 front_line last [] = last
 front_line last (c ∷ cs) = c.line
 
--- the column of the front
+-- the column of the front of a text
 abbrev pub front_column : List Cell → ℕ
 front_column [] = 0
 front_column (c ∷ cs) = c.column
 
--- so many bytes from the front on, which are on one line
+-- the span of this number of bytes from the front on, which are on one line
 abbrev pub span_at : ℕ → List Cell → Span
 span_at count [] = record { line = 0; start = 0; end = 0 }
 span_at count (c ∷ cs) = record { line = c.line; start = c.column; end = c.column + count }
 
--- the first cell
+-- the first cell of a text; at the end of the source, a line end
 abbrev pub front_cell : ℕ → List Cell → Cell
 front_cell last text = record { line = front_line last text; column = front_column text; byte = byte_at 0 text }

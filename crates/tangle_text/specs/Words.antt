@@ -8,6 +8,6 @@ use Rattle.tangle_text.specs.Regions.{count_before}
 abbrev pub is_include_word : List ℕ → Bool
 is_include_word bytes = bytes_eq bytes (codes "include")
 
--- how many cells a word has after its first
+-- the number of cells that a word has after its first
 abbrev pub word_more : List Cell → ℕ
-word_more text = count_before region.Word 0 (drop 1 text)
+word_more text = count_before region.Word (drop 1 text)

@@ -1,4 +1,4 @@
-//! The text that is still ahead.
+//! Reads the text ahead of a position.
 ghost use Rattle.std.specs.Prelude.{◌≡◌, ◌≤◌, ◌<◌, ◌+◌, ℕ, List, [], length, take, drop};
 ghost use Rattle.std.specs.Prelude.{get_or, slice_get, IsSome, IfSome, IfNone, true, false};
 ghost use Rattle.tangle_files.specs.Adding.{longest_line};
@@ -20,12 +20,12 @@ use memchr::memchr;
 use std::marker::Model;
 use tangle_lines::Source;
 
-/// What is at a position and after it: bytes, or line ends.
+/// The first two bytes or line ends from a position on.
 #[derive(Clone, Copy)]
 pub struct Front {
-    /// The byte that is here; none at a line end.
+    /// The byte at the position; `None` at a line end.
     pub byte: Option<u8>,
-    /// The byte after it; none at a line end.
+    /// The byte after it; `None` at a line end.
     pub next: Option<u8>,
 }
 
@@ -33,11 +33,11 @@ pub struct Front {
 #[derive(Drop)]
 pub struct Reader<'s, 'a> {
     source: &'s Source<'a>,
-    /// The bytes of the line.
+    /// The bytes of the current line.
     bytes: &'a [u8],
     line: usize,
     column: usize,
-    /// The last line was read.
+    /// Whether the last line was read.
     is_done: bool,
 }
 
@@ -57,7 +57,7 @@ impl<'s, 'a> Model for Reader<'s, 'a> {
         × ((r.line ≤ source_line_limit) × (length r.bytes.now ≤ longest_line))) };
 }
 
-/// The byte at a column of a line, or none at its end.
+/// The byte at a column of a line; `None` at the line's end.
 #[inline(always)]
 fn byte_of(bytes: &[u8], column: usize) -> Option<u8>
     ensures { result ≡ slice_get bytes.now column }
@@ -65,7 +65,7 @@ fn byte_of(bytes: &[u8], column: usize) -> Option<u8>
     bytes.get(column).copied()
 }
 
-/// The column of the next `@` of a line, or its length.
+/// The column of the next `@` of a line, or the line's length if there is none.
 fn at_sign_from(bytes: &[u8], column: usize) -> usize
     requires { column ≤ length bytes.now }
     ensures low { column ≤ result }
@@ -78,7 +78,7 @@ fn at_sign_from(bytes: &[u8], column: usize) -> usize
     }
 }
 
-/// The column where the run of bytes that pass the test ends.
+/// The column after a run of bytes that pass the test.
 // Four bytes are tested in a turn, since most words have as many.
 macro_rules! run_end {
     ($passes:ident, $bytes:ident, $from:ident) => {{
@@ -105,7 +105,7 @@ macro_rules! run_end {
     }};
 }
 
-/// The column where the run of word bytes from this column on ends.
+/// The column after the run of word bytes from this column on.
 #[inline(always)]
 fn word_end(bytes: &[u8], from: usize) -> usize
     requires { from ≤ length bytes.now }
@@ -115,7 +115,8 @@ fn word_end(bytes: &[u8], from: usize) -> usize
     run_end!(is_word_byte, bytes, from)
 }
 
-/// Whether each byte has no meaning in comments, control texts, quoted and verbatim texts.
+/// A flag for each byte: whether it is ordinary, so that it has no meaning in comments, control
+/// texts, quoted and verbatim texts.
 const ORDINARY_BYTES: [bool; 256] = [
     true, true, true, true, true, true, true, true, true, true, true, true, true, true, true, true,
     true, true, true, true, true, true, true, true, true, true, true, true, true, true, true, true,
@@ -143,7 +144,7 @@ fn is_ordinary(byte: u8) -> bool
     ORDINARY_BYTES[byte as usize]
 }
 
-/// The column where the run of ordinary bytes from this column on ends.
+/// The column after the run of ordinary bytes from this column on.
 fn ordinary_end(bytes: &[u8], from: usize) -> usize
     requires { from ≤ length bytes.now }
     ensures end { result ≡ from + run_length regions.is_ordinary (drop from bytes.now) }
@@ -152,7 +153,7 @@ fn ordinary_end(bytes: &[u8], from: usize) -> usize
     run_end!(is_ordinary, bytes, from)
 }
 
-/// The column where the run of white space from this column on ends.
+/// The column after the run of white space from this column on.
 #[inline(always)]
 fn white_end(bytes: &[u8], from: usize) -> usize
     requires { from ≤ length bytes.now }
@@ -166,7 +167,7 @@ fn white_end(bytes: &[u8], from: usize) -> usize
     end
 }
 
-/// The first byte of a line; none if it is empty or is not there.
+/// The first byte of a line; `None` if the line is empty, or if there is no such line.
 fn first_byte(source: &Source, line: usize) -> Option<u8>
     ensures { result ≡ byte_at 0 (text_from line (drop line source.now.lines)) }
 {
@@ -178,7 +179,7 @@ fn first_byte(source: &Source, line: usize) -> Option<u8>
 }
 
 impl<'s, 'a> Reader<'s, 'a> {
-    /// The whole text of a source.
+    /// Reads the whole text of a source.
     pub fn new(source: &'s Source<'a>) -> Self
         ensures { result ≡ text_from 0 source.now.lines }
     {
@@ -200,7 +201,7 @@ impl<'s, 'a> Reader<'s, 'a> {
         }
     }
 
-    /// What is here, unless the text is at its end.
+    /// The first two bytes ahead; `None` at the end of the text.
     pub fn front(&self) -> Option<Front>
         ensures front { IfSome result (λ front. IsFront self.now front) }
         ensures end { IfNone result (self.now ≡ []) }
@@ -217,7 +218,7 @@ impl<'s, 'a> Reader<'s, 'a> {
         Some(Front { byte, next })
     }
 
-    /// The byte that is here; none at a line end, and none after the last line.
+    /// The byte at the position; `None` at a line end, and after the last line.
     #[inline(always)]
     pub fn byte(&self) -> Option<u8>
         ensures { result ≡ byte_at 0 self.now }
@@ -228,7 +229,7 @@ impl<'s, 'a> Reader<'s, 'a> {
         byte_of(self.bytes, self.column)
     }
 
-    /// Whether the text is at its end.
+    /// Whether the position is the end of the text.
     #[inline(always)]
     pub fn is_at_end(&self) -> bool
         ensures end { result ≡ true → self.now ≡ [] }
@@ -237,7 +238,7 @@ impl<'s, 'a> Reader<'s, 'a> {
         self.is_done
     }
 
-    /// Goes on by one byte or line end.
+    /// Advances by one byte or line end.
     #[inline(always)]
     pub fn advance(&mut self)
         ensures { self.new ≡ drop 1 self.old }
@@ -256,7 +257,7 @@ impl<'s, 'a> Reader<'s, 'a> {
         }
     }
 
-    /// The number of the line; after the last line, the number passed in.
+    /// The number of the current line; `last` after the last line.
     #[inline(always)]
     pub fn line(&self, last: u32) -> u32
         ensures { result ≡ front_line last self.now }
@@ -264,7 +265,7 @@ impl<'s, 'a> Reader<'s, 'a> {
         if self.is_done { last } else { self.line as u32 }
     }
 
-    /// The column, from 0; 0 at the end of the text.
+    /// The column of the position, from 0; 0 at the end of the text.
     pub fn column(&self) -> usize
         ensures column { result ≡ front_column self.now }
         ensures short { result ≤ longest_line }
@@ -272,7 +273,7 @@ impl<'s, 'a> Reader<'s, 'a> {
         if self.is_done { 0 } else { self.column }
     }
 
-    /// The column after the byte that is here.
+    /// The column after the byte at the position.
     pub fn column_after(&self) -> usize
         requires { IsSome (byte_at 0 self.now) }
         ensures column { result ≡ front_column self.now + 1 }
@@ -281,7 +282,7 @@ impl<'s, 'a> Reader<'s, 'a> {
         self.column + 1
     }
 
-    /// The span of the byte that is here.
+    /// The span of the byte at the position.
     #[inline(always)]
     pub fn byte_span(&self) -> Span
         requires { IsSome (byte_at 0 self.now) }
@@ -294,7 +295,7 @@ impl<'s, 'a> Reader<'s, 'a> {
         }
     }
 
-    /// Goes on by a unit.
+    /// Advances by a unit.
     pub fn pass(&mut self, unit: Unit)
         ensures { self.new ≡ drop (more_by unit) (drop 1 self.old) }
     {
@@ -304,7 +305,7 @@ impl<'s, 'a> Reader<'s, 'a> {
         }
     }
 
-    /// Goes on to the first position where a region ends.
+    /// Advances to the first position where the region ends.
     pub fn skip_to_end(&mut self, region: Region)
         ensures { self.new ≡ region_end region self.old }
     {
@@ -318,7 +319,7 @@ impl<'s, 'a> Reader<'s, 'a> {
         }
     }
 
-    /// Passes over ordinary bytes, where they have no meaning in the region.
+    /// Advances over ordinary bytes, if they have no meaning in the region.
     fn skip_inside(&mut self, region: Region)
         ensures same { region_end region self.new ≡ region_end region self.old }
         ensures shorter { length self.new ≤ length self.old }
@@ -328,7 +329,7 @@ impl<'s, 'a> Reader<'s, 'a> {
         }
     }
 
-    /// A second reader at the same position.
+    /// Makes a second reader at the same position.
     #[inline(always)]
     pub fn copy(&self) -> Self
         ensures { result ≡ self.now }
@@ -342,7 +343,7 @@ impl<'s, 'a> Reader<'s, 'a> {
         }
     }
 
-    /// Goes on by so many bytes or line ends.
+    /// Advances by `count` bytes or line ends.
     pub fn skip(&mut self, count: usize)
         ensures { self.new ≡ drop count self.old }
     {
@@ -353,7 +354,7 @@ impl<'s, 'a> Reader<'s, 'a> {
         }
     }
 
-    /// The byte at a distance; none at a line end.
+    /// The byte at this distance from the position; `None` at a line end.
     pub fn peek(&self, distance: usize) -> Option<u8>
         ensures { result ≡ byte_at distance self.now }
     {
@@ -362,7 +363,7 @@ impl<'s, 'a> Reader<'s, 'a> {
         further.byte()
     }
 
-    /// Whether the word that begins here is `include`.
+    /// Whether the word at the position is `include`.
     #[inline(always)]
     pub fn begins_include(&self) -> bool
         requires { IsSome (byte_at 0 self.now) }
@@ -372,7 +373,7 @@ impl<'s, 'a> Reader<'s, 'a> {
         &self.bytes[self.column..end] == b"include".as_slice()
     }
 
-    /// Takes the word that begins here, and returns its span.
+    /// Advances over the word at the position. Returns the word's span.
     #[inline(always)]
     pub fn take_word(&mut self) -> Span
         requires { IsSome (byte_at 0 self.old) }
@@ -389,17 +390,17 @@ impl<'s, 'a> Reader<'s, 'a> {
         }
     }
 
-    /// Skips the white space that begins here.
+    /// Advances over the white space at the position.
     #[inline(always)]
     pub fn skip_white(&mut self)
         requires { IsSome (byte_at 0 self.old) }
-        ensures { self.new ≡ drop (count_before region.White 0 (drop 1 self.old))
+        ensures { self.new ≡ drop (count_before region.White (drop 1 self.old))
             (drop 1 self.old) }
     {
         self.column = white_end(self.bytes, self.column + 1);
     }
 
-    /// Goes on in this line over bytes without a meaning in comments, control texts, quoted and
+    /// Advances in this line over bytes that have no meaning in comments, control texts, quoted and
     /// verbatim texts.
     pub fn skip_ordinary(&mut self)
         ensures { (n : ℕ) × (self.new ≡ drop n self.old) × regions.AreOrdinary n self.old }
@@ -407,8 +408,8 @@ impl<'s, 'a> Reader<'s, 'a> {
         self.column = ordinary_end(self.bytes, self.column);
     }
 
-    /// Takes the bytes of this line up to the next `@`, or to its end, which are bytes of a name
-    /// where one is read.
+    /// Advances to the next `@` of this line, or to its end. Returns the bytes in between, which
+    /// belong to a name if one is being read.
     pub fn take_name_bytes(&mut self) -> &'a [u8]
         ensures { BeginsName result.now self.old self.new }
     {
@@ -421,7 +422,7 @@ impl<'s, 'a> Reader<'s, 'a> {
         &self.bytes[start..end]
     }
 
-    /// Goes on in this line to the next `@`, or to its end.
+    /// Advances to the next `@` of this line, or to its end.
     fn skip_to_at_sign(&mut self)
         ensures same { region_end region.Prose self.new ≡ region_end region.Prose self.old }
         ensures shorter { length self.new ≤ length self.old }
@@ -429,7 +430,7 @@ impl<'s, 'a> Reader<'s, 'a> {
         self.column = at_sign_from(self.bytes, self.column);
     }
 
-    /// Goes on to the next `@`.
+    /// Advances to the next `@`, which may be on a later line.
     pub fn skip_prose(&mut self)
         ensures { self.new ≡ region_end region.Prose self.old }
     {

@@ -1,9 +1,9 @@
-//! Classes of bytes. A position of the text has a byte, or none at a line end.
+//! Classes of bytes. Each position of the text has a byte, or `None` at a line end.
 ghost use Rattle.std.specs.Prelude.{◌≡◌};
 ghost use Rattle.tangle_lines.specs.Bytes as lines;
 ghost use Rattle.tangle_text.specs.Bytes as spec;
 
-/// Whether this byte is here.
+/// Whether the position has this byte.
 pub fn holds(expected: u8, byte: Option<u8>) -> bool
     ensures { result ≡ spec.holds expected byte }
 {
@@ -20,8 +20,8 @@ pub fn is_white(byte: u8) -> bool
     byte == b' ' || byte == b'\t' || byte == b'\r' || byte == 11 || byte == 12
 }
 
-/// Whether each byte is a letter, a digit, `_`, `$` or past 127. A table, since most bytes of C
-/// text are in words.
+/// A flag for each byte: whether it is a letter, a digit, `_`, `$` or past 127. This is a table for
+/// speed, since most bytes of C text are in words.
 const WORD_BYTES: [bool; 256] = [
     false, false, false, false, false, false, false, false, false, false, false, false, false,
     false, false, false, false, false, false, false, false, false, false, false, false, false,
@@ -49,7 +49,7 @@ pub fn is_word_byte(byte: u8) -> bool
     WORD_BYTES[byte as usize]
 }
 
-/// This byte, or the small letter of a capital one.
+/// The small letter of a capital one; any other byte unchanged.
 pub fn lower(byte: u8) -> u8
     ensures { result ≡ spec.lower byte }
 {
@@ -60,7 +60,7 @@ pub fn lower(byte: u8) -> u8
     }
 }
 
-/// Whether white space is here.
+/// Whether the position has white space.
 pub fn holds_white(byte: Option<u8>) -> bool
     ensures { result ≡ spec.holds_white byte }
 {
@@ -70,7 +70,7 @@ pub fn holds_white(byte: Option<u8>) -> bool
     }
 }
 
-/// Whether white space or a line end is here.
+/// Whether the position has white space or is a line end.
 pub fn is_white_or_line_end(byte: Option<u8>) -> bool
     ensures { result ≡ spec.is_white_or_line_end byte }
 {
@@ -80,7 +80,7 @@ pub fn is_white_or_line_end(byte: Option<u8>) -> bool
     }
 }
 
-/// Whether a word byte is here.
+/// Whether the position has a word byte.
 pub fn holds_word_byte(byte: Option<u8>) -> bool
     ensures { result ≡ spec.holds_word_byte byte }
 {
@@ -90,7 +90,7 @@ pub fn holds_word_byte(byte: Option<u8>) -> bool
     }
 }
 
-/// Whether an octal digit is here.
+/// Whether the position has an octal digit.
 pub fn is_octal(byte: Option<u8>) -> bool
     ensures { result ≡ spec.is_octal byte }
 {
@@ -100,21 +100,22 @@ pub fn is_octal(byte: Option<u8>) -> bool
     }
 }
 
-/// Whether a section start is here: `@` before white space or a line end, or `@*`.
+/// Whether a section starts at the position: with `@` before white space or a line end, or with
+/// `@*`.
 pub fn is_section_start(byte: Option<u8>, next: Option<u8>) -> bool
     ensures { result ≡ spec.is_section_start byte next }
 {
     holds(b'@', byte) && (is_white_or_line_end(next) || holds(b'*', next))
 }
 
-/// Whether `@<` or `@(` is here.
+/// Whether the position has `@<` or `@(`.
 pub fn is_name_start(byte: Option<u8>, next: Option<u8>) -> bool
     ensures { result ≡ spec.is_name_start byte next }
 {
     holds(b'@', byte) && (holds(b'<', next) || holds(b'(', next))
 }
 
-/// Whether `@>` is here.
+/// Whether the position has `@>`.
 pub fn is_end_code(byte: Option<u8>, next: Option<u8>) -> bool
     ensures { result ≡ spec.is_end_code byte next }
 {

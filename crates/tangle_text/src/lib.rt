@@ -1,7 +1,7 @@
 //! Reading the text of a web byte by byte: the source lines, each followed by a line end.
 //!
-//! A [`Reader`] is at a position of the text, and goes on from it: over a byte, a word, white
-//! space, or a [`Region`] up to the position where it ends. A [`Span`] is a range of a line.
+//! A [`Reader`] is at a position of the text. It advances over a byte, a word, white space, or a
+//! [`Region`] up to the position where the region ends. A [`Span`] is a range of a line.
 #![tactic(auto)]
 
 mod ahead;

@@ -1,4 +1,4 @@
-//! Regions of the text, and the units that they have.
+//! Regions of the text, and the units of which they consist.
 ghost use Rattle.std.specs.Prelude.{◌≡◌};
 ghost use Rattle.tangle_text.specs.Regions as spec;
 
@@ -6,7 +6,7 @@ use crate::bytes::{
     holds, holds_white, holds_word_byte, is_end_code, is_name_start, is_section_start,
 };
 
-/// What is read up to the first position where it ends.
+/// A part of the text, by the rule for its end.
 #[derive(Clone, Copy)]
 pub enum Region {
     /// Up to `*/` or a section start.
@@ -17,7 +17,7 @@ pub enum Region {
     ControlText,
     /// Up to `@>` or the line end.
     Verbatim,
-    /// Up to `@>`, a section start, or where another name starts.
+    /// Up to `@>`, a section start, or the start of another name.
     Name,
     /// Up to a double quote or the line end.
     DoubleQuote,
@@ -25,24 +25,24 @@ pub enum Region {
     Apostrophe,
     /// The name of a header after `#include <`: up to `>` or the line end.
     HeaderName,
-    /// As many word bytes as there are.
+    /// As long as there are word bytes.
     Word,
-    /// As much white space as there is.
+    /// As long as there is white space.
     White,
-    /// Up to an `@`, also over lines.
+    /// Up to an `@`, which may be on a later line.
     Prose,
-    /// What is no ASCII constant: up to an apostrophe or the line end.
+    /// A bad ASCII constant: up to an apostrophe or the line end.
     BadConstant,
 }
 
-/// What a region has at a position: its end, one byte or line end, or two that belong together.
+/// The next step over a region: its end, one byte or line end, or two that belong together.
 #[derive(Clone, Copy)]
 pub enum Unit {
     /// The region ends here.
     Stop,
     /// One byte or line end.
     One,
-    /// Two that belong together.
+    /// Two bytes or line ends that belong together.
     Two,
 }
 
@@ -58,7 +58,7 @@ fn unit_by(ends: bool, is_two: bool) -> Unit
     }
 }
 
-/// What a quoted text that ends with this byte has at a position.
+/// The unit at a position of a quoted text that ends with this byte.
 fn quoted_unit(close: u8, byte: Option<u8>, next: Option<u8>) -> Unit
     ensures { result ≡ spec.quoted_unit close byte next }
 {
@@ -67,7 +67,7 @@ fn quoted_unit(close: u8, byte: Option<u8>, next: Option<u8>) -> Unit
     unit_by(holds(close, byte) || byte.is_none(), is_two)
 }
 
-/// What a region has at a position, by the bytes or line ends there and after it.
+/// The unit at a position of a region, by the two bytes or line ends from the position on.
 #[inline(always)]
 pub fn unit_of(region: Region, byte: Option<u8>, next: Option<u8>) -> Unit
     ensures { result ≡ spec.unit_of region byte next }
@@ -92,8 +92,8 @@ pub fn unit_of(region: Region, byte: Option<u8>, next: Option<u8>) -> Unit
     }
 }
 
-/// Whether ordinary bytes have no meaning in a region: in comments, control texts, quoted and
-/// verbatim texts.
+/// Whether ordinary bytes have no meaning in the region: it is a comment, a control text, or a
+/// quoted or verbatim text.
 pub fn skips_ordinary(region: Region) -> bool
     ensures { result ≡ spec.skips_ordinary region }
 {

@@ -11,7 +11,7 @@ use Rattle.tangle_text.proofs.AheadLemmas.{byte_at-drop}
 use Rattle.tangle_lexer.proofs.laws.Points.{Point, IsByte, after_cells, HoldsBytes, IsTextAt}
 use Rattle.tangle_lexer.proofs.laws.TokenOrder.{AreInOrder}
 use Rattle.tangle_lexer.proofs.laws.RegionOrder.{holds-byte, two-bytes, more-bytes, bytes-precede}
-use Rattle.tangle_lexer.proofs.laws.WhiteOrder.{bad_constant-in_order}
+use Rattle.tangle_lexer.proofs.laws.WhiteOrder.{bad_constant-bytes, bad_constant-in_order}
 
 front-byte : (text : List Cell) → IsByte (byte_at 0 text) → HoldsBytes 1 text
 front-byte [] h = absurd h
@@ -30,7 +30,7 @@ closed-bytes (Some x) n text h = by (holds apostrophe (byte_at n text)) (holds-b
     by true k = more-bytes n 1 text (h x refl) (front-byte (drop n text) (subst IsByte (byte_at-drop n text) (k refl)))
     by false k = tt
 
--- one byte more
+-- one more byte after the first `n` bytes
 next-byte : (n : ℕ) (text : List Cell) → HoldsBytes n text → IsByte (byte_at n text) → HoldsBytes (n + 1) text
 next-byte n text h byte = more-bytes n 1 text h (front-byte (drop n text) (subst IsByte (byte_at-drop n text) byte))
 
@@ -89,15 +89,21 @@ constant-bytes (Some b) text e =
     (λ i. either-bytes text (b == backslash) (escaped_constant text) other (λ j. escaped-bytes text front)
     (λ j. either-bytes text (b == apostrophe) None (if_closed (Some b) 1 text) (λ k. tt) (λ k. closed-bytes (Some b) 1 text (λ x l. front-byte text front))))
 
+pub ascii_constant-bytes : (s : LexerState) (c : Cell) (cs : List Cell) → HoldsBytes 2 (c ∷ cs) → HoldsBytes (1 + (ascii_constant s (c ∷ cs)).more) (c ∷ cs)
+ascii_constant-bytes s c cs h = by (constant_at (drop 1 cs)) (constant-bytes (byte_at 0 (drop 1 cs)) (drop 1 cs) refl)
+  where
+    by : (k : Option AsciiConstant) → HasBytes (drop 1 cs) k → HoldsBytes (1 + (constant_lexeme k s (c ∷ cs)).more) (c ∷ cs)
+    by None bytes = bad_constant-bytes s (c ∷ cs) h
+    by (Some k) bytes =
+        let sum : 2 + (k.count + 1) ≡ 1 + (2 + k.count) = omega arith in
+        subst (λ n. HoldsBytes n (c ∷ cs)) sum (more-bytes 2 (k.count + 1) (c ∷ cs) h bytes)
+
 module _ (width : ℕ → ℕ) (count : ℕ) where
   pub ascii_constant-in_order : (s : LexerState) (at : Point) (c : Cell) (cs : List Cell) → IsTextAt width count at (c ∷ cs) → HoldsBytes 2 (c ∷ cs)
       → AreInOrder width count true at (ascii_constant s (c ∷ cs)).tokens true (after_cells at (1 + (ascii_constant s (c ∷ cs)).more) (c ∷ cs))
-  ascii_constant-in_order s at c cs is h = by (constant_at (drop 1 cs)) (constant-bytes (byte_at 0 (drop 1 cs)) (drop 1 cs) refl)
+  ascii_constant-in_order s at c cs is h = by (constant_at (drop 1 cs)) (ascii_constant-bytes s c cs h)
     where
-      by : (k : Option AsciiConstant) → HasBytes (drop 1 cs) k
+      by : (k : Option AsciiConstant) → HoldsBytes (1 + (constant_lexeme k s (c ∷ cs)).more) (c ∷ cs)
           → AreInOrder width count true at (constant_lexeme k s (c ∷ cs)).tokens true (after_cells at (1 + (constant_lexeme k s (c ∷ cs)).more) (c ∷ cs))
       by None bytes = bad_constant-in_order width count s at (c ∷ cs) is h
-      by (Some k) bytes =
-          let sum : 2 + (k.count + 1) ≡ 1 + (2 + k.count) = omega arith in
-          let all = subst (λ n. HoldsBytes n (c ∷ cs)) sum (more-bytes 2 (k.count + 1) (c ∷ cs) h bytes) in
-          (is.0.line, (is.0.real, bytes-precede width count at (1 + (2 + k.count)) (c ∷ cs) is all))
+      by (Some k) bytes = (is.0.line, (is.0.real, bytes-precede width count at (1 + (2 + k.count)) (c ∷ cs) is bytes))

@@ -1,4 +1,4 @@
--- The bytes that are kept of the C parts are those of the spans of their tokens.
+-- The bytes of the segments that are kept are those in the spans of the tokens of C parts.
 use Rattle.std.proofs.Common.{◌≡◌, ℕ, zero, suc, ◌+◌, ◌-◌, Bool, true, false, not, List, [], ◌∷◌, ◌++◌, take, drop, flat_map, Option, Some, None, refl, ap, sym, ◌∙◌, arith, append_assoc, append-nil, cond, ◌==◌, if◌then◌else◌}
 use Rattle.std.proofs.lemmas.Grind.{flat_map-append}
 use Rattle.std.specs.List.{list_any}
@@ -22,9 +22,11 @@ use Rattle.tangle_lexer.specs.declared.constants.AsciiConstant.{AsciiConstant}
 use Rattle.tangle_lines.specs.Bytes.{at_sign, double_quote}
 use Rattle.tangle_text.specs.Bytes.{apostrophe, greater_sign, holds, is_line_end}
 use Rattle.tangle_text.specs.Text.{Cell, byte_at, front_column, front_line, span_at}
-use Rattle.tangle_text.specs.Regions.{count_before, from_units, unless_stop, unit_at, more_by}
+use Rattle.tangle_text.specs.Regions.{count_before, unless_stop, unit_at, more_by}
+use Rattle.tangle_lexer.proofs.lemmas.LexemeLemmas.{line_end_of, line_ends-are}
+use Rattle.tangle_text.proofs.UnitLemmas.{from_units}
 use Rattle.tangle_lexer.specs.Lexemes.{Lexeme, lexeme_of, fault_if, in_mode}
-use Rattle.tangle_lexer.specs.Comments.{unit_line_end, line_ends, ends_comment, starts_section, has_end_code}
+use Rattle.tangle_lexer.specs.Comments.{line_ends, ends_comment, starts_section, has_end_code}
 use Rattle.tangle_lexer.specs.Quoted.{quote_end}
 use Rattle.tangle_lexer.specs.Constants.{constant_at, constant_lexeme}
 use Rattle.tangle_lexer.specs.Names.{name_end, is_ended, name_faults, after_name, has_single_equals, definition_or_mention, definition_count}
@@ -39,7 +41,7 @@ use Rattle.tangle_lexer.proofs.laws.KindCells.{CodeCells, Cells, kind-cells}
 use Rattle.tangle_lexer.proofs.laws.SegmentPoints.{token_points, points-append, bytes-columns}
 use Rattle.tangle_lexer.proofs.laws.KeptText.{text_points, double_quoted-keeps, apostrophe-keeps, header_name-keeps, verbatim-keeps}
 
--- what begins with no @
+-- lexemes that do not begin with @
 
 abbrev pub NoAtSign : LexemeKind → Option ℕ → Type 0
 NoAtSign (lexeme_kind.Control code) b = Unit {0}
@@ -63,7 +65,7 @@ abbrev pub in_part : Mode → Bool
 in_part mode.CPart = true
 in_part _ = false
 
--- where the bytes of the texts are that lie in C parts; the flag says whether the first token does
+-- the points of the spans of tokens in C parts; the flag says whether the first token is in one
 abbrev pub part_points : Bool → List Token → List (ℕ × ℕ)
 part_points within [] = []
 part_points within (token.Section ∷ us) = part_points false us
@@ -93,7 +95,7 @@ part_points-outside (token.NamedPart occurrence line ∷ ts) us h = cc
 part_points-outside (token.UseOf occurrence line ∷ ts) us h = cc
 part_points-outside (_ ∷ ts) us h = part_points-outside ts us h
 
--- tokens without a text
+-- tokens without a span have no points
 
 fault-points : (b : Bool) (kind : FaultKind) (line : ℕ) → token_points (fault_if b kind line) ≡ []
 fault-points true kind line = refl
@@ -103,23 +105,26 @@ stop-points : (u : Unit-of) (us : List Token) → token_points us ≡ [] → tok
 stop-points unit.Stop us h = refl
 stop-points _ us h = h
 
-line_ends-points : (r : Region) (k : ℕ) (text : List Cell) → token_points (from_units unit_line_end r k text) ≡ []
-line_ends-points r zero [] = refl
-line_ends-points r (suc k) [] = refl
-line_ends-points r (suc k) (c ∷ cs) = line_ends-points r k cs
-line_ends-points r zero (c ∷ cs) =
-    stop-points (unit_at r (c ∷ cs)) _ (by (is_line_end c.byte) (line_ends-points r (more_by (unit_at r (c ∷ cs))) cs))
+units-points : (r : Region) (k : ℕ) (text : List Cell) → token_points (from_units line_end_of r k text) ≡ []
+units-points r zero [] = refl
+units-points r (suc k) [] = refl
+units-points r (suc k) (c ∷ cs) = units-points r k cs
+units-points r zero (c ∷ cs) =
+    stop-points (unit_at r (c ∷ cs)) _ (by (is_line_end c.byte) (units-points r (more_by (unit_at r (c ∷ cs))) cs))
   where
-    by : (b : Bool) → token_points (from_units unit_line_end r (more_by (unit_at r (c ∷ cs))) cs) ≡ []
-        → token_points (cond b (token.LineEnd c.line ∷ []) [] ++ from_units unit_line_end r (more_by (unit_at r (c ∷ cs))) cs) ≡ []
+    by : (b : Bool) → token_points (from_units line_end_of r (more_by (unit_at r (c ∷ cs))) cs) ≡ []
+        → token_points (cond b (token.LineEnd c.line ∷ []) [] ++ from_units line_end_of r (more_by (unit_at r (c ∷ cs))) cs) ≡ []
     by true h = h
     by false h = h
 
--- white space with the line ends and the fault of a region
+line_ends-points : (r : Region) (text : List Cell) → token_points (line_ends r text) ≡ []
+line_ends-points r text = ap token_points (line_ends-are r text) ∙ units-points r 0 text
+
+-- white space, line ends and the fault of a comment or control text have no points
 white-points : (r : Region) (text : List Cell) (b : Bool) (kind : FaultKind) (line : ℕ) → token_points (token.White ∷ line_ends r text ++ fault_if b kind line) ≡ []
 white-points r text b kind line =
     points-append (line_ends r text) (fault_if b kind line)
-    ∙ ap (λ ps. ps ++ token_points (fault_if b kind line)) (line_ends-points r 0 text)
+    ∙ ap (λ ps. ps ++ token_points (fault_if b kind line)) (line_ends-points r text)
     ∙ fault-points b kind line
 
 constant-points : (k : Option AsciiConstant) (s : LexerState) (text : List Cell) → token_points (constant_lexeme k s text).tokens ≡ []
@@ -130,7 +135,7 @@ constant-mode : (k : Option AsciiConstant) (s : LexerState) (text : List Cell) �
 constant-mode None s text = refl
 constant-mode (Some k) s text = refl
 
--- a lexeme whose tokens are no heads, and after which the same is read
+-- a lexeme without a head or a use, after which the mode is unchanged
 record IsPlain (s : LexerState) (here : Lexeme) : Type 0 where
   tokens : AreNoHeadsOrUses here.tokens
   mode : here.after.mode ≡ s.mode
@@ -141,7 +146,7 @@ plain s here q m = record { tokens = q; mode = m }
 code-plain : (kind : ControlCode) (s : LexerState) (text : List Cell) → (kind ≡ code.SectionStart → ⊥) → (kind ≡ code.Name → ⊥) → IsPlain s (c_code kind s text)
 code-plain code.SectionStart s text h k = absurd (h refl)
 code-plain code.Name s text h k = absurd (k refl)
-code-plain code.ControlText s text h k = plain s _ (white-plain _ _ (line_ends-plain region.ControlText 0 (drop 2 text)) (fault_if-plain _ fault.ControlText _)) refl
+code-plain code.ControlText s text h k = plain s _ (white-plain _ _ (line_ends-plain region.ControlText (drop 2 text)) (fault_if-plain _ fault.ControlText _)) refl
 code-plain code.Verbatim s text h k = plain s _ (verbatim_tokens-plain (drop 2 text)) refl
 code-plain code.AsciiConstant s text h k = plain s _ (constant-plain (constant_at (drop 2 text)) s text) (constant-mode (constant_at (drop 2 text)) s text)
 code-plain _ s text h k = plain s _ (seen _ refl) refl
@@ -152,7 +157,7 @@ IsCode _ = ⊥
 
 kind-plain : (kind : LexemeKind) (s : LexerState) (text : List Cell) → (IsCode kind → ⊥) → IsPlain s (c_lexeme kind s text)
 kind-plain (lexeme_kind.Control code) s text h = absurd (h tt)
-kind-plain lexeme_kind.BlockComment s text h = plain s _ (white-plain _ _ (line_ends-plain region.BlockComment 0 (drop 2 text)) (fault_if-plain _ fault.CommentEnd _)) refl
+kind-plain lexeme_kind.BlockComment s text h = plain s _ (white-plain _ _ (line_ends-plain region.BlockComment (drop 2 text)) (fault_if-plain _ fault.CommentEnd _)) refl
 kind-plain lexeme_kind.LineComment s text h = plain s _ (white-plain [] _ (seen [] refl) (fault_if-plain _ fault.CommentEnd _)) refl
 kind-plain lexeme_kind.DoubleQuote s text h =
     plain s _ (cut_tokens-plain (quote_end region.DoubleQuote double_quote s.last_line) region.DoubleQuote 0 (front_column text) (drop 1 text) (quote_end-plain region.DoubleQuote double_quote s.last_line)) refl
@@ -163,21 +168,22 @@ kind-plain lexeme_kind.HeaderName s text h =
 kind-plain _ s text h = plain s _ (seen _ refl) refl
 
 module _ (width : ℕ → ℕ) (count : ℕ) where
-  -- a range of bytes keeps them
+  -- the points of a span are those of its bytes
   span-keeps : (at : Point) (n : ℕ) (c : Cell) (cs : List Cell) → IsTextAt width count at (c ∷ cs) → HoldsBytes n (c ∷ cs)
       → span_points (span_at n (c ∷ cs)) ++ [] ≡ byte_points (take n (c ∷ cs)) ++ []
   span-keeps at n c cs is h =
       let e : c.column + n - c.column ≡ n = omega arith in
       rw (e, bytes-columns width count at n (c ∷ cs) is h, is.0.line, is.0.column) refl
 
-  -- The bytes that are kept of a lexeme are those of its tokens: by the control code that it begins with, and by what begins there.
+  -- The bytes in the spans of a lexeme's tokens are those that its segments keep: for each control code, and for each
+  -- kind.
 
   abbrev CodeKeeps : ControlCode → LexerState → List Cell → Type 0
   CodeKeeps kind s text = token_points (c_code kind s text).tokens ≡ flat_map kept_points (code_segments kind (1 + (c_code kind s text).more) text)
 
-  verbatim-kept : (text : List Cell) → flat_map kept_points (verbatim_segments text) ≡ text_points false (take (count_before region.Verbatim 0 (drop 2 text)) (drop 2 text))
+  verbatim-kept : (text : List Cell) → flat_map kept_points (verbatim_segments text) ≡ text_points false (take (count_before region.Verbatim (drop 2 text)) (drop 2 text))
   verbatim-kept text =
-      let inside : ℕ = count_before region.Verbatim 0 (drop 2 text) in
+      let inside : ℕ = count_before region.Verbatim (drop 2 text) in
       let rest : List Cell = drop inside (drop 2 text) in
       flat_map-append kept_points (text_segments false (take inside (drop 2 text))) (if has_end_code rest then segment ControlBytes (take 2 rest) ∷ [] else [])
       ∙ ap (λ ps. text_points false (take inside (drop 2 text)) ++ ps) (by (has_end_code rest) (take 2 rest))
@@ -197,7 +203,7 @@ module _ (width : ℕ → ℕ) (count : ℕ) where
       ∙ ap (λ ps. ps ++ token_points others) (fault-points (not (is_ended text)) fault.NameEnd (front_line s.last_line (name_end text)))
       ∙ fault-points (has_single_equals (after_name text)) fault.NameEquals (front_line s.last_line text)
   code-keeps code.ControlText s at c cs is h =
-      let rest : List Cell = drop (count_before region.ControlText 0 (drop 1 cs)) (drop 1 cs) in
+      let rest : List Cell = drop (count_before region.ControlText (drop 1 cs)) (drop 1 cs) in
       white-points region.ControlText (drop 1 cs) (not (has_end_code rest)) fault.ControlText (front_line s.last_line rest)
   code-keeps code.Verbatim s at c cs is h =
       verbatim-keeps width count (after_cells at 2 (c ∷ cs)) (drop 1 cs) (text-after_cells width count at 2 (c ∷ cs) is) ∙ sym (verbatim-kept (c ∷ cs))
@@ -209,10 +215,10 @@ module _ (width : ℕ → ℕ) (count : ℕ) where
       → token_points (c_lexeme kind s (c ∷ cs)).tokens ≡ flat_map kept_points (c_segments kind (1 + (c_lexeme kind s (c ∷ cs)).more) (c ∷ cs))
   kind-keeps (lexeme_kind.Control kind) s at c cs is h k = code-keeps kind s at c cs is h
   kind-keeps lexeme_kind.BlockComment s at c cs is h k =
-      let rest : List Cell = drop (count_before region.BlockComment 0 (drop 1 cs)) (drop 1 cs) in
+      let rest : List Cell = drop (count_before region.BlockComment (drop 1 cs)) (drop 1 cs) in
       white-points region.BlockComment (drop 1 cs) (not (ends_comment rest)) fault.CommentEnd (front_line s.last_line rest)
   kind-keeps lexeme_kind.LineComment s at c cs is h k =
-      let rest : List Cell = drop (count_before region.LineComment 0 (drop 1 cs)) (drop 1 cs) in
+      let rest : List Cell = drop (count_before region.LineComment (drop 1 cs)) (drop 1 cs) in
       fault-points (starts_section rest) fault.CommentEnd (front_line s.last_line rest)
   kind-keeps lexeme_kind.DoubleQuote s at c cs is h k = double_quoted-keeps width count s at c cs is h k
   kind-keeps lexeme_kind.Apostrophe s at c cs is h k = apostrophe-keeps width count s at c cs is h k
@@ -220,10 +226,10 @@ module _ (width : ℕ → ℕ) (count : ℕ) where
   kind-keeps lexeme_kind.LineEnd s at c cs is h k = refl
   kind-keeps lexeme_kind.White s at c cs is h k = refl
   kind-keeps lexeme_kind.Word s at c cs is h k =
-      span-keeps at (1 + count_before region.Word 0 cs) c cs is (more-bytes 1 (count_before region.Word 0 cs) (c ∷ cs) (h, tt) (word-bytes cs))
+      span-keeps at (1 + count_before region.Word cs) c cs is (more-bytes 1 (count_before region.Word cs) (c ∷ cs) (h, tt) (word-bytes cs))
   kind-keeps lexeme_kind.Other s at c cs is h k = span-keeps at 1 c cs is (h, tt)
 
-  -- So are those of the C part that it is in, if it is in one.
+  -- The same with the tokens after the lexeme: each counts only if it is in a C part.
 
   abbrev Keeps : Mode → Lexeme → List Segment → Type 0
   Keeps m here ss = (us : List Token) → part_points (in_part m) (here.tokens ++ us) ≡ flat_map kept_points ss ++ part_points (in_part here.after.mode) us
@@ -254,7 +260,7 @@ module _ (width : ℕ → ℕ) (count : ℕ) where
   kind-within (lexeme_kind.Control kind) s c cs m e = code-within kind s c cs m e
   kind-within kind s c cs m e = plain-within s (c_lexeme kind s (c ∷ cs)) (c_segments kind (1 + (c_lexeme kind s (c ∷ cs)).more) (c ∷ cs)) m (kind-plain kind s (c ∷ cs) (λ k. k)) e
 
-  -- outside of C parts nothing is kept, and a head begins one
+  -- a lexeme outside of C parts adds no points; the mode after it says whether a C part begins
 
   abbrev Leads : Lexeme → Type 0
   Leads here = (us : List Token) → part_points false (here.tokens ++ us) ≡ part_points (in_part here.after.mode) us
@@ -298,15 +304,15 @@ module _ (width : ℕ → ℕ) (count : ℕ) where
       by : (m : Mode) → s.mode ≡ m → Keeps m (lexeme_in m s (c ∷ cs)) (segments_in m s (1 + (lexeme_in m s (c ∷ cs)).more) (c ∷ cs))
       by mode.Limbo e =
           if-leads (starts_section (c ∷ cs)) (section_start s) _ (λ us. refl)
-          (if-leads (holds at_sign c.byte) (lexeme_of [] 1 s) (prose s (c ∷ cs)) (skip 1 (ap in_part e)) (skip (count_before region.Prose 0 cs) (ap in_part e)))
+          (if-leads (holds at_sign c.byte) (lexeme_of [] 1 s) (prose s (c ∷ cs)) (skip 1 (ap in_part e)) (skip (count_before region.Prose cs) (ap in_part e)))
       by mode.Documentation e =
-          if-leads (holds at_sign c.byte) _ (prose s (c ∷ cs)) (documentation-leads (code_at (byte_at 0 cs)) s (c ∷ cs) (ap in_part e)) (skip (count_before region.Prose 0 cs) (ap in_part e))
+          if-leads (holds at_sign c.byte) _ (prose s (c ∷ cs)) (documentation-leads (code_at (byte_at 0 cs)) s (c ∷ cs) (ap in_part e)) (skip (count_before region.Prose cs) (ap in_part e))
       by mode.CPart e =
           kind-within (kind_at s.include (c ∷ cs)) s c cs e
           (kind-keeps (kind_at s.include (c ∷ cs)) s at c cs is (kind-cells s.include c.byte (byte_at 0 cs)) (kind-no-sign s.include c.byte (byte_at 0 cs)))
       by mode.Macro e = macro-leads (kind_at s.include (c ∷ cs)) s (c ∷ cs) (ap in_part e)
 
-  -- all lexemes: the bytes of the texts in C parts are those that the segments keep
+  -- all lexemes: the points of the spans in C parts are those of the segments that are kept
   pub segments-keep : (k : ℕ) (s : LexerState) (text : List Cell) (at : Point) → IsTextAt width count at text
       → part_points (in_part s.mode) (flat_map (λ l. l.tokens) (lexemes k s text)) ≡ flat_map kept_points (segments k s text)
   segments-keep k s [] at is = refl

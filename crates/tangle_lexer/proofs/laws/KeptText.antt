@@ -1,4 +1,4 @@
--- Quoted and verbatim texts: the bytes of their ranges are all but the second @ of each @@.
+-- The ranges of quoted and verbatim texts have all bytes of these texts but the second @ of each @@.
 use Rattle.std.proofs.Common.{◌≡◌, ℕ, zero, suc, ◌+◌, ◌-◌, ◌≤◌, Bool, true, false, not, List, [], ◌∷◌, ◌++◌, take, drop, Option, Some, None, inl, inr, refl, ap, sym, ◌∙◌, arith, subst, cond, nat_eq, ◌&&◌, ◌||◌, ◌⊎◌, append_assoc, append-nil, flat_map}
 use Rattle.std.proofs.Math.Seq.{take-add}
 use Rattle.std.proofs.lemmas.Bool.Decides.{eqb_tells}
@@ -15,6 +15,7 @@ use Rattle.tangle_lines.specs.Bytes.{at_sign, double_quote}
 use Rattle.tangle_text.specs.Bytes.{backslash, greater_sign, apostrophe, holds, is_line_end}
 use Rattle.tangle_text.specs.Text.{Cell, byte_at, span_at}
 use Rattle.tangle_text.specs.Regions.{unit_by, quoted_unit, unit_of, unit_at, count_before}
+use Rattle.tangle_text.proofs.UnitLemmas.{count-one, count-two}
 use Rattle.tangle_lexer.specs.Lexemes.{fault_if}
 use Rattle.tangle_lexer.specs.Quoted.{cut_range, unit_tokens, next_start, cut_tokens, quote_end, one_if, quoted_text, verbatim_end, empty_end, verbatim_tokens}
 use Rattle.tangle_lexer.specs.Segments.{points_by, kept_points, byte_points, cell_kind, text_segments}
@@ -24,11 +25,11 @@ use Rattle.tangle_lexer.proofs.laws.RegionOrder.{goes-byte, holds-byte}
 use Rattle.tangle_lexer.proofs.laws.QuotedOrder.{no-at_sign, quoted-takes, include-takes, verbatim-takes}
 use Rattle.tangle_lexer.proofs.laws.SegmentPoints.{columns_to, columns-next, columns-nothing, byte-point, token_points, cut-points}
 
--- where the bytes are that are kept of such a text
+-- the points of the bytes that are kept of such a text
 abbrev pub text_points : Bool → List Cell → List (ℕ × ℕ)
 text_points after_at_sign cells = flat_map kept_points (text_segments after_at_sign cells)
 
--- a byte is kept, unless it is a second @
+-- a byte is kept unless it is the second @ of an @@
 kept-kind : (after_at_sign : Bool) (c : Cell) → IsByte c.byte → (after_at_sign && holds at_sign c.byte) ≡ false → cell_kind after_at_sign c ≡ Kept
 kept-kind after_at_sign c h k = by c.byte h (after_at_sign && holds at_sign c.byte) k
   where
@@ -40,7 +41,7 @@ kept-kind after_at_sign c h k = by c.byte h (after_at_sign && holds at_sign c.by
 kept-byte : (after_at_sign : Bool) (c : Cell) → IsByte c.byte → (after_at_sign && holds at_sign c.byte) ≡ false → points_by (cell_kind after_at_sign c) (c ∷ []) ≡ (c.line, c.column) ∷ []
 kept-byte after_at_sign c h k = ap (λ f. points_by f (c ∷ [])) (kept-kind after_at_sign c h k) ∙ ap (λ ps. ps ++ []) (byte-point c h)
 
--- where no @ is, it doesn't matter what was before
+-- a text that does not begin with @ has the same points after an @ as after another cell
 after_at_sign-off : (after_at_sign : Bool) (text : List Cell) → holds at_sign (byte_at 0 text) ≡ false → text_points after_at_sign text ≡ text_points false text
 after_at_sign-off false text h = refl
 after_at_sign-off true [] h = refl
@@ -51,18 +52,18 @@ front-take zero text h = refl
 front-take (suc n) [] h = refl
 front-take (suc n) (c ∷ cs) h = h
 
--- a text before some cells that give the same whatever is before
+-- the points of a text before cells whose points do not depend on the cell before them
 points-before : (after_at_sign : Bool) (xs ys : List Cell) (ps : List (ℕ × ℕ)) → ((h : Bool) → text_points h ys ≡ ps) → text_points after_at_sign (xs ++ ys) ≡ text_points after_at_sign xs ++ ps
 points-before after_at_sign [] ys ps h = h after_at_sign
 points-before after_at_sign (x ∷ xs) ys ps h =
     ap (λ qs. points_by (cell_kind after_at_sign x) (x ∷ []) ++ qs) (points-before (holds at_sign x.byte && not after_at_sign) xs ys ps h)
     ∙ sym (append_assoc (points_by (cell_kind after_at_sign x) (x ∷ [])) (text_points (holds at_sign x.byte && not after_at_sign) xs) ps)
 
--- In these regions two cells belong together where both are @, or where the first is no @ and the second neither.
+-- in these regions both cells of a unit of two are @, or neither is
 abbrev PairsAtSigns : Region → Type 0
 PairsAtSigns r = (b n : Option ℕ) → unit_of r b n ≡ unit.Two → holds at_sign b ≡ holds at_sign n
 
--- an @ alone is before no other
+-- in these regions no @ follows an @ that is a unit of one cell
 abbrev LeavesNoAtSign : Region → Type 0
 LeavesNoAtSign r = (b n : Option ℕ) → unit_of r b n ≡ unit.One → holds at_sign b ≡ true → holds at_sign n ≡ false
 
@@ -113,20 +114,20 @@ verbatim-leaves : LeavesNoAtSign region.Verbatim
 verbatim-leaves b n e h = leaves-by _ (holds at_sign b) (holds at_sign n) e h
 
 module _ (width : ℕ → ℕ) (count : ℕ) where
-  -- a text that is cut, in a region; `last` are the points that its end gives
+  -- a text that is cut, in a region; `last` gives the points of its end
   module _ (r : Region) (stops : (n : Option ℕ) → unit_of r None n ≡ unit.Stop) (pairs : PairsAtSigns r) (leaves : LeavesNoAtSign r)
       (takes : (b : Option ℕ) → unit_of r b None ≡ unit.Two → holds backslash b ≡ true)
       (ends : ℕ → List Cell → List Token) (last : List Cell → List (ℕ × ℕ))
       (stop : (at : Point) (start : ℕ) (text : List Cell) → start ≤ at.column → IsTextAt width count at text
       → token_points (ends start text) ≡ columns_to at.line start at.column ++ last text) where
-    -- what is kept of the region, and what its end gives
+    -- the points of the first `n` cells, which are the region, and those of its end
     abbrev kept_of : ℕ → List Cell → List (ℕ × ℕ)
     kept_of n text = text_points false (take n text) ++ last (drop n text)
 
     abbrev CutKeeps : Point → ℕ → List Cell → Type 0
-    CutKeeps at start text = token_points (cut_tokens ends r 0 start text) ≡ columns_to at.line start at.column ++ kept_of (count_before r 0 text) text
+    CutKeeps at start text = token_points (cut_tokens ends r 0 start text) ≡ columns_to at.line start at.column ++ kept_of (count_before r text) text
 
-    -- one kept byte after a range that was begun
+    -- the points of a current range with one more byte
     after-range : (line start column : ℕ) (ps : List (ℕ × ℕ)) → start ≤ column
         → columns_to line start (column + 1) ++ ps ≡ columns_to line start column ++ ((line, column) ∷ ps)
     after-range line start column ps h =
@@ -149,10 +150,10 @@ module _ (width : ℕ → ℕ) (count : ℕ) where
     one-keeps at start c cs h is e next =
         let byte = goes-byte r stops c.byte (byte_at 0 cs) unit.One e (λ k. cc) in
         let text = subst (λ p. IsTextAt width count p cs) (after-byte c byte) is.1 in
-        let n : ℕ = count_before r 0 cs in
+        let n : ℕ = count_before r cs in
         let kept = next (point_at c.line (c.column + 1)) start (omega (arith, h, is.0.column)) text in
         let tokens : cut_tokens ends r 0 start (c ∷ cs) ≡ fault_if (holds at_sign c.byte) fault.StringAt c.line ++ cut_tokens ends r 0 start cs = rw e refl in
-        let counts : count_before r 0 (c ∷ cs) ≡ 1 + n = rw e refl in
+        let counts : count_before r (c ∷ cs) ≡ 1 + n = count-one r c cs e in
         rw (tokens, counts, one-points c cs n byte (leaves c.byte (byte_at 0 cs) e), ← is.0.line, ← is.0.column)
         (by (holds at_sign c.byte) ∙ kept ∙ after-range c.line start c.column (kept_of n cs) (omega (arith, h, is.0.column)))
       where
@@ -160,7 +161,7 @@ module _ (width : ℕ → ℕ) (count : ℕ) where
         by true = refl
         by false = refl
 
-    -- two cells that belong together, of which the first is a byte: the second is kept if it is a byte and the first is no @
+    -- a unit of two cells that begins with a byte: the second cell is kept if it is a byte and the first is not @
     abbrev second_points : Bool → Cell → List (ℕ × ℕ)
     second_points sign d = points_by (cell_kind (sign && true) d) (d ∷ [])
 
@@ -185,16 +186,16 @@ module _ (width : ℕ → ℕ) (count : ℕ) where
     two-keeps at start c d cs h is e next =
         let byte = goes-byte r stops c.byte d.byte unit.Two e (λ k. cc) in
         let after : IsTextAt width count (point_at c.line (c.column + 1)) (d ∷ cs) = subst (λ p. IsTextAt width count p (d ∷ cs)) (after-byte c byte) is.1 in
-        let n : ℕ = count_before r 0 cs in
+        let n : ℕ = count_before r cs in
         let tokens : cut_tokens ends r 0 start (c ∷ d ∷ cs) ≡ unit_tokens r unit.Two start c d.byte ++ cut_tokens ends r 0 (next_start unit.Two start c d.byte) cs = rw e refl in
-        let counts : count_before r 0 (c ∷ d ∷ cs) ≡ 1 + (1 + n) = rw e refl in
+        let counts : count_before r (c ∷ d ∷ cs) ≡ 1 + (1 + n) = count-two r c d cs e in
         rw (tokens, counts, two-points c d cs n byte (pairs c.byte d.byte e), ← is.0.line, ← is.0.column)
         (by d.byte refl (holds at_sign c.byte) (holds backslash c.byte) (second c.byte d.byte e) after.0 after.1)
       where
         low : start ≤ c.column
         low = omega (arith, h, is.0.column)
 
-        -- the second cell is a byte, and an @ where the first is; or it is a line end after a backslash
+        -- the second cell is a byte, and is @ if and only if the first is; or it is a line end after a backslash
         second : (b x : Option ℕ) → unit_of r b x ≡ unit.Two → (IsByte x × (holds at_sign b ≡ holds at_sign x)) ⊎ ((holds at_sign b ≡ false) × (holds backslash b ≡ true))
         second b (Some x) e = inl (tt, pairs b (Some x) e)
         second b None e = inr (no-at_sign b (takes b e), takes b e)
@@ -203,13 +204,13 @@ module _ (width : ℕ → ℕ) (count : ℕ) where
         Goal sign back x =
             token_points (cond sign (cut_range r c.line start (c.column + 1)) (cond (back && is_line_end x) (cut_range r c.line start (c.column + 1) ++ token.QuoteBreak ∷ []) [])
             ++ cut_tokens ends r 0 (cond sign (c.column + 2) (cond (back && is_line_end x) 0 start)) cs)
-            ≡ columns_to c.line start c.column ++ ((c.line, c.column) ∷ second_points sign d ++ kept_of (count_before r 0 cs) cs)
+            ≡ columns_to c.line start c.column ++ ((c.line, c.column) ∷ second_points sign d ++ kept_of (count_before r cs) cs)
 
-        -- both bytes are kept, in the range that was begun
+        -- both bytes are kept, in the current range
         simple : (b : ℕ) → d.byte ≡ Some b → IsCellAt width count (point_at c.line (c.column + 1)) d → IsTextAt width count (point_at d.line (d.column + 1)) cs → Goal false false (Some b)
         simple b e cell text =
             let kept = next (point_at d.line (d.column + 1)) start (omega (arith, low, cell.column)) text in
-            let rest : List (ℕ × ℕ) = kept_of (count_before r 0 cs) cs in
+            let rest : List (ℕ × ℕ) = kept_of (count_before r cs) cs in
             let there = kept-byte false d (rw e tt) refl in
             kept
             ∙ after-range d.line start d.column rest (omega (arith, low, cell.column))
@@ -222,7 +223,7 @@ module _ (width : ℕ → ℕ) (count : ℕ) where
         by None e false false (inr k) cell text = absurd (let f = k.1 in cc)
         by None e false true k cell text =
             let kept = next (point_at (d.line + 1) 0) 0 (omega arith) text in
-            let rest : List (ℕ × ℕ) = kept_of (count_before r 0 cs) cs in
+            let rest : List (ℕ × ℕ) = kept_of (count_before r cs) cs in
             let none : second_points false d ≡ [] = rw e refl in
             rw (append_assoc, none)
             (cut-points r c.line start (c.column + 1) (token.QuoteBreak ∷ cut_tokens ends r 0 0 cs)
@@ -231,7 +232,7 @@ module _ (width : ℕ → ℕ) (count : ℕ) where
         by (Some b) e true back (inr k) cell text = absurd (let f = k.0 in cc)
         by (Some b) e true back (inl k) cell text =
             let kept = next (point_at d.line (d.column + 1)) (c.column + 2) (omega (arith, cell.column)) text in
-            let rest : List (ℕ × ℕ) = kept_of (count_before r 0 cs) cs in
+            let rest : List (ℕ × ℕ) = kept_of (count_before r cs) cs in
             let column : d.column + 1 ≡ c.column + 2 = omega (arith, cell.column) in
             let sign : holds at_sign d.byte ≡ true = rw e (sym k.1) in
             let none : second_points true d ≡ [] = rw (sign, e) refl in
@@ -292,7 +293,7 @@ module _ (width : ℕ → ℕ) (count : ℕ) where
           ∙ ap (λ ps. columns_to c.line start c.column ++ ps) (sym (ap (λ ps. ps ++ []) (byte-point c (byte refl))))
       by false byte = cut-points r c.line start c.column (token.Fault fault.StringEnd c.line ∷ [])
 
-  -- whatever is before, it is kept
+  -- the closing byte is kept, whatever cell is before it
   close-kept : (close : ℕ) (text : List Cell) → ((b : Option ℕ) → holds close b ≡ true → holds at_sign b ≡ false)
       → (h : Bool) → text_points h (take (one_if (holds close (byte_at 0 text))) text) ≡ close-points close text
   close-kept close [] other h = by (holds close None)
@@ -320,7 +321,7 @@ module _ (width : ℕ → ℕ) (count : ℕ) where
   quoted-keeps r stops pairs leaves takes close other s at c cs is byte sign =
       let front : Point = point_at c.line (c.column + 1) in
       let text = subst (λ p. IsTextAt width count p cs) (after-byte c byte) is.1 in
-      let n : ℕ = count_before r 0 cs in
+      let n : ℕ = count_before r cs in
       let last : ℕ = one_if (holds close (byte_at 0 (drop n cs))) in
       let kept = cut-keeps r stops pairs leaves takes (quote_end r close s.last_line) (close-points close) (quote-stop r close s.last_line) front c.column cs (omega arith) text in
       let e : 1 + (n + last) ≡ suc (n + last) = omega arith in
@@ -360,10 +361,10 @@ module _ (width : ℕ → ℕ) (count : ℕ) where
       by false = refl
 
   pub verbatim-keeps : (at : Point) (text : List Cell) → IsTextAt width count at text
-      → token_points (verbatim_tokens text) ≡ text_points false (take (count_before region.Verbatim 0 text) text)
+      → token_points (verbatim_tokens text) ≡ text_points false (take (count_before region.Verbatim text) text)
   verbatim-keeps at [] is = refl
   verbatim-keeps at (c ∷ cs) is =
-      elim (eqb_tells (count_before region.Verbatim 0 (c ∷ cs)) 0) [
+      elim (eqb_tells (count_before region.Verbatim (c ∷ cs)) 0) [
         | inl none ↦ rw (none.0, none.1) (empty-points (c ∷ cs))
         | inr some ↦
             let text : List Cell = c ∷ cs in
@@ -371,8 +372,8 @@ module _ (width : ℕ → ℕ) (count : ℕ) where
             rw some.0
             (ap (λ k. token_points (cut_tokens verbatim_end region.Verbatim 0 k text)) is.0.column
             ∙ kept
-            ∙ ap (λ ps. ps ++ (text_points false (take (count_before region.Verbatim 0 text) text) ++ [])) (columns-nothing at.line at.column)
-            ∙ append-nil (text_points false (take (count_before region.Verbatim 0 text) text)))
+            ∙ ap (λ ps. ps ++ (text_points false (take (count_before region.Verbatim text) text) ++ [])) (columns-nothing at.line at.column)
+            ∙ append-nil (text_points false (take (count_before region.Verbatim text) text)))
       ]
 
   -- the three kinds of quoted texts

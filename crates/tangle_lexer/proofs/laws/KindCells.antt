@@ -1,4 +1,4 @@
--- What begins at a position says which of its first two cells are bytes.
+-- The kind of a lexeme determines which of its first two cells are bytes.
 use Rattle.std.proofs.Common.{◌≡◌, ℕ, Bool, true, false, ◌&&◌, ◌||◌, Option, Some, None, refl, if◌then◌else◌, ◌==◌}
 use Rattle.tangle_lines.specs.Bytes.{at_sign, double_quote, is_white}
 use Rattle.tangle_lexer.specs.declared.modes.IncludeState.{IncludeState}
@@ -16,12 +16,12 @@ abbrev pub IsLineEnd : Option ℕ → Type 0
 IsLineEnd None = Unit {0}
 IsLineEnd (Some b) = ⊥
 
--- which of the cells of a control code are bytes
+-- which of the two cells of a control code are bytes
 abbrev pub CodeCells : ControlCode → Option ℕ → Option ℕ → Type 0
 CodeCells code.SectionStart b next = Unit {0}
 CodeCells _ b next = IsByte b × IsByte next
 
--- which of the cells where this begins are bytes
+-- which of the first two cells of a lexeme of this kind are bytes
 abbrev pub Cells : LexemeKind → Option ℕ → Option ℕ → Type 0
 Cells (lexeme_kind.Control code) b next = CodeCells code b next
 Cells lexeme_kind.LineEnd b next = IsLineEnd b

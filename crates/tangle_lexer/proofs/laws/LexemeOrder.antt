@@ -38,12 +38,12 @@ line-goes c None h = (refl, omega arith)
 line-goes c (Some b) h = absurd h
 
 module _ (width : ℕ → ℕ) (count : ℕ) where
-  -- a lexeme's tokens lie between its front and what is after it, and the last line stays known
+  -- the tokens of a lexeme lie between its first cell and the text after it, and last_line does not change
   pub record Law (s : LexerState) (at : Point) (text : List Cell) (here : Lexeme) : Type 0 where
     pub last : here.after.last_line ≡ s.last_line
     pub ordered : LexemeIsInOrder width count (is_c_text s.mode) at text here (is_c_text here.after.mode)
 
-  -- inside, and so after it
+  -- a lexeme that is read inside C text or a macro, and leaves the mode unchanged
   stays-inside : (s : LexerState) (at : Point) (text : List Cell) (here : Lexeme) → is_c_text s.mode ≡ true → here.after.mode ≡ s.mode → here.after.last_line ≡ s.last_line
       → LexemeIsInOrder width count true at text here true → Law s at text here
   stays-inside s at text here within m last ordered =
@@ -54,15 +54,15 @@ module _ (width : ℕ → ℕ) (count : ℕ) where
       → AreInOrder width count true at here.tokens true (after_cells at (1 + here.more) text) → Law s at text here
   goes-inside s at text here within m last ordered = stays-inside s at text here within m last (inl ordered)
 
-  -- to a section start, from anywhere
+  -- a section start, in any mode
   section-law : (s : LexerState) (at : Point) (text : List Cell) → IsTextAt width count at text → Law s at text (section_start s)
   section-law s at text is = record { last = refl; ordered = inl (precedes-after_cells width count at 1 text is) }
 
-  -- cells that are passed over outside
+  -- cells that are skipped outside C text and macros
   skip-law : (s : LexerState) (at : Point) (text : List Cell) (n : ℕ) → is_c_text s.mode ≡ false → IsTextAt width count at text → Law s at text (lexeme_of [] n s)
   skip-law s at text n out is = record { last = refl; ordered = inl (rw out (precedes-after_cells width count at (1 + n) text is)) }
 
-  -- a head of two bytes
+  -- a head that is two bytes long
   head-goes : (at : Point) (c : Cell) (cs : List Cell) → IsTextAt width count at (c ∷ cs) → HoldsBytes 2 (c ∷ cs)
       → (at.line ≤ c.line) × PrecedesOnLine (jumped at c.line) (after_cells at 2 (c ∷ cs))
   head-goes at c cs is h =
@@ -143,7 +143,7 @@ module _ (width : ℕ → ℕ) (count : ℕ) where
   c-law lexeme_kind.Other s at c cs within last is h =
       goes-inside s at (c ∷ cs) (c_lexeme lexeme_kind.Other s (c ∷ cs)) within refl refl (span-in_order width count at 1 1 c cs is (h, tt) (h, tt) (omega arith))
 
-  -- the heads and names of documentation, also where a macro ends
+  -- the control codes of documentation, also those that end a macro
   code-law : (kind : ControlCode) (s : LexerState) (at : Point) (c : Cell) (cs : List Cell) → is_c_text s.mode ≡ false → IsTextAt width count at (c ∷ cs)
       → CodeCells kind c.byte (byte_at 0 cs) → Law s at (c ∷ cs) (documentation_code kind s (c ∷ cs))
   code-law code.SectionStart s at c cs out is h = section-law s at (c ∷ cs) is
@@ -181,7 +181,7 @@ module _ (width : ℕ → ℕ) (count : ℕ) where
       by : (b : Bool) → (b ≡ true → CodeCells (code_at (byte_at 0 cs)) c.byte (byte_at 0 cs))
           → Law s at (c ∷ cs) (cond b (documentation_code (code_at (byte_at 0 cs)) s (c ∷ cs)) (prose s (c ∷ cs)))
       by true h = code-law (code_at (byte_at 0 cs)) s at c cs out is (h refl)
-      by false h = skip-law s at (c ∷ cs) (count_before region.Prose 0 cs) out is
+      by false h = skip-law s at (c ∷ cs) (count_before region.Prose cs) out is
 
   limbo-law : (s : LexerState) (at : Point) (c : Cell) (cs : List Cell) → is_c_text s.mode ≡ false → IsTextAt width count at (c ∷ cs) → Law s at (c ∷ cs) (limbo_lexeme s (c ∷ cs))
   limbo-law s at c cs out is = by (starts_section (c ∷ cs)) (holds at_sign c.byte)
@@ -189,7 +189,7 @@ module _ (width : ℕ → ℕ) (count : ℕ) where
       by : (start sign : Bool) → Law s at (c ∷ cs) (cond start (section_start s) (cond sign (lexeme_of [] 1 s) (prose s (c ∷ cs))))
       by true sign = section-law s at (c ∷ cs) is
       by false true = skip-law s at (c ∷ cs) 1 out is
-      by false false = skip-law s at (c ∷ cs) (count_before region.Prose 0 cs) out is
+      by false false = skip-law s at (c ∷ cs) (count_before region.Prose cs) out is
 
   lexeme-law : (s : LexerState) (at : Point) (c : Cell) (cs : List Cell) → s.last_line ≡ count - 1 → IsTextAt width count at (c ∷ cs) → Law s at (c ∷ cs) (lexeme s (c ∷ cs))
   unfolding lexeme
@@ -201,9 +201,9 @@ module _ (width : ℕ → ℕ) (count : ℕ) where
       by mode.CPart e = c-law (kind_at s.include (c ∷ cs)) s at c cs (ap is_c_text e) last is (kind-cells s.include c.byte (byte_at 0 cs))
       by mode.Macro e = macro-law (kind_at s.include (c ∷ cs)) s at c cs (ap is_c_text e) last is (kind-cells s.include c.byte (byte_at 0 cs))
 
-  -- all lexemes
+  -- all lexemes of a text
 
-  -- tokens lie from a position on, up to some other
+  -- tokens lie between the position `at` and some later position
   pub record AreSomewhere (from : Bool) (at : Point) (ts : List Token) : Type 0 where
     pub stays : Bool
     pub to : Point

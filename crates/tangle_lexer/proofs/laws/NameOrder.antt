@@ -1,4 +1,4 @@
--- Names: a use, a mention and a definition lie in the text.
+-- The tokens of a use, a mention and a definition lie in the text, in order.
 use Rattle.std.proofs.Common.{◌≡◌, ℕ, ◌+◌, ◌-◌, ◌<◌, ◌≤◌, Bool, true, false, not, List, [], ◌∷◌, ◌++◌, drop, Option, Some, None, inl, inr, ◌⊎◌, refl, ap, sym, ◌∙◌, arith, subst, cond, ◌||◌}
 use Rattle.std.specs.Prelude.{is_some}
 use Rattle.std.proofs.lemmas.Bool.Decides.{eqb_tells}
@@ -20,7 +20,7 @@ use Rattle.tangle_lexer.proofs.laws.TokenOrder.{AreInOrder, jumped}
 use Rattle.tangle_lexer.proofs.laws.RegionOrder.{after_cells-nothing, after_cells-add, drop-add, holds-byte, are_bytes-hold, faults-in_order, end-precedes}
 use Rattle.tangle_text.proofs.AheadLemmas.{byte_at-drop}
 
--- a jump to the line of a later position stays before it
+-- the position at the line of a later point is not after that point
 pub jumped-precedes : (at p : Point) → Precedes at p → PrecedesOnLine (jumped at p.line) p
 jumped-precedes at p h = (
   refl,
@@ -30,7 +30,7 @@ jumped-precedes at p h = (
   ],
 )
 
--- the cell that an equals sign ends with is a byte
+-- the last cell of an equals sign is a byte
 equals-last : (text : List Cell) (k : ℕ) → equals_count text ≡ Some k → (j : ℕ) × ((k ≡ j + 1) × IsByte (byte_at j text))
 equals-last text k e =
     by (holds equals_sign (byte_at before text)) (holds-byte equals_sign (byte_at before text))
@@ -53,13 +53,14 @@ definition-last text k e = by (is_ended text) e
     by false e = cc
 
 module _ (width : ℕ → ℕ) (count : ℕ) where
-  -- The tokens of a lexeme lie between its front and what is after it; at the end of the source they lie before that.
+  -- The tokens of a lexeme lie between its first cell and the text after it, or, at the end of the source, before that
+  -- end.
   abbrev pub LexemeIsInOrder : Bool → Point → List Cell → Lexeme → Bool → Type 0
   LexemeIsInOrder from at text here stays =
       (AreInOrder width count from at here.tokens stays (after_cells at (1 + here.more) text))
       ⊎ ((drop here.more (drop 1 text) ≡ []) × AreInOrder width count from at here.tokens false (after_cells at (1 + here.more) text))
 
-  -- where the text goes on after a name
+  -- the point after a name
   name-after_cells : (at : Point) (text : List Cell)
       → after_cells at (1 + name_more text) text ≡ after_cells (after_cells (after_cells at 2 text) (name_count text) (drop 2 text)) (two_if (is_ended text)) (name_end text)
   name-after_cells at text =
@@ -125,7 +126,7 @@ module _ (width : ℕ → ℕ) (count : ℕ) where
   mention-in_order false true kind line at to h = h
   mention-in_order false false kind line at to h = h
 
-  -- a part that begins after a byte
+  -- a C part that begins after the byte at the front
   part-in_order : (last : ℕ) (at p : Point) (text : List Cell) → IsTextAt width count p text → IsByte (byte_at 0 text) → Precedes at p
       → (at.line ≤ front_line last text) × PrecedesOnLine (jumped at (front_line last text)) (after_cells p 1 text)
   part-in_order last at p [] is byte h = absurd byte
@@ -133,7 +134,7 @@ module _ (width : ℕ → ℕ) (count : ℕ) where
       let j = jumped-precedes at p h in
       rw (after-byte c byte, is.0.line) (h.0, (refl, omega (arith, j.1, is.0.column)))
 
-  -- a mention, or a definition, in documentation or where a macro ends
+  -- a mention or a definition, in documentation or at the end of a macro
   pub name-in_order : (from : Bool) (s : LexerState) (at : Point) (c : Cell) (cs : List Cell) → IsTextAt width count at (c ∷ cs) → (stays : Bool) → stays ≡ false
       → AreInOrder width count from at (name_in_documentation s (c ∷ cs)).tokens (is_some (definition_count (c ∷ cs)) || stays) (after_cells at (1 + (name_in_documentation s (c ∷ cs)).more) (c ∷ cs))
   name-in_order from s at c cs is stays out = by (definition_count (c ∷ cs)) (definition-last (c ∷ cs))

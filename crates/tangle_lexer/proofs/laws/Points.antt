@@ -1,4 +1,4 @@
--- Points of the text, and where it goes on after cells.
+-- Points of the text, and the point after a number of cells.
 use Rattle.std.proofs.Common.{◌≡◌, ℕ, zero, suc, ◌+◌, ◌<◌, ◌≤◌, List, [], ◌∷◌, ◌++◌, length, get_or, drop, Option, Some, None, refl, ap, sym, ◌∙◌, arith, add-zero}
 use Rattle.tangle_lines.specs.Reading.{SourceLine}
 use Rattle.tangle_lines.specs.Reading.{no_line}
@@ -12,11 +12,11 @@ pub record Point : Type 0 where
 abbrev pub point_at : ℕ → ℕ → Point
 point_at line column = record { line = line; column = column }
 
--- not after it
+-- the first point is not after the second
 abbrev pub Precedes : Point → Point → Type 0
 Precedes at to = (at.line ≤ to.line) × (at.line ≡ to.line → at.column ≤ to.column)
 
--- not after it, and on the same line
+-- the first point is not after the second, and on the same line
 abbrev pub PrecedesOnLine : Point → Point → Type 0
 PrecedesOnLine at to = (at.line ≡ to.line) × (at.column ≤ to.column)
 
@@ -28,23 +28,23 @@ abbrev pub after_by : Option ℕ → Cell → Point
 after_by None c = point_at (c.line + 1) 0
 after_by (Some b) c = point_at c.line (c.column + 1)
 
--- where the text goes on after a cell
+-- the point of the text after a cell
 abbrev pub after_cell : Cell → Point
 after_cell c = after_by c.byte c
 
--- where it goes on after so many cells
+-- the point of the text after this number of cells
 abbrev pub after_cells : Point → ℕ → List Cell → Point
 after_cells at zero text = at
 after_cells at (suc k) [] = at
 after_cells at (suc k) (c ∷ cs) = after_cells (after_cell c) k cs
 
--- the first cells are bytes
+-- this number of cells at the front are bytes
 abbrev pub HoldsBytes : ℕ → List Cell → Type 0
 HoldsBytes zero text = Unit {0}
 HoldsBytes (suc k) [] = ⊥
 HoldsBytes (suc k) (c ∷ cs) = IsByte c.byte × HoldsBytes k cs
 
--- a cell is at a position inside a line of the source
+-- a cell is at this point, which is inside a line of the source
 pub record IsCellAt (width : ℕ → ℕ) (count : ℕ) (at : Point) (c : Cell) : Type 0 where
   pub line : c.line ≡ at.line
   pub column : c.column ≡ at.column
@@ -65,18 +65,18 @@ after-byte c h = by c.byte h
     by (Some b) h = refl
 
 module _ (width : ℕ → ℕ) (count : ℕ) where
-  -- the cells follow one another from a position on, up to the end of the source
+  -- the cells follow one another from a point on, up to the end of the source
   abbrev pub IsTextAt : Point → List Cell → Type 0
   IsTextAt at [] = (at.column ≡ 0) × (at.line ≡ count)
   IsTextAt at (c ∷ cs) = IsCellAt width count at c × IsTextAt (after_cell c) cs
 
-  -- the text goes on where it was left
+  -- the rest of a text begins at the point after its first `n` cells
   pub text-after_cells : (at : Point) (n : ℕ) (text : List Cell) → IsTextAt at text → IsTextAt (after_cells at n text) (drop n text)
   text-after_cells at zero text is = is
   text-after_cells at (suc n) [] is = is
   text-after_cells at (suc n) (c ∷ cs) is = text-after_cells (after_cell c) n cs is.1
 
-  -- where a text goes on is inside a line, or at the end
+  -- the point at which a text begins is inside a line, or at the end
   pub text-within : (at : Point) (text : List Cell) → IsTextAt at text → at.column ≤ width at.line
   text-within at [] is = omega (arith, is)
   text-within at (c ∷ cs) is = is.0.inside
@@ -94,7 +94,7 @@ module _ (width : ℕ → ℕ) (count : ℕ) where
   precedes-after_cells at (suc n) (c ∷ cs) is =
       precedes-trans at (after_cell c) (after_cells (after_cell c) n cs) (precedes-after at c is.0) (precedes-after_cells (after_cell c) n cs is.1)
 
-  -- after bytes it goes on on the same line
+  -- the point after `n` bytes is on the same line
   pub after_cells-bytes : (at : Point) (n : ℕ) (text : List Cell) → IsTextAt at text → HoldsBytes n text → after_cells at n text ≡ point_at at.line (at.column + n)
   after_cells-bytes at zero text is h = λ i. point_at at.line (sym (add-zero at.column) i)
   after_cells-bytes at (suc n) [] is h = absurd h
@@ -111,7 +111,7 @@ module _ (width : ℕ → ℕ) (count : ℕ) where
   line-is line column (b ∷ bs) rest h real is =
       (record { line = refl; column = refl; inside = omega (arith, h); real = real }, line-is line (column + 1) bs rest (omega (arith, h)) real is)
 
-  -- the text of lines is text, from its first line on
+  -- the cells of the text of lines follow one another
   pub text-is : (n : ℕ) (lines : List SourceLine) → n + length lines ≡ count → ((k : ℕ) → k < length lines → length (get_or lines k no_line).bytes ≡ width (n + k))
       → IsTextAt (point_at n 0) (text_from n lines)
   text-is n [] all h = (refl, omega (arith, all))

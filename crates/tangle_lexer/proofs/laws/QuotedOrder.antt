@@ -1,4 +1,4 @@
--- Quoted and verbatim texts: their ranges lie in them.
+-- The ranges of quoted and verbatim texts lie in these texts, in order.
 use Rattle.std.proofs.Common.{◌≡◌, ℕ, suc, ◌+◌, ◌<◌, ◌≤◌, Bool, true, false, List, [], ◌∷◌, ◌++◌, drop, Option, Some, None, inl, inr, refl, ap, sym, ◌∙◌, arith, subst, cond, nat_eq, ◌&&◌, ◌||◌, ◌⊎◌, append_assoc, append-nil}
 use Rattle.std.specs.Prelude.{nat_lt}
 use Rattle.std.proofs.lemmas.Bool.Decides.{eqb_tells}
@@ -16,6 +16,7 @@ use Rattle.tangle_lines.specs.Bytes.{at_sign, double_quote}
 use Rattle.tangle_text.specs.Bytes.{backslash, greater_sign, apostrophe, holds, is_line_end}
 use Rattle.tangle_text.specs.Text.{Cell, byte_at, span_at}
 use Rattle.tangle_text.specs.Regions.{unit_by, quoted_unit, unit_of, unit_at, count_before}
+use Rattle.tangle_text.proofs.UnitLemmas.{count-one, count-two}
 use Rattle.tangle_lexer.specs.Lexemes.{fault_if}
 use Rattle.tangle_lexer.specs.Comments.{has_end_code, two_if}
 use Rattle.tangle_lexer.specs.Quoted.{range_token, cut_range, unit_tokens, next_start, cut_tokens, quote_stop, quote_end, one_if, quoted_text, verbatim_stop, verbatim_end, empty_end, verbatim_tokens, verbatim_text}
@@ -32,7 +33,7 @@ no-at_sign (Some b) h =
       | inr other ↦ let none : false ≡ true = sym other.0 ∙ h in cc
     ]
 
--- where two cells belong together of which the second is a line end, the first is a backslash
+-- in a unit of two cells whose second is a line end, the first is a backslash
 
 pub quoted-takes : (close : ℕ) (b : Option ℕ) → quoted_unit close b None ≡ unit.Two → holds backslash b ≡ true
 quoted-takes close None e = cc
@@ -64,13 +65,13 @@ verbatim-takes (Some b) e = absurd (by (nat_eq b at_sign) e)
     by false e = cc
 
 module _ (width : ℕ → ℕ) (count : ℕ) where
-  -- a range before other tokens
+  -- a range that is not empty, before other tokens
   made-in_order : (r : Region) (at : Point) (s : Span) (ts : List Token) (to : Point) → IsFrom width count at s → AreInOrder width count true (span_end s) ts true to
       → AreInOrder width count true at (range_token r s ∷ ts) true to
   made-in_order region.Verbatim at s ts to is ordered = (is, ordered)
   made-in_order _ at s ts to is ordered = (is, ordered)
 
-  -- a range, from its start to where the text goes on
+  -- a range that may be empty, before other tokens
   range-in_order : (r : Region) (line start end : ℕ) (ts : List Token) (to : Point) → line < count → start ≤ end → end ≤ width line
       → AreInOrder width count true (point_at line end) ts true to → AreInOrder width count true (point_at line start) (cut_range r line start end ++ ts) true to
   range-in_order r line start end ts to real h inside ordered = by (nat_lt start end)
@@ -85,7 +86,7 @@ module _ (width : ℕ → ℕ) (count : ℕ) where
       subst (λ ts. AreInOrder width count true (point_at line start) ts true to) (append-nil (cut_range r line start end))
       (range-in_order r line start end [] to real h inside goes)
 
-  -- a text that is cut, in a region; `ends` and `final` say what comes at its end
+  -- a text that is cut, in a region; `ends` gives the tokens of its end, and `final` the position after the end
   module _ (r : Region) (stops : (n : Option ℕ) → unit_of r None n ≡ unit.Stop) (takes : (b : Option ℕ) → unit_of r b None ≡ unit.Two → holds backslash b ≡ true)
       (ends : ℕ → List Cell → List Token) (final : Point → List Cell → Point)
       (nothing : (at : Point) (start : ℕ) → start ≤ at.column → AreInOrder width count true (point_at at.line start) (ends start []) true (final at []))
@@ -97,36 +98,36 @@ module _ (width : ℕ → ℕ) (count : ℕ) where
     reached-more at c cs n = let e : 1 + n ≡ suc n = omega arith in rw e refl
 
     abbrev CutIsInOrder : Point → ℕ → List Cell → Type 0
-    CutIsInOrder at start text = AreInOrder width count true (point_at at.line start) (cut_tokens ends r 0 start text) true (reached at (count_before r 0 text) text)
+    CutIsInOrder at start text = AreInOrder width count true (point_at at.line start) (cut_tokens ends r 0 start text) true (reached at (count_before r text) text)
 
     one-in_order : (at : Point) (start : ℕ) (c : Cell) (cs : List Cell) → start ≤ at.column → IsTextAt width count at (c ∷ cs) → unit_at r (c ∷ cs) ≡ unit.One
         → ((p : Point) (s : ℕ) → s ≤ p.column → IsTextAt width count p cs → CutIsInOrder p s cs) → CutIsInOrder at start (c ∷ cs)
     one-in_order at start c cs h is e next =
         let goes = after-byte c (goes-byte r stops c.byte (byte_at 0 cs) unit.One e (λ k. cc)) in
         let text = subst (λ p. IsTextAt width count p cs) goes is.1 in
-        let n : ℕ = count_before r 0 cs in
+        let n : ℕ = count_before r cs in
         let ordered = next (point_at c.line (c.column + 1)) start (omega (arith, h, is.0.column)) text in
         let to : reached at (1 + n) (c ∷ cs) ≡ reached (point_at c.line (c.column + 1)) n cs = reached-more at c cs n ∙ ap (λ p. reached p n cs) goes in
         let tokens : cut_tokens ends r 0 start (c ∷ cs) ≡ fault_if (holds at_sign c.byte) fault.StringAt c.line ++ cut_tokens ends r 0 start cs = rw e refl in
-        let counts : count_before r 0 (c ∷ cs) ≡ 1 + n = rw e refl in
+        let counts : count_before r (c ∷ cs) ≡ 1 + n = count-one r c cs e in
         rw (tokens, counts, to)
         (by (holds at_sign c.byte) (subst (λ l. AreInOrder width count true (point_at l start) (cut_tokens ends r 0 start cs) true (reached (point_at c.line (c.column + 1)) n cs)) is.0.line ordered))
       where
-        by : (b : Bool) → AreInOrder width count true (point_at at.line start) (cut_tokens ends r 0 start cs) true (reached (point_at c.line (c.column + 1)) (count_before r 0 cs) cs)
-            → AreInOrder width count true (point_at at.line start) (fault_if b fault.StringAt c.line ++ cut_tokens ends r 0 start cs) true (reached (point_at c.line (c.column + 1)) (count_before r 0 cs) cs)
+        by : (b : Bool) → AreInOrder width count true (point_at at.line start) (cut_tokens ends r 0 start cs) true (reached (point_at c.line (c.column + 1)) (count_before r cs) cs)
+            → AreInOrder width count true (point_at at.line start) (fault_if b fault.StringAt c.line ++ cut_tokens ends r 0 start cs) true (reached (point_at c.line (c.column + 1)) (count_before r cs) cs)
         by true ordered = ordered
         by false ordered = ordered
 
-    -- both of @@, and a backslash with what it takes, a line end too
+    -- a unit of two cells: @@, or a backslash with the byte or the line end that it takes
     two-in_order : (at : Point) (start : ℕ) (c d : Cell) (cs : List Cell) → start ≤ at.column → IsTextAt width count at (c ∷ d ∷ cs) → unit_at r (c ∷ d ∷ cs) ≡ unit.Two
         → ((p : Point) (s : ℕ) → s ≤ p.column → IsTextAt width count p cs → CutIsInOrder p s cs) → CutIsInOrder at start (c ∷ d ∷ cs)
     two-in_order at start c d cs h is e next =
         let goes = after-byte c (goes-byte r stops c.byte d.byte unit.Two e (λ k. cc)) in
         let after : IsTextAt width count (point_at c.line (c.column + 1)) (d ∷ cs) = subst (λ p. IsTextAt width count p (d ∷ cs)) goes is.1 in
-        let n : ℕ = count_before r 0 cs in
+        let n : ℕ = count_before r cs in
         let to : reached at (1 + (1 + n)) (c ∷ d ∷ cs) ≡ reached (after_cell d) n cs = reached-more at c (d ∷ cs) (1 + n) ∙ reached-more (after_cell c) d cs n in
         let tokens : cut_tokens ends r 0 start (c ∷ d ∷ cs) ≡ unit_tokens r unit.Two start c d.byte ++ cut_tokens ends r 0 (next_start unit.Two start c d.byte) cs = rw e refl in
-        let counts : count_before r 0 (c ∷ d ∷ cs) ≡ 1 + (1 + n) = rw e refl in
+        let counts : count_before r (c ∷ d ∷ cs) ≡ 1 + (1 + n) = count-two r c d cs e in
         rw (tokens, counts, to, ← is.0.line)
         (by (holds at_sign c.byte) (holds backslash c.byte) d.byte (second c.byte d.byte e) after.0 after.1)
       where
@@ -135,21 +136,21 @@ module _ (width : ℕ → ℕ) (count : ℕ) where
         second b None e = inr (no-at_sign b (takes b e), takes b e)
 
         simple : (b : ℕ) → IsCellAt width count (point_at c.line (c.column + 1)) d → IsTextAt width count (point_at d.line (d.column + 1)) cs
-            → AreInOrder width count true (point_at c.line start) (cut_tokens ends r 0 start cs) true (reached (point_at d.line (d.column + 1)) (count_before r 0 cs) cs)
+            → AreInOrder width count true (point_at c.line start) (cut_tokens ends r 0 start cs) true (reached (point_at d.line (d.column + 1)) (count_before r cs) cs)
         simple b cell text =
-            subst (λ l. AreInOrder width count true (point_at l start) (cut_tokens ends r 0 start cs) true (reached (point_at d.line (d.column + 1)) (count_before r 0 cs) cs)) cell.line
+            subst (λ l. AreInOrder width count true (point_at l start) (cut_tokens ends r 0 start cs) true (reached (point_at d.line (d.column + 1)) (count_before r cs) cs)) cell.line
             (next (point_at d.line (d.column + 1)) start (omega (arith, h, is.0.column, cell.column)) text)
 
         by : (sign back : Bool) (x : Option ℕ) → (IsByte x) ⊎ ((sign ≡ false) × (back ≡ true)) → IsCellAt width count (point_at c.line (c.column + 1)) d → IsTextAt width count (after_by x d) cs
             → AreInOrder width count true (point_at c.line start)
             (cond sign (cut_range r c.line start (c.column + 1)) (cond (back && is_line_end x) (cut_range r c.line start (c.column + 1) ++ token.QuoteBreak ∷ []) [])
             ++ cut_tokens ends r 0 (cond sign (c.column + 2) (cond (back && is_line_end x) 0 start)) cs)
-            true (reached (after_by x d) (count_before r 0 cs) cs)
+            true (reached (after_by x d) (count_before r cs) cs)
         by true back None (inl k) cell text = absurd k
         by true back None (inr k) cell text = absurd (let e = k.0 in cc)
         by true back (Some b) k cell text =
             let ts : List Token = cut_tokens ends r 0 (c.column + 2) cs in
-            let to : Point = reached (point_at d.line (d.column + 1)) (count_before r 0 cs) cs in
+            let to : Point = reached (point_at d.line (d.column + 1)) (count_before r cs) cs in
             let ordered = next (point_at d.line (d.column + 1)) (c.column + 2) (omega (arith, cell.column)) text in
             range-in_order r c.line start (c.column + 1) ts to cell.real (omega (arith, h, is.0.column)) cell.inside
             (in_order-after width count true true (point_at c.line (c.column + 1)) (point_at d.line (c.column + 2)) ts true to (sym cell.line, omega arith) ordered)
@@ -157,7 +158,7 @@ module _ (width : ℕ → ℕ) (count : ℕ) where
         by false false None (inr k) cell text = absurd (let e = k.1 in cc)
         by false true None k cell text =
             let ts : List Token = cut_tokens ends r 0 0 cs in
-            let to : Point = reached (point_at (d.line + 1) 0) (count_before r 0 cs) cs in
+            let to : Point = reached (point_at (d.line + 1) 0) (count_before r cs) cs in
             let ordered = next (point_at (d.line + 1) 0) 0 (omega arith) text in
             rw append_assoc
             (range-in_order r c.line start (c.column + 1) (token.QuoteBreak ∷ ts) to cell.real (omega (arith, h, is.0.column)) cell.inside
@@ -215,7 +216,7 @@ module _ (width : ℕ → ℕ) (count : ℕ) where
       let goes = after-byte c byte in
       let front : Point = point_at c.line (c.column + 1) in
       let text = subst (λ p. IsTextAt width count p cs) goes is.1 in
-      let n : ℕ = count_before r 0 cs in
+      let n : ℕ = count_before r cs in
       let last : ℕ = one_if (holds close (byte_at 0 (drop n cs))) in
       let ts : List Token = cut_tokens (quote_end r close s.last_line) r 0 c.column cs in
       let ordered = cut-in_order r stops takes (quote_end r close s.last_line) (quote-final close) (λ p start h. (refl, h)) (quote_stop-in_order r close) front c.column cs (omega arith) text in
@@ -255,7 +256,7 @@ module _ (width : ℕ → ℕ) (count : ℕ) where
       (omega (arith, is.0.line, is.0.real)) (omega (arith, h, is.0.column)) (rw is.0.line (omega (arith, is.0.column, is.0.inside)))
       (faults-in_order width count (is_line_end c.byte) fault.VerbatimEnd c.line (point_at c.line c.column) to from))
 
-  -- an empty one
+  -- an empty verbatim text
   empty-in_order : (at : Point) (text : List Cell) → IsTextAt width count at text → 0 < at.column
       → AreInOrder width count true at (token.Span span_kind.Verbatim (span_at 0 text) ∷ empty_end text) true (verbatim-final at text)
   empty-in_order at [] is h = absurd (omega (arith, is, h))
@@ -272,14 +273,14 @@ module _ (width : ℕ → ℕ) (count : ℕ) where
       )
 
   verbatim_tokens-in_order : (at : Point) (text : List Cell) → 0 < at.column → IsTextAt width count at text
-      → AreInOrder width count true at (verbatim_tokens text) true (verbatim-final (after_cells at (count_before region.Verbatim 0 text) text) (drop (count_before region.Verbatim 0 text) text))
+      → AreInOrder width count true at (verbatim_tokens text) true (verbatim-final (after_cells at (count_before region.Verbatim text) text) (drop (count_before region.Verbatim text) text))
   verbatim_tokens-in_order at [] after_code is = absurd (omega (arith, is.0, after_code))
   verbatim_tokens-in_order at (c ∷ cs) after_code is =
-      elim (eqb_tells (count_before region.Verbatim 0 (c ∷ cs)) 0) [
+      elim (eqb_tells (count_before region.Verbatim (c ∷ cs)) 0) [
         | inl none ↦ rw none.1 (empty-in_order at (c ∷ cs) is after_code)
         | inr some ↦
             let text : List Cell = c ∷ cs in
-            let to : Point = verbatim-final (after_cells at (count_before region.Verbatim 0 text) text) (drop (count_before region.Verbatim 0 text) text) in
+            let to : Point = verbatim-final (after_cells at (count_before region.Verbatim text) text) (drop (count_before region.Verbatim text) text) in
             rw some.0
             (subst (λ start. AreInOrder width count true at (cut_tokens verbatim_end region.Verbatim 0 start text) true to) (sym is.0.column)
             (cut-in_order region.Verbatim (λ n. refl) verbatim-takes verbatim_end verbatim-final (λ p start h. (refl, h)) verbatim_stop-in_order at at.column text (omega arith) is))
@@ -292,7 +293,7 @@ module _ (width : ℕ → ℕ) (count : ℕ) where
       let front : Point = after_cells at 2 (c ∷ cs) in
       let there : front ≡ point_at at.line (at.column + 2) = after_cells-bytes width count at 2 (c ∷ cs) is h in
       let text : IsTextAt width count front rest = text-after_cells width count at 2 (c ∷ cs) is in
-      let n : ℕ = count_before region.Verbatim 0 rest in
+      let n : ℕ = count_before region.Verbatim rest in
       let last : ℕ = two_if (has_end_code (drop n rest)) in
       let ts : List Token = verbatim_tokens rest in
       let line : at.line ≡ front.line = sym (ap (λ (p : Point). p.line) there) in

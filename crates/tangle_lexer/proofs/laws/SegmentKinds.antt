@@ -1,4 +1,4 @@
--- The segments of a text are side by side and fill it, and each shows what it is.
+-- The segments of a text are side by side and fill it, and the cells of each are such as its kind has.
 use Rattle.std.proofs.Common.{◌≡◌, ◌<◌, ◌≤◌, ℕ, zero, suc, ◌+◌, Bool, true, false, not, ◌&&◌, ◌||◌, List, [], ◌∷◌, ◌++◌, length, take, drop, flat_map, Option, Some, None, inl, inr, refl, ap, sym, ◌∙◌, arith, append-nil, cond, ◌==◌, if◌then◌else◌, ◌-◌, subst}
 use Rattle.std.proofs.Math.Seq.{take-add}
 use Rattle.std.proofs.lemmas.Grind.{flat_map-append}
@@ -18,23 +18,28 @@ use Rattle.tangle_lexer.specs.declared.lexeme_kinds.LexemeKind.TheVariants as le
 use Rattle.tangle_text.specs.declared.regions.Region.TheVariants as region
 use Rattle.tangle_lexer.specs.declared.constants.AsciiConstant.{AsciiConstant}
 use Rattle.tangle_text.specs.declared.regions.Unit.TheVariants as unit
-use Rattle.tangle_text.specs.Bytes.{asterisk, slash, less_sign, left_parenthesis, equals_sign, apostrophe, greater_sign, holds, is_line_end, holds_white, is_word_byte, are_bytes, is_between, lower, is_white_or_line_end, is_section_start}
+use Rattle.tangle_text.specs.Bytes.{asterisk, slash, less_sign, left_parenthesis, equals_sign, apostrophe, backslash, greater_sign, holds, is_line_end, holds_white, is_word_byte, are_bytes, is_between, lower, is_white_or_line_end, is_section_start}
 use Rattle.tangle_text.specs.Text.{Cell, byte_at}
-use Rattle.tangle_text.specs.Regions.{count_before, count_by, unit_by, unit_of, unit_at, more_by}
+use Rattle.tangle_text.specs.Regions.{count_before, unit_by, unit_of, unit_at, more_by}
+use Rattle.tangle_text.proofs.UnitLemmas.{count_by, counted, count-is}
 use Rattle.tangle_lexer.specs.Lexemes.{Lexeme}
-use Rattle.tangle_lexer.specs.Comments.{has_end_code, two_if, ends_comment, block_comment, line_comment}
-use Rattle.tangle_lexer.specs.Constants.{constant_at, constant_lexeme}
+use Rattle.tangle_lexer.specs.Comments.{has_end_code, two_if, ends_comment, block_comment, line_comment, control_text}
+use Rattle.tangle_lexer.specs.Constants.{constant_at, constant_lexeme, ascii_constant}
+use Rattle.tangle_lexer.specs.Names.{name_count, is_ended, name_more}
 use Rattle.tangle_lexer.specs.Steps.{code_at, less_kind, byte_kind, kind_by, kind_at, c_code, c_lexeme, lexeme_in, lexeme}
-use Rattle.tangle_lexer.specs.Segments.{Segment, segment, ShowsKind, OpensWith, text_segments, verbatim_segments, code_segments, c_segments, segments_in, segments, IsBlockComment, IsLineComment}
+use Rattle.tangle_lexer.specs.Segments.{Segment, segment, ShowsKind, OpensWith, text_segments, verbatim_segments, code_segments, c_segments, segments_in, segments, HasNoSection, IsBlockComment, IsLineComment, IsControlText, IsSectionName, IsAsciiConstant}
 use Rattle.tangle_lexer.specs.Segments.SegmentKind.{Kept, SecondAtSign, LineEnd, WhiteSpace, ControlBytes}
 use Rattle.tangle_text.proofs.AheadLemmas.{byte_at-drop}
 use Rattle.tangle_text.specs.declared.regions.Unit.{Unit as Unit-of}
 use Rattle.tangle_lexer.proofs.laws.Points.{IsByte, HoldsBytes}
 use Rattle.tangle_lexer.proofs.laws.RegionOrder.{both, holds-byte, more-bytes, drop-add, two-bytes}
 use Rattle.tangle_lexer.proofs.laws.WhiteOrder.{word-bytes, line_comment-bytes}
-use Rattle.tangle_lexer.proofs.laws.KindCells.{Cells, if-holds, kind-cells}
+use Rattle.tangle_lexer.proofs.laws.CodesInside.{control_text-codes, name-codes, block_comment-codes, line_comment-codes, codes-opened}
+use Rattle.tangle_lexer.proofs.laws.ConstantOrder.{ascii_constant-bytes}
+use Rattle.tangle_lexer.proofs.laws.ConstantQuotes.{ascii_constant-quotes}
+use Rattle.tangle_lexer.proofs.laws.KindCells.{CodeCells, Cells, if-holds, kind-cells}
 
--- side by side
+-- the segments of a text are side by side and fill it
 
 abbrev cells_of : List Segment → List Cell
 cells_of ss = flat_map (λ s. s.cells) ss
@@ -43,10 +48,10 @@ text-fills : (after_at_sign : Bool) (cells : List Cell) → cells_of (text_segme
 text-fills after_at_sign [] = refl
 text-fills after_at_sign (c ∷ cs) = ap (λ xs. c ∷ xs) (text-fills (holds at_sign c.byte && not after_at_sign) cs)
 
-verbatim-fills : (text : List Cell) → let inside : ℕ = count_before region.Verbatim 0 (drop 2 text) in
+verbatim-fills : (text : List Cell) → let inside : ℕ = count_before region.Verbatim (drop 2 text) in
     cells_of (verbatim_segments text) ≡ take (1 + (1 + inside + two_if (has_end_code (drop inside (drop 2 text))))) text
 verbatim-fills text =
-    let inside : ℕ = count_before region.Verbatim 0 (drop 2 text) in
+    let inside : ℕ = count_before region.Verbatim (drop 2 text) in
     let after : List Cell = drop inside (drop 2 text) in
     let last : ℕ = two_if (has_end_code after) in
     let sum : 1 + (1 + inside + last) ≡ 2 + (inside + last) = omega arith in
@@ -98,7 +103,7 @@ segments-fill zero s (c ∷ cs) =
     ∙ ap (λ xs. c ∷ take here.more cs ++ xs) (segments-fill here.more here.after cs)
     ∙ ap (λ xs. c ∷ xs) (take-append-drop here.more cs)
 
--- what the segments are
+-- the cells of each segment are such as its kind has
 
 abbrev AllShow : List Segment → Type 0
 AllShow ss = AllByRecursion (λ s. ShowsKind s.kind s.cells) ss
@@ -107,7 +112,7 @@ shows-append : (xs ys : List Segment) → AllShow xs → AllShow ys → AllShow 
 shows-append [] ys h k = k
 shows-append (x ∷ xs) ys h k = (h.0, shows-append xs ys h.1 k)
 
--- what the first two cells show
+-- the first two cells of a lexeme, by its kind
 
 abbrev Opens : LexemeKind → Option ℕ → Option ℕ → Type 0
 Opens (lexeme_kind.Control code) b next = (holds at_sign b ≡ true) × (code_at next ≡ code)
@@ -136,7 +141,7 @@ kind-opens inc (Some b) next =
     (if-holds P (is_white b) lexeme_kind.White _ (λ e. e)
     (if-holds P (is_word_byte b) lexeme_kind.Word lexeme_kind.Other (λ e. tt) tt)))))))
 
--- only an @ makes @@
+-- @@ has an @ as its second byte
 second-sign : (next : Option ℕ) → code_at next ≡ code.DoubleAt → holds at_sign next ≡ true
 second-sign None e = cc
 second-sign (Some n) e =
@@ -165,7 +170,7 @@ second-sign (Some n) e =
           | inr unlike ↦ let none : false ≡ true = sym unlike.0 ∙ h in cc
         ]
 
--- the first two cells of what is taken
+-- the first cells of a text are the same after the cells from the n-th on are dropped
 
 byte-take : (k n : ℕ) (text : List Cell) → k < n → byte_at k (take n text) ≡ byte_at k text
 byte-take k zero text h = absurd (omega (arith, h))
@@ -186,7 +191,7 @@ code-taken n text h k sign =
     let l = length-taken n text in
     (ap (holds at_sign) (byte-take 0 n text h) ∙ sign, omega (arith, l, k))
 
--- bytes
+-- cells that are bytes are such as a Kept segment has
 
 bytes-shows : (n : ℕ) (text : List Cell) → HoldsBytes n text → ShowsKind Kept (take n text)
 bytes-shows zero text h = tt
@@ -206,7 +211,7 @@ comment-goes b n u e go = by (are_bytes asterisk slash b n) (is_section_start b 
     by true y s u e go = absurd (go (sym e))
     by false y s u e go = refl
 
--- a control code in a comment does not hide its end
+-- the second byte of a control code in a comment is not the * of the */ that ends the comment
 comment-second : (b n : Option ℕ) → unit_of region.BlockComment b n ≡ unit.Two → holds asterisk n ≡ false
 comment-second b n e = by (are_bytes asterisk slash b n) (holds at_sign b) (is_white_or_line_end n) (holds asterisk n) e
   where
@@ -217,21 +222,21 @@ comment-second b n e = by (are_bytes asterisk slash b n) (holds at_sign b) (is_w
     by false true false true e = cc
     by false false blank true e = cc
 
-comment-open : (k : ℕ) (text : List Cell) → k < count_before region.BlockComment 0 text → ends_comment (drop k text) ≡ false
-comment-open k [] h = absurd (omega (arith, h))
-comment-open k (c ∷ []) h = by (unit_at region.BlockComment (c ∷ [])) refl k h
+counted-open : (k : ℕ) (text : List Cell) → k < counted region.BlockComment 0 text → ends_comment (drop k text) ≡ false
+counted-open k [] h = absurd (omega (arith, h))
+counted-open k (c ∷ []) h = by (unit_at region.BlockComment (c ∷ [])) refl k h
   where
-    by : (u : Unit-of) → unit_at region.BlockComment (c ∷ []) ≡ u → (k : ℕ) → k < count_by u (count_before region.BlockComment (more_by u) []) → ends_comment (drop k (c ∷ [])) ≡ false
+    by : (u : Unit-of) → unit_at region.BlockComment (c ∷ []) ≡ u → (k : ℕ) → k < count_by u (counted region.BlockComment (more_by u) []) → ends_comment (drop k (c ∷ [])) ≡ false
     by unit.Stop e k h = absurd (omega (arith, h))
     by unit.One e zero h = comment-goes c.byte None unit.One e (λ q. cc)
     by unit.Two e zero h = comment-goes c.byte None unit.Two e (λ q. cc)
     by unit.One e (suc k) h = absurd (omega (arith, h))
     by unit.Two e (suc k) h = absurd (omega (arith, h))
-comment-open k (c ∷ d ∷ cs) h = by (unit_at region.BlockComment (c ∷ d ∷ cs)) refl k h (λ j l. comment-open j (d ∷ cs) l) (λ j l. comment-open j cs l)
+counted-open k (c ∷ d ∷ cs) h = by (unit_at region.BlockComment (c ∷ d ∷ cs)) refl k h (λ j l. counted-open j (d ∷ cs) l) (λ j l. counted-open j cs l)
   where
-    by : (u : Unit-of) → unit_at region.BlockComment (c ∷ d ∷ cs) ≡ u → (k : ℕ) → k < count_by u (count_before region.BlockComment (more_by u) (d ∷ cs))
-        → ((j : ℕ) → j < count_before region.BlockComment 0 (d ∷ cs) → ends_comment (drop j (d ∷ cs)) ≡ false)
-        → ((j : ℕ) → j < count_before region.BlockComment 0 cs → ends_comment (drop j cs) ≡ false) → ends_comment (drop k (c ∷ d ∷ cs)) ≡ false
+    by : (u : Unit-of) → unit_at region.BlockComment (c ∷ d ∷ cs) ≡ u → (k : ℕ) → k < count_by u (counted region.BlockComment (more_by u) (d ∷ cs))
+        → ((j : ℕ) → j < counted region.BlockComment 0 (d ∷ cs) → ends_comment (drop j (d ∷ cs)) ≡ false)
+        → ((j : ℕ) → j < counted region.BlockComment 0 cs → ends_comment (drop j cs) ≡ false) → ends_comment (drop k (c ∷ d ∷ cs)) ≡ false
     by unit.Stop e k h one two = absurd (omega (arith, h))
     by unit.One e zero h one two = comment-goes c.byte d.byte unit.One e (λ q. cc)
     by unit.One e (suc k) h one two = one k (omega (arith, h))
@@ -239,11 +244,14 @@ comment-open k (c ∷ d ∷ cs) h = by (unit_at region.BlockComment (c ∷ d ∷
     by unit.Two e (suc zero) h one two = rw (comment-second c.byte d.byte e) refl
     by unit.Two e (suc (suc k)) h one two = two k (omega (arith, h))
 
+comment-open : (k : ℕ) (text : List Cell) → k < count_before region.BlockComment text → ends_comment (drop k text) ≡ false
+comment-open k text h = counted-open k text (subst (λ n. k < n) (count-is region.BlockComment text) h)
+
 two_if-few : (b : Bool) → two_if b ≤ 2
 two_if-few true = omega arith
 two_if-few false = omega arith
 
--- the two cells at a distance are the first two there
+-- */ is at distance `k` where the text from there on begins with */
 cells-there : (k : ℕ) (text : List Cell) → are_bytes asterisk slash (byte_at k text) (byte_at (k + 1) text) ≡ ends_comment (drop k text)
 cells-there k text =
     rw (byte_at-drop k text, byte_at-drop (k + 1) text, drop-add k 1 text, byte_at-drop 1 (drop k text)) refl
@@ -251,7 +259,7 @@ cells-there k text =
 block_comment-shows : (s : LexerState) (text : List Cell) → are_bytes slash asterisk (byte_at 0 text) (byte_at 1 text) ≡ true
     → IsBlockComment (take (1 + (block_comment s text).more) text)
 block_comment-shows s text o =
-    let inside : ℕ = count_before region.BlockComment 0 (drop 2 text) in
+    let inside : ℕ = count_before region.BlockComment (drop 2 text) in
     let closed : Bool = ends_comment (drop inside (drop 2 text)) in
     let n : ℕ = 1 + (1 + inside + two_if closed) in
     let few = two_if-few closed in
@@ -264,31 +272,37 @@ block_comment-shows s text o =
           ∙ ap (λ j. ends_comment (drop j text)) sum
           ∙ ap ends_comment (drop-add 2 (k - 2) text)
           ∙ comment-open (k - 2) (drop 2 text) (omega (arith, h, l, long, few))),
+      codes-opened _ inside (two_if closed) text (block_comment-codes (drop 2 text)),
     )
 
 line_comment-shows : (s : LexerState) (text : List Cell) → HoldsBytes 2 text → are_bytes slash slash (byte_at 0 text) (byte_at 1 text) ≡ true
     → IsLineComment (take (1 + (line_comment s text).more) text)
 line_comment-shows s text h o =
-    let inside : ℕ = count_before region.LineComment 0 (drop 2 text) in
+    let inside : ℕ = count_before region.LineComment (drop 2 text) in
     let n : ℕ = 1 + (1 + inside) in
-    let sum : 2 + inside ≡ n = omega arith in (
+    let sum : 2 + inside ≡ n = omega arith in
+    let all : 1 + (1 + inside + 0) ≡ n = omega arith in (
       rw (byte-take 0 n text (omega arith), byte-take 1 n text (omega arith)) o,
       bytes-shows n text (subst (λ k. HoldsBytes k text) sum (more-bytes 2 inside text h (line_comment-bytes (drop 2 text)))),
+      subst (λ k. HasNoSection (drop 2 (take k text))) all (codes-opened _ inside 0 text (line_comment-codes (drop 2 text))),
     )
 
 -- white space and texts
 
-white-shows : (text : List Cell) → ShowsKind WhiteSpace (take (count_before region.White 0 text) text)
-white-shows [] = tt
-white-shows (c ∷ cs) = by (holds_white c.byte) refl (white-shows cs)
+counted-white : (text : List Cell) → ShowsKind WhiteSpace (take (counted region.White 0 text) text)
+counted-white [] = tt
+counted-white (c ∷ cs) = by (holds_white c.byte) refl (counted-white cs)
   where
-    by : (b : Bool) → holds_white c.byte ≡ b → ShowsKind WhiteSpace (take (count_before region.White 0 cs) cs) → ShowsKind WhiteSpace (take (count_before region.White 0 (c ∷ cs)) (c ∷ cs))
-    by false e rest = let none : count_before region.White 0 (c ∷ cs) ≡ 0 = rw e refl in rw none tt
+    by : (b : Bool) → holds_white c.byte ≡ b → ShowsKind WhiteSpace (take (counted region.White 0 cs) cs) → ShowsKind WhiteSpace (take (counted region.White 0 (c ∷ cs)) (c ∷ cs))
+    by false e rest = let none : counted region.White 0 (c ∷ cs) ≡ 0 = rw e refl in rw none tt
     by true e rest =
-        let n : ℕ = count_before region.White 0 cs in
-        let one : count_before region.White 0 (c ∷ cs) ≡ 1 + n = rw e refl in
+        let n : ℕ = counted region.White 0 cs in
+        let one : counted region.White 0 (c ∷ cs) ≡ 1 + n = rw e refl in
         let more : 1 + n ≡ suc n = omega arith in
         rw (one, more) (e, rest)
+
+white-shows : (text : List Cell) → ShowsKind WhiteSpace (take (count_before region.White text) text)
+white-shows text = subst (λ n. ShowsKind WhiteSpace (take n text)) (sym (count-is region.White text)) (counted-white text)
 
 text-shows : (after_at_sign : Bool) (cells : List Cell) → AllShow (text_segments after_at_sign cells)
 text-shows after_at_sign [] = tt
@@ -296,13 +310,13 @@ text-shows after_at_sign (c ∷ cs) = (by (is_line_end c.byte) refl after_at_sig
   where
     by : (e : Bool) → is_line_end c.byte ≡ e → (h sign : Bool) → holds at_sign c.byte ≡ sign → ShowsKind (cond e LineEnd (cond (h && sign) SecondAtSign Kept)) (c ∷ [])
     by true e h sign k = (e, tt)
-    by false e true true k = (k, tt)
+    by false e true true k = (refl, k)
     by false e true false k = (e, tt)
     by false e false sign k = (e, tt)
 
 verbatim-shows : (text : List Cell) → holds at_sign (byte_at 0 text) ≡ true → AllShow (verbatim_segments text)
 verbatim-shows text sign =
-    let inside : ℕ = count_before region.Verbatim 0 (drop 2 text) in
+    let inside : ℕ = count_before region.Verbatim (drop 2 text) in
     let after : List Cell = drop inside (drop 2 text) in (
       code-taken 2 text (omega arith) (omega arith) sign,
       shows-append (text_segments false (take inside (drop 2 text))) (if has_end_code after then segment ControlBytes (take 2 after) ∷ [] else []) (text-shows false (take inside (drop 2 text))) (by (has_end_code after) after refl),
@@ -312,31 +326,60 @@ verbatim-shows text sign =
     by true cells e = (code-taken 2 cells (omega arith) (omega arith) (both (holds at_sign (byte_at 0 cells)) (holds greater_sign (byte_at 1 cells)) e).0, tt)
     by false cells e = tt
 
+control_text-shows : (s : LexerState) (text : List Cell) → OpensWith code.ControlText text → IsControlText (take (1 + (control_text s text).more) text)
+control_text-shows s text o =
+    let inside : ℕ = count_before region.ControlText (drop 2 text) in
+    let last : ℕ = two_if (has_end_code (drop inside (drop 2 text))) in (
+      opens-taken code.ControlText (1 + (1 + inside + last)) text (omega arith) o,
+      codes-opened _ inside last text (control_text-codes (drop 2 text)),
+    )
+
+name-shows : (s : LexerState) (text : List Cell) → OpensWith code.Name text → IsSectionName (take (1 + name_more text) text)
+name-shows s text o =
+    let last : ℕ = two_if (is_ended text) in (
+      opens-taken code.Name (1 + name_more text) text (omega arith) o,
+      codes-opened _ (name_count text) last text (name-codes (drop 2 text)),
+    )
+
 constant-long : (k : Option AsciiConstant) (s : LexerState) (text : List Cell) → 1 < 1 + (constant_lexeme k s text).more
 constant-long None s text = omega arith
 constant-long (Some k) s text = omega arith
 
--- both bytes of @@
+constant-shows : (s : LexerState) (c : Cell) (cs : List Cell) → IsByte c.byte × IsByte (byte_at 0 cs) → OpensWith code.AsciiConstant (c ∷ cs)
+    → IsAsciiConstant (take (1 + (ascii_constant s (c ∷ cs)).more) (c ∷ cs))
+constant-shows s c cs h o =
+    let n : ℕ = 1 + (ascii_constant s (c ∷ cs)).more in
+    let long = length-taken n (c ∷ cs) in
+    let two : 1 < n = constant-long (constant_at (drop 1 cs)) s (c ∷ cs) in (
+      opens-taken code.AsciiConstant n (c ∷ cs) two o,
+      bytes-shows n (c ∷ cs) (ascii_constant-bytes s c cs (two-bytes (c ∷ cs) h.0 h.1)),
+      λ k first last quote.
+          let here : holds apostrophe (byte_at k (c ∷ cs)) ≡ true = ap (holds apostrophe) (sym (byte-take k n (c ∷ cs) (omega (arith, last, long)))) ∙ quote in
+          let inside = ascii_constant-quotes s (c ∷ cs) k first (omega (arith, last, long)) here in
+          let third : 2 < n = omega (arith, first, last, long) in
+          (inside.0, ap (holds backslash) (byte-take 2 n (c ∷ cs) third) ∙ inside.1),
+    )
+
+-- the segments of both bytes of @@
 signs-shows : (c : Cell) (cs : List Cell) → OpensWith code.DoubleAt (c ∷ cs) → AllShow (code_segments code.DoubleAt 2 (c ∷ cs))
 signs-shows c cs o = (bytes-shows 1 (c ∷ cs) (holds-byte at_sign c.byte o.0, tt), (by cs (second-sign (byte_at 0 cs) o.1), tt))
   where
     by : (cells : List Cell) → holds at_sign (byte_at 0 cells) ≡ true → ShowsKind SecondAtSign (take 1 cells)
-    by [] h = tt
-    by (d ∷ ds) h = (h, tt)
+    by [] h = cc
+    by (d ∷ ds) h = (refl, h)
 
-code-shows : (kind : ControlCode) (s : LexerState) (c : Cell) (cs : List Cell) → OpensWith kind (c ∷ cs)
+code-shows : (kind : ControlCode) (s : LexerState) (c : Cell) (cs : List Cell) → CodeCells kind c.byte (byte_at 0 cs) → OpensWith kind (c ∷ cs)
     → AllShow (code_segments kind (1 + (c_code kind s (c ∷ cs)).more) (c ∷ cs))
-code-shows code.DoubleAt s c cs o = signs-shows c cs o
-code-shows code.Verbatim s c cs o = verbatim-shows (c ∷ cs) o.0
-code-shows code.ControlText s c cs o = (opens-taken code.ControlText (1 + (c_code code.ControlText s (c ∷ cs)).more) (c ∷ cs) (omega arith) o, tt)
-code-shows code.Name s c cs o = (opens-taken code.Name (1 + (c_code code.Name s (c ∷ cs)).more) (c ∷ cs) (omega arith) o, tt)
-code-shows code.AsciiConstant s c cs o =
-    (opens-taken code.AsciiConstant (1 + (c_code code.AsciiConstant s (c ∷ cs)).more) (c ∷ cs) (constant-long (constant_at (drop 1 cs)) s (c ∷ cs)) o, tt)
-code-shows kind s c cs o = (code-taken (1 + (c_code kind s (c ∷ cs)).more) (c ∷ cs) (omega arith) (omega arith) o.0, tt)
+code-shows code.DoubleAt s c cs h o = signs-shows c cs o
+code-shows code.Verbatim s c cs h o = verbatim-shows (c ∷ cs) o.0
+code-shows code.ControlText s c cs h o = (control_text-shows s (c ∷ cs) o, tt)
+code-shows code.Name s c cs h o = (name-shows s (c ∷ cs) o, tt)
+code-shows code.AsciiConstant s c cs h o = (constant-shows s c cs h o, tt)
+code-shows kind s c cs h o = (code-taken (1 + (c_code kind s (c ∷ cs)).more) (c ∷ cs) (omega arith) (omega arith) o.0, tt)
 
 kind-shows : (kind : LexemeKind) (s : LexerState) (c : Cell) (cs : List Cell) → Cells kind c.byte (byte_at 0 cs) → Opens kind c.byte (byte_at 0 cs)
     → AllShow (c_segments kind (1 + (c_lexeme kind s (c ∷ cs)).more) (c ∷ cs))
-kind-shows (lexeme_kind.Control kind) s c cs h o = code-shows kind s c cs o
+kind-shows (lexeme_kind.Control kind) s c cs h o = code-shows kind s c cs h o
 kind-shows lexeme_kind.BlockComment s c cs h o = (inl (block_comment-shows s (c ∷ cs) o), tt)
 kind-shows lexeme_kind.LineComment s c cs h o = (inr (line_comment-shows s (c ∷ cs) (two-bytes (c ∷ cs) h.0 h.1) o), tt)
 kind-shows lexeme_kind.DoubleQuote s c cs h o = text-shows false (take (1 + (c_lexeme lexeme_kind.DoubleQuote s (c ∷ cs)).more) (c ∷ cs))
@@ -344,11 +387,11 @@ kind-shows lexeme_kind.Apostrophe s c cs h o = text-shows false (take (1 + (c_le
 kind-shows lexeme_kind.HeaderName s c cs h o = text-shows false (take (1 + (c_lexeme lexeme_kind.HeaderName s (c ∷ cs)).more) (c ∷ cs))
 kind-shows lexeme_kind.LineEnd s c cs h o = ((o, tt), tt)
 kind-shows lexeme_kind.White s c cs h o =
-    let n : ℕ = count_before region.White 0 cs in
+    let n : ℕ = count_before region.White cs in
     let more : 1 + n ≡ suc n = omega arith in
     (rw more (o, white-shows cs), tt)
 kind-shows lexeme_kind.Word s c cs h o =
-    (bytes-shows (1 + count_before region.Word 0 cs) (c ∷ cs) (more-bytes 1 (count_before region.Word 0 cs) (c ∷ cs) (h, tt) (word-bytes cs)), tt)
+    (bytes-shows (1 + count_before region.Word cs) (c ∷ cs) (more-bytes 1 (count_before region.Word cs) (c ∷ cs) (h, tt) (word-bytes cs)), tt)
 kind-shows lexeme_kind.Other s c cs h o = (bytes-shows 1 (c ∷ cs) (h, tt), tt)
 
 lexeme-shows : (s : LexerState) (c : Cell) (cs : List Cell) → AllShow (segments_in s.mode s (1 + (lexeme s (c ∷ cs)).more) (c ∷ cs))

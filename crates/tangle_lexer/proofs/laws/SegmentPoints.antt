@@ -1,4 +1,4 @@
--- The bytes of cells and of ranges: where they are.
+-- The points of the bytes of cells and of ranges.
 use Rattle.std.proofs.Common.{◌≡◌, ℕ, zero, suc, ◌+◌, ◌-◌, ◌≤◌, Bool, true, false, List, [], ◌∷◌, ◌++◌, take, Option, Some, None, refl, ap, sym, ◌∙◌, arith, append_assoc, cond}
 use Rattle.std.specs.Prelude.{nat_lt}
 use Rattle.std.proofs.lemmas.Bool.{ltb-false}
@@ -10,7 +10,7 @@ use Rattle.tangle_lexer.specs.Quoted.{range_token, cut_range}
 use Rattle.tangle_lexer.specs.Segments.{columns_from, span_points, cell_point, byte_points}
 use Rattle.tangle_lexer.proofs.laws.Points.{Point, IsByte, after_cell, HoldsBytes, IsTextAt, after-byte}
 
--- the columns from one on, up to another
+-- the points of a line from column `start` up to column `end`
 abbrev pub columns_to : ℕ → ℕ → ℕ → List (ℕ × ℕ)
 columns_to line start end = columns_from line start (end - start)
 
@@ -22,7 +22,7 @@ columns-more line column (suc n) =
     ap (columns_from line column) e
     ∙ ap (λ ps. (line, column) ∷ ps) (columns-more line (column + 1) n ∙ ap (λ x. columns_from line (column + 1) n ++ (line, x) ∷ []) f)
 
--- one column more
+-- the points with one more column at the end
 pub columns-next : (line start column : ℕ) → start ≤ column → columns_to line start (column + 1) ≡ columns_to line start column ++ (line, column) ∷ []
 columns-next line start column h =
     let e : column + 1 - start ≡ (column - start) + 1 = omega (arith, h) in
@@ -39,7 +39,7 @@ byte-point c h = by c.byte h
     by None h = absurd h
     by (Some b) h = refl
 
--- the tokens that are texts
+-- the points of the tokens that have a span
 
 abbrev pub token_points : List Token → List (ℕ × ℕ)
 token_points [] = []
@@ -51,7 +51,7 @@ points-append [] us = refl
 points-append (token.Span kind s ∷ ts) us = ap (λ ps. span_points s ++ ps) (points-append ts us) ∙ sym (append_assoc (span_points s) (token_points ts) (token_points us))
 points-append (_ ∷ ts) us = points-append ts us
 
--- a range that is cut has its columns, an empty one too
+-- the points of a range are its columns, also if the range is empty
 pub cut-points : (r : Region) (line start end : ℕ) (ts : List Token) → token_points (cut_range r line start end ++ ts) ≡ columns_to line start end ++ token_points ts
 cut-points r line start end ts = by (nat_lt start end) refl
   where
@@ -64,7 +64,7 @@ cut-points r line start end ts = by (nat_lt start end) refl
         sym (ap (λ n. columns_from line start n ++ token_points ts) none)
 
 module _ (width : ℕ → ℕ) (count : ℕ) where
-  -- bytes of a line are in its columns
+  -- the points of bytes of one line are its columns from the first byte on
   pub bytes-columns : (at : Point) (n : ℕ) (text : List Cell) → IsTextAt width count at text → HoldsBytes n text
       → byte_points (take n text) ≡ columns_from at.line at.column n
   bytes-columns at zero text is h = refl

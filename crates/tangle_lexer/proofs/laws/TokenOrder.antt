@@ -1,4 +1,4 @@
--- The tokens of a text lie in it: each between what is before and after it.
+-- The tokens of a text are in the order of the text.
 use Rattle.std.proofs.Common.{◌≡◌, ℕ, ◌+◌, ◌<◌, ◌≤◌, Bool, true, false, List, [], ◌∷◌, ◌++◌, inl, inr, refl, sym, ◌∙◌, arith, subst, if◌then◌else◌, ◌==◌}
 use Rattle.std.proofs.lemmas.Bool.Decides.{eqb_tells}
 use Rattle.tangle_text.specs.declared.spans.Span.{Span}
@@ -6,14 +6,15 @@ use Rattle.tangle_lexer.specs.declared.tokens.Token.{Token}
 use Rattle.tangle_lexer.specs.declared.tokens.Token.TheVariants as token
 use Rattle.tangle_lexer.proofs.laws.Points.{Point, point_at, Precedes, PrecedesOnLine, precedes-trans}
 
--- C text and macros are read inside; the text between them, which has heads and faults alone, outside.
+-- A flag says whether a position is inside C text or a macro, or outside, where all tokens are heads and faults.
 
--- what holds inside alone
+-- a statement that is true only at positions inside
 abbrev pub Inside : Bool → Type 0 → Type 0
 Inside true A = A
 Inside false A = ⊥
 
--- From a position, inside or not, the text goes on at another position, inside or not, with no token between them.
+-- The text goes on from one position to a later one without a token: inside only on the same line, and never from
+-- outside to inside. The flags say which of the positions are inside.
 abbrev pub GoesOn : Bool → Bool → Point → Point → Type 0
 GoesOn true true at to = PrecedesOnLine at to
 GoesOn false true at to = ⊥
@@ -22,7 +23,7 @@ GoesOn from false at to = Precedes at to
 abbrev pub span_end : Span → Point
 span_end s = point_at s.line s.end
 
--- at a line that is read further on; on the same line the column stays
+-- the position at a line: at its start, or at the same column if the position is on that line already
 abbrev pub jumped : Point → ℕ → Point
 jumped at line = point_at line (if line == at.line then at.column else 0)
 
@@ -35,8 +36,8 @@ pub record IsFrom (width : ℕ → ℕ) (count : ℕ) (at : Point) (s : Span) : 
   pub end : s.end ≤ width at.line
 
 module _ (width : ℕ → ℕ) (count : ℕ) where
-  -- The tokens lie between two positions, in this order; the flags say whether the text at these positions is read inside. Inside, line ends
-  -- alone go on to another line, and names, which may be over lines.
+  -- The tokens lie between two positions, in this order; the flags say which of the positions are inside. Inside, only
+  -- a line end and a name, which may end on a later line, lead to another line.
   abbrev pub AreInOrder : Bool → Point → List Token → Bool → Point → Type 0
   AreInOrder from at [] stays to = GoesOn from stays at to
   AreInOrder from at (token.Section ∷ ts) stays to = AreInOrder false at ts stays to
@@ -70,7 +71,7 @@ module _ (width : ℕ → ℕ) (count : ℕ) where
   goes-trans true mid false a at to h k = precedes-trans a at to (goes-precedes true mid a at h) (goes-precedes mid false at to k)
   goes-trans false mid false a at to h k = precedes-trans a at to (goes-precedes false mid a at h) (goes-precedes mid false at to k)
 
-  -- jumps keep the order
+  -- two positions in order are still in order at a later line
   jump-goes : (a at : Point) (line : ℕ) → Precedes a at → at.line ≤ line → PrecedesOnLine (jumped a line) (jumped at line)
   jump-goes a at line h over = (
     refl,
@@ -94,7 +95,7 @@ module _ (width : ℕ → ℕ) (count : ℕ) where
     end = rw near.0 is.end;
   }
 
-  -- tokens after text that has none
+  -- tokens in order from a position on are in order from an earlier position on too
   pub in_order-after : (from mid : Bool) (a at : Point) (ts : List Token) (stays : Bool) (to : Point) → GoesOn from mid a at → AreInOrder mid at ts stays to → AreInOrder from a ts stays to
   in_order-after from mid a at [] stays to near ordered = goes-trans from mid stays a at to near ordered
   in_order-after from mid a at (token.Section ∷ ts) stays to near ordered = in_order-after false false a at ts stays to (goes-precedes from mid a at near) ordered
@@ -126,7 +127,7 @@ module _ (width : ℕ → ℕ) (count : ℕ) where
   inside-map true A B x f = f x
   inside-map false A B x f = absurd x
 
-  -- tokens after tokens
+  -- two lists of tokens in order, one after the other
   pub in_order-append : (from : Bool) (at : Point) (ts : List Token) (mid : Bool) (p : Point) (us : List Token) (stays : Bool) (to : Point)
       → AreInOrder from at ts mid p → AreInOrder mid p us stays to → AreInOrder from at (ts ++ us) stays to
   in_order-append from at [] mid p us stays to ordered rest = in_order-after from mid at p us stays to ordered rest

@@ -1,4 +1,4 @@
--- Comments, control texts and other white space, words and signs: their tokens lie in them.
+-- The tokens of comments, control texts, other white space, words and signs lie in their text, in order.
 use Rattle.std.proofs.Common.{◌≡◌, ℕ, ◌+◌, ◌≤◌, Bool, true, false, not, ◌&&◌, ◌||◌, List, [], ◌∷◌, ◌++◌, drop, Option, Some, None, refl, ap, sym, ◌∙◌, arith, subst, if◌then◌else◌, cond, nat_eq}
 use Rattle.tangle_faults.specs.declared.faults.FaultKind.{FaultKind}
 use Rattle.tangle_faults.specs.declared.faults.FaultKind.TheVariants as fault
@@ -19,11 +19,11 @@ use Rattle.tangle_lexer.proofs.laws.Points.{Point, point_at, PrecedesOnLine, IsB
 use Rattle.tangle_lexer.proofs.laws.TokenOrder.{AreInOrder, IsFrom, in_order-append}
 use Rattle.tangle_lexer.proofs.laws.RegionOrder.{after_cells-add, holds-byte, are_bytes-hold, more-bytes, region-bytes, faults-in_order, bytes-precede, end-precedes, line_ends-in_order}
 
-never-two : (ends : Bool) → unit_by ends false ≡ unit.Two → ⊥
+pub never-two : (ends : Bool) → unit_by ends false ≡ unit.Two → ⊥
 never-two true h = cc
 never-two false h = cc
 
--- which regions take no line end as a second byte
+-- regions in which the second cell of a unit of two is never a line end
 
 comment-stays : (b n : Option ℕ) → unit_of region.BlockComment b n ≡ unit.Two → IsByte n
 comment-stays b (Some n) h = tt
@@ -54,19 +54,19 @@ line_comment-stays (Some b) None h = absurd (by (nat_eq b at_sign) h)
     by true h = cc
     by false h = cc
 
-pub word-bytes : (text : List Cell) → HoldsBytes (count_before region.Word 0 text) text
+pub word-bytes : (text : List Cell) → HoldsBytes (count_before region.Word text) text
 word-bytes text = region-bytes region.Word (λ n. refl) (λ b n h. absurd (never-two _ h)) text
 
-pub white-bytes : (text : List Cell) → HoldsBytes (count_before region.White 0 text) text
+pub white-bytes : (text : List Cell) → HoldsBytes (count_before region.White text) text
 white-bytes text = region-bytes region.White (λ n. refl) (λ b n h. absurd (never-two _ h)) text
 
-constant-bytes : (text : List Cell) → HoldsBytes (count_before region.BadConstant 0 text) text
+constant-bytes : (text : List Cell) → HoldsBytes (count_before region.BadConstant text) text
 constant-bytes text = region-bytes region.BadConstant (λ n. refl) (λ b n h. absurd (never-two _ h)) text
 
-pub line_comment-bytes : (text : List Cell) → HoldsBytes (count_before region.LineComment 0 text) text
+pub line_comment-bytes : (text : List Cell) → HoldsBytes (count_before region.LineComment text) text
 line_comment-bytes text = region-bytes region.LineComment (λ n. refl) line_comment-stays text
 
--- one byte more, where it is there
+-- a closing byte, if it is there
 one-byte : (expected : ℕ) (text : List Cell) → HoldsBytes (if holds expected (byte_at 0 text) then 1 else 0) text
 one-byte expected [] = tt
 one-byte expected (c ∷ cs) = by (holds expected c.byte) (holds-byte expected c.byte)
@@ -75,14 +75,23 @@ one-byte expected (c ∷ cs) = by (holds expected c.byte) (holds-byte expected c
     by true h = (h refl, tt)
     by false h = tt
 
+-- a bad constant is on one line
+pub bad_constant-bytes : (s : LexerState) (text : List Cell) → HoldsBytes 2 text → HoldsBytes (1 + (bad_constant s text).more) text
+bad_constant-bytes s text h =
+    let rest : List Cell = drop 2 text in
+    let inside : ℕ = count_before region.BadConstant rest in
+    let last : ℕ = if holds apostrophe (byte_at 0 (drop inside rest)) then 1 else 0 in
+    let sum : 2 + (inside + last) ≡ 1 + (1 + inside + last) = omega arith in
+    subst (λ n. HoldsBytes n text) sum (more-bytes 2 (inside + last) text h (more-bytes inside last rest (constant-bytes rest) (one-byte apostrophe (drop inside rest))))
+
 module _ (width : ℕ → ℕ) (count : ℕ) where
-  -- a text with line ends in it, after two bytes, perhaps with two bytes at its end
+  -- a comment or a control text, which begins with two bytes, may have line ends, and may end with two more bytes
   region-in_order : (r : Region) → ((b n : Option ℕ) → unit_of r b n ≡ unit.Two → IsByte n) → (at : Point) (text : List Cell) (closed is_fault : Bool) (kind : FaultKind) (line : ℕ)
-      → IsTextAt width count at text → HoldsBytes 2 text → (closed ≡ true → HoldsBytes 2 (drop (count_before r 0 (drop 2 text)) (drop 2 text)))
-      → AreInOrder width count true at (token.White ∷ line_ends r (drop 2 text) ++ fault_if is_fault kind line) true (after_cells at (1 + (1 + count_before r 0 (drop 2 text) + two_if closed)) text)
+      → IsTextAt width count at text → HoldsBytes 2 text → (closed ≡ true → HoldsBytes 2 (drop (count_before r (drop 2 text)) (drop 2 text)))
+      → AreInOrder width count true at (token.White ∷ line_ends r (drop 2 text) ++ fault_if is_fault kind line) true (after_cells at (1 + (1 + count_before r (drop 2 text) + two_if closed)) text)
   region-in_order r stays at text closed is_fault kind line is front-bytes end =
       let rest : List Cell = drop 2 text in
-      let inside : ℕ = count_before r 0 rest in
+      let inside : ℕ = count_before r rest in
       let front : Point = after_cells at 2 text in
       let back : Point = after_cells front inside rest in
       let to : Point = after_cells back (two_if closed) (drop inside rest) in
@@ -101,13 +110,13 @@ module _ (width : ℕ → ℕ) (count : ℕ) where
   pub block_comment-in_order : (s : LexerState) (at : Point) (text : List Cell) → IsTextAt width count at text → HoldsBytes 2 text
       → AreInOrder width count true at (block_comment s text).tokens true (after_cells at (1 + (block_comment s text).more) text)
   block_comment-in_order s at text is h =
-      let after : List Cell = drop (count_before region.BlockComment 0 (drop 2 text)) (drop 2 text) in
+      let after : List Cell = drop (count_before region.BlockComment (drop 2 text)) (drop 2 text) in
       region-in_order region.BlockComment comment-stays at text (ends_comment after) (not (ends_comment after)) fault.CommentEnd (front_line s.last_line after) is h (are_bytes-hold asterisk slash after)
 
   pub control_text-in_order : (s : LexerState) (at : Point) (text : List Cell) → IsTextAt width count at text → HoldsBytes 2 text
       → AreInOrder width count true at (control_text s text).tokens true (after_cells at (1 + (control_text s text).more) text)
   control_text-in_order s at text is h =
-      let after : List Cell = drop (count_before region.ControlText 0 (drop 2 text)) (drop 2 text) in
+      let after : List Cell = drop (count_before region.ControlText (drop 2 text)) (drop 2 text) in
       region-in_order region.ControlText control-stays at text (has_end_code after) (not (has_end_code after)) fault.ControlText (front_line s.last_line after) is h (are_bytes-hold at_sign greater_sign after)
 
   -- white space on one line, with a fault
@@ -118,19 +127,14 @@ module _ (width : ℕ → ℕ) (count : ℕ) where
   pub line_comment-in_order : (s : LexerState) (at : Point) (text : List Cell) → IsTextAt width count at text → HoldsBytes 2 text
       → AreInOrder width count true at (line_comment s text).tokens true (after_cells at (1 + (line_comment s text).more) text)
   line_comment-in_order s at text is h =
-      let inside : ℕ = count_before region.LineComment 0 (drop 2 text) in
+      let inside : ℕ = count_before region.LineComment (drop 2 text) in
       let sum : 2 + inside ≡ 1 + (1 + inside) = omega arith in
       white-in_order at (1 + (1 + inside)) text _ fault.CommentEnd _ is (subst (λ n. HoldsBytes n text) sum (more-bytes 2 inside text h (line_comment-bytes (drop 2 text))))
 
   pub bad_constant-in_order : (s : LexerState) (at : Point) (text : List Cell) → IsTextAt width count at text → HoldsBytes 2 text
       → AreInOrder width count true at (bad_constant s text).tokens true (after_cells at (1 + (bad_constant s text).more) text)
   bad_constant-in_order s at text is h =
-      let rest : List Cell = drop 2 text in
-      let inside : ℕ = count_before region.BadConstant 0 rest in
-      let last : ℕ = if holds apostrophe (byte_at 0 (drop inside rest)) then 1 else 0 in
-      let sum : 2 + (inside + last) ≡ 1 + (1 + inside + last) = omega arith in
-      white-in_order at (1 + (1 + inside + last)) text true fault.AsciiBad (front_line s.last_line text) is
-      (subst (λ n. HoldsBytes n text) sum (more-bytes 2 (inside + last) text h (more-bytes inside last rest (constant-bytes rest) (one-byte apostrophe (drop inside rest)))))
+      white-in_order at (1 + (bad_constant s text).more) text true fault.AsciiBad (front_line s.last_line text) is (bad_constant-bytes s text h)
 
   pub code_fault-in_order : (kind : FaultKind) (s : LexerState) (at : Point) (text : List Cell) → IsTextAt width count at text → HoldsBytes 2 text
       → AreInOrder width count true at (code_fault kind s text).tokens true (after_cells at (1 + (code_fault kind s text).more) text)
@@ -139,10 +143,10 @@ module _ (width : ℕ → ℕ) (count : ℕ) where
   pub white_space-in_order : (s : LexerState) (at : Point) (text : List Cell) → IsTextAt width count at text → HoldsBytes 1 text
       → AreInOrder width count true at (white_space s text).tokens true (after_cells at (1 + (white_space s text).more) text)
   white_space-in_order s at text is h =
-      let n : ℕ = count_before region.White 0 (drop 1 text) in
+      let n : ℕ = count_before region.White (drop 1 text) in
       bytes-precede width count at (1 + n) text is (more-bytes 1 n text h (white-bytes (drop 1 text)))
 
-  -- bytes of a line are a range of it, and the text goes on after them
+  -- the first `n` bytes of a line are a range of it, and the text after `m` bytes or more is not before its end
   pub span-in_order : (at : Point) (n m : ℕ) (c : Cell) (cs : List Cell) → IsTextAt width count at (c ∷ cs) → HoldsBytes n (c ∷ cs) → HoldsBytes m (c ∷ cs) → n ≤ m
       → IsFrom width count at (span_at n (c ∷ cs)) × PrecedesOnLine (point_at c.line (c.column + n)) (after_cells at m (c ∷ cs))
   span-in_order at n m c cs is h k more =
@@ -161,6 +165,6 @@ module _ (width : ℕ → ℕ) (count : ℕ) where
   pub word-in_order : (s : LexerState) (at : Point) (c : Cell) (cs : List Cell) → IsTextAt width count at (c ∷ cs) → IsByte c.byte
       → AreInOrder width count true at (word s (c ∷ cs)).tokens true (after_cells at (1 + (word s (c ∷ cs)).more) (c ∷ cs))
   word-in_order s at c cs is h =
-      let n : ℕ = 1 + count_before region.Word 0 cs in
-      let bytes : HoldsBytes n (c ∷ cs) = more-bytes 1 (count_before region.Word 0 cs) (c ∷ cs) (h, tt) (word-bytes cs) in
+      let n : ℕ = 1 + count_before region.Word cs in
+      let bytes : HoldsBytes n (c ∷ cs) = more-bytes 1 (count_before region.Word cs) (c ∷ cs) (h, tt) (word-bytes cs) in
       span-in_order at n n c cs is bytes bytes (omega arith)

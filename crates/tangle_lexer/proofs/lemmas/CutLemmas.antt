@@ -6,11 +6,12 @@ use Rattle.tangle_text.specs.declared.regions.Unit.{Unit as Unit-of}
 use Rattle.tangle_text.specs.declared.regions.Unit.TheVariants as unit
 use Rattle.tangle_lexer.specs.declared.tokens.Token.{Token}
 use Rattle.tangle_text.specs.Text.{Cell, byte_at, front_cell}
-use Rattle.tangle_text.specs.Regions.{unit_at, more_by, region_end, count_before, count_by}
+use Rattle.tangle_text.specs.Regions.{unit_at, more_by, region_end, count_before}
+use Rattle.tangle_text.proofs.UnitLemmas.{count_by, counted, count-is}
 use Rattle.tangle_lexer.specs.Quoted.{cut_tokens, unit_tokens, next_start, ends_at_once, one_if}
 use Rattle.tangle_text.proofs.RegionLemmas.{region_end-is}
 
--- a unit that isn't the end of a region adds what it gives
+-- a unit that does not end the region adds its tokens
 pub cut-go : (ends : ℕ → List Cell → List Token) (r : Region) (start last : ℕ) (text : List Cell) (u : Unit-of) →
     0 < length text → unit_at r text ≡ u → (u ≡ unit.Stop → ⊥) →
     cut_tokens ends r 0 start text
@@ -31,10 +32,13 @@ pub cut-nothing : (ends : ℕ → List Cell → List Token) (r : Region) (start 
     cut_tokens ends r 0 start text ≡ ends start text
 cut-nothing ends r start text h = rw h refl
 
--- a region that ends at once
+-- a region that ends at the front is empty
 pub at_once-stop : (r : Region) (text : List Cell) → unit_at r text ≡ unit.Stop → ends_at_once r text ≡ true
 at_once-stop r [] h = refl
-at_once-stop r (c ∷ cs) h = rw h refl
+at_once-stop r (c ∷ cs) h = ap (λ n. nat_eq n 0) (count-is r (c ∷ cs)) ∙ none
+  where
+    none : nat_eq (counted r 0 (c ∷ cs)) 0 ≡ true
+    none = rw h refl
 
 neq_false : (a b : ℕ) → (a ≡ b → ⊥) → nat_eq a b ≡ false
 neq_false a b h = elim (eqb_tells a b) [ inl same ↦ absurd (h same.1) | inr other ↦ other.0 ]
@@ -46,18 +50,18 @@ count_by-go unit.Two n go = neq_false (1 + n) 0 (λ h. omega (arith, h))
 
 pub at_once-go : (r : Region) (text : List Cell) (u : Unit-of) → 0 < length text → unit_at r text ≡ u → (u ≡ unit.Stop → ⊥) → ends_at_once r text ≡ false
 at_once-go r [] u inside h go = absurd (omega (arith, inside))
-at_once-go r (c ∷ cs) u inside h go = count_by-go (unit_at r (c ∷ cs)) _ (λ stop. go (sym h ∙ stop))
+at_once-go r (c ∷ cs) u inside h go = ap (λ n. nat_eq n 0) (count-is r (c ∷ cs)) ∙ count_by-go (unit_at r (c ∷ cs)) _ (λ stop. go (sym h ∙ stop))
 
 pub at_once-end : (r : Region) (text : List Cell) → ends_at_once r text ≡ true → text ≡ region_end r text
 unfolding region_end
-at_once-end r text h = let none : count_before r 0 text ≡ 0 = zero-is (count_before r 0 text) h in rw none refl
+at_once-end r text h = let none : count_before r text ≡ 0 = zero-is (count_before r text) h in rw none refl
   where
     zero-is : (n : ℕ) → nat_eq n 0 ≡ true → n ≡ 0
     zero-is n h = grind (arith, h)
 
--- after a region and what may end it
+-- the text after a region and the byte that may end it
 pub drop-end : (r : Region) (text : List Cell) (b : List Cell → Bool) →
-    drop (one_if (b (region_end r text))) (region_end r text) ≡ drop (count_before r 0 text + one_if (b (drop (count_before r 0 text) text))) text
+    drop (one_if (b (region_end r text))) (region_end r text) ≡ drop (count_before r text + one_if (b (drop (count_before r text) text))) text
 drop-end r text b =
     let is = region_end-is r text in
-    ap (λ t. drop (one_if (b t)) t) is ∙ drop-drop (one_if (b (drop (count_before r 0 text) text))) (count_before r 0 text) text
+    ap (λ t. drop (one_if (b t)) t) is ∙ drop-drop (one_if (b (drop (count_before r text) text))) (count_before r text) text

@@ -1,4 +1,4 @@
--- A search at the end of a name for three dots.
+-- Whether a name ends with three dots.
 use Rattle.std.proofs.Common.{◌≡◌, ℕ, ◌+◌, ◌-◌, ◌≤◌, ◌↔◌, Bool, true, false, List, length, take, drop, refl, ap, sym, ◌∙◌, arith, take_all, length-drop}
 use Rattle.std.specs.Prelude.{IsTrue}
 use Rattle.std.specs.Str.{bytes_eq}
@@ -13,7 +13,7 @@ same_truth true b f g = sym (f refl)
 same_truth false true f g = g refl
 same_truth false false f g = refl
 
--- a name ends with the dots where its last three bytes are these
+-- a name ends with the dots if and only if they are its last three bytes
 pub ends_with_dots : (name : List ℕ) (r : Bool) → IsTrue r ↔ ((3 ≤ length name) × OccursAt name dots (length name - 3)) → r ≡ bytes_eq (drop (length name - 3) name) dots
 ends_with_dots name r h =
     let k = length name - 3 in

@@ -1,5 +1,5 @@
 -- A head is the only token of its lexeme.
-use Rattle.std.proofs.Common.{◌≡◌, ℕ, zero, suc, Bool, true, false, not, ◌||◌, ◌&&◌, List, [], ◌∷◌, ◌++◌, drop, Option, Some, None, if◌then◌else◌, ◌⊎◌, inl, inr, refl}
+use Rattle.std.proofs.Common.{◌≡◌, ℕ, zero, suc, Bool, true, false, not, ◌||◌, ◌&&◌, List, [], ◌∷◌, ◌++◌, drop, Option, Some, None, if◌then◌else◌, ◌⊎◌, inl, inr, refl, sym, subst}
 use Rattle.std.specs.List.{list_any}
 use Rattle.tangle_faults.specs.declared.faults.FaultKind.{FaultKind}
 use Rattle.tangle_text.specs.declared.regions.Region.{Region}
@@ -19,16 +19,18 @@ use Rattle.tangle_lexer.specs.declared.constants.AsciiConstant.{AsciiConstant}
 use Rattle.tangle_lines.specs.Bytes.{at_sign}
 use Rattle.tangle_text.specs.Bytes.{holds, backslash, is_line_end}
 use Rattle.tangle_text.specs.Text.{Cell, byte_at}
-use Rattle.tangle_text.specs.Regions.{unit_at, more_by, unless_stop, from_units}
+use Rattle.tangle_text.specs.Regions.{unit_at, more_by, unless_stop}
+use Rattle.tangle_lexer.proofs.lemmas.LexemeLemmas.{line_end_of, line_ends-are}
+use Rattle.tangle_text.proofs.UnitLemmas.{from_units}
 use Rattle.tangle_lexer.specs.Lexemes.{fault_if, line_end_by, in_mode}
-use Rattle.tangle_lexer.specs.Comments.{line_ends, unit_line_end, starts_section}
+use Rattle.tangle_lexer.specs.Comments.{line_ends, starts_section}
 use Rattle.tangle_lexer.specs.Quoted.{range_token, cut_range, unit_tokens, next_start, at_stop, cut_tokens, quote_end, verbatim_end, verbatim_tokens, empty_end, ends_at_once, quoted_text}
 use Rattle.tangle_lexer.specs.Constants.{constant_at, constant_lexeme}
 use Rattle.tangle_lexer.specs.Names.{definition_or_mention, definition_count, is_ended, has_single_equals, after_name}
 use Rattle.tangle_lexer.specs.Steps.{lexeme, lexeme_in, limbo_lexeme, documentation_lexeme, documentation_code, c_code, c_lexeme, macro_code, macro_lexeme, kind_at, code_at}
 use Rattle.tangle_lexer.specs.Heads.{is_head, HasNoHead}
 
--- a head is alone
+-- these tokens have no head, or consist of one head
 abbrev pub IsHeadAlone : List Token → Type 0
 IsHeadAlone ts = HasNoHead ts ⊎ ((head : Token) × (ts ≡ head ∷ []) × (is_head head ≡ true))
 
@@ -53,14 +55,17 @@ unless-none unit.Stop ts h = refl
 unless-none unit.One ts h = h
 unless-none unit.Two ts h = h
 
-line_ends-none : (r : Region) (k : ℕ) (text : List Cell) → HasNoHead (from_units unit_line_end r k text)
-line_ends-none r k [] = refl
-line_ends-none r (suc k) (c ∷ cs) = line_ends-none r k cs
-line_ends-none r zero (c ∷ cs) =
-    unless-none (unit_at r (c ∷ cs)) _ (no_head-append (line_end_by c.byte c.line) _ (line_end-none c.byte c.line) (line_ends-none r (more_by (unit_at r (c ∷ cs))) cs))
+units-none : (r : Region) (k : ℕ) (text : List Cell) → HasNoHead (from_units line_end_of r k text)
+units-none r k [] = refl
+units-none r (suc k) (c ∷ cs) = units-none r k cs
+units-none r zero (c ∷ cs) =
+    unless-none (unit_at r (c ∷ cs)) _ (no_head-append (line_end_by c.byte c.line) _ (line_end-none c.byte c.line) (units-none r (more_by (unit_at r (c ∷ cs))) cs))
+
+line_ends-none : (r : Region) (text : List Cell) → HasNoHead (line_ends r text)
+line_ends-none r text = subst HasNoHead (sym (line_ends-are r text)) (units-none r 0 text)
 
 white-none : (r : Region) (text : List Cell) (b : Bool) (kind : FaultKind) (line : ℕ) → HasNoHead (token.White ∷ line_ends r text ++ fault_if b kind line)
-white-none r text b kind line = no_head-append (line_ends r text) _ (line_ends-none r 0 text) (fault-none b kind line)
+white-none r text b kind line = no_head-append (line_ends r text) _ (line_ends-none r text) (fault-none b kind line)
 
 range-none : (r : Region) (line start end : ℕ) (t : Bool) → HasNoHead (if t then range_token r (record { line = line; start = start; end = end }) ∷ [] else [])
 range-none r line start end false = refl

@@ -1,4 +1,4 @@
--- Names: where they end, and what is after them.
+-- The ends of names, and the equals signs after them.
 use Rattle.std.proofs.Common.{◌≡◌, ℕ, ◌+◌, Bool, true, false, not, List, drop, Option, Some, None, refl, ap, sym, ◌∙◌, arith, drop-drop, subst, if◌then◌else◌}
 use Rattle.tangle_lexer.specs.declared.names.Equals.{Equals}
 use Rattle.tangle_lexer.specs.declared.names.Equals.TheVariants as equals
@@ -17,7 +17,7 @@ pub byte_at-next : (n : ℕ) (text : List Cell) → byte_at (n + 1) text ≡ byt
 byte_at-next n text =
     byte_at-drop (n + 1) text ∙ (ap (byte_at 0) (ap (λ k. drop k text) (omega arith) ∙ sym (drop-drop 1 n text)) ∙ sym (byte_at-drop 1 (drop n text)))
 
--- the equals sign of a head
+-- the equals sign, by the text after the cells before it
 pub equals-further : (text : List Cell) →
     equals_by (byte_at 0 (drop (count_before_equals text) text)) (byte_at 1 (drop (count_before_equals text) text)) ≡ equals_in text
 equals-further text =
@@ -32,22 +32,22 @@ after-is text mid rest h go =
     go ∙ (ap (λ t. drop (two_if (has_end_code t)) t) h
     ∙ (ap (drop (two_if (is_ended text))) (sym (after-two (name_count text) text)) ∙ drop-drop (two_if (is_ended text)) (1 + name_count text) (drop 1 text)))
 
--- + and the white space after it are passed over
+-- the text after white space, + and white space
 pub plus-further : (text : List Cell) → holds plus_sign (byte_at 0 (region_end region.White text)) ≡ true →
     region_end region.White (drop 1 (region_end region.White text)) ≡ drop (count_before_equals text) text
 plus-further text h =
-    let first = count_before region.White 0 text in
+    let first = count_before region.White text in
     let is = region_end-is region.White text in
     let plus : holds plus_sign (byte_at first text) ≡ true = ap (holds plus_sign) (byte_at-drop first text ∙ sym (ap (byte_at 0) is)) ∙ h in
     let next : drop 1 (region_end region.White text) ≡ drop (first + 1) text = ap (drop 1) is ∙ (drop-drop 1 first text) in
     region_end-is region.White (drop 1 (region_end region.White text))
-    ∙ (ap (λ t. drop (count_before region.White 0 t) t) next
-    ∙ (drop-drop (count_before region.White 0 (drop (first + 1) text)) (first + 1) text ∙ rw plus refl))
+    ∙ (ap (λ t. drop (count_before region.White t) t) next
+    ∙ (drop-drop (count_before region.White (drop (first + 1) text)) (first + 1) text ∙ rw plus refl))
 
 pub no_plus-further : (text : List Cell) → holds plus_sign (byte_at 0 (region_end region.White text)) ≡ false →
     region_end region.White text ≡ drop (count_before_equals text) text
 no_plus-further text h =
-    let first = count_before region.White 0 text in
+    let first = count_before region.White text in
     let is = region_end-is region.White text in
     let plus : holds plus_sign (byte_at first text) ≡ false = ap (holds plus_sign) (byte_at-drop first text ∙ sym (ap (byte_at 0) is)) ∙ h in
     is ∙ rw plus refl
@@ -62,7 +62,7 @@ not-false false h = sym h
 none-some : {A : Type 0} (a : A) → Some a ≡ None → ⊥
 none-some a h = cc
 
--- the equals sign of a definition after a name
+-- a name whose equals sign was read is a definition
 pub definition-read : (last line : ℕ) (text rest : List Cell) (e : Equals) → is_ended text ≡ true → equals_in (after_name text) ≡ e →
     PassesEquals e (count_before_equals (after_name text)) last (after_name text) rest (Some line) →
     (n : ℕ) × (definition_count text ≡ Some n) × (rest ≡ drop (name_more text + n) (drop 1 text)) × (line ≡ front_line last (drop (name_more text + n) text))
@@ -82,7 +82,7 @@ definition-read last line text rest equals.Double ended is takes =
       some-eq (takes.1 ∙ ap (λ t. Some (front_line last t)) (drop-drop (n + 1) (name_more text) (drop 1 text) ∙ (drop-drop (name_more text + (n + 1)) 1 text ∙ ap (λ k. drop k text) (omega arith)))),
     )
 
--- the same after a name that was read
+-- a name is a definition if `pass_equals` found an equals sign after it
 pub definition-found : (last line : ℕ) (found : Option ℕ) (text after rest : List Cell) → is_ended text ≡ true → after ≡ after_name text → found ≡ Some line →
     PassesEquals (equals_in after) (count_before_equals after) last after rest found →
     (n : ℕ) × (definition_count text ≡ Some n) × (rest ≡ drop (name_more text + n) (drop 1 text)) × (line ≡ front_line last (drop (name_more text + n) text))

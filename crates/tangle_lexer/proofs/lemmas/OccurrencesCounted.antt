@@ -1,4 +1,4 @@
--- Occurrences are numbered one after another, so those of tokens are below their count.
+-- Occurrences are numbered one after another, so their numbers in tokens are below their count.
 use Rattle.std.proofs.Common.{◌≡◌, ◌≤◌, ◌<◌, ℕ, zero, suc, ◌+◌, Bool, true, false, ◌||◌, List, [], ◌∷◌, ◌++◌, length, drop, flat_map, refl, ap, arith, if◌then◌else◌, Option, None, Some, option_to_list, length-append}
 use Rattle.std.specs.List.{list_any, AllByRecursion}
 use Rattle.tangle_faults.specs.declared.faults.FaultKind.TheVariants as fault
@@ -24,7 +24,7 @@ use Rattle.tangle_lexer.specs.Names.{definition_or_mention, definition_count, ha
 use Rattle.tangle_lexer.specs.Steps.{documentation_code, c_code, c_lexeme, macro_code, macro_lexeme, lexeme_in, lexeme, lexemes, tokens_from, occurrences_from, kind_at, code_at, prose}
 use Rattle.tangle_lexer.proofs.lemmas.PlainTokens.{AreNoHeadsOrUses, is_head_or_use, seen, plain-append, fault_if-plain, white-plain, line_ends-plain, verbatim_tokens-plain, cut_tokens-plain, quote_end-plain, constant-plain}
 
--- a token that names no occurrence, or one of so many
+-- a token has no number of an occurrence, or one below `count`
 abbrev pub IsBelow : ℕ → Token → Type 0
 IsBelow count (token.UseOf occurrence line) = occurrence < count
 IsBelow count (token.NamedPart occurrence line) = occurrence < count
@@ -37,7 +37,7 @@ pub below-append : (count : ℕ) (ts us : List Token) → AreBelow count ts → 
 below-append count [] us h k = k
 below-append count (t ∷ ts) us h k = (h.0, below-append count ts us h.1 k)
 
--- a lexeme counts its occurrence, and its tokens name what was counted
+-- a lexeme adds its occurrence to the count, and the numbers in its tokens are below the new count
 pub record Keeps (s : LexerState) (l : Lexeme) : Type 0 where
   pub count : l.after.occurrences ≡ s.occurrences + length (option_to_list l.occurrence)
   pub below : AreBelow (s.occurrences + length (option_to_list l.occurrence)) l.tokens
@@ -54,7 +54,7 @@ plain-below count (t ∷ ts) h = both t (λ k. plain-below count ts k) h
     both (token.UseOf occurrence line) more h = cc
     both _ more h = (tt, more h)
 
--- a lexeme without a name
+-- a lexeme without an occurrence
 plain-keeps : (s : LexerState) (l : Lexeme) → l.occurrence ≡ None → l.after.occurrences ≡ s.occurrences → AreNoHeadsOrUses l.tokens → Keeps s l
 plain-keeps s l none same q = record {
   count = omega (arith, same, ap (λ n. length (option_to_list n)) none);
@@ -96,14 +96,14 @@ code-keeps code.Name s text = record {
         (plain-append _ _ (fault_if-plain _ fault.NameEnd _) (fault_if-plain (has_single_equals (after_name text)) fault.NameEquals (front_line s.last_line text))).none,
   );
 }
-code-keeps code.ControlText s text = plain-keeps s _ refl refl (white-plain _ _ (line_ends-plain region.ControlText 0 (drop 2 text)) (fault_if-plain _ fault.ControlText _))
+code-keeps code.ControlText s text = plain-keeps s _ refl refl (white-plain _ _ (line_ends-plain region.ControlText (drop 2 text)) (fault_if-plain _ fault.ControlText _))
 code-keeps code.Verbatim s text = plain-keeps s _ refl refl (verbatim_tokens-plain (drop 2 text))
 code-keeps code.AsciiConstant s text = constant-keeps (constant_at (drop 2 text)) s text
 code-keeps _ s text = plain-keeps s _ refl refl (seen _ refl)
 
 c-keeps : (kind : LexemeKind) (s : LexerState) (text : List Cell) → Keeps s (c_lexeme kind s text)
 c-keeps (lexeme_kind.Control code) s text = code-keeps code s text
-c-keeps lexeme_kind.BlockComment s text = plain-keeps s _ refl refl (white-plain _ _ (line_ends-plain region.BlockComment 0 (drop 2 text)) (fault_if-plain _ fault.CommentEnd _))
+c-keeps lexeme_kind.BlockComment s text = plain-keeps s _ refl refl (white-plain _ _ (line_ends-plain region.BlockComment (drop 2 text)) (fault_if-plain _ fault.CommentEnd _))
 c-keeps lexeme_kind.LineComment s text = plain-keeps s _ refl refl (white-plain [] _ (seen [] refl) (fault_if-plain _ fault.CommentEnd _))
 c-keeps lexeme_kind.DoubleQuote s text =
     plain-keeps s _ refl refl (cut_tokens-plain (quote_end region.DoubleQuote double_quote s.last_line) region.DoubleQuote 0 (front_column text) (drop 1 text) (quote_end-plain region.DoubleQuote double_quote s.last_line))

@@ -1,5 +1,5 @@
--- Tokens of a lexeme that name no occurrence and are no heads.
-use Rattle.std.proofs.Common.{◌≡◌, ℕ, zero, suc, ◌+◌, Bool, true, false, ◌&&◌, ◌||◌, nat_lt, List, [], ◌∷◌, ◌++◌, refl, if◌then◌else◌, Option, None, Some}
+-- Tokens that are neither heads nor uses.
+use Rattle.std.proofs.Common.{◌≡◌, ℕ, zero, suc, ◌+◌, Bool, true, false, ◌&&◌, ◌||◌, nat_lt, List, [], ◌∷◌, ◌++◌, refl, sym, subst, if◌then◌else◌, Option, None, Some}
 use Rattle.std.specs.List.{list_any}
 use Rattle.tangle_faults.specs.declared.faults.FaultKind.{FaultKind}
 use Rattle.tangle_lexer.specs.declared.tokens.Token.{Token}
@@ -14,9 +14,11 @@ use Rattle.tangle_lines.specs.Bytes.{at_sign}
 use Rattle.tangle_text.specs.Bytes.{holds, backslash, is_line_end}
 use Rattle.tangle_faults.specs.declared.faults.FaultKind.TheVariants as fault
 use Rattle.tangle_text.specs.Text.{Cell, byte_at, front_column}
-use Rattle.tangle_text.specs.Regions.{unit_at, more_by, from_units, unless_stop}
+use Rattle.tangle_text.specs.Regions.{unit_at, more_by, unless_stop}
+use Rattle.tangle_lexer.proofs.lemmas.LexemeLemmas.{line_end_of, line_ends-are}
+use Rattle.tangle_text.proofs.UnitLemmas.{from_units}
 use Rattle.tangle_lexer.specs.Lexemes.{fault_if}
-use Rattle.tangle_lexer.specs.Comments.{unit_line_end}
+use Rattle.tangle_lexer.specs.Comments.{line_ends}
 use Rattle.tangle_lexer.specs.Quoted.{range_token, cut_range, unit_tokens, next_start, at_stop, cut_tokens, quote_end, verbatim_end, verbatim_tokens, empty_end, ends_at_once}
 use Rattle.tangle_lexer.specs.declared.constants.AsciiConstant.{AsciiConstant}
 use Rattle.tangle_lexer.specs.Constants.{constant_lexeme}
@@ -30,7 +32,7 @@ is_head_or_use t = is_head t
 pub record AreNoHeadsOrUses (ts : List Token) : Type 0 where
   pub none : list_any is_head_or_use ts ≡ false
 
--- which can be seen
+-- tokens are neither heads nor uses if a search finds none
 pub seen : (ts : List Token) → list_any is_head_or_use ts ≡ false → AreNoHeadsOrUses ts
 seen ts h = record { none = h }
 
@@ -60,18 +62,21 @@ stop-plain : (u : Unit-of) (ts : List Token) → AreNoHeadsOrUses ts → AreNoHe
 stop-plain unit.Stop ts h = seen [] refl
 stop-plain _ ts h = h
 
-pub line_ends-plain : (r : Region) (k : ℕ) (text : List Cell) → AreNoHeadsOrUses (from_units unit_line_end r k text)
-line_ends-plain r zero [] = seen [] refl
-line_ends-plain r (suc k) [] = seen [] refl
-line_ends-plain r (suc k) (c ∷ cs) = line_ends-plain r k cs
-line_ends-plain r zero (c ∷ cs) =
+units-plain : (r : Region) (k : ℕ) (text : List Cell) → AreNoHeadsOrUses (from_units line_end_of r k text)
+units-plain r zero [] = seen [] refl
+units-plain r (suc k) [] = seen [] refl
+units-plain r (suc k) (c ∷ cs) = units-plain r k cs
+units-plain r zero (c ∷ cs) =
     stop-plain (unit_at r (c ∷ cs)) _ (plain-append _ _ (plain-if (is_line_end c.byte) (token.LineEnd c.line ∷ []) [] (seen _ refl) (seen _ refl))
-    (line_ends-plain r (more_by (unit_at r (c ∷ cs))) cs))
+    (units-plain r (more_by (unit_at r (c ∷ cs))) cs))
+
+pub line_ends-plain : (r : Region) (text : List Cell) → AreNoHeadsOrUses (line_ends r text)
+line_ends-plain r text = subst AreNoHeadsOrUses (sym (line_ends-are r text)) (units-plain r 0 text)
 
 pub white-plain : (ends faults : List Token) → AreNoHeadsOrUses ends → AreNoHeadsOrUses faults → AreNoHeadsOrUses (token.White ∷ ends ++ faults)
 white-plain ends faults h k = seen _ (append-plain ends faults h.none k.none)
 
--- ranges
+-- ranges of quoted and verbatim texts
 
 range-plain : (r : Region) (s : Span) → AreNoHeadsOrUses (range_token r s ∷ [])
 range-plain region.Verbatim s = seen _ refl

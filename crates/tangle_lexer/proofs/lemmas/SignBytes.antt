@@ -1,4 +1,4 @@
--- The table of sign bytes has the class of each byte at its position.
+-- The table of sign bytes says of each byte whether it is a sign byte.
 use Rattle.std.proofs.Common.{◌≡◌, ◌<◌, ℕ, Bool, true, false, List, [], ◌∷◌, get_or, refl}
 use Rattle.tangle_lexer.specs.Simple.{is_sign_byte}
 use Rattle.tangle_text.proofs.ByteLemmas.{classes, class-of}

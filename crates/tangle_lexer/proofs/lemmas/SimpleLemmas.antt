@@ -1,4 +1,4 @@
--- Words, white space, signs and line ends of C text.
+-- Simple lexemes: words, white space, signs and line ends of C text.
 use Rattle.std.proofs.Common.{◌≡◌, ◌<◌, ℕ, ◌==◌, Bool, true, false, ◌||◌, if◌then◌else◌, List, [], ◌∷◌, ◌++◌, length, drop, arith, Option, Some, None, option_to_list, subst, refl, ap, sym, ◌∙◌}
 use Rattle.std.specs.Option.{IfSome}
 use Rattle.tangle_lines.specs.Bytes.{at_sign, double_quote, is_white}
@@ -19,7 +19,7 @@ use Rattle.tangle_lexer.specs.Reads.{IsRead}
 use Rattle.tangle_lexer.specs.Heads.{HasNoHead}
 use Rattle.tangle_lexer.proofs.lemmas.StepLemmas.{occurrences_from-step}
 
--- what opens nothing reads alike in C parts and in macros
+-- a simple lexeme is the same in C parts and in macros
 pub lexeme-simple : (s : LexerState) (text : List Cell) (p : SimpleLexeme) → IsSimple text p → is_c_text s.mode ≡ true → lexeme s text ≡ c_lexeme (simple_kind p) s text
 unfolding lexeme
 lexeme-simple s text p here h = go s.mode h
@@ -39,7 +39,7 @@ lexeme-simple s text p here h = go s.mode h
     go mode.CPart h = ap (λ k. c_lexeme k s text) (here.lexeme_kind s.include)
     go mode.Macro h = ap (λ k. macro_lexeme k s text) (here.lexeme_kind s.include) ∙ alike p
 
--- all stays but how much of #include was read
+-- a simple lexeme changes nothing of the state but how much of #include was read
 pub simple-after : (p : SimpleLexeme) (inc : IncludeState) (s : LexerState) (text : List Cell) →
     (c_lexeme (simple_kind p) (with_include inc s) text).after ≡ with_include (c_lexeme (simple_kind p) (with_include inc s) text).after.include s
 simple-after simple.Word inc s text = refl
@@ -58,7 +58,7 @@ simple-again old new inc s state after text rest p is read =
       state = ap (λ t. with_include t.include s) again.state ∙ sym (simple-after p inc s text);
     }
 
--- it is no name, and no head comes
+-- a simple lexeme has no occurrence and no head
 pub simple-none : (p : SimpleLexeme) (s : LexerState) (text : List Cell) → (c_lexeme (simple_kind p) s text).occurrence ≡ None
 simple-none simple.Word s text = refl
 simple-none simple.White s text = refl
@@ -82,7 +82,7 @@ simple-occurrences_from old new s after text rest p here h read =
     let none : (lexeme s text).occurrence ≡ None = ap (λ l. l.occurrence) is ∙ simple-none p s text in
     rw (read.ahead, read.state, ← is) (sym (occurrences_from-step s text here.inside ∙ ap (λ n. option_to_list n ++ occurrences_from (lexeme s text).after (drop (lexeme s text).more (drop 1 text))) none))
 
--- what begins with a byte that opens nothing longer
+-- the kind of a lexeme that begins with a byte that opens nothing longer
 
 or-parts : (a b : Bool) → (a || b) ≡ false → (a ≡ false) × (b ≡ false)
 or-parts true b h = cc

@@ -1,4 +1,4 @@
--- One step of the lexer, in the text, the tokens and the occurrences.
+-- What one step of the lexer does to the text, the tokens and the occurrences.
 use Rattle.std.proofs.Common.{◌≡◌, ◌<◌, ◌+◌, ℕ, zero, suc, Bool, true, false, ◌||◌, List, [], ◌∷◌, ◌++◌, length, drop, map, flat_map, Option, Some, None, option_to_list, inl, inr, refl, ap, sym, ◌∙◌, arith, append_assoc, length-drop}
 use Rattle.std.specs.List.{list_any}
 use Rattle.tangle_lines.specs.Reading.{SourceLine}
@@ -46,14 +46,14 @@ occurrences_from-step s (c ∷ cs) h =
     let here : Lexeme = lexeme s (c ∷ cs) in
     ap (λ rest. option_to_list here.occurrence ++ flat_map (λ l. option_to_list l.occurrence) rest) (lexemes-drop here.more here.after cs)
 
--- the tokens read and those ahead stay the same
+-- a step does not change the list of the tokens read and those ahead
 pub step-tokens : (old new : List Token) (s after : LexerState) (text rest : List Cell) → 0 < length text → IsRead old new text rest after (lexeme s text) →
     new ++ tokens_from after rest ≡ old ++ tokens_from s text
 step-tokens old new s after text rest h read =
     let step = tokens_from-step s text h in
     rw (read.tokens, read.ahead, read.state, step, append_assoc) refl
 
--- so do the occurrences
+-- a step does not change the list of the occurrences read and those ahead
 pub step-occurrences : (lines : List SourceLine) (old new : List OccurrenceRead) (from to : List Token) (s after : LexerState) (text rest : List Cell) → 0 < length text →
     IsRead from to text rest after (lexeme s text) → AddsOccurrence lines old new (lexeme s text).occurrence →
     new ++ map (occurrence_of lines) (occurrences_from after rest) ≡ old ++ map (occurrence_of lines) (occurrences_from s text)
@@ -68,13 +68,13 @@ step-occurrences lines old new from to s after text rest h read adds =
         ap (λ xs. xs ++ map (occurrence_of lines) (occurrences_from (lexeme s text).after (drop (lexeme s text).more (drop 1 text)))) adds
         ∙ append_assoc old (occurrence_of lines occurrence ∷ []) (map (occurrence_of lines) (occurrences_from (lexeme s text).after (drop (lexeme s text).more (drop 1 text))))
 
--- the text ahead grows shorter
+-- a step makes the text ahead shorter
 pub step-shorter : (old new : List Token) (s after : LexerState) (text rest : List Cell) → 0 < length text → IsRead old new text rest after (lexeme s text) →
     length rest < length text
 step-shorter old new s after text rest h read =
     omega (arith, h, ap length read.ahead, length-drop (lexeme s text).more (drop 1 text), length-drop 1 text)
 
--- the number of occurrences that were read before grows by one with each name
+-- the number of occurrences that were read grows by one with each name
 
 abbrev Counts : Option OccurrenceOnLine → ℕ → ℕ → Type 0
 Counts None before after = after ≡ before
@@ -188,7 +188,7 @@ step-count lines old new from to s after text rest read adds before =
     go None adds counts = counts ∙ (before ∙ sym (ap length adds))
     go (Some occurrence) adds counts = counts ∙ (ap (λ n. n + 1) before ∙ sym (ap length adds ∙ length-snoc old (occurrence_of lines occurrence)))
 
--- the tokens before a head that was taken off
+-- the tokens before a head that was removed
 
 init-from : Token → List Token → List Token
 init-from t [] = []

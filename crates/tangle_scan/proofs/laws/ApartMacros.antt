@@ -1,4 +1,4 @@
--- In a macro what the source keeps apart stays apart.
+-- A C compiler reads two items of a macro apart if the source keeps them apart.
 use Rattle.std.proofs.Common.{◌≡◌, ℕ, Bool, true, false, ◌&&◌, not, if◌then◌else◌, List, [], ◌∷◌, ◌++◌, flat_map, append_assoc}
 use Rattle.std.proofs.Common.{Option, Some, None, is_some, inl, inr, ◌⊎◌, refl, ap, ◌∙◌, subst}
 use Rattle.tangle_files.specs.Bytes.{space, line_feed}
@@ -16,7 +16,7 @@ use Rattle.tangle_scan.proofs.laws.ApartReading.{IsSkipped, IsWhite, backslash-s
 use Rattle.tangle_scan.proofs.laws.ApartReading.{read-nothing, skipped-reads, white-serves, nothing-serves, item-apart}
 
 module _ (texts : List (List ℕ)) where
-  -- The bytes of tokens, by what is before them.
+  -- The bytes that rule 3 makes of the tokens of a macro. The arguments before the tokens are those of the rule.
 
   abbrev text_from : Bool → Option Token → Bool → List Token → List ℕ
   text_from in_name before white es = flat_map (macro_item_bytes texts) (items_from texts in_name before white es)
@@ -44,7 +44,7 @@ module _ (texts : List (List ℕ)) where
   item-text (token.Span span_kind.Verbatim s) es item = refl
   item-text _ es item = refl
 
-  -- an item, and a blank before it
+  -- the bytes of an item, and of a blank before it
   text-item : (in_name : Bool) (before : Option Token) (white : Bool) (e : Token) (es : List Token) → is_front_gap e ≡ false →
       text_from in_name before white (e ∷ es)
       ≡ blank_bytes (is_some before && white) ++ (bytes_of e ++ text_from (in_name && not white && is_name_part e) (Some e) false es)
@@ -54,17 +54,18 @@ module _ (texts : List (List ℕ)) where
       let rest = macro_blanks texts (in_name && not white && is_name_part e) (Some e) false es in
       text-blank (is_some before && white) (e ∷ rest) ∙ ap (λ bs. blank_bytes (is_some before && white) ++ bs) (item-text e rest item)
 
-  -- The bytes of what follows are read apart, with the line feed at the end.
+  -- The items of the tokens that follow are read apart, and the line feed at the end of the macro is read.
 
   abbrev AreRead : Bool → Bool → Option Token → List Token → List ℕ → Type 0
   AreRead in_name apart before es bytes = AreReadApart texts (λ occurrence. []) [] (EndsMacro texts) in_name apart before es bytes
 
-  -- after an item on its line, or at the front
+  -- the tokens that follow are read apart after an item on the same line, or at the front of the macro
   abbrev ReadsOnLine : List Token → Type 0
   ReadsOnLine es = (in_name white : Bool) (before : Option Token) → EndsInItem texts es before →
       AreRead in_name white before es (text_from in_name before white es ++ line_feed ∷ [])
 
-  -- After line ends, since which these bytes are there: white space is read of them, or nothing, where none is needed before the next item.
+  -- `gap` are the bytes since the last item, with line ends: the compiler reads white space of them, or nothing if no
+  -- white space is needed before the next item.
   abbrev IsGap : Bool → Option Token → List ℕ → List Token → Type 0
   IsGap in_name before gap es =
       IsWhite (after_backslash texts before) gap
@@ -107,7 +108,7 @@ module _ (texts : List (List ℕ)) where
       by false is =
           next in_name false before (backslash ∷ line_feed ∷ []) (inr (backslash-skipped (after_backslash texts before), is)) ends_after
 
-  -- an item on its line
+  -- the bytes before an item that is on the line of the last one
   gap-on_line : (in_name white : Bool) (before : Option Token) (e : Token) →
       is_gap_read (needs_white texts in_name white before e) (read_after (after_backslash texts before) (blank_bytes (is_some before && white))) ≡ true
   gap-on_line in_name white None e = refl
@@ -128,7 +129,7 @@ module _ (texts : List (List ℕ)) where
       (gap-on_line in_name white before e)
       (next after false (Some e) ends)
 
-  -- an item after line ends
+  -- the bytes before an item that is on a later line than the last one
   gap-after_line_ends : (in_name : Bool) (before : Option Token) (gap : List ℕ) (e : Token) (es : List Token) → next_item (e ∷ es) ≡ Some e →
       IsGap in_name before gap (e ∷ es) →
       is_gap_read (needs_white texts in_name true before e) (read_after (after_backslash texts before) gap) ≡ true
@@ -155,7 +156,7 @@ module _ (texts : List (List ℕ)) where
       (gap-after_line_ends in_name before gap e es first is)
       (rw (no-name in_name e) (next false false (Some e) ends))
 
-  -- more line ends
+  -- one more line end after line ends
   reads-more_line_ends : (line : ℕ) (es : List Token) → ReadsAfterLineEnds es → ReadsAfterLineEnds (token.LineEnd line ∷ es)
   reads-more_line_ends line es next in_name white before gap is ends =
       subst (AreRead in_name true before es)
@@ -188,7 +189,7 @@ module _ (texts : List (List ℕ)) where
       let next = reads es in
       record { on_line = reads-on_line e es refl next.on_line; after_line_ends = reads-after_line_ends e es refl refl next.on_line }
 
-  -- the bytes of a macro
+  -- the items of a whole macro are read apart
   pub macro-apart : (es : List Token) → IsMacroReadApart texts es (macro_bytes texts (unmarked_items (macro_blanks texts true None false es)))
   macro-apart es =
       let tokens : List Token = written_tokens texts es in (

@@ -1,4 +1,4 @@
--- In a piece what the source keeps apart stays apart.
+-- A C compiler reads two items of a piece apart if the source keeps them apart.
 use Rattle.std.proofs.Common.{◌≡◌, ℕ, ◌+◌, Bool, true, false, ◌&&◌, if◌then◌else◌, List, [], ◌∷◌, ◌++◌, flat_map, append_assoc, append-nil}
 use Rattle.std.proofs.Common.{Option, Some, None, is_some, inl, inr, ◌⊎◌, refl, ap, sym, ◌∙◌, subst}
 use Rattle.std.proofs.lemmas.Slice.Eq.{bytes_eq-Decides}
@@ -26,14 +26,14 @@ module _ (lines : List SourceLine) (used : ℕ → List ℕ) (mark : Origin → 
   abbrev item_bytes : Item → List ℕ
   item_bytes x = piece_item_bytes texts used mark macros x
 
-  -- The bytes of tokens, by what is before them and by the counted origin, as in rules 3 to 5.
+  -- The bytes that rules 3 to 5 make of tokens. The arguments before the tokens are those of the rules.
   abbrev text_from : Option Token → Bool → Origin → List Token → List ℕ
   text_from before white counted es = flat_map item_bytes (items_by_origin lines before counted (blanks texts before white es))
 
   abbrev bytes_of : Token → List ℕ
   bytes_of e = token_bytes texts (λ occurrence. space ∷ used occurrence) (line_feed ∷ macros) e
 
-  -- the mark after a use, and after all macros
+  -- the bytes of the mark after a use or after all macros; other items have none
   abbrev mark_after : Token → List ℕ
   mark_after (token.UseOf occurrence line) = line_feed ∷ mark (origin_at lines line)
   mark_after (token.AllMacros line) = line_feed ∷ mark (origin_at lines line)
@@ -60,7 +60,7 @@ module _ (lines : List SourceLine) (used : ℕ → List ℕ) (mark : Origin → 
   item-text before counted (token.Span span_kind.Verbatim s) es item = refl
   item-text before counted _ es item = refl
 
-  -- an item, and a blank before it
+  -- the bytes of an item, and of a blank before it
   text-item : (before : Option Token) (white : Bool) (counted : Origin) (e : Token) (es : List Token) → is_front_gap e ≡ false →
       text_from before white counted (e ∷ es)
       ≡ blank_bytes (is_some before && white) ++ (bytes_of e ++ (mark_after e ++ text_from (Some e) false (counted_after_token lines counted e) es))
@@ -71,12 +71,12 @@ module _ (lines : List SourceLine) (used : ℕ → List ℕ) (mark : Origin → 
       text-blank before counted (is_some before && white) (e ∷ rest)
       ∙ ap (λ bs. blank_bytes (is_some before && white) ++ bs) (item-text before counted e rest item)
 
-  -- the end of a line that the next one continues
+  -- the bytes at the end of a continued line
   text-continued : (before : Option Token) (white : Bool) (counted : Origin) (line : ℕ) (es : List Token) → is_continued texts before ≡ true →
       text_from before white counted (token.LineEnd line ∷ es) ≡ line_feed ∷ text_from (Some (token.LineEnd line)) false (next_line counted) es
   text-continued before white counted line es continued = rw continued refl
 
-  -- the end of another line
+  -- the bytes at the end of a line that is not continued: a line feed or a mark
   record AtLineEnd (before : Option Token) (white : Bool) (counted : Origin) (line : ℕ) (es : List Token) : Type 0 where
     more : List ℕ
     next : Origin
@@ -90,7 +90,7 @@ module _ (lines : List SourceLine) (used : ℕ → List ℕ) (mark : Origin → 
       by true is = record { more = []; next = next_line counted; is = rw (continued, is) refl }
       by false is = record { more = mark (origin_at lines (line + 1)); next = origin_at lines (line + 1); is = rw (continued, is) refl }
 
-  -- what the reader takes of the tokens
+  -- the tokens that the compiler reads, from an item on
   read-item : (continued : Bool) (e : Token) (es : List Token) → is_front_gap e ≡ false →
       let continues : Bool = ends_in_backslash texts e && ends_line texts es in
       read_tokens texts continued (e ∷ es) ≡ (if continues && is_backslash texts e then [] else e ∷ []) ++ read_tokens texts continues es
@@ -98,7 +98,8 @@ module _ (lines : List SourceLine) (used : ℕ → List ℕ) (mark : Origin → 
   read-item continued (token.LineEnd line) es item = cc
   read-item continued _ es item = refl
 
-  -- The bytes since the last item: what a C compiler reads of them, as IsWhite and IsSkipped say, by whether that item ends in a backslash.
+  -- The bytes since the last item. IsWhite and IsSkipped say what a C compiler reads of them; the flag says whether the
+  -- last item ends in a backslash.
 
   abbrev after : Option Token → Bool
   after last = after_backslash texts last
@@ -107,8 +108,8 @@ module _ (lines : List SourceLine) (used : ℕ → List ℕ) (mark : Origin → 
   abbrev NeedsNoWhite : Bool → Option Token → Type 0
   NeedsNoWhite apart last = (f : Token) → needs_white texts false apart last f ≡ false
 
-  -- Nothing is read of them. White space is read first, if a space comes next, or a line end with no backslash before it; and nothing is
-  -- read, if a backslash with a line end comes next.
+  -- The compiler reads nothing of the bytes since the last item. With a space added, or a line end without a backslash
+  -- before it, the compiler reads white space first. With a backslash and a line end added, it still reads nothing.
   record IsNothing (last before : Option Token) (gap : List ℕ) : Type 0 where
     reads : read_after (after last) gap ≡ []
     spaced : (more : List ℕ) → IsWhite (after last) (gap ++ space ∷ more)
@@ -135,8 +136,8 @@ module _ (lines : List SourceLine) (used : ℕ → List ℕ) (mark : Origin → 
     ended = λ is more. skipped-white (after last) gap (line_feed ∷ more) skipped (line_feed-white more);
   }
 
-  -- Nothing is read of them so far, and a blank comes before the next item, if white space is needed; it does on this line, if white space
-  -- is there.
+  -- The compiler reads nothing of the bytes since the last item, and a blank will be before the next item if white
+  -- space is needed. On this line there will be a blank if there is white space.
   record IsUnread (apart white : Bool) (last before : Option Token) (gap : List ℕ) : Type 0 where
     nothing : IsNothing last before gap
     here : (is_some before && white) ≡ false → NeedsNoWhite apart last
@@ -145,23 +146,23 @@ module _ (lines : List SourceLine) (used : ℕ → List ℕ) (mark : Origin → 
   abbrev IsGap : Bool → Bool → Option Token → Option Token → List ℕ → Type 0
   IsGap apart white last before gap = IsWhite (after last) gap ⊎ IsUnread apart white last before gap
 
-  -- up to the end of a continued line
+  -- the bytes from the last item up to the end of a continued line
   abbrev IsGapToLineEnd : Bool → Option Token → List ℕ → Type 0
   IsGapToLineEnd apart last gap = IsWhite (after last) gap ⊎ (IsSkipped (after last) gap × NeedsNoWhite apart last)
 
-  -- The bytes of what follows are read apart.
+  -- The items of the tokens that follow are read apart.
 
   abbrev AreRead : Bool → Option Token → List Token → List ℕ → Type 0
   AreRead apart last es bytes =
       AreReadApart texts (λ occurrence. space ∷ used occurrence) (line_feed ∷ macros) (EndsPiece texts) false apart last es bytes
 
-  -- unless a backslash is directly before, and the end of its line comes
+  -- the tokens that follow are read apart, unless they are at the end of a line after a backslash
   abbrev ReadsPlain : List Token → Type 0
   ReadsPlain es = (apart white : Bool) (last before : Option Token) (counted : Origin) (gap : List ℕ) →
       IsGap apart white last before gap → (is_continued texts before && ends_line texts es) ≡ false →
       AreRead apart last (read_tokens texts false es) (gap ++ text_from before white counted es)
 
-  -- after such a backslash
+  -- the tokens that follow are read apart after a backslash at the end of a continued line
   abbrev ReadsContinued : List Token → Type 0
   ReadsContinued es = (apart white : Bool) (last before : Option Token) (counted : Origin) (gap : List ℕ) →
       IsGapToLineEnd apart last (gap ++ line_feed ∷ []) → is_continued texts before ≡ true → ends_line texts es ≡ true →
@@ -224,7 +225,7 @@ module _ (lines : List SourceLine) (used : ℕ → List ℕ) (mark : Origin → 
             front = λ none. absurd cc;
           })
 
-  -- the bytes before an item, with a blank, if there is one
+  -- the bytes between the last item and the next one, with the blank, if there is one
   gap-read : (apart white : Bool) (last before : Option Token) (gap : List ℕ) (e : Token) → IsGap apart white last before gap →
       is_gap_read (needs_white texts false apart last e) (read_after (after last) (gap ++ blank_bytes (is_some before && white))) ≡ true
   gap-read apart white last before gap e (inl space_first) =
@@ -238,7 +239,7 @@ module _ (lines : List SourceLine) (used : ℕ → List ℕ) (mark : Origin → 
       by false is =
           rw (append-nil gap) (nothing-serves (needs_white texts false apart last e) (after last) gap (unread.here is e) unread.nothing.reads)
 
-  -- the bytes after an item, of a mark that may be there
+  -- the bytes directly after an item: those of a mark, or none
   gap-after : (e : Token) → IsGap false false (Some e) (Some e) (mark_after e)
   gap-after (token.UseOf occurrence line) = inl (line_feed-white (mark (origin_at lines line)))
   gap-after (token.AllMacros line) = inl (line_feed-white (mark (origin_at lines line)))
@@ -253,7 +254,7 @@ module _ (lines : List SourceLine) (used : ℕ → List ℕ) (mark : Origin → 
   backslash-bytes (token.Span span_kind.Sign s) is = (bytes_eq-Decides (span_text texts s) (backslash ∷ [])).0 is
   backslash-bytes _ is = cc
 
-  -- the bytes up to a backslash at the end of a continued line, with both
+  -- the bytes from the last item through a backslash and the line end of a continued line
   gap-to_line_end : (apart white : Bool) (last before : Option Token) (gap : List ℕ) → IsGap apart white last before gap →
       IsGapToLineEnd apart last (gap ++ (blank_bytes (is_some before && white) ++ backslash ∷ line_feed ∷ []))
   gap-to_line_end apart white last before gap (inl space_first) =
@@ -278,7 +279,7 @@ module _ (lines : List SourceLine) (used : ℕ → List ℕ) (mark : Origin → 
       rest : List ℕ
       rest = text_from (Some e) false counted_after es
 
-      -- the item is read
+      -- the case in which the compiler reads the item
       kept : (fs : List Token) → AreRead false (Some e) fs (mark_after e ++ rest) →
           AreRead apart last (e ∷ fs) (gap ++ (blank ++ (bytes_of e ++ (mark_after e ++ rest))))
       kept fs more =
@@ -286,7 +287,7 @@ module _ (lines : List SourceLine) (used : ℕ → List ℕ) (mark : Origin → 
           (gap ++ blank) (mark_after e ++ rest) (gap ++ (blank ++ (bytes_of e ++ (mark_after e ++ rest)))) item
           (sym (append_assoc gap blank (bytes_of e ++ (mark_after e ++ rest)))) (gap-read apart white last before gap e is) more
 
-      -- the item is a backslash at the end of a continued line
+      -- the case in which the item is a backslash at the end of a continued line
       taken_out : ends_in_backslash texts e ≡ true → ends_line texts es ≡ true → bytes_of e ≡ backslash ∷ [] →
           AreRead apart last (read_tokens texts true es) (gap ++ (blank ++ (bytes_of e ++ (mark_after e ++ rest))))
       taken_out is_last line_ends bytes =
@@ -325,7 +326,7 @@ module _ (lines : List SourceLine) (used : ℕ → List ℕ) (mark : Origin → 
     continued = λ apart white last before counted gap is continued ends. absurd cc;
   }
 
--- the bytes of a piece
+-- the items of a whole piece are read apart
 pub piece-apart : (lines : List SourceLine) (counted : Origin) (es : List Token) →
     IsPieceReadApart (texts_of lines) es (items_by_origin lines None counted (blanks (texts_of lines) None false es))
 piece-apart lines counted es used mark macros =

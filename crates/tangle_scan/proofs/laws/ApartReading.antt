@@ -9,7 +9,7 @@ use Rattle.tangle_scan.specs.Rules.{is_name_part}
 use Rattle.tangle_scan.specs.Passes.{is_front_gap}
 use Rattle.tangle_scan.specs.Apart.{as_read, read_after, is_gap_read, needs_white, after_backslash, token_bytes, AreReadApart}
 
--- White space is read as it is.
+-- The compiler reads white space unchanged.
 
 read-space : (bytes : List ℕ) → as_read (space ∷ bytes) ≡ space ∷ as_read bytes
 read-space [] = refl
@@ -19,8 +19,8 @@ read-line_feed : (bytes : List ℕ) → as_read (line_feed ∷ bytes) ≡ line_f
 read-line_feed [] = refl
 read-line_feed (b ∷ bytes) = refl
 
--- The bytes after an item, of which the last byte is a backslash, or is not: nothing is read of them, or white space first, whatever is
--- written after them.
+-- Of the bytes after an item the compiler reads nothing (IsSkipped) or white space first (IsWhite), whatever bytes
+-- follow them. The flag says whether the item ends in a backslash.
 
 abbrev pub IsSkipped : Bool → List ℕ → Type 0
 IsSkipped after gap = (bytes : List ℕ) → read_after after (gap ++ bytes) ≡ as_read bytes
@@ -42,7 +42,7 @@ space-white false more bytes = ap (is_gap_read true) (read-space (more ++ bytes)
 pub line_feed-white : (more : List ℕ) → IsWhite false (line_feed ∷ more)
 line_feed-white more bytes = ap (is_gap_read true) (read-line_feed (more ++ bytes))
 
--- bytes after such bytes
+-- such bytes with more bytes after them
 
 pub white-append : (after : Bool) (gap more : List ℕ) → IsWhite after gap → IsWhite after (gap ++ more)
 white-append after gap more white bytes = rw (append_assoc gap more bytes) (white (more ++ bytes))
@@ -54,7 +54,7 @@ pub skipped-white : (after : Bool) (gap more : List ℕ) → IsSkipped after gap
 skipped-white after gap more first second bytes =
     rw (append_assoc gap more bytes) (ap (is_gap_read true) (first (more ++ bytes)) ∙ second bytes)
 
--- what is read of such bytes alone
+-- what the compiler reads of such bytes if no bytes follow
 
 pub read-nothing : (after : Bool) → read_after after [] ≡ []
 read-nothing true = refl
@@ -63,7 +63,7 @@ read-nothing false = refl
 pub skipped-reads : (after : Bool) (gap : List ℕ) → IsSkipped after gap → read_after after gap ≡ []
 skipped-reads after gap skipped = ap (read_after after) (sym (append-nil gap)) ∙ skipped []
 
--- white space first is all that is needed
+-- bytes of which white space is read first are enough, whether or not white space is needed
 pub white-serves : (is_needed after : Bool) (gap : List ℕ) → IsWhite after gap → is_gap_read is_needed (read_after after gap) ≡ true
 white-serves is_needed after gap white =
     weaker (read_after after gap) (subst (λ bytes. is_gap_read true (read_after after bytes) ≡ true) (append-nil gap) (white []))
@@ -72,12 +72,12 @@ white-serves is_needed after gap white =
     weaker [] h = cc
     weaker (b ∷ bytes) h = h
 
--- nothing is enough where nothing is needed
+-- bytes of which nothing is read are enough if no white space is needed
 pub nothing-serves : (is_needed after : Bool) (gap : List ℕ) → is_needed ≡ false → read_after after gap ≡ [] →
     is_gap_read is_needed (read_after after gap) ≡ true
 nothing-serves is_needed after gap none reads = rw (none, reads) refl
 
--- an item, after bytes of which enough is read
+-- an item is read apart after bytes that are enough
 pub item-apart : (texts : List (List ℕ)) (used : ℕ → List ℕ) (macros : List ℕ) (AtEnd : Option Token → List ℕ → Type 0)
     (in_name apart : Bool) (before : Option Token) (e : Token) (es : List Token) (between rest bytes : List ℕ) → is_front_gap e ≡ false →
     bytes ≡ between ++ (token_bytes texts used macros e ++ rest) →

@@ -1,4 +1,4 @@
--- The source items of a C part follow one another by lines, from the line on which its head ends.
+-- The tokens of a C part follow one another line by line, from the line on which its head ends.
 use Rattle.std.proofs.Common.{ℕ, ◌+◌, Bool, true, false, List, [], ◌∷◌, subst}
 use Rattle.tangle_lexer.specs.declared.tokens.Token.{Token}
 use Rattle.tangle_lexer.specs.declared.tokens.Token.TheVariants as token
@@ -13,7 +13,7 @@ abbrev pub kind_flows : ℕ → BlockKind → Block → Type 0
 kind_flows count (OfMacro line) p = Unit {0}
 kind_flows count (OfPiece occurrence line) p = Flows count line p.tokens
 
--- the tokens of a C part do
+-- the tokens of a block follow one another line by line, if the block is a C part
 abbrev pub BlockFlows : ℕ → Block → Type 0
 BlockFlows count p = kind_flows count p.kind p
 

@@ -26,7 +26,7 @@ spans-append [] fs = refl
 spans-append (token.Span kind s ∷ es) fs = ap (λ ss. s ∷ ss) (spans-append es fs)
 spans-append (_ ∷ es) fs = spans-append es fs
 
--- the spans of a token before others
+-- a token before two lists of tokens with the same spans
 spans-first : (e : Token) (es fs : List Token) → token_spans es ≡ token_spans fs → token_spans (e ∷ es) ≡ token_spans (e ∷ fs)
 spans-first e es fs h = spans-append (e ∷ []) es ∙ ap (λ ss. token_spans (e ∷ []) ++ ss) h ∙ sym (spans-append (e ∷ []) fs)
 
@@ -160,7 +160,7 @@ part-spans lines line es =
     ∙ with_spaces-spans (without_faults es)
     ∙ without_faults-spans es
 
--- those of a macro too
+-- the items of a macro have the spans of its tokens
 pub macro-spans : (texts : List (List ℕ)) (es : List Token) → item_spans (macro_items texts es) ≡ token_spans es
 macro-spans texts es =
     let front : List Token = without_front_gaps (without_faults es) in

@@ -1,4 +1,4 @@
--- Tokens that follow one another by lines give items that are at their lines.
+-- If tokens follow one another line by line, their items are at their own lines.
 use Rattle.std.proofs.Common.{◌≡◌, ℕ, ◌+◌, ◌<◌, Bool, true, false, not, ◌&&◌, ◌||◌, cond, if◌then◌else◌, Option, Some, None, is_some}
 use Rattle.std.proofs.Common.{List, [], ◌∷◌, ◌++◌, length, refl, ap, sym, ◌∙◌, arith, subst, append_assoc, append-nil, inl, inr}
 use Rattle.std.specs.List.{AllZip}
@@ -16,7 +16,8 @@ use Rattle.tangle_scan.specs.Rules.{items_by_origin, part_items}
 use Rattle.tangle_scan.specs.LineTruth.{CountedItem, counted_items, has_line_end, left_or_join, locations, part_locations, IsOwn, IsAtItsLine}
 use Rattle.tangle_scan.proofs.lemmas.Gaps.{AreGaps, gaps-append}
 
--- The source items of the tokens are on the lines that are reached, from a line on; all are lines of the source.
+-- The tokens follow one another line by line, from this line on: each source item is on the line that the line ends
+-- before it lead to, which is a line of the source.
 abbrev pub Flows : ℕ → ℕ → List Token → Type 0
 Flows count line [] = Unit {0}
 Flows count line (token.LineEnd at ∷ es) = (at ≡ line) × Flows count (line + 1) es
@@ -27,7 +28,7 @@ Flows count line (token.Span kind s ∷ es) = (s.line ≡ line) × ((line < coun
 Flows count line (token.AsciiConstant b at ∷ es) = (at ≡ line) × ((line < count) × Flows count line es)
 Flows count line (_ ∷ es) = Flows count line es
 
--- faults and the white space of rule 1 change nothing
+-- leaving out faults, or adding the white space of rule 1, does not change the lines
 
 flows-first : (count : ℕ) (e : Token) (es fs : List Token) → ((line : ℕ) → Flows count line es → Flows count line fs)
     → (line : ℕ) → Flows count line (e ∷ es) → Flows count line (e ∷ fs)
@@ -56,7 +57,7 @@ with_spaces-flows count (e ∷ g ∷ es) line f =
     flows-first count e (g ∷ es) ((if would_merge e g then token.White ∷ [] else []) ++ with_spaces (g ∷ es))
     (λ l h. white-flows count (would_merge e g) l (with_spaces (g ∷ es)) (with_spaces-flows count (g ∷ es) l h)) line f
 
--- the line that is reached after a run
+-- the line after the line ends of a run
 abbrev line_after_tokens : ℕ → List Token → ℕ
 line_after_tokens line [] = line
 line_after_tokens line (token.LineEnd at ∷ es) = line_after_tokens (line + 1) es
@@ -76,7 +77,7 @@ flows-after count line (token.White ∷ run) es g f = flows-after count line run
 flows-after count line (token.LineEnd at ∷ run) es g f = flows-after count (line + 1) run es g f.1
 flows-after count line (_ ∷ run) es g f = absurd g
 
--- of two origins that are the same either may be taken
+-- the choice between two origins that are the same makes no difference
 same_origin-either : (p q : Origin) → (if same_origin p q then q else p) ≡ p
 same_origin-either p q =
     elim (eqb_tells p.file q.file) [
@@ -128,7 +129,7 @@ module _ (lines : List SourceLine) where
       by true = refl
       by false = refl
 
-  -- the same source items with the same origins, wherever the tokens are
+  -- two lists of tokens have the same source items with the same counted origins, after any token and origin
   abbrev AreSeenAlike : List Token → List Token → Type 0
   AreSeenAlike es fs = (before : Option Token) (counted : Origin) → seen before counted es ≡ seen before counted fs
 
@@ -152,7 +153,7 @@ module _ (lines : List SourceLine) where
       ap (λ ps. record { item = item.Code b; origin = Some counted } ∷ ps) (h (Some (token.AsciiConstant b line)) counted)
   seen-first e es fs h before counted = h (Some e) counted
 
-  -- rule 3 moves no source item
+  -- rule 3 does not change the counted origin of a source item
   blanks-seen : (left : Option Token) (white : Bool) (es : List Token) → AreSeenAlike (blanks texts left white es) es
   blanks-seen left white [] before counted = refl
   blanks-seen left white (token.White ∷ es) before counted = blanks-seen left true es before counted
@@ -167,11 +168,12 @@ module _ (lines : List SourceLine) where
       blank true = refl
       blank false = refl
 
-  -- outside a stretch the counted origin is that of the line that is reached, if there is one
+  -- outside stretches the counted origin is that of this source line, if there is such a line
   abbrev IsCounted : Origin → Bool → ℕ → Type 0
   IsCounted counted stretch line = stretch ≡ false → line < length lines → counted ≡ origin_at lines line
 
-  -- From each line on from which the first list follows, the source items that rules 4 and 5 make of the second list are where the third says.
+  -- From each line on from which the tokens `es` follow line by line, the source items that rules 4 and 5 make of `fs`
+  -- are at the locations of `gs`.
   abbrev AreTrue : List Token → List Token → List Token → Type 0
   AreTrue es fs gs =
       (before : Option Token) (counted : Origin) (stretch : Bool) (line : ℕ) → IsCounted counted stretch line → Flows (length lines) line es
@@ -185,7 +187,7 @@ module _ (lines : List SourceLine) where
     origin = λ out. ap Some (here out inside ∙ ap (origin_at lines) (sym e));
   }
 
-  -- one token that is no gap, before others
+  -- one token other than a join, white space and a line end, before others
   first-true : (e : Token) (es fs gs : List Token) → is_gap e ≡ false → AreTrue es fs gs → AreTrue (e ∷ es) (e ∷ fs) (e ∷ gs)
   first-true token.Join es fs gs gap next before counted stretch line here flows = cc
   first-true token.White es fs gs gap next before counted stretch line here flows = cc
@@ -218,7 +220,7 @@ module _ (lines : List SourceLine) where
   )
   first-true e es fs gs gap next before counted stretch line here flows = next (Some e) counted stretch line here flows
 
-  -- a run that stays, before what follows it
+  -- a run that rule 2 does not remove, before other tokens
   kept-true : (run es fs gs : List Token) → AreGaps run → has_join run ≡ false → AreTrue es fs gs → AreTrue (run ++ es) (run ++ fs) (run ++ gs)
   kept-true [] es fs gs gaps none next before counted stretch line here flows = next before counted stretch line here flows
   kept-true (token.Join ∷ run) es fs gs gaps none next before counted stretch line here flows = cc
@@ -234,7 +236,7 @@ module _ (lines : List SourceLine) where
       (kept-true run es fs gs gaps none next (at_line_front texts before at) (counted_after before counted at) begins (line + 1) after flows.1)
   kept-true (_ ∷ run) es fs gs gaps none next before counted stretch line here flows = absurd gaps
 
-  -- what rule 2 leaves of a run, before what follows it
+  -- what rule 2 leaves of a run, before other tokens
   run-true : (run es fs gs : List Token) → AreGaps run → AreTrue es fs gs → AreTrue (run ++ es) (left_of_run run ++ fs) (left_or_join run ++ gs)
   run-true run es fs gs gaps next before counted stretch line here flows = by (has_join run) refl (has_line_end run) refl
     where
@@ -249,7 +251,7 @@ module _ (lines : List SourceLine) where
           (flows-after (length lines) line run es gaps flows)
       by false none b ends = kept-true run es fs gs gaps none next before counted stretch line here flows
 
-  -- rule 2, and all that follow it
+  -- rule 2 for all tokens of a part
   map_runs-true : (run es : List Token) → AreGaps run → AreTrue (run ++ es) (map_runs left_of_run run es) (map_runs left_or_join run es)
   map_runs-true run [] gaps before counted stretch line here flows =
       rw (← append-nil (left_of_run run), ← append-nil (left_or_join run))
@@ -266,7 +268,7 @@ module _ (lines : List SourceLine) where
       (first-true e es (map_runs left_of_run [] es) (map_runs left_or_join [] es) refl (map_runs-true [] es tt))
       before counted stretch line here flows
 
-  -- the items of a part whose tokens follow one another from its opening mark on
+  -- the items of a part are at their own lines if its tokens follow line by line from the opening mark on
   pub part-true : (line : ℕ) (es : List Token) → Flows (length lines) line es
       → IsAtItsLine lines (origin_at lines line) (part_items lines line es) (part_locations lines line es)
   part-true line es flows =

@@ -1,4 +1,4 @@
--- What is dropped at the end of a macro's items is what is dropped at the end of its tokens.
+-- The items that are dropped at the end of a macro are those of the tokens that are dropped there.
 use Rattle.std.proofs.Common.{◌≡◌, ℕ, Bool, true, false, ◌&&◌, not, if◌then◌else◌, List, [], ◌∷◌, ◌++◌, refl, ap, sym, ◌∙◌}
 use Rattle.std.proofs.Common.{Option, Some, None, is_some}
 use Rattle.tangle_lexer.specs.declared.tokens.Token.{Token}
@@ -11,7 +11,7 @@ use Rattle.tangle_scan.specs.MacroBytes.{without_end}
 use Rattle.tangle_scan.specs.Apart.{is_dropped_token, with_written, written_tokens}
 
 module _ (texts : List (List ℕ)) where
-  -- The items of tokens, by what is before them, as in rule 3.
+  -- The items that rule 3 makes of the tokens of a macro. The arguments before the tokens are those of the rule.
   abbrev pub items_from : Bool → Option Token → Bool → List Token → List Item
   items_from in_name before white es = unmarked_items (macro_blanks texts in_name before white es)
 
@@ -31,19 +31,19 @@ module _ (texts : List (List ℕ)) where
   abbrev AreDropped : List Token → Type 0
   AreDropped es = (in_name : Bool) (before : Option Token) (white : Bool) → without_end texts (items_from in_name before white es) ≡ []
 
-  -- what is written of the first items is the second ones, and there are some
+  -- `written` are the items that are written of `items`, and there is at least one
   record IsWritten (items written : List Item) : Type 0 where
     first : Item
     rest : List Item
     some : written ≡ first ∷ rest
     is : without_end texts items ≡ first ∷ rest
 
-  -- what is written of the items of the first tokens is those of the second ones
+  -- of the items of the tokens `es` those of the tokens `fs` are written
   abbrev AreWritten : List Token → List Token → Type 0
   AreWritten es fs =
       (in_name : Bool) (before : Option Token) (white : Bool) → IsWritten (items_from in_name before white es) (items_from in_name before white fs)
 
-  -- no token is written, or some are, up to an item
+  -- no token is written, or the tokens up to some item are
   data Written (es : List Token) : Type 0 where
     NoToken : written_tokens texts es ≡ [] → AreDropped es → Written es
     SomeTokens : (f : Token) (fs : List Token) → written_tokens texts es ≡ f ∷ fs → next_item es ≡ next_item (f ∷ fs) → AreWritten es (f ∷ fs) →
@@ -58,7 +58,7 @@ module _ (texts : List (List ℕ)) where
   dropped-blank true xs h = rw h refl
   dropped-blank false xs h = h
 
-  -- a token before such tokens
+  -- a token that is dropped, before tokens that are all dropped
   dropped-before : (e : Token) (es : List Token) → is_dropped_token texts e ≡ true → AreDropped es → AreDropped (e ∷ es)
   dropped-before token.White es dropped h in_name before white = h in_name before true
   dropped-before (token.LineEnd line) es dropped h in_name before white =
@@ -171,7 +171,7 @@ module _ (texts : List (List ℕ)) where
       by (SomeTokens f fs are next some) =
           SomeTokens e (f ∷ fs) (rw are refl) (next_item-before e es (f ∷ fs) next) (written-before e es (f ∷ fs) next some)
 
-  -- the items that are written are those of the tokens that are written
+  -- the written items of a macro are the items of its written tokens
   pub end-items : (es : List Token) (in_name : Bool) (before : Option Token) (white : Bool) →
       without_end texts (items_from in_name before white es) ≡ items_from in_name before white (written_tokens texts es)
   end-items es in_name before white = by (written es)
@@ -180,7 +180,8 @@ module _ (texts : List (List ℕ)) where
       by (NoToken none dropped) = rw none (dropped in_name before white)
       by (SomeTokens f fs are next some) = let h = some in_name before white in rw are (h.is ∙ sym h.some)
 
-  -- The last of the tokens is an item that is written; if there are none, the token before them is, if there is one.
+  -- The last of the tokens is an item that is written. If there are no tokens, the token before them is such an item,
+  -- or there is none.
   abbrev pub EndsInItem : List Token → Option Token → Type 0
   EndsInItem [] None = Unit {0}
   EndsInItem [] (Some e) = is_dropped_token texts e ≡ false

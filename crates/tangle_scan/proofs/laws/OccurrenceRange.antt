@@ -1,4 +1,4 @@
--- The numbers of occurrences stay below their count, from lexemes over the rules to pieces.
+-- The numbers of occurrences are below their count: in lexemes, after each rule, and in pieces.
 use Rattle.std.proofs.Common.{◌≡◌, length, map, arith, subst, ◌<◌, ℕ, ◌+◌, Bool, true, false, ◌&&◌, ◌||◌, Option, Some, None, is_some, List, [], ◌∷◌, ◌++◌, flat_map, if◌then◌else◌}
 use Rattle.std.specs.List.{AllByRecursion, All}
 use Rattle.std.specs.Option.{IfSome}
@@ -23,7 +23,7 @@ use Rattle.tangle_lexer.specs.Occurrences.{occurrence_of}
 use Rattle.tangle_lexer.proofs.lemmas.OccurrencesCounted.{IsBelow, AreBelow, below-append, tokens-below}
 use Rattle.std.proofs.lemmas.List.{length-map}
 
--- through the rules
+-- each rule keeps the numbers of occurrences below their count
 
 without_faults-below : (count : ℕ) (es : List Token) → AreBelow count es → AreBelow count (without_faults es)
 without_faults-below count [] h = tt
@@ -121,7 +121,7 @@ unmarked_items-none (_ ∷ es) = unmarked_items-none es
 macro_items-none : (texts : List (List ℕ)) (es : List Token) → AreUsesBelow 0 (macro_items texts es)
 macro_items-none texts es = unmarked_items-none (macro_blanks texts true None false (macro_tokens texts es))
 
--- from tokens to pieces
+-- the pieces of tokens whose numbers of occurrences are below their count
 
 body-below : (count : ℕ) (es : List Token) → AreBelow count es → AreBelow count (body es)
 body-below count [] h = tt

@@ -1,4 +1,4 @@
--- The bytes in the spans of the pieces are those that are kept of the C parts.
+-- The bytes in the spans of the pieces are the bytes that the segments of C parts keep.
 use Rattle.std.proofs.Common.{◌≡◌, ◌≤◌, ℕ, zero, suc, ◌+◌, ◌-◌, Option, subst, true, false, List, [], ◌∷◌, ◌++◌, length, flat_map, refl, ap, sym, ◌∙◌, arith, append_assoc, append-nil, zero-add, Some, None}
 use Rattle.std.specs.List.{All, AllPairs}
 use Rattle.std.proofs.lemmas.List.Elements.{All-nil, All-cons, All-weaker}
@@ -27,7 +27,7 @@ abbrev points_of : List Span → List (ℕ × ℕ)
 points_of ss = flat_map span_points ss
 
 module _ (lines : List SourceLine) where
-  -- where the bytes of the spans of a block are, if it is a piece
+  -- the points of the spans of a block, if the block is a C part
   abbrev block_points : Block → List (ℕ × ℕ)
   block_points b = points_of (flat_map (λ p. item_spans p.items) (piece_of lines b))
 
@@ -39,7 +39,8 @@ module _ (lines : List SourceLine) where
   piece-points n occurrence line es =
       ap points_of (append-nil (item_spans (part_items lines line (body es))) ∙ part-spans lines line (body es))
 
-  -- A C part has the spans up to the next head, so inside one those come first. The flag says whether the tokens begin inside one.
+  -- A C part has the spans of the tokens up to the next head. So if the tokens begin inside a C part, these spans come
+  -- first, and those of the blocks after them.
   record Split (n : ℕ) (es : List Token) : Type 0 where
     outside : part_points false es ≡ blocks_points n es
     inside : part_points true es ≡ points_of (token_spans (body es)) ++ blocks_points n es
@@ -76,7 +77,7 @@ pieces-kept source =
     ∙ sym (split-blocks lines 0 (all_tokens lines)).outside
     ∙ segments-keep (width lines) (length lines) 0 (first_state (length lines)) (text_from 0 lines) (point_at 0 0) is
 
--- the bytes of spans that follow one another follow one another
+-- the bytes of spans that are in order are in order
 
 -- a byte is at a point or after it
 abbrev IsFromOn : Point → ℕ × ℕ → Type 0

@@ -1,4 +1,5 @@
--- The spans of tokens that lie in the text are in range and in the order of the source; so are those of some of the blocks.
+-- The spans of tokens in the text are ranges of source lines, in the order of the source, and so are the spans of some
+-- of its blocks.
 use Rattle.std.proofs.Common.{◌≡◌, ℕ, ◌+◌, ◌<◌, ◌≤◌, Bool, true, false, List, [], ◌∷◌, ◌++◌, flat_map, inl, inr, refl, sym, ◌∙◌, arith, subst, ◌⊎◌, Some, None}
 use Rattle.std.proofs.lemmas.Bool.Decides.{eqb_tells}
 use Rattle.std.specs.List.{All, AllPairs}
@@ -42,7 +43,7 @@ module _ (width : ℕ → ℕ) (count : ℕ) where
   is-after : (a at : Point) (s : Span) → Precedes a at → IsFrom width count at s → IsAfter a s
   is-after a at s h is = (omega (arith, h.0, is.line), λ e. let k = h.1 (e ∙ is.line) in omega (arith, k, is.start))
 
-  -- the end of a span of a line is not before the line's earlier positions
+  -- a position that is not after the start of a span is not after its end
   end-after : (a at : Point) (s : Span) → Precedes a at → IsFrom width count at s → Precedes a (span_end s)
   end-after a at s h is = (omega (arith, h.0, is.line), λ e. let k = h.1 (e ∙ is.line) in omega (arith, k, is.start, is.order))
 
@@ -58,7 +59,7 @@ module _ (width : ℕ → ℕ) (count : ℕ) where
   line-after : (a at : Point) (line : ℕ) → Precedes a at → line ≡ at.line + 1 → Precedes a (point_at line 0)
   line-after a at line h e = (omega (arith, h.0, e), λ same. absurd (omega (arith, h.0, e, same)))
 
-  -- the spans are after what is before the tokens
+  -- the spans of tokens are after each position before the tokens
   in_order-are_after : (from : Bool) (a at : Point) (es : List Token) (stays : Bool) (to : Point) → Precedes a at → AreInOrder width count from at es stays to → AreAfter a (token_spans es)
   in_order-are_after from a at [] stays to h ordered = tt
   in_order-are_after from a at (token.Section ∷ es) stays to h ordered = in_order-are_after false a at es stays to h ordered
@@ -80,7 +81,7 @@ module _ (width : ℕ → ℕ) (count : ℕ) where
   end-same : (s : Span) → Precedes (span_end s) (span_end s)
   end-same s = (omega arith, λ e. omega arith)
 
-  -- each span is after those before it
+  -- each span of tokens is after the spans before it
   pub in_order-ordered : (from : Bool) (at : Point) (es : List Token) (stays : Bool) (to : Point) → AreInOrder width count from at es stays to → AreOrdered width count (token_spans es)
   in_order-ordered from at [] stays to ordered = tt
   in_order-ordered from at (token.Section ∷ es) stays to ordered = in_order-ordered false at es stays to ordered
@@ -96,7 +97,7 @@ module _ (width : ℕ → ℕ) (count : ℕ) where
   in_order-ordered from at (token.AllMacros line ∷ es) stays to ordered = in_order-ordered true at es stays to (from-inside from _ ordered).1
   in_order-ordered from at (_ ∷ es) stays to ordered = in_order-ordered from at es stays to ordered
 
-  -- so are the spans of some of the blocks
+  -- the spans of some of the blocks are in order too
 
   after-suffix : (at : Point) (ss ts : List Span) → AreAfter at (ss ++ ts) → AreAfter at ts
   after-suffix at [] ts h = h
@@ -108,7 +109,7 @@ module _ (width : ℕ → ℕ) (count : ℕ) where
 
   -- `f` takes all spans of a block or none
   module _ (f : Block → List Span) (picks : (p : Block) → (f p ≡ []) ⊎ (f p ≡ token_spans p.tokens)) where
-    -- a property that what is after keeps
+    -- a property of a list of spans that the rest of the list has too
     picked : (P : List Span → Type 0) (p : Block) (ss : List Span) → P (token_spans p.tokens ++ ss) → P ss → P (f p ++ ss)
     picked P p ss all none = elim (picks p) [
       | inl e ↦ subst (λ ts. P (ts ++ ss)) (sym e) none
@@ -158,7 +159,7 @@ module _ (width : ℕ → ℕ) (count : ℕ) where
     pub some-ordered : (n : ℕ) (es : List Token) → AreOrdered width count (token_spans es) → AreOrdered width count (flat_map f (blocks n es))
     some-ordered n es h = ordered-suffix (token_spans (body es)) (flat_map f (blocks n es)) (blocks-ordered n es h)
 
-  -- in the words of the laws
+  -- the same in the terms of the law of webs
 
   after-all : (s : Span) (ss : List Span) → AreAfter (span_end s) ss → All (IsBefore s) ss
   after-all s [] h = All-nil (IsBefore s)

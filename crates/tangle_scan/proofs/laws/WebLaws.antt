@@ -23,11 +23,11 @@ use Rattle.tangle_scan.proofs.laws.SpanOrder.{AreOrdered, IsRange, in_order-orde
 use Rattle.tangle_scan.proofs.laws.BlockFlows.{kind_flows, AllFlow, blocks-flow}
 use Rattle.tangle_scan.proofs.laws.LineTruthLemmas.{part-true}
 
--- how long a source line is
+-- the number of bytes of a source line
 abbrev pub width : List SourceLine → ℕ → ℕ
 width lines n = length (get_or lines n no_line).bytes
 
--- the tokens of a source lie in its text
+-- the tokens of a source are in the order of its text
 all-in_order : (lines : List SourceLine) → AreSomewhere (width lines) (length lines) false (point_at 0 0) (all_tokens lines)
 unfolding tokens_from
 all-in_order lines =
@@ -39,7 +39,7 @@ flat_map-twice f g [] = refl
 flat_map-twice f g (x ∷ xs) = flat_map-append f (g x) (flat_map g xs) ∙ ap (λ zs. flat_map f (g x) ++ zs) (flat_map-twice f g xs)
 
 module _ (lines : List SourceLine) where
-  -- the spans of the piece or the macro that a block is
+  -- the spans of a block that is a C part, and of one that is a macro
   abbrev piece_spans : Block → List Span
   piece_spans p = flat_map (λ q. item_spans q.items) (piece_of lines p)
 
@@ -112,15 +112,15 @@ module _ (lines : List SourceLine) where
       All-cons (All (IsInRange (texts_of lines))) m ms
       (items-in-range m (flat_map item_spans ms) h) (macros-in-range ms (ordered-suffix (width lines) (length lines) (item_spans m) (flat_map item_spans ms) h))
 
-  -- the source items of each piece are at their lines
+  -- the source items of each piece are at their own lines
   abbrev AreAtTheirLines : List PieceRead → List (List Location) → Type 0
   AreAtTheirLines pieces locations = AllZip (λ p ts. IsAtItsLine lines p.origin p.items ts) pieces locations
 
-  -- where the source items of each piece that is one of these blocks are
+  -- the locations of the source items of each C part among these blocks
   abbrev block_locations : List Block → List (List Location)
   block_locations ps = flat_map (λ p. kind_locations lines p.kind p.tokens) ps
 
-  -- the blocks whose source items follow one another by lines are at their lines
+  -- the source items of blocks whose tokens follow one another line by line are at their own lines
   blocks-true : (ps : List Block) → AllFlow (length lines) ps → AreAtTheirLines (flat_map (piece_of lines) ps) (block_locations ps)
   blocks-true [] flow = tt
   blocks-true (p ∷ ps) flow = by p.kind flow.0 (blocks-true ps flow.1)

@@ -1,4 +1,4 @@
--- What the source of a web keeps apart stays apart.
+-- A C compiler reads two items of a web apart if the source keeps them apart.
 use Rattle.std.proofs.Common.{ℕ, Bool, true, false, List, [], ◌∷◌, ◌++◌, flat_map, if◌then◌else◌}
 use Rattle.std.specs.List.{AllZip}
 use Rattle.tangle_lines.specs.Reading.{SourceLine, SourceRead, origin_at}

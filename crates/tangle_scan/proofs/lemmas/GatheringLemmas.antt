@@ -71,7 +71,7 @@ block-whole source before head es h =
       append_assoc,
     ) refl
 
--- there are no other heads
+-- a head is one of four kinds of tokens
 pub no-other-head : (e : Token) → is_head e ≡ true → (e ≡ token.Section → ⊥) → ((line : ℕ) → e ≡ token.MacroStart line → ⊥) →
     ((line : ℕ) → e ≡ token.UnnamedPart line → ⊥) → ((occurrence line : ℕ) → e ≡ token.NamedPart occurrence line → ⊥) → ⊥
 no-other-head token.Section h a b c d = a refl
@@ -80,7 +80,7 @@ no-other-head (token.UnnamedPart line) h a b c d = c line refl
 no-other-head (token.NamedPart occurrence line) h a b c d = d occurrence line refl
 no-other-head _ h a b c d = cc
 
--- The list can be cut before a head, and at its end: what comes first is gathered first.
+-- Gathering a list of tokens is gathering the tokens before a head, and then those from that head on.
 
 body-cut : (xs es : List Token) → body es ≡ [] → body (xs ++ es) ≡ body xs
 body-cut [] es cut = cut
@@ -138,7 +138,7 @@ or-nothing : (b : Bool) → (b || false) ≡ b
 or-nothing true = refl
 or-nothing false = refl
 
--- tokens without a head have their faults alone
+-- tokens without a head add only their faults
 pub front-whole : (source : SourceRead) (before : GatheringRead) (es : List Token) → list_any is_head es ≡ false →
     record before { faults = before.faults ++ flat_map (own_fault source.files source.lines) es } ≡ gathering_with source before es
 unfolding gathering_with
@@ -157,7 +157,7 @@ pub section_after-limit : (n : ℕ) (e : Token) → section_after n e ≤ n + 1
 section_after-limit n token.Section = omega arith
 section_after-limit n _ = omega arith
 
--- no tokens add nothing
+-- an empty list of tokens adds nothing
 pub gathering-nothing : (source : SourceRead) (before : GatheringRead) → gathering_with source before [] ≡ before
 unfolding gathering_with
 gathering-nothing source before = rw (append-nil before.pieces, append-nil before.macros, append-nil before.faults, or-nothing before.has_all_macros) refl

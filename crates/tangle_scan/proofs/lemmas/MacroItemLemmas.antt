@@ -8,7 +8,7 @@ use Rattle.tangle_scan.specs.declared.macro_items.MacroState.{MacroState}
 use Rattle.tangle_scan.specs.Rules.{next_item, has_blank_at_line_end, is_name_part, macro_blanks, unmarked_items}
 use Rattle.tangle_scan.specs.Passes.{item_before, unmarked_from, item_of}
 
--- an item that is no white space and no line end
+-- the item of a token other than white space and line ends
 unmarked-step : (e : Token) (es : List Token) → (e ≡ token.White → ⊥) → ((line : ℕ) → e ≡ token.LineEnd line → ⊥) →
     unmarked_items (e ∷ es) ≡ option_to_list (item_of e) ++ unmarked_items es
 unmarked-step token.White es other end = absurd (other refl)
@@ -63,7 +63,7 @@ unmarked-item texts at next e es other end name some white =
     ∙ (sym (unmarked-blank (is_some before && at.has_white) (e ∷ rest))
     ∙ ap unmarked_items (sym (blanks-step texts at.in_name before at.has_white e es other end)))))
 
--- nothing is left to come
+-- at the end of the tokens all items were made
 pub unmarked-end : (texts : List (List ℕ)) (at : MacroState) (items left : List Item) (es : List Token) → es ≡ [] → items ++ unmarked_from texts at es ≡ left → items ≡ left
 unfolding unmarked_from
 unmarked-end texts at items left es none is = sym (append-nil items) ∙ (sym (ap (λ t. items ++ unmarked_from texts at t) none) ∙ is)

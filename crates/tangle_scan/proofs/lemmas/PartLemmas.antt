@@ -28,7 +28,7 @@ white_if b = if b then token.White ∷ [] else []
 abbrev unless : Bool → List Token → List Token
 unless b es = if b then [] else es
 
--- what rules 1 and 2 leave: whether a join is in the run before, and the token before
+-- The tokens that rules 1 and 2 leave. `joined`: the current run has a join. `before`: the last token.
 abbrev left : Bool → Token → List Token → List Token
 left joined before [] = []
 left joined before (token.Fault kind line ∷ es) = left joined before es
@@ -53,7 +53,7 @@ gap-apart before token.White h = apart (is_constant before) (is_word_token befor
 gap-apart before (token.LineEnd line) h = apart (is_constant before) (is_word_token before)
 gap-apart before _ h = cc
 
--- an item closes the run before it
+-- an item ends the run before it
 
 abbrev Closes : List Token → Token → Type 0
 Closes run before = (e : Token) (x : List Token) → is_gap e ≡ false →
@@ -71,7 +71,7 @@ closes-none before e x h = settled (would_merge before e)
 closes-gaps : (run : List Token) → Closes run token.White
 closes-gaps run e x h = without_joins-item run e x h
 
--- rules 1 and 2, where this run is before
+-- rules 1 and 2 for the tokens after a run
 
 run-nothing : (run : List Token) (b : Bool) → unless b run ≡ unless (b || false) run ++ []
 run-nothing run true = refl
@@ -99,7 +99,7 @@ run-item : (run : List Token) (b : Bool) (x y : List Token) → x ≡ y →
 run-item run true x y h = h
 run-item run false x y h = ap (λ t. run ++ t) h
 
--- the run with a further token, by whether it has a join
+-- a run with one more token, and what is left of it
 run-push : (run : List Token) (e : Token) (es : List Token) →
     unless (has_join (run ++ e ∷ []) || joins_ahead es) (run ++ e ∷ [])
     ++ left (has_join (run ++ e ∷ [])) token.White es
@@ -143,7 +143,7 @@ spaced-left es =
     ∙ (left-after [] token.White es (closes-none token.White)
     ∙ no-run (joins_ahead es) (left false token.White es))
 
--- a join to come takes the run away as one that came does
+-- a later join of the same run removes the run as an earlier one does
 left-joined : (es : List Token) → joins_ahead es ≡ true →
     left false token.White es ≡ left true token.White es
 left-joined [] h = cc
@@ -153,7 +153,7 @@ left-joined (token.White ∷ es) h = rw h (left-joined es h)
 left-joined (token.LineEnd line ∷ es) h = rw h (left-joined es h)
 left-joined (e ∷ es) h = cc
 
--- rules 3 to 5 after a join: an item comes next, and no blank
+-- rules 3 to 5 after a join: the next item has no blank before it
 after-join-items : (lines : List SourceLine) (b : Option Token) (counted : Origin) (es : List Token) →
     items_by_origin lines b counted (blanks (texts_of lines) b false (left true token.White es))
     ≡ items_by_origin lines None counted (blanks (texts_of lines) None false (left true token.White es))
@@ -165,7 +165,7 @@ after-join-items lines (Some x) counted (token.White ∷ es) = after-join-items 
 after-join-items lines (Some x) counted (token.LineEnd line ∷ es) = after-join-items lines (Some x) counted es
 after-join-items lines (Some x) counted (e ∷ es) = refl
 
--- where no item is before, white space is nothing
+-- white space makes no blank if no item is before it
 blanks-front : (texts : List (List ℕ)) (es : List Token) → blanks texts None false es ≡ blanks texts None true es
 blanks-front texts [] = refl
 blanks-front texts (token.White ∷ es) = refl
@@ -176,8 +176,8 @@ blanks-at-front : (texts : List (List ℕ)) (b : Option Token) (es : List Token)
 blanks-at-front texts None es h = blanks-front texts es
 blanks-at-front texts (Some x) es h = cc
 
--- What rule 3 knows, by what is last: whether white space is a blank, if an item comes, and whether white space is before that will stay,
--- where the flag says whether a join comes.
+-- The arguments of rule 3, by what is last: whether white space before an item is a blank, and whether there is white
+-- space that is kept; the flag says whether a join follows in the same run.
 
 abbrev keeps_white : Last → Bool
 keeps_white last.Front = false
@@ -332,7 +332,7 @@ white-gone last.White = refl
 white-gone last.ContinuedWhite = refl
 white-gone _ = refl
 
--- the token that rule 3 knows is one after which white space is as after what is last
+-- rules 1 to 5 give the items of the one pass, if the token before has the flags that belong to what is last
 rare-left : (lines : List SourceLine) (b : Option Token) (at : Last) (item : Token) (counted : Origin) (before : Token) (es : List Token) →
     is_some b ≡ keeps_white at → is_continued (texts_of lines) b ≡ continues_after (texts_of lines) at item →
     ((e : Token) → would_merge before e ≡ touches at e) →
@@ -372,7 +372,7 @@ rare-left lines b at item counted before (e ∷ es) some so h =
     step-item lines b at counted e (left false e es) _ (would_merge before e) some refl (h e)
     (rare-left lines (Some e) (last_of e) e (counted_after_token lines counted e) e es (last-keeps e) (last-continues (texts_of lines) e) (last-touches e))
 
--- all the items of a C part
+-- the one pass gives the items of a whole C part
 pub part-rare : (lines : List SourceLine) (line : ℕ) (item : Token) (es : List Token) →
     rare_items_ahead lines last.Front item (origin_at lines line) es ≡ part_items lines line es
 part-rare lines line item es =

@@ -19,7 +19,7 @@ use Rattle.tangle_scan.specs.Web.{is_line_mark}
 use Rattle.tangle_scan.specs.Passes.{origin_of, items_at, counted_after_token, is_rare, item_continues, items_continue}
 use Rattle.tangle_scan.specs.Passes.{plain_items_ahead, items_ahead}
 
--- two pushes in a row
+-- the items after a blank and then other items were added
 pub pushed-twice : (old blank middle more new rest : List Item) → middle ≡ old ++ blank → new ≡ middle ++ more → new ++ rest ≡ old ++ (blank ++ (more ++ rest))
 pushed-twice old blank middle more new rest first second =
     ap (λ t. t ++ rest) (second ∙ ap (λ t. t ++ more) first) ∙ (append_assoc (old ++ blank) more rest ∙ append_assoc old blank (more ++ rest))
@@ -38,7 +38,7 @@ at-front texts b line = by (is_continued texts b)
     by true = (refl, refl)
     by false = (refl, refl)
 
--- rules 3 to 5 need of the token before no more than two flags
+-- of the token before, rules 3 to 5 need two flags only: whether there is one, and whether its line is continued
 pub plain-rules : (lines : List SourceLine) (b : Option Token) (white : Bool) (counted : Origin) (es : List Token) →
     plain_items_ahead lines (is_some b) (is_continued (texts_of lines) b) white counted es
     ≡ items_by_origin lines b counted (blanks (texts_of lines) b white es)
@@ -59,14 +59,14 @@ plain-rules lines b white counted (e ∷ es) =
       plain-rules lines (Some e) false (counted_after_token lines counted e) es,
     ) refl
 
--- the last item that was made says whether the next line continues
+-- whether the next line continues this one depends only on the last item that was made
 
 pub last-continues : (texts : List (List ℕ)) (items : List Item) (x : Item) → items_continue texts (items ++ x ∷ []) ≡ item_continues texts x
 last-continues texts [] x = refl
 last-continues texts (y ∷ []) x = refl
 last-continues texts (y ∷ z ∷ items) x = last-continues texts (z ∷ items) x
 
--- so does the one at the last position
+-- the item at the last position of the vector is that last item
 at-last : List (List ℕ) → Option Item → Bool
 at-last texts None = false
 at-last texts (Some x) = item_continues texts x
@@ -113,7 +113,7 @@ item-continues lines items token.White plain white end = absurd (white refl)
 item-continues lines items (token.LineEnd line) plain white end = absurd (end line refl)
 item-continues lines items _ plain white end = cc
 
--- what is added for the next token
+-- the items that are added for the next token
 
 pub plain-line : (lines : List SourceLine) (items new : List Item) (at next : PartState) (line : ℕ) (es : List Token) →
     let continued : Bool = items_continue (texts_of lines) items in
@@ -149,14 +149,14 @@ plain-item lines items middle new at next e es plain other end first second keep
     step lines keeps continues white counted (token.LineEnd line) es other end = absurd (end line refl)
     step lines keeps continues white counted _ es other end = refl
 
--- nothing is left to come
+-- at the end of the tokens all items were made
 pub plain-end : (lines : List SourceLine) (at : PartState) (items left : List Item) (es : List Token) → es ≡ [] →
     items ++ items_ahead lines at items es ≡ left → items ≡ left
 unfolding items_ahead
 plain-end lines at items left es none is =
     sym (append-nil items) ∙ (sym (ap (λ t. items ++ items_ahead lines at items t) none) ∙ is)
 
--- whether there is a mark so far
+-- whether the items made so far have a mark
 
 or-swapped : (a b : Bool) → (a || b) ≡ (b || a)
 or-swapped true true = refl

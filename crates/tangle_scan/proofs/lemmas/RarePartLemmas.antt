@@ -1,4 +1,4 @@
--- What one pass adds for each token of a C part that has rare ones.
+-- The items that the one pass adds for each token of a C part with rare tokens.
 use Rattle.std.proofs.Common.{◌≡◌, ◌≤◌, ℕ, Bool, true, false, ◌&&◌, ◌||◌, if◌then◌else◌, Option, Some, is_some, refl, ap}
 use Rattle.std.proofs.Common.{List, [], ◌∷◌, ◌++◌, length, take, append_assoc, append-nil}
 use Rattle.std.proofs.Common.{sym, ◌∙◌, arith}
@@ -21,7 +21,7 @@ use Rattle.tangle_scan.specs.Passes.{joins_ahead, is_joined, needs_blank, last_a
 use Rattle.tangle_scan.specs.Passes.{last_of, is_after_line_end, continues_after}
 use Rattle.tangle_scan.proofs.lemmas.PlainPartLemmas.{pushed-twice}
 
--- a token that is no white space, no line end, no join and no fault
+-- a token other than white space, a line end, a join and a fault
 
 abbrev pub is_solid : Token → Bool
 is_solid token.White = false
@@ -61,7 +61,7 @@ items_from lines items many back at e counted es =
     then take many items ++ rare_items_ahead lines last.Joined e back es
     else items ++ rare_items_ahead lines at e counted es
 
--- what is added for the next token
+-- the items that are added for the next token
 
 from-white : (lines : List SourceLine) (items : List Item) (many : ℕ) (back : Origin) (at : Last) (e : Token) (counted : Origin) (es : List Token) →
     items_from lines items many back (last_after_white at) e counted es ≡ items_from lines items many back at e counted (token.White ∷ es)
@@ -90,7 +90,7 @@ pub rare-join-back : (lines : List SourceLine) (items : List Item) (at : RarePar
 unfolding all_items
 rare-join-back lines items at es h = rw h refl
 
--- a join elsewhere
+-- a join that is not after line ends
 pub rare-join : (lines : List SourceLine) (items : List Item) (at : RarePartState) (es : List Token) →
     is_after_line_end at.last ≡ false →
     all_items lines items (record at { last = last.Joined }) es ≡ all_items lines items at (token.Join ∷ es)
@@ -112,7 +112,7 @@ unjoined : (at : Last) → (at ≡ last.Joined → ⊥) → is_joined at ≡ fal
 unjoined last.Joined h = absurd (h refl)
 unjoined _ h = refl
 
--- a line end elsewhere: the run that it is in began before, or begins here
+-- a line end that is not after a join: its run began before, or begins here
 pub rare-line : (lines : List SourceLine) (items new : List Item) (at : RarePartState) (line many : ℕ) (counted : CountedOrigin) (es : List Token) →
     (at.last ≡ last.Joined → ⊥) → at.start.items ≤ length items → many ≡ length items →
     let continued : Bool = continues_after (texts_of lines) at.last at.item.now in
@@ -186,7 +186,7 @@ rare-item lines old middle new at next e es h is_last is_item first second is =
     rw (is_last, is_item, last-stays e es, solid-stays at.last e es h, step, is)
     (pushed-twice old _ middle _ new _ first second)
 
--- a join to come takes line ends away as one that came does
+-- a later join of the same run removes line ends as an earlier one does
 joined-ahead : (lines : List SourceLine) (at : Last) (e : Token) (counted : Origin) (es : List Token) →
     joins_ahead es ≡ true → rare_items_ahead lines at e counted es ≡ rare_items_ahead lines last.Joined e counted es
 joined-ahead lines at e counted [] h = cc
@@ -200,7 +200,7 @@ joined-ahead lines at e counted (token.LineEnd line ∷ es) h = rw (h, or-true (
     or-true false = refl
 joined-ahead lines at e counted (f ∷ es) h = cc
 
--- all is still to come
+-- at the beginning no token was read
 pub rare-begin : (lines : List SourceLine) (items : List Item) (at : RarePartState) (es : List Token) →
     items ≡ [] → at.last ≡ last.Front → at.start.items ≡ 0 → at.start.counted ≡ at.counted →
     all_items lines items at es ≡ rare_items_ahead lines last.Front at.item.now (origin_of at.counted) es
@@ -214,7 +214,7 @@ rare-begin lines items at es is front none same = rw (is, front, none, same) (se
     settled true h = sym (joined-ahead lines last.Front at.item.now (origin_of at.counted) es h)
     settled false h = refl
 
--- nothing is left to come
+-- at the end of the tokens all items were made
 pub rare-end : (lines : List SourceLine) (at : RarePartState) (items left : List Item) (es : List Token) →
     es ≡ [] → all_items lines items at es ≡ left → items ≡ left
 unfolding all_items

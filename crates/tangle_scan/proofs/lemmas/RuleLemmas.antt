@@ -24,14 +24,14 @@ has_join-push [] _ = refl
 has_join-push (token.Join ∷ es) e = refl
 has_join-push (_ ∷ es) e = has_join-push es e
 
--- one more gap in the run that begins at start
+-- a join, white space or a line end continues the run that begins at `start`
 pub run-gap : (start : ℕ) (spaced : List Token) (e : Token) (es : List Token) → start ≤ length spaced → is_gap e ≡ true →
     without_joins_from (spaced ++ e ∷ []) start es ≡ without_joins_from spaced start (e ∷ es)
 unfolding without_joins_from
 run-gap start spaced e es h gap =
     rw (take-append-le start spaced (e ∷ []) h, drop-append-le start spaced (e ∷ []) h) (ap (λ t. take start spaced ++ t) (sym (without_joins-gap (drop start spaced) e es gap)))
 
--- an item after that run
+-- an item ends the run that begins at `start`
 pub run-item : (start : ℕ) (spaced : List Token) (e : Token) (es : List Token) → is_gap e ≡ false → (closed : List Token) →
     closed ≡ (if has_join (drop start spaced) then take start spaced else spaced) ++ e ∷ [] →
     without_joins_from closed (length closed) es ≡ without_joins_from spaced start (e ∷ es)

@@ -20,7 +20,7 @@ pub spaced-inside : (texts : List (List ℕ)) (es : List Token) → with_white_s
 spaced-inside texts [] = refl
 spaced-inside texts (e ∷ es) = sym (inside-spaced texts e es)
 
--- a token that is taken out leaves nothing
+-- a token that is skipped is removed
 pub without_skipped-gone : (at : Stage) (e : Token) (es : List Token) → is_skipped at e ≡ true → without_skipped at (e ∷ es) ≡ without_skipped at es
 without_skipped-gone stage.Front (token.Fault kind line) es h = refl
 without_skipped-gone _ (token.Fault kind line) es h = refl
@@ -29,7 +29,7 @@ without_skipped-gone stage.Front (token.LineEnd line) es h = refl
 without_skipped-gone stage.Front _ es h = cc
 without_skipped-gone _ _ es h = cc
 
--- another stays
+-- a token that is not skipped is kept
 pub without_skipped-stays : (at : Stage) (e : Token) (es : List Token) → is_skipped at e ≡ false → without_skipped at (e ∷ es) ≡ e ∷ without_skipped (stage_after at e) es
 without_skipped-stays at (token.Fault kind line) es h = cc
 without_skipped-stays stage.Front token.White es h = cc
@@ -39,7 +39,7 @@ without_skipped-stays stage.BeforeName _ es h = refl
 without_skipped-stays stage.AfterName _ es h = refl
 without_skipped-stays stage.Inside _ es h = refl
 
--- a line end or a join before puts no more white space than white space does
+-- after a line end or a join rule 1 adds white space in the same cases as after white space
 
 space-line : (texts : List (List ℕ)) (at : Stage) (line : ℕ) (e : Token) → needs_space texts at (token.LineEnd line) e ≡ needs_space texts at token.White e
 space-line texts stage.AfterName line e = refl
@@ -62,7 +62,7 @@ after-join texts at [] = refl
 after-join texts at (e ∷ es) =
     ap (λ b. (if b then token.White ∷ [] else []) ++ e ∷ with_white_space texts (stage_after at e) e es) (space-join texts at e)
 
--- after the name of a macro
+-- the white space of rule 1 after the name of a macro
 after-name : (texts : List (List ℕ)) (e f : Token) (es : List Token) (touching following : Bool) → may_follow_name texts f ≡ following →
     with_space_after texts e ((if touching then token.White ∷ [] else []) ++ f ∷ es) ≡ e ∷ (if touching || not following then token.White ∷ [] else []) ++ f ∷ es
 after-name texts e f es true following is = refl
@@ -91,7 +91,7 @@ front-spaced texts (e ∷ es) = refl
 pub spaced-front : (texts : List (List ℕ)) (es : List Token) → with_white_space texts stage.Front token.White es ≡ with_name_space texts (with_spaces es)
 spaced-front texts es = front-spaced texts es ∙ (sym (name-spaced texts es) ∙ ap (with_name_space texts) (spaced-inside texts es))
 
--- nothing is left to come
+-- at the end of the tokens only the last run may still be removed
 pub spaced-end : (texts : List (List ℕ)) (spaced : List Token) (at : Spacing) → spacing_from texts spaced at [] ≡ (if has_join (drop at.run.start spaced) then take at.run.start spaced else spaced)
 unfolding spacing_from
 spaced-end texts spaced at = rw nothing (run-end at.run.start spaced)
@@ -103,14 +103,14 @@ spaced-end texts spaced at = rw nothing (run-end at.run.start spaced)
     nothing : with_white_space texts at.stage at.before (without_skipped at.stage []) ≡ []
     nothing = ap (with_white_space texts at.stage at.before) (gone at.stage)
 
--- all is still to come
+-- at the beginning no token was read
 pub spaced-begin : (texts : List (List ℕ)) (spaced : List Token) (at : Stage) (es : List Token) → spaced ≡ [] →
     spacing_from texts spaced (record { run = record { start = 0; has_join = false }; stage = at; before = token.White }) es
     ≡ without_joins [] (with_white_space texts at token.White (without_skipped at es))
 unfolding spacing_from without_joins_from
 spaced-begin texts spaced at es is = rw is refl
 
--- where nothing is spaced, all stays
+-- tokens that need no white space and have no joins are unchanged
 
 or-false : (a b : Bool) → (a || b) ≡ false → (a ≡ false) × (b ≡ false)
 or-false true b h = cc

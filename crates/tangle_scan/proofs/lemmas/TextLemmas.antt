@@ -1,4 +1,4 @@
--- How many cells a text has.
+-- The number of cells of a text.
 use Rattle.std.proofs.Common.{◌≡◌, ℕ, ◌+◌, List, [], ◌∷◌, ◌++◌, length, refl, arith}
 use Rattle.std.proofs.lemmas.List.{length-append}
 use Rattle.tangle_lines.specs.Reading.{SourceLine}

@@ -23,7 +23,7 @@ joined_twice = refl
 other_backslashes : as_read (codes "\\n\\ \n\\") ≡ codes "\\n\\ \n\\"
 other_backslashes = refl
 
--- of two backslashes the second alone, and what is left is not read again
+-- of two backslashes only the second is taken out, and the bytes that are left are not searched again
 two_backslashes : as_read (codes "\\\\\n\n") ≡ codes "\\\n"
 two_backslashes = refl
 
@@ -90,7 +90,7 @@ word_joined = refl
 other_bytes : may_be_between false false name (codes "\\\nx") parenthesis ≡ false
 other_bytes = refl
 
--- after verbatim text that ends in a backslash a line end counts for nothing, and white space after it is needed
+-- after verbatim text that ends in a backslash a line end is taken out, so white space is needed after the line end
 verbatim_joined : may_be_between false true verbatim (codes "\n") word ≡ false
 verbatim_joined = refl
 
@@ -109,7 +109,7 @@ no_line_feed h = let is = h.line_feed in absurd cc
 ends_in_sign : EndsMacro texts (Some backslash_sign) (line_feed ∷ []) → ⊥
 ends_in_sign h = h.stays refl
 
--- verbatim text is the author's own
+-- a backslash at the end of a verbatim text is written, since the author wrote it for the compiler
 ends_in_verbatim : EndsMacro texts (Some verbatim) (line_feed ∷ [])
 ends_in_verbatim = record { line_feed = refl; stays = λ is. tt }
 
@@ -121,7 +121,7 @@ written = refl
 
 -- Continued lines of a C part.
 
--- the backslash and the line end count for nothing, and so does white space between them
+-- the backslash and the line end are taken out, and so is white space between them
 continued : read_tokens texts false (name ∷ backslash_sign ∷ token.White ∷ token.LineEnd 0 ∷ word ∷ []) ≡ name ∷ word ∷ []
 continued = refl
 
@@ -135,7 +135,7 @@ continued_apart = refl
 continued_mark : may_be_between false false name (codes "\\\n#line 4\n") word ≡ false
 continued_mark = refl
 
--- verbatim text stays, and the line end after it counts for nothing
+-- verbatim text is read, and the line end after it is taken out
 continued_verbatim : read_tokens texts false (verbatim ∷ token.LineEnd 0 ∷ token.LineEnd 1 ∷ word ∷ []) ≡ verbatim ∷ token.LineEnd 1 ∷ word ∷ []
 continued_verbatim = refl
 
@@ -148,7 +148,8 @@ written_macro :
     macro_bytes texts (unmarked_items (macro_blanks texts true None false (name ∷ token.LineEnd 0 ∷ word ∷ []))) ≡ codes "#define hex \\\nif\n"
 written_macro = refl
 
--- The bytes without it are refused, however they are taken for those of the two items and others: a C compiler would read one name, hexif.
+-- The bytes without the blank are refused, however they are divided into those of the two items and others: a C
+-- compiler would read one name, hexif.
 
 other-read : (is_needed : Bool) (b : ℕ) (bytes : List ℕ) → (b == backslash) ≡ false → (is_white b || b == line_feed) ≡ false →
     is_gap_read is_needed (as_read (b ∷ bytes)) ≡ true → ⊥

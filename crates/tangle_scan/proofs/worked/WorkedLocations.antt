@@ -17,7 +17,7 @@ origin line = record { file = 0; line = line }
 abbrev line : List ℕ → Origin → SourceLine
 line bytes origin = record { bytes = bytes; origin = origin; changed = false }
 
--- of the third line the origin is given
+-- the origin of the third line is an argument
 abbrev source : Origin → List SourceLine
 source third = line (codes "a") (origin 0) ∷ line (codes "\\") (origin 1) ∷ line (codes "b") third ∷ line (codes "c") (origin 3) ∷ []
 
@@ -44,12 +44,12 @@ joins = word 1 ∷ token.White ∷ token.Join ∷ token.LineEnd 1 ∷ word 2 ∷
 runs_with_joins : tokens_and_joins joins ≡ word 1 ∷ token.Join ∷ word 2 ∷ word 2 ∷ token.White ∷ token.LineEnd 2 ∷ word 3 ∷ []
 runs_with_joins = refl
 
--- the join takes a line end away: what follows it is in a stretch, up to the next line end
+-- the join removes a line end: the items after it are in a stretch, up to the next line end
 removed_line_end :
     part_locations (source (origin 2)) 1 joins ≡ word_location 1 false ∷ word_location 2 true ∷ word_location 2 true ∷ word_location 3 false ∷ []
 removed_line_end = refl
 
--- so is what follows a line end in a quoted text, up to a mark
+-- the items after a line end in a quoted text are in a stretch, up to a mark
 quote_break :
     locations (source (origin 2)) None (origin 0) false (token.QuoteBreak ∷ word 2 ∷ token.UseOf 0 2 ∷ word 2 ∷ [])
     ≡ word_location 2 true ∷ word_location 2 false ∷ []
@@ -62,7 +62,8 @@ continued = sign 1 ∷ token.White ∷ token.LineEnd 1 ∷ word 2 ∷ token.Line
 expected_line : part_locations (source (origin 2)) 1 continued ≡ sign_location 1 false ∷ word_location 2 false ∷ word_location 3 false ∷ []
 expected_line = refl
 
--- if it is another, as a line of a change file, there is no mark for it, and it is in a stretch, which the next other line end ends
+-- if the next source line is another, as one of a change file, no mark is put, and the line is in a stretch, up to the
+-- next line end that begins none
 abbrev other : Origin
 other = record { file = 1; line = 7 }
 

@@ -20,7 +20,7 @@ abbrev lines_from : ℕ → List (List ℕ) → List SourceLine
 lines_from n [] = []
 lines_from n (l ∷ ls) = line l n ∷ lines_from (n + 1) ls
 
--- the source that these lines of a.w are
+-- the source of these lines of a.w
 abbrev source : List (List ℕ) → SourceRead
 source texts = record { files = (codes "a.w", texts) ∷ []; lines = lines_from 1 texts; faults = [] }
 
@@ -148,7 +148,7 @@ pub macros_in_text_has_all_macros : (web macros_in_text).has_all_macros ≡ true
 unfolding lexeme tokens_from occurrences_from
 macros_in_text_has_all_macros = refl
 
--- a join takes the line end with it
+-- a join removes the line end beside it
 abbrev join_over_line : List (List ℕ)
 join_over_line = codes "@ A." ∷ codes "@c" ∷ codes "a@&" ∷ codes "b;" ∷ codes "c;" ∷ []
 
@@ -180,7 +180,7 @@ pub quote_to_line_end_faults : (web quote_to_line_end).faults ≡ on fault.Strin
 unfolding lexeme tokens_from occurrences_from
 quote_to_line_end_faults = refl
 
--- comments, a join control code that is none, a constant, control texts and a verbatim text
+-- comments, a control code that is white space, a constant, control texts and a verbatim text
 abbrev kinds_of_tokens : List (List ℕ)
 kinds_of_tokens = codes "@ A." ∷ codes "@c" ∷ codes "a /* b */ c // d" ∷ codes "return@,x+@'A';@^idx@>" ∷ codes "\"q@@\"@=v@> @t\\TeX@>z" ∷ []
 

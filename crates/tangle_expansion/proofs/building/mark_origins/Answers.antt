@@ -6,7 +6,7 @@ use Rattle.tangle_scan.specs.Web.{is_line_mark}
 use Rattle.tangle_expansion.specs.Numbers.{item_origins}
 use Rattle.tangle_expansion.proofs.building.mark_origins.Goals as goal
 
--- without a mark there is no origin
+-- items without a mark have no origins
 no-origins : (items : List Item) → list_any is_line_mark items ≡ false → flat_map item_origins items ≡ []
 no-origins [] h = refl
 no-origins (item.LineMark origin ∷ items) h = cc

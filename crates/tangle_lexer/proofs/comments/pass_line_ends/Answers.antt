@@ -1,9 +1,9 @@
 use Rattle.std.proofs.Common.{ap, sym, ◌∙◌, append-nil, append_assoc, ◌++◌}
 use Rattle.tangle_text.specs.Regions.{region_end}
 use Rattle.tangle_lexer.specs.Lexemes.{include_over}
-use Rattle.tangle_lexer.specs.Comments.{line_ends, unit_line_end}
+use Rattle.tangle_lexer.specs.Comments.{line_ends}
 use Rattle.tangle_text.proofs.RegionLemmas.{unit_at-front, region_end-nothing, region_end-stop, region_end-go}
-use Rattle.tangle_lexer.proofs.lemmas.LexemeLemmas.{from_units-go, from_units-stop, include_over-append}
+use Rattle.tangle_lexer.proofs.lemmas.LexemeLemmas.{line_ends-go, line_ends-stop, include_over-append}
 use Rattle.tangle_lexer.proofs.lemmas.OrdinaryLemmas.{line_ends-ordinary}
 use Rattle.tangle_text.proofs.OrdinaryBytes.{region_end-ordinary}
 use Rattle.tangle_lexer.proofs.comments.pass_line_ends.Goals as goal
@@ -16,13 +16,13 @@ returns-in-Stop-clause-ahead c =
 pub returns-in-Stop-clause-tokens : goal.returns-in-Stop-clause-tokens
 returns-in-Stop-clause-tokens c =
     let here = unit_at-front c.args.region c.loop-front.ahead c.in-Some.front _ c.in-Some.ensures.front c.unit_of-unit.ensures in
-    let none = from_units-stop unit_line_end c.args.region c.loop-front.ahead (here ∙ c.in-Stop.is) in
+    let none = line_ends-stop c.args.region c.loop-front.ahead (here ∙ c.in-Stop.is) in
     sym (append-nil c.loop-front.tokens.items) ∙ (ap (λ ts. c.loop-front.tokens.items ++ ts) (sym none) ∙ c.loop-front.invariant.tokens)
 
 pub returns-in-Stop-clause-include : goal.returns-in-Stop-clause-include
 returns-in-Stop-clause-include c =
     let here = unit_at-front c.args.region c.loop-front.ahead c.in-Some.front _ c.in-Some.ensures.front c.unit_of-unit.ensures in
-    let none = from_units-stop unit_line_end c.args.region c.loop-front.ahead (here ∙ c.in-Stop.is) in
+    let none = line_ends-stop c.args.region c.loop-front.ahead (here ∙ c.in-Stop.is) in
     sym (ap (λ ts. include_over ts c.loop-front.include) none) ∙ c.loop-front.invariant.include
 
 pub loop-front-init : goal.loop-front-init
@@ -40,7 +40,7 @@ pub loop-front-preserved : goal.loop-front-preserved
 loop-front-preserved c =
     let front = c.in-Some.ensures.front in
     let here = unit_at-front c.args.region c.loop-front.ahead c.in-Some.front _ front c.unit_of-unit.ensures in
-    let given = from_units-go unit_line_end c.args.region c.args.state.last_line c.loop-front.ahead c.unit_of-unit.result front.inside here c.in_default-unit.not-Stop in
+    let given = line_ends-go c.args.region c.args.state.last_line c.loop-front.ahead c.unit_of-unit.result front.inside here c.in_default-unit.not-Stop in
     let is = c.requires in
     let skip = c.skip_ordinary-in-Some.ensures in
     record {

@@ -7,7 +7,7 @@ use Rattle.tangle_plans.specs.declared.tags.ItemKind.TheVariants as tag
 use Rattle.tangle_plans.proofs.ComparingLemmas.{and_not, and_then, back_same, item_next, item_not_next, items_over, items_passed, position_of_item}
 use Rattle.tangle_plans.proofs.comparing.after_items.Goals as goal
 
--- after the last tag
+-- the tag that is read after the last one
 no_tag : ItemTag
 no_tag = record { kind = tag.Word; size = 0 }
 

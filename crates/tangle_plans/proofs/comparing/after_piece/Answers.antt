@@ -8,7 +8,7 @@ use Rattle.tangle_plans.specs.declared.tags.ItemKind.TheVariants as tag
 use Rattle.tangle_plans.proofs.ComparingLemmas.{and_not, and_then, end_after}
 use Rattle.tangle_plans.proofs.comparing.after_piece.Goals as goal
 
--- after the last tag
+-- the tag that is read after the last one
 no_tag : ItemTag
 no_tag = record { kind = tag.Word; size = 0 }
 

@@ -7,7 +7,7 @@ use Rattle.tangle_plans.specs.declared.tags.ItemKind.TheVariants as tag
 use Rattle.tangle_plans.proofs.RangeLemmas.{over_next, tags_over}
 use Rattle.tangle_plans.proofs.ranges.pass_same.Goals as goal
 
--- after the last tag
+-- the tag that is read after the last one
 no_tag : ItemTag
 no_tag = record { kind = tag.Word; size = 0 }
 

@@ -4,7 +4,7 @@ use Rattle.tangle_files.specs.Roles.{RolesRead}
 use Rattle.tangle_session.specs.Headline.{History, edits_read}
 use Rattle.tangle_session.proofs.headline.edit_each.Given as goal
 
--- the edits so far are a history, each with its answer, and the capacity is enough for all answers
+-- the edits passed so far, each with its answer, are a history, and the capacity is enough for all answers
 abbrev pub invariant-loop-one : goal.invariant-loop-one
 invariant-loop-one l = record {
   counted : vec_len l.answers ≡ l.one-index;

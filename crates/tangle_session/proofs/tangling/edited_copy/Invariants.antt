@@ -4,7 +4,7 @@ use Rattle.tangle_session.specs.Edits.{list_refusal}
 use Rattle.tangle_session.proofs.EditLemmas.{refused_from}
 use Rattle.tangle_session.proofs.tangling.edited_copy.Given as goal
 
--- the edits that are left make of the copy what all make of the files, and are refused like all
+-- making the remaining edits in the copy gives what all edits make of the files, and refuses what they refuse
 abbrev pub invariant-loop-at : goal.invariant-loop-at
 invariant-loop-at l = record {
   made : edited_all l.copy (drop l.at l.edits) ≡ edited_all l.files l.edits;

@@ -9,7 +9,7 @@ use Rattle.tangle_expansion.specs.Numbers.{NumbersRead, numbers_of_piece}
 use Rattle.tangle_expansion.proofs.LookupLemmas.{zip_made}
 use Rattle.tangle_expansion.proofs.numbers.Numbers.build.Goals as goal
 
--- numbers whose fields are the same
+-- numbers with equal fields are equal
 same : (a b : NumbersRead) → a.file_names ≡ b.file_names → a.program ≡ b.program → a.names ≡ b.names → a.macros ≡ b.macros → a.marks ≡ b.marks → a ≡ b
 same a b files program names macros marks =
     ap (λ l. record a { file_names = l }) files

@@ -7,7 +7,7 @@ use Rattle.tangle_text.proofs.RunLemmas.{rest_of-further, run-fits}
 use Rattle.tangle_text.proofs.OrdinaryBytes.{run-ordinary}
 use Rattle.tangle_text.proofs.ahead.Reader.skip_ordinary.Goals as goal
 
--- at a position of a line, and after the last
+-- at a position of a line, and after the last line
 skipped : (lines : List SourceLine) (bytes : List ℕ) (line column end : ℕ) (done : Bool) → column ≤ length bytes → end ≡ column + run_length is_ordinary (drop column bytes) →
     (n : ℕ) × (rest_of lines bytes line end done ≡ drop n (rest_of lines bytes line column done)) × AreOrdinary n (rest_of lines bytes line column done)
 skipped lines bytes line column end true h is = (zero, refl, tt)

@@ -1,0 +1,70 @@
+//! What differs between two webs, of which the second is what an edit made of the first.
+use crate::graph::add_node;
+use crate::listing::Listing;
+use std::alloc::Global;
+use tangle_affected::affected;
+use tangle_graph::{Node, Store, same_shape};
+use tangle_lines::{NoMemory, Sink};
+use tangle_names::Names;
+use tangle_plans::PiecesByNode;
+
+fn comparison(first: &Store, node: Node, second: &Store, other: Option<Node>) -> &'static [u8] {
+    match other {
+        Some(other) if same_shape(first, node, second, other) => b"same",
+        Some(_) => b"changed",
+        None => b"gone",
+    }
+}
+
+fn list_compared<S: Sink>(
+    out: &mut Listing<S>,
+    first: &Store,
+    node: Node,
+    second: &Store,
+    other: Option<Node>,
+) {
+    out.begin(b"and");
+    add_node(out, node);
+    out.word(comparison(first, node, second, other));
+    out.end();
+}
+
+// Lists the nodes of the first web, each compared with that of its name in the second.
+fn list_comparisons<S: Sink>(out: &mut Listing<S>, first: &Store, second: &Store) {
+    let names = first.full_names();
+    for id in 0..names.count() {
+        let other = second.full_names().find(names.text(id)).map(Node::Name);
+        list_compared(out, first, Node::Name(id), second, other);
+    }
+    list_compared(out, first, Node::Program, second, Some(Node::Program));
+}
+
+fn list_affected_node<S: Sink>(out: &mut Listing<S>, names: &Names, node: Node) {
+    out.begin(b"affected");
+    add_node(out, node);
+    if let Node::Name(id) = node
+        && id < names.count()
+    {
+        out.text(names.text(id));
+    }
+    out.end();
+}
+
+/// Lists which nodes of the first web have the same shape in the second, and which nodes of the
+/// second have to be expanded again.
+///
+/// # Errors
+///
+/// `NoMemory`, where an allocation failed. What was listed before stays.
+pub fn list_differences<S: Sink>(
+    alloc: Global,
+    out: &mut Listing<S>,
+    first: &Store,
+    second: &Store,
+) -> Result<(), NoMemory> {
+    list_comparisons(out, first, second);
+    for node in &affected(alloc, first, second)? {
+        list_affected_node(out, second.full_names(), *node);
+    }
+    Ok(())
+}

@@ -1,0 +1,53 @@
+//! The nodes of a web: what is known of each, and what it uses and is used by.
+use crate::listing::Listing;
+use tangle_graph::{Node, Store, same_shape};
+use tangle_lines::Sink;
+use tangle_plans::PiecesByNode;
+
+/// Adds a node.
+pub fn add_node<S: Sink>(out: &mut Listing<S>, node: Node) {
+    match node {
+        Node::Name(id) => {
+            out.word(b"name");
+            out.number(id);
+        }
+        Node::Program => out.word(b"program"),
+    }
+}
+
+fn list_neighbors<S: Sink>(out: &mut Listing<S>, word: &[u8], nodes: &[Node]) {
+    for node in nodes {
+        out.begin_inner(word);
+        add_node(out, *node);
+        out.end();
+    }
+}
+
+fn list_node<S: Sink>(out: &mut Listing<S>, store: &Store, node: Node) {
+    out.begin(b"node");
+    add_node(out, node);
+    out.word(b"weight");
+    out.number(store.weight(node));
+    out.word(b"depth");
+    out.number(store.depth(node));
+    out.word_if(store.has_piece(node), b"piece");
+    out.word_if(store.expandable(node), b"expandable");
+    out.word_if(store.self_containing(node), b"self-containing");
+    out.end();
+    list_neighbors(out, b"uses", store.uses(node));
+    list_neighbors(out, b"used by", store.users(node));
+    if same_shape(store, node, store, node) {
+        out.begin_inner(b"same shape as itself");
+    } else {
+        out.begin_inner(b"another shape than itself");
+    }
+    out.end();
+}
+
+/// Lists the nodes, the program last.
+pub fn list_nodes<S: Sink>(out: &mut Listing<S>, store: &Store) {
+    for id in 0..store.full_names().count() {
+        list_node(out, store, Node::Name(id));
+    }
+    list_node(out, store, Node::Program);
+}

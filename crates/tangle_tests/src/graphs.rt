@@ -1,0 +1,96 @@
+//! Nodes that a store does not have, and expansions that are written on their own.
+use crate::reading::read;
+use crate::support::files_with;
+use std::alloc::{AllocError, Global};
+use std::test::Fail;
+use tangle_affected::expand_all;
+use tangle_folders::MemorySink;
+use tangle_graph::{Expansion, Kept, Node, Numbers, Store, Work, same_shape};
+use tangle_lines::{MarkMode, NoMemory, Source, WriteFault};
+use tangle_names::NameTable;
+use tangle_scan::scan;
+
+fn tangle_source(alloc: Global, source: &Source) -> Result<(Store, Kept, Numbers), NoMemory> {
+    let web = scan(alloc, source)?;
+    let table = NameTable::build(alloc, &web)?;
+    let store = Store::build(alloc, &web, &table, b"a.c")?;
+    let numbers = Numbers::build(alloc, &web, &store, MarkMode::Full)?;
+    let mut work = Work::new(alloc);
+    let kept = expand_all(alloc, &store, &mut work)?;
+    Ok((store, kept, numbers))
+}
+
+// The graph of the web with this text, the expansions of its nodes, and the numbers in their texts.
+fn tangle(alloc: Global, web: &[u8]) -> Result<(Store, Kept, Numbers), Fail> {
+    let files = files_with(alloc, &[(b"a.w", web)])?;
+    let source = read(alloc, &files)?;
+    Ok(tangle_source(alloc, &source)?)
+}
+
+#[test]
+fn a_node_that_the_store_does_not_have(rt: HostRuntime) -> Result<(), Fail> {
+    let (store, kept, _) = tangle(rt.alloc(), b"@ A.\n@c\nint x=@<v@>;\n@ @<v@>=\n1\n")?;
+    let beyond = Node::name(1);
+    assert_eq!(rt; (store.weight(beyond), store.depth(beyond)), (0, 0));
+    assert!(rt; !store.has_piece(beyond) && !store.expandable(beyond));
+    assert!(rt; !store.self_containing(beyond) && kept.get(beyond).is_none());
+    assert!(rt; store.uses(beyond).is_empty() && store.users(beyond).is_empty());
+    assert!(rt; same_shape(&store, beyond, &store, Node::name(2)));
+    Ok(())
+}
+
+fn add(web: &mut Vec<u8>, parts: &[&[u8]]) -> Result<(), AllocError> {
+    for part in parts {
+        web.extend_from_slice(part)?;
+    }
+    Ok(())
+}
+
+// The program uses the first of 999 names, and each of them but the last uses the next one, which
+// has a byte more.
+fn chain(alloc: Global) -> Result<Vec<u8>, AllocError> {
+    let mut web = b"@ P.\n@c\n@<x@>\n".to_vec(alloc)?;
+    let mut name = b"x".to_vec(alloc)?;
+    for _ in 0..998 {
+        add(&mut web, &[b"@ @<", &name, b"@>=\n@<x", &name, b"@>\n"])?;
+        name.push(b'x')?;
+    }
+    add(&mut web, &[b"@ @<", &name, b"@>=\n1\n"])?;
+    Ok(web)
+}
+
+// A share of the expansion of a node; those of the others are dropped.
+fn expansion_of(alloc: Global, web: &[u8], node: Node) -> Result<Expansion, Fail> {
+    let (_, kept, _) = tangle(alloc, web)?;
+    Ok(kept.get(node).ok_or("the expansion")?.share()?)
+}
+
+// Nodes of the chain, as deep as one can be that is expanded, and how many uses their texts have.
+const DEEP: [(Node, usize); 3] = [
+    (Node::Program, 999),
+    (Node::Name(0), 998),
+    (Node::Name(998), 0),
+];
+
+// The numbers are those of a web without pieces: each section has the number 0, and each mark is at
+// line 0 of `a.w`.
+#[test]
+fn texts_of_a_long_chain(rt: HostRuntime) -> Result<(), Fail> {
+    let web = chain(rt.alloc())?;
+    let (_, _, numbers) = tangle(rt.alloc(), b"")?;
+    for (node, uses) in DEEP {
+        let expansion = expansion_of(rt.alloc(), &web, node)?;
+        let size = uses * 45 + 30;
+        for capacity in [size, size - 1, size / 2, 0] {
+            let mut sink = MemorySink::new(rt.alloc(), capacity);
+            let written = expansion.write_text_after(&numbers, &mut sink, Ok(0));
+            let expected = if capacity == size {
+                Ok(size as u128)
+            } else {
+                Err(WriteFault(capacity as u128))
+            };
+            assert_eq!(rt; (written, sink.bytes().len()), (expected, capacity));
+        }
+    }
+    Ok(())
+}

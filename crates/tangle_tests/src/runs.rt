@@ -1,0 +1,61 @@
+//! Runs over a folder in memory, of which a call or a writer fails.
+use crate::support::AMPLE;
+use ctangle_cli::{LoadFault, run_ctangle, write_load};
+use std::alloc::Global;
+use std::test::Fail;
+use tangle_folders::{MemoryFolder, MemorySink};
+use tangle_lines::Refusal;
+
+const IN_C: &[u8] = b"/*1:*/\n#line 2 \"a.w\"\n\nint x;\n/*:1*/\n";
+
+const NOT_WRITTEN: &[u8] = b"ctangle: cannot write a.c\n";
+
+// After how many calls the folder fails, how many bytes its writers take, what the run ends with
+// and what it reports, and what there is then of the main file.
+type Ending = (u64, usize, u8, &'static [u8], Option<&'static [u8]>);
+
+const ENDINGS: [Ending; 5] = [
+    (0, AMPLE, 3, b"ctangle: cannot read a.w\n", None),
+    (1, AMPLE, 3, NOT_WRITTEN, None),
+    // it is closed, which fails
+    (2, AMPLE, 3, NOT_WRITTEN, Some(IN_C)),
+    (3, AMPLE, 0, b"", Some(IN_C)),
+    (3, 7, 3, NOT_WRITTEN, Some(b"/*1:*/\n")),
+];
+
+// A folder with a web. Its writers have this capacity, and it fails at the call after `calls`.
+fn folder_failing(alloc: Global, calls: u64, capacity: usize) -> Result<MemoryFolder, Fail> {
+    let mut folder = MemoryFolder::new(alloc, capacity);
+    folder.put(alloc, b"a.w", b"@ A.\n@c\nint x;\n")?;
+    folder.fail_after(calls);
+    Ok(folder)
+}
+
+#[test]
+fn folders_that_fail(rt: HostRuntime) -> Result<(), Fail> {
+    for (calls, capacity, status, line, bytes) in &ENDINGS {
+        let mut folder = folder_failing(rt.alloc(), *calls, *capacity)?;
+        let mut err = MemorySink::new(rt.alloc(), AMPLE);
+        let ended = run_ctangle(rt.alloc(), &[b"a"], &mut folder, &mut err);
+        assert_eq!(rt; ended, *status);
+        assert!(rt; err.bytes() == *line);
+        assert_eq!(rt; folder.asked().len(), 1);
+        assert!(rt; folder.asked()[0].as_slice() == b"a.w".as_slice());
+        assert_eq!(rt; folder.created().len(), if bytes.is_some() { 1 } else { 0 });
+        for file in folder.created() {
+            assert!(rt; file.name.as_slice() == b"a.c".as_slice());
+            assert!(rt; Some(file.bytes.as_slice()) == *bytes);
+        }
+    }
+    Ok(())
+}
+
+#[test]
+fn a_fault_of_loading(rt: HostRuntime) -> Result<(), Fail> {
+    let name = b"b.w".to_vec(rt.alloc())?;
+    let fault = LoadFault::Refused(name, Refusal::TooManyFiles);
+    let mut err = MemorySink::new(rt.alloc(), AMPLE);
+    assert_eq!(rt; write_load(b"ctangle", &fault, &mut err), Ok(27));
+    assert!(rt; err.bytes() == b"ctangle: b.w: TooManyFiles\n".as_slice());
+    Ok(())
+}

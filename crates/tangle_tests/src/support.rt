@@ -1,0 +1,42 @@
+//! What the tests share: files and sessions in memory, and allocations that fail.
+use std::alloc::Global;
+use std::test::Fail;
+use tangle_lines::{Files, Refusal, Roles};
+use tangle_session::Session;
+
+/// Capacity for all that a test writes.
+pub(crate) const AMPLE: usize = 1_000_000;
+
+/// A table of these files, each a name and its bytes.
+pub(crate) fn files_with(alloc: Global, files: &[(&[u8], &[u8])]) -> Result<Files, Refusal> {
+    let mut table = Files::new(alloc);
+    for (name, bytes) in files {
+        table.add(name, bytes)?;
+    }
+    Ok(table)
+}
+
+// It is separate, so that the clauses of a start are used once.
+fn started(alloc: Global, files: Files, roles: Roles) -> Option<Session> {
+    Session::start(alloc, files, roles).ok()
+}
+
+/// A session of one file, the web `a.w`, with the main file `a.c`.
+pub(crate) fn start(alloc: Global, web: &[u8]) -> Result<Session, Fail> {
+    let files = files_with(alloc, &[(b"a.w", web)])?;
+    let roles = Roles::new(alloc, b"a.w", None, b"a.c")?;
+    Ok(started(alloc, files, roles).ok_or("not started")?)
+}
+
+/// Makes the nth allocation from here on fail, none at 0: whether the library of `tests/memory.sh`
+/// is there. Without it the request is too large to succeed, and no later one fails.
+pub(crate) fn fail_allocation(alloc: Global, nth: u32) -> bool {
+    Vec::<u8>::with_capacity(alloc, (1 << 62) + nth as usize).is_ok()
+}
+
+/// Ends the failures: true where the nth allocation was not reached, or there is no library.
+pub(crate) fn end_failures(alloc: Global, has_library: bool) -> bool {
+    let is_waiting = Vec::<u8>::with_capacity(alloc, 3 << 61).is_ok();
+    fail_allocation(alloc, 0);
+    is_waiting || !has_library
+}

@@ -1,0 +1,96 @@
+-- The cells of a region, counted one by one.
+use Rattle.std.proofs.Common.{◌≡◌, ℕ, zero, suc, ◌+◌, Bool, true, false, ◌&&◌, ◌||◌, List, [], ◌∷◌, ◌++◌, length, flat_map, Option, None, refl, ap, sym, ◌∙◌, arith}
+use Rattle.tangle_text.specs.declared.regions.Region.{Region}
+use Rattle.tangle_text.specs.declared.regions.Region.TheVariants as region
+use Rattle.tangle_text.specs.declared.regions.Unit.{Unit as Unit-of}
+use Rattle.tangle_text.specs.declared.regions.Unit.TheVariants as unit
+use Rattle.tangle_lines.specs.Bytes.{at_sign}
+use Rattle.tangle_text.specs.Bytes.{holds}
+use Rattle.tangle_text.specs.NameBytes.{unit_name_bytes, unit_bytes, name_bytes}
+use Rattle.tangle_text.specs.Text.{Cell, byte_at}
+use Rattle.tangle_text.specs.Regions.{unit_by, unit_of, unit_at, more_by, unless_stop, units_from, units, count_before}
+
+-- the number of cells up to the end of a region: 0 where it ends, else this cell and those after it
+abbrev pub count_by : Unit-of → ℕ → ℕ
+count_by unit.Stop n = 0
+count_by _ n = 1 + n
+
+-- The cells of a region, counted one by one. `k` cells at the front belong to an earlier unit.
+abbrev pub counted : Region → ℕ → List Cell → ℕ
+counted r k [] = 0
+counted r (suc k) (c ∷ cs) = 1 + counted r k cs
+counted r zero (c ∷ cs) = count_by (unit_at r (c ∷ cs)) (counted r (more_by (unit_at r (c ∷ cs))) cs)
+
+-- a count is that of the cells one by one
+pub count-is : (r : Region) (text : List Cell) → count_before r text ≡ counted r 0 text
+count-is r [] = refl
+count-is r (c ∷ []) = by (unit_at r (c ∷ []))
+  where
+    by : (u : Unit-of) → length (flat_map (λ v. v) (unless_stop u ((c ∷ []) ∷ []))) ≡ count_by u (counted r (more_by u) [])
+    by unit.Stop = refl
+    by unit.One = refl
+    by unit.Two = refl
+count-is r (c ∷ d ∷ cs) = by (unit_at r (c ∷ d ∷ cs)) (count-is r (d ∷ cs)) (count-is r cs)
+  where
+    by : (u : Unit-of) → count_before r (d ∷ cs) ≡ counted r 0 (d ∷ cs) → count_before r cs ≡ counted r 0 cs
+        → length (flat_map (λ v. v) (units_from u c d (units r (d ∷ cs)) (units r cs))) ≡ count_by u (counted r (more_by u) (d ∷ cs))
+    by unit.Stop one two = refl
+    by unit.One one two = omega (arith, one)
+    by unit.Two one two = omega (arith, two)
+
+-- by the unit at the front
+
+pub count-one : (r : Region) (c : Cell) (cs : List Cell) → unit_at r (c ∷ cs) ≡ unit.One → count_before r (c ∷ cs) ≡ 1 + count_before r cs
+count-one r c cs e = count-is r (c ∷ cs) ∙ passed ∙ ap (λ n. 1 + n) (sym (count-is r cs))
+  where
+    passed : counted r 0 (c ∷ cs) ≡ 1 + counted r 0 cs
+    passed = rw e refl
+
+pub count-two : (r : Region) (c d : Cell) (cs : List Cell) → unit_at r (c ∷ d ∷ cs) ≡ unit.Two → count_before r (c ∷ d ∷ cs) ≡ 1 + (1 + count_before r cs)
+count-two r c d cs e = count-is r (c ∷ d ∷ cs) ∙ passed ∙ ap (λ n. 1 + (1 + n)) (sym (count-is r cs))
+  where
+    passed : counted r 0 (c ∷ d ∷ cs) ≡ 1 + (1 + counted r 0 cs)
+    passed = rw e refl
+
+-- What `f` gives for each unit of a region, in order. `k` cells at the front belong to an earlier unit.
+abbrev pub from_units : {A : Type 0} → (Unit-of → Cell → Option ℕ → List A) → Region → ℕ → List Cell → List A
+from_units f r k [] = []
+from_units f r (suc k) (c ∷ cs) = from_units f r k cs
+from_units f r zero (c ∷ cs) =
+    unless_stop (unit_at r (c ∷ cs)) (f (unit_at r (c ∷ cs)) c (byte_at 0 cs) ++ from_units f r (more_by (unit_at r (c ∷ cs))) cs)
+
+-- What each unit gives is a flat map over the units, where it depends on the cells of the unit alone.
+pub units-give : {A : Type 0} (f : Unit-of → Cell → Option ℕ → List A) (g : List Cell → List A) (r : Region)
+    → ((c : Cell) (next : Option ℕ) → f unit.One c next ≡ g (c ∷ [])) → ((c d : Cell) → f unit.Two c d.byte ≡ g (c ∷ d ∷ []))
+    → ((c : Cell) → unit_at r (c ∷ []) ≡ unit.Two → f unit.Two c None ≡ g (c ∷ []))
+    → (text : List Cell) → flat_map g (units r text) ≡ from_units f r 0 text
+units-give f g r one two last [] = refl
+units-give f g r one two last (c ∷ []) = by (unit_at r (c ∷ [])) refl
+  where
+    by : (u : Unit-of) → unit_at r (c ∷ []) ≡ u → flat_map g (unless_stop u ((c ∷ []) ∷ [])) ≡ unless_stop u (f u c None ++ from_units f r (more_by u) [])
+    by unit.Stop e = refl
+    by unit.One e = ap (λ xs. xs ++ []) (sym (one c None))
+    by unit.Two e = ap (λ xs. xs ++ []) (sym (last c e))
+units-give f g r one two last (c ∷ d ∷ cs) = by (unit_at r (c ∷ d ∷ cs)) (units-give f g r one two last (d ∷ cs)) (units-give f g r one two last cs)
+  where
+    by : (u : Unit-of) → flat_map g (units r (d ∷ cs)) ≡ from_units f r 0 (d ∷ cs) → flat_map g (units r cs) ≡ from_units f r 0 cs
+        → flat_map g (units_from u c d (units r (d ∷ cs)) (units r cs)) ≡ unless_stop u (f u c d.byte ++ from_units f r (more_by u) (d ∷ cs))
+    by unit.Stop after_one after_two = refl
+    by unit.One after_one after_two = rw (one c d.byte, after_one) refl
+    by unit.Two after_one after_two = rw (two c d, after_two) refl
+
+-- the bytes of the units of a name
+
+abbrev pub name_bytes_of : Unit-of → Cell → Option ℕ → List ℕ
+name_bytes_of u c next = unit_name_bytes u c.byte next
+
+-- an @ at the end of a text starts a section, so no name goes on there
+never-two : (b : Option ℕ) → unit_of region.Name b None ≡ unit.Two → ⊥
+never-two b e = by (holds at_sign b) e
+  where
+    by : (x : Bool) → unit_by (x && false || x && true || x && false) x ≡ unit.Two → ⊥
+    by true e = cc
+    by false e = cc
+
+pub name_bytes-are : (text : List Cell) → name_bytes text ≡ from_units name_bytes_of region.Name 0 text
+name_bytes-are text = units-give name_bytes_of unit_bytes region.Name (λ c n. refl) (λ c d. refl) (λ c e. absurd (never-two c.byte e)) text

@@ -1,0 +1,5 @@
+@ A.
+@c
+int a;
+@i b.w
+@i n.w

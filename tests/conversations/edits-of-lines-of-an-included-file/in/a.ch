@@ -1,0 +1,5 @@
+@x
+% end
+@y
+changed
+@z

@@ -1,0 +1,5 @@
+@ A.
+@c
+int x;
+@i n.w
+int y;

@@ -1,0 +1,6 @@
+@x
+int b;
+@y
+int d;
+@i e.w
+@z

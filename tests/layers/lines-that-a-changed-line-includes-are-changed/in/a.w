@@ -1,0 +1,5 @@
+@ A.
+@c
+int a;
+int b;
+int c;

@@ -1,0 +1,7 @@
+@x
+old;
+@y
+new;
+@x
+no
+@y

@@ -1,0 +1,4 @@
+@ A @<undone@>.
+@c
+@<und...@>
+@<undone@>
