@@ -77,6 +77,16 @@ def make_folder(folder, files):
     lay(os.fsencode(folder), {name: bytes_of(lines) for name, lines in files})
 
 
+def is_laid(folder, name, *projects):
+    """Makes a folder with the files of these projects, unless one of them is too large to compare."""
+    is_small = all(project.is_small() for project in projects)
+    if is_small:
+        make_folder(folder, [file for project in projects for file in project.files])
+    else:
+        print('%s is too large' % name)
+    return is_small
+
+
 def bytes_of(lines):
     return b''.join(line + b'\n' for line in lines)
 
@@ -122,11 +132,8 @@ class Comparison:
         for seed in range(first, first + count):
             project = generator.Project(seed)
             name = 'generated web %d' % seed
-            if project.is_small():
-                make_folder(folder, project.files)
+            if is_laid(folder, name, project):
                 self.compare_run(name, arguments_of(project, seed), folder)
-            else:
-                print('%s is too large' % name)
 
     def cut(self, folder, webs):
         for web in webs:
@@ -188,24 +195,18 @@ class Comparison:
         for seed in range(first, first + count):
             project = generator.Project(seed)
             name = 'layers of generated web %d' % seed
-            if project.is_small():
-                make_folder(folder, project.files)
+            if is_laid(folder, name, project):
                 self.compare_listing(name, arguments_of(project, seed), folder)
-            else:
-                print('%s: too large' % name)
 
     def edited_layers(self, folder, first, count):
         """Of half of the pairs the second project is the older one."""
         for seed in range(first, first + count):
             pair = pairs.pair(seed)
             name = 'layers of pair %d' % seed
-            if all(project.is_small() for project in pair):
-                make_folder(folder, pair[0].files + pair[1].files)
+            if is_laid(folder, name, *pair):
                 old, new = pair if seed // 2 % 2 else pair[::-1]
                 arguments = arguments_of(old, seed) + ['--and'] + arguments_of(new, seed)
                 self.compare_listing(name, arguments, folder)
-            else:
-                print('%s: too large' % name)
 
     def layers_at_limits(self, folder):
         webs = {'doubled': chained(30, '1', 2), 'deep': chained(999, '1'),
