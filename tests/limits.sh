@@ -248,8 +248,8 @@ test_depth() {
     run_case 'chain of 1,000 names below the program' "$case"
 }
 
-# A file that uses a name of weight 65,790 so often, and a word of so many bytes, weighs 5 + 255 * (2 + 65,790) and
-# the word. Each use is a space, the C of the name and a line mark.
+# A file with 255 uses of a name of weight 65,790, and a word of BYTES bytes, weighs 5 + 255 * (2 + 65,790) + BYTES.
+# Each use is a space, the C of the name and a line mark.
 heavy_file() { # BYTES
     {
         printf '@ P.\n@(s.h@>=\n'

@@ -42,7 +42,7 @@ fn no_memory<E: Sink>(err: &mut E) -> u8 {
     3
 }
 
-// It has no `?`: an error that `main` returned would be status 1.
+// `main` has no `?`: an error that `main` returned would be status 1.
 fn main(rt: HostRuntime) -> ExitCode {
     let mut err = lines_to(&rt, rt.stderr());
     let status = run(&rt, &mut err);

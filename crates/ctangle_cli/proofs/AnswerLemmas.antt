@@ -1,5 +1,6 @@
 -- Answers to the requests of a script: bytes written one after another, and the answer to an edit or a list.
-use Rattle.std.proofs.Common.{◌≡◌, ◌⊎◌, inl, inr, ℕ, true, false, List, [], ◌++◌, Option, None, Some, Result, Ok, Err, ap, subst, sym, refl, length, codes}
+use Rattle.std.proofs.Common.{◌≡◌, ◌⊎◌, inl, inr, ℕ, true, false, List, [], ◌++◌, Option, None, Some, Result, Ok, Err}
+use Rattle.std.proofs.Common.{ap, subst, sym, refl, length, codes}
 use Rattle.std.specs.Prelude.{IfNone, IfSome, IsOkUnless, OnErr, OnOk, is_some}
 use Rattle.std.specs.Global.{Global}
 use Rattle.std.specs.Option.{option_map}
@@ -10,8 +11,10 @@ use Rattle.tangle_files.specs.declared.edits.Edit.{Edit}
 use Rattle.tangle_files.specs.declared.edits.Edit.TheVariants.{Insert, Replace, Remove, Create, Discard, Marks}
 use Rattle.tangle_files.specs.declared.marks.MarkMode.TheVariants.{Full, Bare}
 use Rattle.tangle_files.specs.declared.refusal.Refusal.{Refusal}
-use Rattle.tangle_files.specs.declared.refusal.Refusal.TheVariants.{BadName, FileExists, TooManyFiles, LineTooLong, TooManyLines, NoMemory, UnknownFile}
-use Rattle.tangle_files.specs.declared.refusal.Refusal.TheVariants.{NoSuchLine, BadLine, NoWeb, NoChange, RoleFile, NoOutput, WriteFault}
+use Rattle.tangle_files.specs.declared.refusal.Refusal.TheVariants.{BadName, FileExists, TooManyFiles, LineTooLong}
+use Rattle.tangle_files.specs.declared.refusal.Refusal.TheVariants.{TooManyLines, NoMemory, UnknownFile}
+use Rattle.tangle_files.specs.declared.refusal.Refusal.TheVariants.{NoSuchLine, BadLine, NoWeb, NoChange, RoleFile}
+use Rattle.tangle_files.specs.declared.refusal.Refusal.TheVariants.{NoOutput, WriteFault}
 use Rattle.tangle_script.specs.Requests.{is_edit}
 use Rattle.tangle_script.specs.Requests.Request.{Begin, Commit, Cancel}
 use Rattle.tangle_script.specs.Script.{Replies, WritesAnswer}
@@ -20,29 +23,34 @@ use Rattle.tangle_session.specs.Files.{web_at}
 use Rattle.tangle_session.specs.Sessions.{AreMade, ListsAffectedOfWebs, SessionRead}
 use Rattle.tangle_session.specs.Writes.{WritesOut}
 use Rattle.tangle_session.specs.declared.refusing.ListRefusal.{ListRefusal}
-use Rattle.ctangle_cli.specs.Conversation.{AnswersIn, AnswersList, SessionAndDraft, answers, session_and_draft, list_line, list_refused_line}
+use Rattle.ctangle_cli.specs.Conversation.{AnswersIn, AnswersList, SessionAndDraft, answers, session_and_draft}
+use Rattle.ctangle_cli.specs.Conversation.{list_line, list_refused_line}
 use Rattle.ctangle_cli.specs.Conversation.{refused_line, request_for, shown}
 use Rattle.ctangle_cli.specs.Conversation.AnswersEdit.{IsRefused}
 use Rattle.ctangle_cli.specs.Conversation.AnswersList.{IsListMade, IsListRefused, IsListOutOfMemory}
 use Rattle.ctangle_cli.proofs.RunLemmas.{whole_then_cut, whole_then_whole}
 
 -- more bytes are written after the output so far
-module _ {T E : Type 0} (old now new : Stream) (output bytes : List ℕ) (so_far : Result T E) (x : T) (is : so_far ≡ Ok x) (h : WritesAnswer old now output so_far) where
+module _ {T E : Type 0} (old now new : Stream) (output bytes : List ℕ) (so_far : Result T E)
+    (x : T) (is : so_far ≡ Ok x) (h : WritesAnswer old now output so_far) where
   pub then_all : TakesAll now new bytes → TakesAll old new (output ++ bytes)
   then_all k = whole_then_whole old now new output bytes (subst (WritesAnswer old now output) is h) k
 
   pub then_front : TakesPrefix now new bytes → TakesPrefix old new (output ++ bytes)
   then_front k = whole_then_cut old now new output bytes (subst (WritesAnswer old now output) is h) k
 
-pub none_is_shown : (name : List ℕ) (found : Option (List ℕ)) → None ≡ option_map length found → shown name found ≡ codes "no NoOutput\n"
+pub none_is_shown : (name : List ℕ) (found : Option (List ℕ))
+    → None ≡ option_map length found → shown name found ≡ codes "no NoOutput\n"
 none_is_shown name None e = refl
 none_is_shown name (Some bytes) e = absurd (cc)
 
-pub some_has_bytes : (found : Option (List ℕ)) (size : ℕ) → Some size ≡ option_map length found → (bytes : List ℕ) × (found ≡ Some bytes) × (length bytes ≡ size)
+pub some_has_bytes : (found : Option (List ℕ)) (size : ℕ)
+    → Some size ≡ option_map length found → (bytes : List ℕ) × (found ≡ Some bytes) × (length bytes ≡ size)
 some_has_bytes None size e = absurd (cc)
 some_has_bytes (Some bytes) size e = let same : size ≡ length bytes = cc in (bytes, refl, sym same)
 
-answers_edit : (s t : SessionAndDraft) (made : Edit) (output : List ℕ) → AnswersIn s.draft s made output t → answers s (request_for made) output t
+answers_edit : (s t : SessionAndDraft) (made : Edit) (output : List ℕ)
+    → AnswersIn s.draft s made output t → answers s (request_for made) output t
 answers_edit s t (Insert file at text) output h = (Insert file at text, refl, h)
 answers_edit s t (Replace file at text) output h = (Replace file at text, refl, h)
 answers_edit s t (Remove file at) output h = (Remove file at, refl, h)
@@ -71,49 +79,65 @@ pub refused_now : (s t : SessionRead) (d : Option (Vec Edit Global)) (made : Edi
 refused_now s t d made refusal none refused only stays =
     rw none (by (session_refusal s.files s.roles made) refl refused only)
   where
-    by : (o : Option Refusal) → session_refusal s.files s.roles made ≡ o → IfSome o (λ other. Same (Err refusal) (Err other)) → IfNone o (refusal ≡ NoMemory)
-        → Replies answers (record { session = s; draft = None }) (request_for made) (refused_line refusal) (record { session = t; draft = None })
+    by : (o : Option Refusal) → session_refusal s.files s.roles made ≡ o
+        → IfSome o (λ other. Same (Err refusal) (Err other)) → IfNone o (refusal ≡ NoMemory)
+        → Replies answers (record { session = s; draft = None }) (request_for made)
+        (refused_line refusal) (record { session = t; draft = None })
     by None e f n = inr (asks_for_edit made, ap refused_line n, ap (λ x. record { session = x; draft = None }) stays)
     by (Some other) e f n =
         let same : refusal ≡ other = cc in
-        inl (answers_edit (record { session = s; draft = None }) (record { session = t; draft = None }) made _ (IsRefused other e (ap refused_line same) stays, refl))
+        inl (answers_edit (record { session = s; draft = None }) (record { session = t; draft = None })
+        made _ (IsRefused other e (ap refused_line same) stays, refl))
 
 -- lists that are opened, made and dropped
 
-pub bad_begin : (session : SessionRead) (d : Option (Vec Edit Global)) → is_some d ≡ true → answers (session_and_draft session d) Begin (codes "no BadCommand\n") (session_and_draft session d)
+pub bad_begin : (session : SessionRead) (d : Option (Vec Edit Global)) → is_some d ≡ true
+    → answers (session_and_draft session d) Begin (codes "no BadCommand\n") (session_and_draft session d)
 bad_begin session None h = absurd (cc)
 bad_begin session (Some held) h = (refl, refl)
 
-pub begun : (session : SessionRead) (d : Option (Vec Edit Global)) (empty : Vec Edit Global) → is_some d ≡ false → empty.items ≡ []
+pub begun : (session : SessionRead) (d : Option (Vec Edit Global)) (empty : Vec Edit Global)
+    → is_some d ≡ false → empty.items ≡ []
     → answers (session_and_draft session d) Begin (codes "ok\n") (session_and_draft session (Some empty))
 begun session None empty h e = (refl, ap (λ l. record { session = session; draft = Some l }) e)
 begun session (Some held) empty h e = absurd (cc)
 
-pub bad_cancel : (session : SessionRead) (d : Option (Vec Edit Global)) → is_some d ≡ false → answers (session_and_draft session d) Cancel (codes "no BadCommand\n") (session_and_draft session d)
+pub bad_cancel : (session : SessionRead) (d : Option (Vec Edit Global)) → is_some d ≡ false
+    → answers (session_and_draft session d) Cancel (codes "no BadCommand\n") (session_and_draft session d)
 bad_cancel session None h = (refl, refl)
 bad_cancel session (Some held) h = absurd (cc)
 
-pub cancelled : (session : SessionRead) (d : Option (Vec Edit Global)) → is_some d ≡ true → answers (session_and_draft session d) Cancel (codes "ok\n") (session_and_draft session None)
+pub cancelled : (session : SessionRead) (d : Option (Vec Edit Global))
+    → is_some d ≡ true → answers (session_and_draft session d) Cancel (codes "ok\n") (session_and_draft session None)
 cancelled session None h = absurd (cc)
 cancelled session (Some held) h = (refl, refl)
 
-pub bad_commit : (session : SessionRead) (d : Option (Vec Edit Global)) → d ≡ None → answers (session_and_draft session d) Commit (codes "no BadCommand\n") (session_and_draft session None)
+pub bad_commit : (session : SessionRead) (d : Option (Vec Edit Global))
+    → d ≡ None → answers (session_and_draft session d) Commit (codes "no BadCommand\n") (session_and_draft session None)
 bad_commit session d none = rw none (refl, refl)
 
-made_whole : (s t : SessionRead) (made : List Edit) (done : Result (Unit {0}) ListRefusal) → OnOk done (t.files ≡ edited_all s.files made)
-    → OnOk done (t.roles ≡ roles_after s.roles made) → OnOk done (ListsAffectedOfWebs (web_at s.files s.roles) (web_at t.files t.roles) t.work) → OnOk done (AreMade s made t)
+made_whole : (s t : SessionRead) (made : List Edit) (done : Result (Unit {0}) ListRefusal)
+    → OnOk done (t.files ≡ edited_all s.files made)
+    → OnOk done (t.roles ≡ roles_after s.roles made)
+    → OnOk done (ListsAffectedOfWebs (web_at s.files s.roles) (web_at t.files t.roles) t.work)
+    → OnOk done (AreMade s made t)
 made_whole s t made (Ok x) files roles work = record { files = files; roles = roles; work = work }
 made_whole s t made (Err refused) files roles work = tt
 
-pub list_answered : (s t : SessionRead) (made : List Edit) (done : Result (Unit {0}) ListRefusal) → OnOk done (t.files ≡ edited_all s.files made)
-    → OnOk done (t.roles ≡ roles_after s.roles made) → OnOk done (ListsAffectedOfWebs (web_at s.files s.roles) (web_at t.files t.roles) t.work)
+pub list_answered : (s t : SessionRead) (made : List Edit) (done : Result (Unit {0}) ListRefusal)
+    → OnOk done (t.files ≡ edited_all s.files made)
+    → OnOk done (t.roles ≡ roles_after s.roles made)
+    → OnOk done (ListsAffectedOfWebs (web_at s.files s.roles) (web_at t.files t.roles) t.work)
     → IfSome (list_refusal s.files s.roles made) (λ refused. (done ≡ Err refused) ⊎ (done ≡ Err list_memory))
-    → IfNone (list_refusal s.files s.roles made) (IsOkUnless done list_memory) → OnErr done (t ≡ s) → AnswersList s made (list_line done) t
+    → IfNone (list_refusal s.files s.roles made) (IsOkUnless done list_memory) → OnErr done (t ≡ s)
+    → AnswersList s made (list_line done) t
 list_answered s t made done files roles work refused only stays =
     by done (list_refusal s.files s.roles made) refl (made_whole s t made done files roles work) refused only stays
   where
-    by : (r : Result (Unit {0}) ListRefusal) (o : Option ListRefusal) → list_refusal s.files s.roles made ≡ o → OnOk r (AreMade s made t)
-        → IfSome o (λ refused. (r ≡ Err refused) ⊎ (r ≡ Err list_memory)) → IfNone o (IsOkUnless r list_memory) → OnErr r (t ≡ s) → AnswersList s made (list_line r) t
+    by : (r : Result (Unit {0}) ListRefusal) (o : Option ListRefusal)
+        → list_refusal s.files s.roles made ≡ o → OnOk r (AreMade s made t)
+        → IfSome o (λ refused. (r ≡ Err refused) ⊎ (r ≡ Err list_memory))
+        → IfNone o (IsOkUnless r list_memory) → OnErr r (t ≡ s) → AnswersList s made (list_line r) t
     by (Ok x) None e a f n k = IsListMade e refl a
     by (Ok x) (Some refused) e a f n k = elim f [ inl h ↦ absurd (cc) | inr h ↦ absurd (cc) ]
     by (Err r) None e a f n k = IsListOutOfMemory (ap list_refused_line n) k
@@ -122,12 +146,14 @@ list_answered s t made done files roles work refused only stays =
       | inr h ↦ (let same : r ≡ list_memory = cc in IsListOutOfMemory (ap list_refused_line same) k)
     ]
 
-pub committed : (s t : SessionRead) (d : Option (Vec Edit Global)) (held : Vec Edit Global) (output : List ℕ) → d ≡ Some held → AnswersList s held.items output t
+pub committed : (s t : SessionRead) (d : Option (Vec Edit Global)) (held : Vec Edit Global) (output : List ℕ)
+    → d ≡ Some held → AnswersList s held.items output t
     → answers (session_and_draft s d) Commit output (session_and_draft t None)
 committed s t d held output some h = rw some (h, refl)
 
 -- an output that was not written whole was written up to a prefix of its bytes
-pub output_is_cut : (a b : Stream) (bytes : List ℕ) (refusal : Refusal) → WritesOut a b bytes (Err refusal) → TakesPrefix a b bytes
+pub output_is_cut : (a b : Stream) (bytes : List ℕ) (refusal : Refusal)
+    → WritesOut a b bytes (Err refusal) → TakesPrefix a b bytes
 output_is_cut a b bytes (WriteFault n) h = (n, h.0, h.1, h.2)
 output_is_cut a b bytes BadName h = absurd h
 output_is_cut a b bytes FileExists h = absurd h

@@ -1,5 +1,5 @@
 -- The answered commands of a script extend a history.
-use Rattle.std.proofs.Common.{◌≡◌, List, [], ◌∷◌, ◌++◌, refl, ap, sym, subst, append_assoc, inl, inr}
+use Rattle.std.proofs.Common.{◌≡◌, List, [], ◌∷◌, ◌++◌, refl, ap, sym, subst, append_assoc, append-nil, inl, inr}
 use Rattle.std.specs.Prelude.{ℕ, Option, None, Some, false, Ok, Err, unwrap_or}
 use Rattle.tangle_files.specs.Lines.{FileTable}
 use Rattle.tangle_files.specs.Roles.{RolesRead}
@@ -13,9 +13,12 @@ use Rattle.tangle_script.specs.Script.{Dialogue, Replies}
 use Rattle.tangle_session.specs.Edits.{list_memory, of_first}
 use Rattle.tangle_session.specs.Headline.{Call, Single, Several, History, Edited}
 use Rattle.tangle_session.specs.Sessions.{SessionRead}
-use Rattle.ctangle_cli.specs.Conversation.{AnswersBegin, AnswersCancel, AnswersCommit, AnswersEdit, AnswersIn, AnswersList, AnswersRequest}
-use Rattle.ctangle_cli.specs.Conversation.{SessionAndDraft, IsMade, IsRefused, IsListMade, IsListRefused, IsListOutOfMemory, answers, request_for}
-use Rattle.ctangle_cli.specs.Histories.{AreCallsOf, IsCallOf, IsEdit, IsHeld, IsOpened, IsCommitted, IsDropped, IsNoEdit, IsOutOfMemory, is_of_list}
+use Rattle.ctangle_cli.specs.Conversation.{AnswersBegin, AnswersCancel, AnswersCommit, AnswersEdit, AnswersIn}
+use Rattle.ctangle_cli.specs.Conversation.{AnswersList, AnswersRequest}
+use Rattle.ctangle_cli.specs.Conversation.{SessionAndDraft, IsMade, IsRefused, IsListMade, IsListRefused}
+use Rattle.ctangle_cli.specs.Conversation.{IsListOutOfMemory, answers, request_for}
+use Rattle.ctangle_cli.specs.Histories.{AreCallsOf, IsCallOf, IsEdit, IsHeld, IsOpened, IsCommitted, IsDropped}
+use Rattle.ctangle_cli.specs.Histories.{IsNoEdit, IsOutOfMemory, is_of_list}
 
 module _ (files : FileTable) (roles : RolesRead) where
   -- the earlier calls and the one of this request, if there is one, are a history of the session after it
@@ -23,13 +26,11 @@ module _ (files : FileTable) (roles : RolesRead) where
   GoesOn calls request output s t =
       (call : List Call) × IsCallOf request output s.draft call t.draft × History files roles (calls ++ call) t.session
 
-  append_none : (calls : List Call) → calls ++ [] ≡ calls
-  append_none [] = refl
-  append_none (call ∷ calls) = ap (λ l. call ∷ l) (append_none calls)
-
-  unchanged : (calls : List Call) (s t : SessionRead) → History files roles calls s → t ≡ s → History files roles (calls ++ []) t
+  unchanged : (calls : List Call) (s t : SessionRead)
+      → History files roles calls s → t ≡ s → History files roles (calls ++ []) t
   unchanged calls s t history same =
-      subst (λ cs. History files roles cs t) (sym (append_none calls)) (subst (λ u. History files roles calls u) (sym same) history)
+      subst (λ cs. History files roles cs t) (sym (append-nil calls))
+      (subst (λ u. History files roles calls u) (sym same) history)
 
   -- a request that neither asks for an edit nor changes the open list
   stays : (calls : List Call) (s t : SessionAndDraft) (request : Request) (output : List ℕ)
@@ -52,7 +53,8 @@ module _ (files : FileTable) (roles : RolesRead) where
   made calls s t request edit output history asked (IsRefused refusal some said same) = (
     (Single edit, Err (of_first refusal)) ∷ [],
     IsEdit edit (Err refusal) asked said,
-    Edited s (Single edit) (Err (of_first refusal)) history (ap (λ o. of_first (unwrap_or o NoMemory)) (sym some), same),
+    Edited s (Single edit) (Err (of_first refusal)) history
+        (ap (λ o. of_first (unwrap_or o NoMemory)) (sym some), same),
   )
 
   committed : (calls : List Call) (s t : SessionRead) (held : List Edit) (output : List ℕ)
@@ -75,20 +77,26 @@ module _ (files : FileTable) (roles : RolesRead) where
   )
 
   -- the open list before and after the request, given by equal values
-  with_drafts : (calls : List Call) (request : Request) (output : List ℕ) (s t : SessionAndDraft) (before after : Option (List Edit))
+  with_drafts : (calls : List Call) (request : Request) (output : List ℕ)
+      (s t : SessionAndDraft) (before after : Option (List Edit))
       → s.draft ≡ before → t.draft ≡ after
-      → (call : List Call) × IsCallOf request output before call after × History files roles (calls ++ call) t.session → GoesOn calls request output s t
+      → (call : List Call) × IsCallOf request output before call after × History files roles (calls ++ call) t.session
+      → GoesOn calls request output s t
   with_drafts calls request output s t before after is_before is_after h = (
     h.0,
-    subst (λ d. IsCallOf request output d h.0 t.draft) (sym is_before) (subst (λ d. IsCallOf request output before h.0 d) (sym is_after) h.1),
+    subst (λ d. IsCallOf request output d h.0 t.draft) (sym is_before)
+        (subst (λ d. IsCallOf request output before h.0 d) (sym is_after) h.1),
     h.2,
   )
 
-  edits : (calls : List Call) (s t : SessionAndDraft) (request : Request) (edit : Edit) (output : List ℕ) (draft : Option (List Edit))
-      → s.draft ≡ draft → History files roles calls s.session → request_for edit ≡ request → AnswersIn draft s edit output t
+  edits : (calls : List Call) (s t : SessionAndDraft) (request : Request)
+      (edit : Edit) (output : List ℕ) (draft : Option (List Edit))
+      → s.draft ≡ draft → History files roles calls s.session → request_for edit ≡ request
+      → AnswersIn draft s edit output t
       → GoesOn calls request output s t
   edits calls s t request edit output None is history asked a =
-      with_drafts calls request output s t None None is a.1 (made calls s.session t.session request edit output history asked a.0)
+      with_drafts calls request output s t None None is a.1
+      (made calls s.session t.session request edit output history asked a.0)
   edits calls s t request edit output (Some held) is history asked a =
       with_drafts calls request output s t (Some held) (Some (held ++ edit ∷ [])) is (ap (λ u. u.draft) a.1)
       ([], IsHeld held edit asked a.0, unchanged calls s.session t.session history (ap (λ u. u.session) a.1))
@@ -98,7 +106,8 @@ module _ (files : FileTable) (roles : RolesRead) where
   asks calls s t request output history a = edits calls s t request a.0 output s.draft refl history a.1 a.2
 
   begins : (calls : List Call) (s t : SessionAndDraft) (output : List ℕ) (draft : Option (List Edit))
-      → s.draft ≡ draft → History files roles calls s.session → AnswersBegin draft s output t → GoesOn calls Begin output s t
+      → s.draft ≡ draft → History files roles calls s.session → AnswersBegin draft s output t
+      → GoesOn calls Begin output s t
   begins calls s t output None is history a =
       with_drafts calls Begin output s t None (Some []) is (ap (λ u. u.draft) a.1)
       ([], IsOpened refl a.0, unchanged calls s.session t.session history (ap (λ u. u.session) a.1))
@@ -106,14 +115,19 @@ module _ (files : FileTable) (roles : RolesRead) where
       stays calls s t Begin output history refl (ap (λ d. is_of_list d Begin) is) a.1
 
   commits : (calls : List Call) (s t : SessionAndDraft) (output : List ℕ) (draft : Option (List Edit))
-      → s.draft ≡ draft → History files roles calls s.session → AnswersCommit draft s output t → GoesOn calls Commit output s t
-  commits calls s t output None is history a = stays calls s t Commit output history refl (ap (λ d. is_of_list d Commit) is) a.1
+      → s.draft ≡ draft → History files roles calls s.session → AnswersCommit draft s output t
+      → GoesOn calls Commit output s t
+  commits calls s t output None is history a =
+      stays calls s t Commit output history refl (ap (λ d. is_of_list d Commit) is) a.1
   commits calls s t output (Some held) is history a =
-      with_drafts calls Commit output s t (Some held) None is a.1 (committed calls s.session t.session held output history a.0)
+      with_drafts calls Commit output s t (Some held) None is a.1
+      (committed calls s.session t.session held output history a.0)
 
   cancels : (calls : List Call) (s t : SessionAndDraft) (output : List ℕ) (draft : Option (List Edit))
-      → s.draft ≡ draft → History files roles calls s.session → AnswersCancel draft s output t → GoesOn calls Cancel output s t
-  cancels calls s t output None is history a = stays calls s t Cancel output history refl (ap (λ d. is_of_list d Cancel) is) a.1
+      → s.draft ≡ draft → History files roles calls s.session → AnswersCancel draft s output t
+      → GoesOn calls Cancel output s t
+  cancels calls s t output None is history a =
+      stays calls s t Cancel output history refl (ap (λ d. is_of_list d Cancel) is) a.1
   cancels calls s t output (Some held) is history a =
       with_drafts calls Cancel output s t (Some held) None is (ap (λ u. u.draft) a.1)
       ([], IsDropped held refl a.0, unchanged calls s.session t.session history (ap (λ u. u.session) a.1))
@@ -137,9 +151,12 @@ module _ (files : FileTable) (roles : RolesRead) where
   answered calls s t Cancel output history a = cancels calls s t output s.draft refl history a
   answered calls s t (Show file) output history a =
       stays calls s t (Show file) output history refl (none_of_list s.draft (Show file) refl (λ held. refl)) a.1
-  answered calls s t Faults output history a = stays calls s t Faults output history refl (none_of_list s.draft Faults refl (λ held. refl)) a.1
-  answered calls s t Work output history a = stays calls s t Work output history refl (none_of_list s.draft Work refl (λ held. refl)) a.1
-  answered calls s t Quit output history a = stays calls s t Quit output history refl (none_of_list s.draft Quit refl (λ held. refl)) a.1
+  answered calls s t Faults output history a =
+      stays calls s t Faults output history refl (none_of_list s.draft Faults refl (λ held. refl)) a.1
+  answered calls s t Work output history a =
+      stays calls s t Work output history refl (none_of_list s.draft Work refl (λ held. refl)) a.1
+  answered calls s t Quit output history a =
+      stays calls s t Quit output history refl (none_of_list s.draft Quit refl (λ held. refl)) a.1
   answered calls s t BadCommand output history a =
       stays calls s t BadCommand output history refl (none_of_list s.draft BadCommand refl (λ held. refl)) a.1
 
@@ -148,13 +165,15 @@ module _ (files : FileTable) (roles : RolesRead) where
   replied calls s t request output history (inl a) = answered calls s t request output history a
   replied calls s t request output history (inr short) = (
     [],
-    subst (λ d. IsCallOf request output s.draft [] d) (ap (λ u. u.draft) (sym short.2)) (IsOutOfMemory s.draft short.0 short.1),
+    subst (λ d. IsCallOf request output s.draft [] d)
+        (ap (λ u. u.draft) (sym short.2)) (IsOutOfMemory s.draft short.0 short.1),
     unchanged calls s.session t.session history (ap (λ u. u.session) short.2),
   )
 
   pub goes_on : (calls : List Call) (s t : SessionAndDraft) (commands : List Command) (output : List ℕ)
       → History files roles calls s.session → Dialogue answers s commands output t
-      → (more : List Call) × AreCallsOf commands output s.draft more t.draft × History files roles (calls ++ more) t.session
+      → (more : List Call) × AreCallsOf commands output s.draft more t.draft
+      × History files roles (calls ++ more) t.session
   goes_on calls s t [] output history d =
       ([], (d.0, refl, ap (λ u. u.draft) d.1), unchanged calls s.session t.session history (ap (λ u. u.session) d.1))
   goes_on calls s t (command ∷ commands) output history d =

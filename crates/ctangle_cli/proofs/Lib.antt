@@ -1,7 +1,8 @@
 mod AskLemmas
 mod LoadLemmas
 mod NameLemmas
-mod OrderLemmas
+mod StepLemmas
+mod RoundLemmas
 mod MissingLemmas
 mod NothingDone
 mod RunLemmas

@@ -1,5 +1,6 @@
 -- The last slash and the dots of a name.
-use Rattle.std.proofs.Common.{◌≡◌, ℕ, ◌+◌, ◌-◌, Bool, false, not, List, [], ◌∷◌, suc, ◌<◌, ◌||◌, length, get_or, take, drop, refl, ap, sym, ◌∙◌, arith, Option, Some, None, is_some}
+use Rattle.std.proofs.Common.{◌≡◌, ℕ, ◌+◌, ◌-◌, Bool, false, not, List, [], ◌∷◌, suc, ◌<◌, ◌||◌, length, get_or, take}
+use Rattle.std.proofs.Common.{drop, refl, ap, sym, ◌∙◌, arith, Option, Some, None, is_some}
 use Rattle.std.specs.List.{suffix_len, after_last, before_last, list_any}
 use Rattle.std.proofs.lemmas.Bool.{false_from_ne_true}
 use Rattle.std.proofs.lemmas.List.Sums.{suffix_len_is}
@@ -39,12 +40,15 @@ module _ (test : ℕ → Bool) (name : List ℕ) where
       let last : 0 ≡ length name - suffix_len (λ b. not (test b)) name - 1 = omega (arith, past-none h) in
       ap (λ n. take n name) last
 
-none_passes : (test : ℕ → Bool) (bytes : List ℕ) → ((j : ℕ) → j < length bytes → test (get_or bytes j 0) ≡ false) → false ≡ list_any test bytes
+none_passes : (test : ℕ → Bool) (bytes : List ℕ)
+    → ((j : ℕ) → j < length bytes → test (get_or bytes j 0) ≡ false) → false ≡ list_any test bytes
 none_passes test [] none = refl
 none_passes test (b ∷ bytes) none =
-    none_passes test bytes (λ j l. none (suc j) (omega (arith, l))) ∙ ap (λ t. t || list_any test bytes) (sym (none 0 (omega arith)))
+    none_passes test bytes (λ j l. none (suc j) (omega (arith, l)))
+    ∙ ap (λ t. t || list_any test bytes) (sym (none 0 (omega arith)))
 
 -- some byte passes the test if a first one is found
-pub passes-found : (test : ℕ → Bool) (bytes : List ℕ) (r : Option ℕ) → IsFirstByte test bytes r → is_some r ≡ list_any test bytes
+pub passes-found : (test : ℕ → Bool) (bytes : List ℕ) (r : Option ℕ)
+    → IsFirstByte test bytes r → is_some r ≡ list_any test bytes
 passes-found test bytes (Some k) h = sym (list_any_at test bytes k 0 h.0.high h.1)
 passes-found test bytes None h = none_passes test bytes (λ j l. false_from_ne_true _ (h j (omega arith) l))

@@ -1,7 +1,8 @@
 -- Where each included file is in the table, no name is missing.
-use Rattle.std.proofs.Common.{◌≡◌, ◌∙◌, ℕ, zero, suc, ◌+◌, ◌||◌, ◌&&◌, ◌==◌, Bool, true, false, cond, not, List, [], ◌∷◌, ◌++◌, Option, Some, None, is_some, drop, map, refl, ap, sym, length, true≢false}
+use Rattle.std.proofs.Common.{◌≡◌, ◌∙◌, ℕ, zero, suc, ◌+◌, ◌||◌, ◌&&◌, ◌==◌, Bool, true, false, cond, not, List, []}
+use Rattle.std.proofs.Common.{◌∷◌, ◌++◌, Option, Some, None, is_some, drop, map, refl, ap, sym, length, true≢false}
 use Rattle.std.specs.Prelude.{nat_lt, min, filter}
-use Rattle.std.proofs.lemmas.Bool.{or_parts, or_from}
+use Rattle.std.proofs.lemmas.Bool.{or_parts, or_from, not-false}
 use Rattle.std.proofs.lemmas.List.{map-append}
 use Rattle.std.proofs.lemmas.List.Elements.{filter-append}
 use Rattle.std.proofs.lemmas.List.Folds.{list_any-append}
@@ -17,16 +18,21 @@ use Rattle.tangle_lines.specs.Change.{Change}
 use Rattle.tangle_lines.specs.Changes.{Found, before, changes_from, closed_by, line_kind_of, next_phase, old_ended}
 use Rattle.tangle_files.specs.Lines.{FileTable, file_number, lines_at, name_at, file_number_or_count}
 use Rattle.tangle_files.specs.Adding.{has_file}
-use Rattle.tangle_lines.specs.Reading.{WaitingLine, after, begins, change_here, change_lines, change_number, change_place, change_step, changes_in, depth_limit, included, source_line_limit, line_step, mismatch_faults, place_of, plain_step, reads_in, unequal_lines, waiting_lines}
+use Rattle.tangle_lines.specs.Reading.{WaitingLine, after, begins, change_here, change_lines, change_number}
+use Rattle.tangle_lines.specs.Reading.{change_place, change_step, changes_in, depth_limit, included, source_line_limit}
+use Rattle.tangle_lines.specs.Reading.{line_step, mismatch_faults, place_of, plain_step, reads_in, unequal_lines}
+use Rattle.tangle_lines.specs.Reading.{waiting_lines}
 use Rattle.tangle_lines.specs.Reading.ReadingStep.{Ends, Goes}
 use Rattle.tangle_files.specs.Roles.{RolesRead}
-use Rattle.ctangle_cli.specs.Loading.{IncludesNoMissing, is_missing_kind, misses_file, misses_name, missed_in, missing_of}
+use Rattle.ctangle_cli.specs.Loading.{IncludesNoMissing, is_missing_kind, misses_file, misses_name, missed_in}
+use Rattle.ctangle_cli.specs.Loading.{missing_of}
 use Rattle.ctangle_cli.proofs.LoadLemmas.{numbered_as_has}
 
 missed_in-append : (xs ys : List FaultRead) → missed_in (xs ++ ys) ≡ missed_in xs ++ missed_in ys
 missed_in-append xs ys =
     ap (map (λ (f : FaultRead). f.subject)) (filter-append (λ (f : FaultRead). is_missing_kind f.kind) xs ys)
-    ∙ map-append (λ (f : FaultRead). f.subject) (filter (λ (f : FaultRead). is_missing_kind f.kind) xs) (filter (λ (f : FaultRead). is_missing_kind f.kind) ys)
+    ∙ map-append (λ (f : FaultRead). f.subject) (filter (λ (f : FaultRead). is_missing_kind f.kind) xs)
+    (filter (λ (f : FaultRead). is_missing_kind f.kind) ys)
 
 both_miss_none : (xs ys : List FaultRead) → missed_in xs ≡ [] → missed_in ys ≡ [] → missed_in (xs ++ ys) ≡ []
 both_miss_none xs ys h k = missed_in-append xs ys ∙ ap (λ l. l ++ missed_in ys) h ∙ k
@@ -43,17 +49,15 @@ none_after p zero xs h = h
 none_after p (suc n) [] h = refl
 none_after p (suc n) (x ∷ xs) h = none_after p n xs (or_parts (p x) (list_any p xs) h).1
 
-not_true : (b : Bool) → not b ≡ false → b ≡ true
-not_true true h = refl
-not_true false h = absurd (true≢false h)
-
 module _ (files : FileTable) (no_missing : IncludesNoMissing files) where
   abbrev misses_waiting : WaitingLine → Bool
   misses_waiting w = misses_file files w.bytes
 
-  lines_miss_alike : (file : ℕ) (changed : Bool) (depth k : ℕ) (ls : List (List ℕ)) → list_any misses_waiting (waiting_lines file changed depth k ls) ≡ list_any (misses_file files) ls
+  lines_miss_alike : (file : ℕ) (changed : Bool) (depth k : ℕ) (ls : List (List ℕ))
+      → list_any misses_waiting (waiting_lines file changed depth k ls) ≡ list_any (misses_file files) ls
   lines_miss_alike file changed depth k [] = refl
-  lines_miss_alike file changed depth k (l ∷ ls) = ap (λ b. misses_file files l || b) (lines_miss_alike file changed depth (k + 1) ls)
+  lines_miss_alike file changed depth k (l ∷ ls) =
+      ap (λ b. misses_file files l || b) (lines_miss_alike file changed depth (k + 1) ls)
 
   -- the changes of a change file
 
@@ -75,7 +79,8 @@ module _ (files : FileTable) (no_missing : IncludesNoMissing files) where
     named = list_any-append new_misses first.changes rest.changes ∙ or_from _ _ h.named k.named;
   }
 
-  closed_misses_none : (old : List (List ℕ)) (change : Change) → new_misses change ≡ false → list_any new_misses (closed_by old change) ≡ false
+  closed_misses_none : (old : List (List ℕ)) (change : Change)
+      → new_misses change ≡ false → list_any new_misses (closed_by old change) ≡ false
   closed_misses_none [] change h = refl
   closed_misses_none (o ∷ os) change h = or_from _ _ h refl
 
@@ -83,7 +88,8 @@ module _ (files : FileTable) (no_missing : IncludesNoMissing files) where
   old_ended_fine file at [] = record { none = refl; named = refl }
   old_ended_fine file at (o ∷ os) = record { none = refl; named = refl }
 
-  next_misses_none : (file : List ℕ) (phase : ChangePhase) (n : ℕ) (line : List ℕ) (kind : LineKind) → PhaseMissesNone phase → misses_file files line ≡ false
+  next_misses_none : (file : List ℕ) (phase : ChangePhase) (n : ℕ) (line : List ℕ) (kind : LineKind)
+      → PhaseMissesNone phase → misses_file files line ≡ false
       → PhaseMissesNone (next_phase file phase n line kind).0 × IsFine (next_phase file phase n line kind).1
   next_misses_none file Outside n line BeginsChange h none = (refl, record { none = refl; named = refl })
   next_misses_none file Outside n line BeginsNew h none = (tt, record { none = refl; named = refl })
@@ -93,15 +99,19 @@ module _ (files : FileTable) (no_missing : IncludesNoMissing files) where
   next_misses_none file (InOld c) n line BeginsNew h none = (h, old_ended_fine file c.at c.old_lines)
   next_misses_none file (InOld c) n line EndsChange h none = (tt, record { none = refl; named = refl })
   next_misses_none file (InOld c) n line IsText h none = (h, record { none = refl; named = refl })
-  next_misses_none file (InNew c) n line BeginsChange h none = (refl, record { none = refl; named = closed_misses_none c.old_lines c h })
+  next_misses_none file (InNew c) n line BeginsChange h none =
+      (refl, record { none = refl; named = closed_misses_none c.old_lines c h })
   next_misses_none file (InNew c) n line BeginsNew h none = (h, record { none = refl; named = refl })
-  next_misses_none file (InNew c) n line EndsChange h none = (tt, record { none = refl; named = closed_misses_none c.old_lines c h })
+  next_misses_none file (InNew c) n line EndsChange h none =
+      (tt, record { none = refl; named = closed_misses_none c.old_lines c h })
   next_misses_none file (InNew c) n line IsText h none = (
-    list_any-append (λ (l : ℕ × List ℕ). misses_file files l.1) c.new_lines ((n, line) ∷ []) ∙ or_from _ _ h (or_from _ _ none refl),
+    list_any-append (λ (l : ℕ × List ℕ). misses_file files l.1) c.new_lines ((n, line) ∷ [])
+        ∙ or_from _ _ h (or_from _ _ none refl),
     record { none = refl; named = refl },
   )
 
-  changes_fine : (file : List ℕ) (phase : ChangePhase) (n : ℕ) (lines : List (List ℕ)) → PhaseMissesNone phase → list_any (misses_file files) lines ≡ false
+  changes_fine : (file : List ℕ) (phase : ChangePhase) (n : ℕ) (lines : List (List ℕ))
+      → PhaseMissesNone phase → list_any (misses_file files) lines ≡ false
       → IsFine (changes_from file phase n lines)
   changes_fine file Outside n [] h none = record { none = refl; named = refl }
   changes_fine file (InOld c) n [] h none = record { none = refl; named = refl }
@@ -109,28 +119,37 @@ module _ (files : FileTable) (no_missing : IncludesNoMissing files) where
   changes_fine file phase n (line ∷ lines) h none =
       let both = or_parts (misses_file files line) (list_any (misses_file files) lines) none in
       let next = next_misses_none file phase n line (line_kind_of line) h both.0 in
-      fine_before (next_phase file phase n line (line_kind_of line)).1 (changes_from file (next_phase file phase n line (line_kind_of line)).0 (n + 1) lines)
+      fine_before (next_phase file phase n line (line_kind_of line)).1
+      (changes_from file (next_phase file phase n line (line_kind_of line)).0 (n + 1) lines)
       next.1 (changes_fine file (next_phase file phase n line (line_kind_of line)).0 (n + 1) lines next.0 both.1)
 
-  change_lines_miss_alike : (file depth : ℕ) (ls : List (ℕ × List ℕ)) → list_any misses_waiting (change_lines file depth ls) ≡ list_any (λ (l : ℕ × List ℕ). misses_file files l.1) ls
+  change_lines_miss_alike : (file depth : ℕ) (ls : List (ℕ × List ℕ))
+      → list_any misses_waiting (change_lines file depth ls) ≡ list_any (λ (l : ℕ × List ℕ). misses_file files l.1) ls
   change_lines_miss_alike file depth [] = refl
-  change_lines_miss_alike file depth (l ∷ ls) = ap (λ b. misses_file files l.1 || b) (change_lines_miss_alike file depth ls)
+  change_lines_miss_alike file depth (l ∷ ls) =
+      ap (λ b. misses_file files l.1 || b) (change_lines_miss_alike file depth ls)
 
   found_fine : (change : Option (List ℕ)) → IsFine (changes_in files change)
   found_fine None = record { none = refl; named = refl }
-  found_fine (Some name) = changes_fine (name_at files (file_number_or_count files name)) Outside 1 (lines_at files (file_number_or_count files name)) tt (no_missing (file_number_or_count files name))
+  found_fine (Some name) = changes_fine (name_at files (file_number_or_count files name)) Outside 1
+      (lines_at files (file_number_or_count files name)) tt (no_missing (file_number_or_count files name))
 
   -- reading, with a change file of this number
   module _ (file : ℕ) where
     abbrev MissesNone : ℕ → Type 0
-    MissesNone n = (t : ℕ) (cs : List Change) (ws : List WaitingLine) → list_any new_misses cs ≡ false → list_any misses_waiting ws ≡ false
+    MissesNone n =
+        (t : ℕ) (cs : List Change) (ws : List WaitingLine)
+        → list_any new_misses cs ≡ false → list_any misses_waiting ws ≡ false
         → missed_in (reads_in files file n (record { waiting = ws; changes = cs; taken = t })).faults ≡ []
 
     -- a line that includes a file of the table
-    file_misses_none : (n : ℕ) → MissesNone n → (w : WaitingLine) (ws : List WaitingLine) (cs : List Change) (t : ℕ) (name : List ℕ) (m : Option ℕ) → is_some m ≡ true
+    file_misses_none : (n : ℕ) → MissesNone n
+        → (w : WaitingLine) (ws : List WaitingLine) (cs : List Change) (t : ℕ) (name : List ℕ) (m : Option ℕ)
+        → is_some m ≡ true
         → list_any new_misses cs ≡ false → list_any misses_waiting ws ≡ false
         → missed_in (after files file (Goes (record { lines = []; faults = (included files w name m).1 })
-        (record { waiting = (included files w name m).0 ++ ws; changes = cs; taken = t + 1 })) (λ s. reads_in files file n s)).faults ≡ []
+        (record { waiting = (included files w name m).0 ++ ws; changes = cs; taken = t + 1 }))
+        (λ s. reads_in files file n s)).faults ≡ []
     file_misses_none n rest w ws cs t name None there changes none = absurd (true≢false (sym there))
     file_misses_none n rest w ws cs t name (Some m) there changes none = by (nat_lt w.depth depth_limit)
       where
@@ -140,22 +159,39 @@ module _ (files : FileTable) (no_missing : IncludesNoMissing files) where
             ∙ or_from _ _ (lines_miss_alike m w.changed (w.depth + 1) 1 (lines_at files m) ∙ no_missing m) none
 
         by : (b : Bool)
-            → missed_in (after files file (Goes (record { lines = []; faults = (cond {A = List WaitingLine × List FaultRead} b (waiting_lines m w.changed (w.depth + 1) 1 (lines_at files m), []) ([], fault_at IncludeTooDeep (place_of files w.origin) ∷ [])).1 })
-            (record { waiting = (cond {A = List WaitingLine × List FaultRead} b (waiting_lines m w.changed (w.depth + 1) 1 (lines_at files m), []) ([], fault_at IncludeTooDeep (place_of files w.origin) ∷ [])).0 ++ ws; changes = cs; taken = t + 1 }))
+            → missed_in (after files file (Goes (record {
+              lines = [];
+              faults = (cond {A = List WaitingLine × List FaultRead} b (
+                waiting_lines m w.changed (w.depth + 1) 1 (lines_at files m),
+                [],
+              ) ([], fault_at IncludeTooDeep (place_of files w.origin) ∷ [])).1;
+            })
+            (record {
+              waiting = (cond {A = List WaitingLine × List FaultRead} b (
+                waiting_lines m w.changed (w.depth + 1) 1 (lines_at files m),
+                [],
+              ) ([], fault_at IncludeTooDeep (place_of files w.origin) ∷ [])).0 ++ ws;
+              changes = cs;
+              taken = t + 1;
+            }))
             (λ s. reads_in files file n s)).faults ≡ []
         by true = rest (t + 1) cs _ changes more
         by false = rest (t + 1) cs ws changes none
 
-    line_misses_none : (n : ℕ) → MissesNone n → (w : WaitingLine) (ws : List WaitingLine) (cs : List Change) (t : ℕ) (name : Option (List ℕ)) → misses_name files name ≡ false
+    line_misses_none : (n : ℕ)
+        → MissesNone n → (w : WaitingLine) (ws : List WaitingLine) (cs : List Change) (t : ℕ) (name : Option (List ℕ))
+        → misses_name files name ≡ false
         → list_any new_misses cs ≡ false → list_any misses_waiting ws ≡ false
         → missed_in (after files file (plain_step files w ws cs t name) (λ s. reads_in files file n s)).faults ≡ []
     line_misses_none n rest w ws cs t None here changes none = rest (t + 1) cs ws changes none
     line_misses_none n rest w ws cs t (Some []) here changes none = rest (t + 1) cs ws changes none
     line_misses_none n rest w ws cs t (Some (b ∷ bs)) here changes none =
-        file_misses_none n rest w ws cs t (b ∷ bs) (file_number files (b ∷ bs)) (numbered_as_has files (b ∷ bs) ∙ not_true (has_file files (b ∷ bs)) here) changes none
+        file_misses_none n rest w ws cs t (b ∷ bs) (file_number files (b ∷ bs))
+        (numbered_as_has files (b ∷ bs) ∙ not-false (has_file files (b ∷ bs)) here) changes none
 
     -- a line at which a change is used
-    change_misses_none : (n : ℕ) → MissesNone n → (c : Change) (w : WaitingLine) (ws : List WaitingLine) (cs : List Change) (t : ℕ) → new_misses c ≡ false
+    change_misses_none : (n : ℕ) → MissesNone n
+        → (c : Change) (w : WaitingLine) (ws : List WaitingLine) (cs : List Change) (t : ℕ) → new_misses c ≡ false
         → list_any new_misses cs ≡ false → list_any misses_waiting (w ∷ ws) ≡ false
         → missed_in (after files file (change_step files file c cs w ws t) (λ s. reads_in files file n s)).faults ≡ []
     change_misses_none n rest c w ws cs t here changes none =
@@ -164,17 +200,24 @@ module _ (files : FileTable) (no_missing : IncludesNoMissing files) where
         (mismatch_misses_none (change_place files file c) (unequal_lines (drop 1 c.old_lines) ws))
         (rest (t + count) cs (change_lines file w.depth c.new_lines ++ drop count (w ∷ ws)) changes
         (list_any-append misses_waiting (change_lines file w.depth c.new_lines) (drop count (w ∷ ws))
-        ∙ or_from _ _ (change_lines_miss_alike file w.depth c.new_lines ∙ here) (none_after misses_waiting count (w ∷ ws) none)))
+        ∙ or_from _ _ (change_lines_miss_alike file w.depth c.new_lines ∙ here)
+        (none_after misses_waiting count (w ∷ ws) none)))
 
     step_misses_none : (n : ℕ) → MissesNone n → (w : WaitingLine) (ws : List WaitingLine) (cs : List Change) (t : ℕ)
         → list_any new_misses cs ≡ false → list_any misses_waiting (w ∷ ws) ≡ false
-        → missed_in (after files file (line_step files file w ws cs t (change_here cs w)) (λ s. reads_in files file n s)).faults ≡ []
+        → missed_in
+        (after files file (line_step files file w ws cs t (change_here cs w)) (λ s. reads_in files file n s)).faults
+        ≡ []
     step_misses_none n rest w ws [] t changes none =
         let both = or_parts (misses_waiting w) (list_any misses_waiting ws) none in
         line_misses_none n rest w ws [] t (included_name w.bytes) both.0 changes both.1
     step_misses_none n rest w ws (c ∷ cs) t changes none = by (not w.changed && begins c.old_lines w.bytes)
       where
-        by : (b : Bool) → missed_in (after files file (line_step files file w ws (c ∷ cs) t (cond b (Some c) None)) (λ s. reads_in files file n s)).faults ≡ []
+        by : (b : Bool)
+            → missed_in
+            (after files file (line_step files file w ws (c ∷ cs) t (cond b (Some c) None))
+            (λ s. reads_in files file n s)).faults
+            ≡ []
         by true =
             let both = or_parts (new_misses c) (list_any new_misses cs) changes in
             change_misses_none n rest c w ws cs t both.0 both.1 none
@@ -187,9 +230,13 @@ module _ (files : FileTable) (no_missing : IncludesNoMissing files) where
     reads_miss_none zero t cs ws changes none = refl
     reads_miss_none (suc n) t [] [] changes none = refl
     reads_miss_none (suc n) t (c ∷ cs) [] changes none = refl
-    reads_miss_none (suc n) t cs (w ∷ ws) changes none = by (nat_lt t source_line_limit) (step_misses_none n (reads_miss_none n) w ws cs t changes none)
+    reads_miss_none (suc n) t cs (w ∷ ws) changes none =
+        by (nat_lt t source_line_limit) (step_misses_none n (reads_miss_none n) w ws cs t changes none)
       where
-        by : (b : Bool) → missed_in (after files file (line_step files file w ws cs t (change_here cs w)) (λ s. reads_in files file n s)).faults ≡ []
+        by : (b : Bool)
+            → missed_in
+            (after files file (line_step files file w ws cs t (change_here cs w)) (λ s. reads_in files file n s)).faults
+            ≡ []
             → missed_in (after files file (cond b (line_step files file w ws cs t (change_here cs w))
             (Ends (fault_at SourceTooLong (place_of files w.origin) ∷ []))) (λ s. reads_in files file n s)).faults ≡ []
         by true rest = rest
@@ -202,5 +249,6 @@ missing_is_empty files roles no_missing =
     let file = change_number files roles.change in
     let found = found_fine files no_missing roles.change in
     both_miss_none (changes_in files roles.change).faults _ found.none
-    (reads_miss_none files no_missing file (suc source_line_limit) 0 (changes_in files roles.change).changes (waiting_lines web false 1 1 (lines_at files web)) found.named
+    (reads_miss_none files no_missing file (suc source_line_limit) 0
+    (changes_in files roles.change).changes (waiting_lines web false 1 1 (lines_at files web)) found.named
     (lines_miss_alike files no_missing web false 1 1 (lines_at files web) ∙ no_missing web))

@@ -1,17 +1,20 @@
 -- A run that does nothing does not end with status 3: each such ending writes some bytes, or something fails.
-use Rattle.std.proofs.Common.{◌≡◌, ◌⊎◌, inl, inr, Option, None, Some, ℕ, ◌<◌, take, Bool, true, false, cond, List, [], ◌∷◌, ◌++◌, ap, subst, length, length-append, arith}
+use Rattle.std.proofs.Common.{◌≡◌, ◌⊎◌, inl, inr, Option, None, Some, ℕ, ◌<◌, take, Bool, true, false, cond, List, []}
+use Rattle.std.proofs.Common.{◌∷◌, ◌++◌, ap, length, length-append, arith}
 use Rattle.std.specs.Prelude.{codes}
 use Rattle.std.specs.Io.KnownBytes.{Appends}
 use Rattle.tangle_streams.specs.Streams.{Stream, Failed, TakesAll, TakesPrefix}
 use Rattle.tangle_faults.specs.Faults.{FaultRead, is_error}
 use Rattle.tangle_files.specs.Roles.{RolesRead}
+use Rattle.tangle_folders.specs.Folder.{FolderRead}
 use Rattle.tangle_folders.specs.declared.folder.FolderFault.{FolderFault}
-use Rattle.tangle_folders.specs.declared.folder.FolderFault.TheVariants.{Missing, TooBig, Failed as IsFailed, NoMemory as FolderMemory}
+use Rattle.tangle_folders.specs.declared.folder.FolderFault.TheVariants.{Missing, TooBig, Failed as IsFailed}
+use Rattle.tangle_folders.specs.declared.folder.FolderFault.TheVariants.{NoMemory as FolderMemory}
 use Rattle.ctangle_cli.specs.Loading.{LoadEnd}
 use Rattle.ctangle_cli.specs.Loading.LoadEnd.{CannotRead, Refused, NoMemory}
 use Rattle.ctangle_cli.specs.Messages.{ending_line, fault_lines, no_memory_line, faults_status, unwritten_line}
 use Rattle.tangle_session.specs.Tangle.{Tangling}
-use Rattle.ctangle_cli.specs.Run.{Moment, NamedEnds, RunEnds, TangledEnds, nothing_done}
+use Rattle.ctangle_cli.specs.Run.{NamedEnds, RunEnds, TangledEnds, moment, nothing_done}
 use Rattle.ctangle_cli.specs.Run.RunEnds.{IsMisused, IsCutAtUsage, IsUnnamed, IsNamed}
 use Rattle.ctangle_cli.specs.Run.NamedEnds.{IsUnloaded, IsUntangled, IsTangled}
 use Rattle.ctangle_cli.specs.Run.TangledEnds.{IsDone, IsCutAtFaults, IsUnwritten}
@@ -22,20 +25,21 @@ no_failure h = elim h [ inl p ↦ omega arith | inr p ↦ omega arith ]
 abbrev silent_stream : Stream
 silent_stream = nothing_done.stream
 
-silent : (bytes : List ℕ) → 0 < length bytes → TakesAll silent_stream silent_stream bytes ⊎ TakesPrefix silent_stream silent_stream bytes → ⊥
+silent : (bytes : List ℕ)
+    → 0 < length bytes → TakesAll silent_stream silent_stream bytes ⊎ TakesPrefix silent_stream silent_stream bytes → ⊥
 silent bytes some h =
     elim h [ inl w ↦ (let e : 0 ≡ length bytes = ap length w.0 in omega arith) | inr p ↦ no_failure p.3 ]
 
-silent_from : (old : Stream) (bytes : List ℕ) → old ≡ silent_stream → 0 < length bytes → TakesAll old silent_stream bytes ⊎ TakesPrefix old silent_stream bytes → ⊥
-silent_from old bytes same some h = silent bytes some (subst (λ (s : Stream). TakesAll s silent_stream bytes ⊎ TakesPrefix s silent_stream bytes) same h)
-
 -- nor does one that writes some bytes before
-silent_after : (between : Stream) (before bytes : List ℕ) → 0 < length bytes → TakesAll nothing_done.stream between before
+silent_after : (between : Stream) (before bytes : List ℕ)
+    → 0 < length bytes → TakesAll nothing_done.stream between before
     → TakesAll between nothing_done.stream bytes ⊎ TakesPrefix between nothing_done.stream bytes → ⊥
 silent_after between before bytes some first last = by between.taken first.0 last
   where
     by : (taken : Option (List ℕ)) → Appends (Some []) taken before
-        → (Appends taken (Some []) bytes × (0 ≡ between.failures)) ⊎ ((n : ℕ) × (n < length bytes) × Appends taken (Some []) (take n bytes) × Failed between.failures 0) → ⊥
+        → (Appends taken (Some []) bytes × (0 ≡ between.failures))
+        ⊎ ((n : ℕ) × (n < length bytes) × Appends taken (Some []) (take n bytes) × Failed between.failures 0)
+        → ⊥
     by None first last = first
     by (Some all) first last = elim last [
       | inl w ↦ (let e : 0 ≡ length (all ++ bytes) = ap length w.0 in omega (arith, length-append all bytes))
@@ -61,21 +65,23 @@ small_status (f ∷ fs) = by (is_error f) (small_status fs)
     by true h = omega arith
     by false h = h
 
-tangled_not_3 : (t : Tangling) (old : Moment) → old.stream ≡ silent_stream → TangledEnds t old nothing_done 3 → ⊥
-tangled_not_3 t old same (IsDone reported created unfailed status) = let h = small_status t.faults in omega arith
-tangled_not_3 t old same (IsCutAtFaults reported created status) = no_failure (subst (λ (s : Stream). Failed s.failures 0) same reported.3)
-tangled_not_3 t old same (IsUnwritten stop status) =
-    silent_after stop.between.stream (fault_lines t.faults) (unwritten_line stop.fault stop.name) (stop_some stop.fault stop.name)
-    (subst (λ (s : Stream). TakesAll s stop.between.stream (fault_lines t.faults)) same stop.faults_reported) stop.output_reported
+tangled_not_3 : (t : Tangling) (folder : FolderRead) → TangledEnds t (moment folder silent_stream) nothing_done 3 → ⊥
+tangled_not_3 t folder (IsDone reported created unfailed status) = let h = small_status t.faults in omega arith
+tangled_not_3 t folder (IsCutAtFaults reported created status) = no_failure reported.3
+tangled_not_3 t folder (IsUnwritten stop status) =
+    silent_after stop.between.stream (fault_lines t.faults) (unwritten_line stop.fault stop.name)
+    (stop_some stop.fault stop.name) stop.faults_reported stop.output_reported
 
 named_not_3 : (roles : RolesRead) → NamedEnds roles nothing_done nothing_done 3 → ⊥
-named_not_3 roles (IsUnloaded ending why reported created status) = silent (ending_line (codes "ctangle") ending) (ending_some ending) reported
+named_not_3 roles (IsUnloaded ending why reported status) =
+    silent (ending_line (codes "ctangle") ending) (ending_some ending) reported
 named_not_3 roles (IsUntangled files loaded loads reported created status) =
-    silent_from loaded.stream no_memory_line loads.nothing_written (ending_some NoMemory) reported
-named_not_3 roles (IsTangled files loaded loads ends) = tangled_not_3 ends.tangling loaded loads.nothing_written ends.ends
+    silent no_memory_line (ending_some NoMemory) reported
+named_not_3 roles (IsTangled files loaded loads ends) = tangled_not_3 ends.tangling loaded ends.ends
 
 pub run_not_3 : (arguments : List (List ℕ)) → RunEnds arguments nothing_done nothing_done 3 → ⊥
 run_not_3 arguments (IsMisused none reported created status) = omega arith
 run_not_3 arguments (IsCutAtUsage none reported created status) = no_failure reported.3
-run_not_3 arguments (IsUnnamed reported created status) = silent (ending_line (codes "ctangle") NoMemory) (ending_some NoMemory) reported
+run_not_3 arguments (IsUnnamed reported created status) =
+    silent (ending_line (codes "ctangle") NoMemory) (ending_some NoMemory) reported
 run_not_3 arguments (IsNamed roles is ends) = named_not_3 roles ends

@@ -17,7 +17,8 @@ module _ (is_plain : (files : FileTable) (roles : RolesRead) (faults : List Faul
     output_files = outputs_of s.session.files s.session.roles;
     plain = is_plain s.session.files s.session.roles;
     show = λ name output t answered. answered.0;
-    faults = λ output t answered. (answered.0.0, is_plain s.session.files s.session.roles answered.0.0 answered.0.1, answered.0.2);
+    faults = λ output t answered.
+        (answered.0.0, is_plain s.session.files s.session.roles answered.0.0 answered.0.1, answered.0.2);
   }
 
   pub shows_plain : (files : FileTable) (roles : RolesRead) (s : SessionAndDraft)

@@ -1,10 +1,12 @@
 -- clap's conditions on the three arguments of `retangle`, and how its getters lead to the matches of a simple command.
-use Rattle.std.proofs.Common.{◌≡◌, ◌∙◌, ℕ, zero, suc, true, false, List, [], ◌∷◌, Result, Ok, Err, refl, sym, ap, subst, inl, inr, arith, codes, true≢false}
+use Rattle.std.proofs.Common.{◌≡◌, ◌∙◌, ℕ, zero, suc, true, false, List, [], ◌∷◌, Result, Ok, Err, refl, sym, ap, subst}
+use Rattle.std.proofs.Common.{inl, inr, arith, codes, true≢false}
 use Rattle.std.specs.List.{All}
 use Rattle.std.specs.Result.{IfErr, IsErrAnd}
 use Rattle.std.specs.Str.{bytes_eq}
 use Rattle.clap.specs.Built.{FitsChain, HasDistinctIds, IsPlainArg}
-use Rattle.clap.specs.Words.{App, HasMatchesOf, Text, app_of, first_of, first_value, found_of, is_simple, matches_of, takes}
+use Rattle.clap.specs.Words.{App, HasMatchesOf, Text, app_of, first_of, first_value, found_of, is_simple, matches_of}
+use Rattle.clap.specs.Words.{takes}
 use Rattle.clap.specs.declared.builder.arg.Arg.{Arg}
 use Rattle.clap.specs.declared.builder.command.Command.{Command}
 use Rattle.clap.specs.declared.parser.matches.ArgMatches.{ArgMatches}
@@ -32,11 +34,13 @@ fits_three a b c fa fb fc (suc zero) d lt = fb
 fits_three a b c fa fb fc (suc (suc zero)) d lt = fc
 fits_three a b c fa fb fc (suc (suc (suc k))) d lt = absurd (omega arith)
 
-differ : (x y : Arg) (s t : List ℕ) → x.id.now ≡ s → y.id.now ≡ t → bytes_eq s t ≡ false → bytes_eq x.id.now y.id.now ≡ true → ⊥
+differ : (x y : Arg) (s t : List ℕ)
+    → x.id.now ≡ s → y.id.now ≡ t → bytes_eq s t ≡ false → bytes_eq x.id.now y.id.now ≡ true → ⊥
 differ x y s t xs yt apart same =
     true≢false (sym (subst (λ u. bytes_eq s u ≡ true) yt (subst (λ u. bytes_eq u y.id.now ≡ true) xs same)) ∙ apart)
 
-pub distinct_three : (a b c : Arg) → a.id.now ≡ codes "WEB" → b.id.now ≡ codes "change" → c.id.now ≡ codes "out" → HasDistinctIds (a ∷ b ∷ c ∷ [])
+pub distinct_three : (a b c : Arg)
+    → a.id.now ≡ codes "WEB" → b.id.now ≡ codes "change" → c.id.now ≡ codes "out" → HasDistinctIds (a ∷ b ∷ c ∷ [])
 distinct_three a b c ea eb ec zero zero d e lj lk h = refl
 distinct_three a b c ea eb ec zero (suc zero) d e lj lk h = absurd (differ a b _ _ ea eb refl h)
 distinct_three a b c ea eb ec zero (suc (suc zero)) d e lj lk h = absurd (differ a c _ _ ea ec refl h)
@@ -51,12 +55,15 @@ distinct_three a b c ea eb ec zero (suc (suc (suc k))) d e lj lk h = absurd (ome
 distinct_three a b c ea eb ec (suc zero) (suc (suc (suc k))) d e lj lk h = absurd (omega arith)
 distinct_three a b c ea eb ec (suc (suc zero)) (suc (suc (suc k))) d e lj lk h = absurd (omega arith)
 
-pub value_is : (c : Command) (a : App) (m : ArgMatches) (arguments : List Text) (id : Text) → app_of c ≡ a → is_simple a ≡ true → HasMatchesOf (app_of c) arguments m
+pub value_is : (c : Command) (a : App) (m : ArgMatches) (arguments : List Text) (id : Text)
+    → app_of c ≡ a → is_simple a ≡ true → HasMatchesOf (app_of c) arguments m
     → first_of id (matches_of a arguments) ≡ first_value (found_of m) id
 value_is c a m arguments id app simple has =
-    ap (λ x. first_of id (matches_of x arguments)) (sym app) ∙ (ap (first_of id) (sym (has (ap is_simple app ∙ simple)).0) ∙ sym (first_value-rows (found_of m) id))
+    ap (λ x. first_of id (matches_of x arguments)) (sym app)
+    ∙ (ap (first_of id) (sym (has (ap is_simple app ∙ simple)).0) ∙ sym (first_value-rows (found_of m) id))
 
-pub takes_is : (c : Command) (a : App) (arguments : List Text) → app_of c ≡ a → takes a arguments ≡ true → takes (app_of c) arguments ≡ true
+pub takes_is : (c : Command) (a : App) (arguments : List Text)
+    → app_of c ≡ a → takes a arguments ≡ true → takes (app_of c) arguments ≡ true
 takes_is c a arguments app accepted = ap (λ x. takes x arguments) app ∙ accepted
 
 pub err_gives : {T E : Type 0} (r : Result T E) (P Q : E → Type 0) → IsErrAnd r P → ((e : E) → P e → Q e) → IfErr r Q

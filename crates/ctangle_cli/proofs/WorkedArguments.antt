@@ -19,7 +19,8 @@ pub change_before_web : retangle_names_of (codes "retangle" ∷ codes "--change=
 unfolding retangle_names_of clap_on_literals
 change_before_web = refl
 
-pub change_before_web_is_accepted : takes retangle_app (codes "retangle" ∷ codes "--change=b" ∷ codes "x/y.web" ∷ []) ≡ true
+pub change_before_web_is_accepted : takes retangle_app (codes "retangle" ∷ codes "--change=b" ∷ codes "x/y.web" ∷ [])
+    ≡ true
 unfolding clap_on_literals
 change_before_web_is_accepted = refl
 

@@ -4,8 +4,13 @@ use Rattle.std.proofs.Common.{◌≡◌, ℕ, zero, suc, false, List, [], ◌∷
 use Rattle.std.specs.Prelude.{codes}
 use Rattle.std.specs.Fmt.{digits}
 use Rattle.tangle_faults.specs.declared.faults.FaultKind.{FaultKind}
-use Rattle.tangle_faults.specs.declared.faults.FaultKind.TheVariants.{ChangeMismatch, ChangeUnused, EmptyOld, StrayMark, MissingY, MissingZ, IncludeNoName, IncludeMissing, IncludeTooDeep}
-use Rattle.tangle_faults.specs.declared.faults.FaultKind.TheVariants.{CodeInC, MisplacedH, MacroName, ControlText, StringAt, StringEnd, VerbatimEnd, AsciiBad, CommentEnd, NameEnd, NameEquals, NoFullName, PrefixName, Undefined, Unused, NoProgram}
+use Rattle.tangle_faults.specs.declared.faults.FaultKind.TheVariants.{ChangeMismatch, ChangeUnused, EmptyOld, StrayMark}
+use Rattle.tangle_faults.specs.declared.faults.FaultKind.TheVariants.{MissingY, MissingZ, IncludeNoName, IncludeMissing}
+use Rattle.tangle_faults.specs.declared.faults.FaultKind.TheVariants.{IncludeTooDeep}
+use Rattle.tangle_faults.specs.declared.faults.FaultKind.TheVariants.{CodeInC, MisplacedH, MacroName, ControlText}
+use Rattle.tangle_faults.specs.declared.faults.FaultKind.TheVariants.{StringAt, StringEnd, VerbatimEnd, AsciiBad}
+use Rattle.tangle_faults.specs.declared.faults.FaultKind.TheVariants.{CommentEnd, NameEnd, NameEquals, NoFullName}
+use Rattle.tangle_faults.specs.declared.faults.FaultKind.TheVariants.{PrefixName, Undefined, Unused, NoProgram}
 use Rattle.tangle_files.specs.Lines.{FileTable, cut}
 use Rattle.tangle_faults.specs.Faults.{FaultRead, PlaceRead, fault_at, fault_about, fault_counting, fault_unplaced}
 use Rattle.tangle_lines.specs.Reading.{reads_in}
@@ -35,7 +40,8 @@ tangled_web web = tangled_files ((codes "a.w", cut web) ∷ [])
 
 abbrev tangled_change : List ℕ → List ℕ → Tangling
 tangled_change web change =
-    tangle_of ((codes "a.w", cut web) ∷ (codes "a.ch", cut change) ∷ []) (roles_of (codes "a.w") (Some (codes "a.ch")) (codes "a.c"))
+    tangle_of ((codes "a.w", cut web) ∷ (codes "a.ch", cut change) ∷ [])
+    (roles_of (codes "a.w") (Some (codes "a.ch")) (codes "a.c"))
 
 abbrev gives : List FaultRead → List ℕ → Tangling
 gives faults bytes = record { faults = faults; outputs = (codes "a.c", bytes) ∷ [] }
@@ -62,22 +68,27 @@ a_line_changed : tangled_change (codes "@ A.\n@c\nint a;\nint b;\n") (codes "@x\
 unfolding source_at web_at reads_in tokens_from lexeme occurrences_from levels heaviest digits
 a_line_changed = refl
 
--- the same with each line mark written as a line feed
+-- the roles, with each line mark written as a line feed
 abbrev without_marks : List ℕ → Option (List ℕ) → List ℕ → RolesRead
 without_marks web change out = record (roles_of web change out) { marks = Bare }
 
-a_line_changed_without_marks : tangle_of ((codes "a.w", cut (codes "@ A.\n@c\nint a;\nint b;\n")) ∷ (codes "a.ch", cut (codes "@x\nint a;\n@y\nint z;\n@z\n")) ∷ [])
-    (without_marks (codes "a.w") (Some (codes "a.ch")) (codes "a.c")) ≡ gives [] (codes "/*1:*/\n\nint z;\nint b;\n/*:1*/\n")
+a_line_changed_without_marks : tangle_of
+    ((codes "a.w", cut (codes "@ A.\n@c\nint a;\nint b;\n"))
+    ∷ (codes "a.ch", cut (codes "@x\nint a;\n@y\nint z;\n@z\n")) ∷ [])
+    (without_marks (codes "a.w") (Some (codes "a.ch")) (codes "a.c"))
+    ≡ gives [] (codes "/*1:*/\n\nint z;\nint b;\n/*:1*/\n")
 unfolding source_at web_at reads_in tokens_from lexeme occurrences_from levels heaviest digits
 a_line_changed_without_marks = refl
 
 a_use_without_marks : tangle_of ((codes "a.w", cut (codes "@ A.\n@c\nint x=@<v@>;\n@ @<v@>=\n1\n")) ∷ [])
-    (without_marks (codes "a.w") None (codes "a.c")) ≡ gives [] (codes "/*1:*/\n\nint x= /*2:*/\n\n1\n/*:2*/\n;\n/*:1*/\n")
+    (without_marks (codes "a.w") None (codes "a.c"))
+    ≡ gives [] (codes "/*1:*/\n\nint x= /*2:*/\n\n1\n/*:2*/\n;\n/*:1*/\n")
 unfolding source_at web_at reads_in tokens_from lexeme occurrences_from levels heaviest digits
 a_use_without_marks = refl
 
 a_line_mismatched : tangled_change (codes "@ A.\n@c\nint a;\nint b;\n") (codes "@x\nint a;\nint c;\n@y\nint z;\n@z\n")
-    ≡ gives (fault_counting ChangeMismatch (line_of (codes "a.ch") 1) 1 ∷ []) (codes "/*1:*/\n#line 2 \"a.w\"\n\n#line 5 \"a.ch\"\nint z;\n/*:1*/\n")
+    ≡ gives (fault_counting ChangeMismatch (line_of (codes "a.ch") 1) 1 ∷ [])
+    (codes "/*1:*/\n#line 2 \"a.w\"\n\n#line 5 \"a.ch\"\nint z;\n/*:1*/\n")
 unfolding source_at web_at reads_in tokens_from lexeme occurrences_from levels heaviest digits
 a_line_mismatched = refl
 
@@ -90,13 +101,16 @@ abbrev times : ℕ → List ℕ → List ℕ
 times zero bytes = []
 times (suc n) bytes = bytes ++ times n bytes
 
-an_inclusion_of_itself : tangled_files ((codes "a.w", cut (codes "@ A.\n@c\n@i b.w\n")) ∷ (codes "b.w", cut (codes "x\n@i b.w\n")) ∷ [])
-    ≡ gives (fault_at IncludeTooDeep (line_of (codes "b.w") 2) ∷ []) (codes "/*1:*/\n#line 2 \"a.w\"\n" ++ times 9 (codes "\n#line 1 \"b.w\"\nx") ++ codes "\n/*:1*/\n")
+an_inclusion_of_itself : tangled_files
+    ((codes "a.w", cut (codes "@ A.\n@c\n@i b.w\n")) ∷ (codes "b.w", cut (codes "x\n@i b.w\n")) ∷ [])
+    ≡ gives (fault_at IncludeTooDeep (line_of (codes "b.w") 2) ∷ [])
+    (codes "/*1:*/\n#line 2 \"a.w\"\n" ++ times 9 (codes "\n#line 1 \"b.w\"\nx") ++ codes "\n/*:1*/\n")
 unfolding source_at web_at reads_in tokens_from lexeme occurrences_from levels heaviest digits
 an_inclusion_of_itself = refl
 
 a_change_unused : tangled_change (codes "@ A.\n@c\nint x;\n") (codes "@x\nint q;\n@y\n@z\n")
-    ≡ gives (fault_at ChangeUnused (line_of (codes "a.ch") 1) ∷ []) (codes "/*1:*/\n#line 2 \"a.w\"\n\nint x;\n/*:1*/\n")
+    ≡ gives (fault_at ChangeUnused (line_of (codes "a.ch") 1) ∷ [])
+    (codes "/*1:*/\n#line 2 \"a.w\"\n\nint x;\n/*:1*/\n")
 unfolding source_at web_at reads_in tokens_from lexeme occurrences_from levels heaviest digits
 a_change_unused = refl
 
@@ -105,7 +119,8 @@ a_change_without_old_lines : tangled_change (codes "@ A.\n@c\nint x;\n") (codes 
 unfolding source_at web_at reads_in tokens_from lexeme occurrences_from levels heaviest digits
 a_change_without_old_lines = refl
 
-change_codes_out_of_place : tangled_change (codes "@ A.\n@c\nint x;\n") (codes "@z\n@x\nint x;\n@x\nint x;\n@y\n@y\nint y;\n")
+change_codes_out_of_place : tangled_change (codes "@ A.\n@c\nint x;\n")
+    (codes "@z\n@x\nint x;\n@x\nint x;\n@y\n@y\nint y;\n")
     ≡ gives (fault_at StrayMark (line_of (codes "a.ch") 1) ∷ fault_at MissingY (line_of (codes "a.ch") 2)
     ∷ fault_at StrayMark (line_of (codes "a.ch") 7) ∷ fault_at MissingZ (line_of (codes "a.ch") 4) ∷ [])
     (codes "/*1:*/\n#line 2 \"a.w\"\n\n#line 8 \"a.ch\"\nint y;\n/*:1*/\n")
@@ -123,7 +138,8 @@ macros_at_an_h : tangled_web (codes "@ A.\n@d N 10\n@c\n@h\nint x=N;\n")
 unfolding source_at web_at reads_in tokens_from lexeme occurrences_from levels heaviest digits
 macros_at_an_h = refl
 
-a_join_over_lines : tangled_web (codes "@ A.\n@c\na@&\nb;\nc;\n") ≡ gives [] (codes "/*1:*/\n#line 2 \"a.w\"\n\nab;\n#line 5 \"a.w\"\nc;\n/*:1*/\n")
+a_join_over_lines : tangled_web (codes "@ A.\n@c\na@&\nb;\nc;\n")
+    ≡ gives [] (codes "/*1:*/\n#line 2 \"a.w\"\n\nab;\n#line 5 \"a.w\"\nc;\n/*:1*/\n")
 unfolding source_at web_at reads_in tokens_from lexeme occurrences_from levels heaviest digits
 a_join_over_lines = refl
 
@@ -132,7 +148,8 @@ a_quoted_text_that_does_not_end : tangled_web (codes "@ A.\n@c\ns=\"a@b\nt;\n")
 unfolding source_at web_at reads_in tokens_from lexeme occurrences_from levels heaviest digits
 a_quoted_text_that_does_not_end = refl
 
-comments_and_constants : tangled_web (codes "@ A.\n@c\na /* b */ c // d\nreturn@,x+@'A';@^idx@>\n\"q@@\"@=v@> @t\\TeX@>z\n")
+comments_and_constants : tangled_web
+    (codes "@ A.\n@c\na /* b */ c // d\nreturn@,x+@'A';@^idx@>\n\"q@@\"@=v@> @t\\TeX@>z\n")
     ≡ gives [] (codes "/*1:*/\n#line 2 \"a.w\"\n\na c\nreturn x+65;\n\"q@\"v z\n/*:1*/\n")
 unfolding source_at web_at reads_in tokens_from lexeme occurrences_from levels heaviest digits
 comments_and_constants = refl
@@ -143,12 +160,14 @@ unfolding source_at web_at reads_in tokens_from lexeme occurrences_from levels h
 macros_over_lines = refl
 
 uses_side_by_side : tangled_web (codes "@ A.\n@c\n@<u@>@<u@>\n")
-    ≡ gives (fault_about Undefined (line 3) (codes "u") ∷ []) (codes "/*1:*/\n#line 2 \"a.w\"\n\n \n#line 3 \"a.w\"\n \n#line 3 \"a.w\"\n\n/*:1*/\n")
+    ≡ gives (fault_about Undefined (line 3) (codes "u") ∷ [])
+    (codes "/*1:*/\n#line 2 \"a.w\"\n\n \n#line 3 \"a.w\"\n \n#line 3 \"a.w\"\n\n/*:1*/\n")
 unfolding source_at web_at reads_in tokens_from lexeme occurrences_from levels heaviest digits
 uses_side_by_side = refl
 
 control_codes_out_of_place : tangled_web (codes "@ A.\n@d M @h 1\n@c\n@d x @'ab' y\n@^q@,z\n@=v\n/* w\n@ B.\n")
-    ≡ gives (on 2 MisplacedH ∷ on 4 CodeInC ∷ on 4 AsciiBad ∷ on 5 ControlText ∷ on 6 VerbatimEnd ∷ on 8 CommentEnd ∷ [])
+    ≡ gives
+    (on 2 MisplacedH ∷ on 4 CodeInC ∷ on 4 AsciiBad ∷ on 5 ControlText ∷ on 6 VerbatimEnd ∷ on 8 CommentEnd ∷ [])
     (codes "#define M 1\n/*1:*/\n#line 3 \"a.w\"\n\nx y\nz\nv\n\n/*:1*/\n")
 unfolding source_at web_at reads_in tokens_from lexeme occurrences_from levels heaviest digits
 control_codes_out_of_place = refl
@@ -159,9 +178,12 @@ unfolding source_at web_at reads_in tokens_from lexeme occurrences_from levels h
 quoted_texts_over_lines = refl
 
 names_that_do_not_fit : tangled_web (codes "@ A @<In it@>.\n@c\n@<  In   @>@<Zz...@>\n@<b@>=\n@<q\n@ B.\n")
-    ≡ gives (on 4 NameEquals ∷ on 6 NameEnd ∷ fault_about NoFullName (line 3) (codes "Zz...") ∷ fault_about PrefixName (line 3) (codes "In")
-    ∷ fault_about Undefined (line 3) (codes "In") ∷ fault_about Undefined (line 4) (codes "b") ∷ fault_about Undefined (line 5) (codes "q") ∷ [])
-    (codes "/*1:*/\n#line 2 \"a.w\"\n\n \n#line 3 \"a.w\"\n \n#line 3 \"a.w\"\n\n \n#line 4 \"a.w\"\n=\n \n#line 6 \"a.w\"\n/*:1*/\n")
+    ≡ gives (on 4 NameEquals ∷ on 6 NameEnd ∷ fault_about NoFullName (line 3) (codes "Zz...")
+    ∷ fault_about PrefixName (line 3) (codes "In")
+    ∷ fault_about Undefined (line 3) (codes "In") ∷ fault_about Undefined (line 4) (codes "b")
+    ∷ fault_about Undefined (line 5) (codes "q") ∷ [])
+    (codes
+    "/*1:*/\n#line 2 \"a.w\"\n\n \n#line 3 \"a.w\"\n \n#line 3 \"a.w\"\n\n \n#line 4 \"a.w\"\n=\n \n#line 6 \"a.w\"\n/*:1*/\n")
 unfolding source_at web_at reads_in tokens_from lexeme occurrences_from levels heaviest digits
 names_that_do_not_fit = refl
 
@@ -170,20 +192,25 @@ other_bytes : tangled_web (codes "@ A.\n@c\ncaf" ++ 0xE9 ∷ 0 ∷ codes "=1 \t\
 unfolding source_at web_at reads_in tokens_from lexeme occurrences_from levels heaviest digits
 other_bytes = refl
 
-names_are_escaped : tangle_of ((codes "a\"b\\c", cut (codes "@ A.\n@c\nx\n")) ∷ []) (roles_of (codes "a\"b\\c") None (codes "a.c"))
+names_are_escaped : tangle_of ((codes "a\"b\\c", cut (codes "@ A.\n@c\nx\n")) ∷ [])
+    (roles_of (codes "a\"b\\c") None (codes "a.c"))
     ≡ gives [] (codes "/*1:*/\n#line 2 \"a\\\"b\\\\c\"\n\nx\n/*:1*/\n")
 unfolding source_at web_at reads_in tokens_from lexeme occurrences_from levels heaviest digits
 names_are_escaped = refl
 
 a_use_of_a_name : tangled_web (codes "@ A.\n@c\nint x=@<v@>;\n@ @<v@>=\n1\n")
-    ≡ gives [] (codes "/*1:*/\n#line 2 \"a.w\"\n\nint x= /*2:*/\n#line 4 \"a.w\"\n\n1\n/*:2*/\n#line 3 \"a.w\"\n;\n/*:1*/\n")
+    ≡ gives []
+    (codes "/*1:*/\n#line 2 \"a.w\"\n\nint x= /*2:*/\n#line 4 \"a.w\"\n\n1\n/*:2*/\n#line 3 \"a.w\"\n;\n/*:1*/\n")
 unfolding source_at web_at reads_in tokens_from lexeme occurrences_from levels heaviest digits
 a_use_of_a_name = refl
 
 a_named_file : tangled_web (codes "@ A.\n@(h.h@>=\n@<I...@>\n@ @<In@>=\n1\n@ @<u@>=\n@h\n")
     ≡ record {
       faults = fault_about Unused (line 6) (codes "u") ∷ fault_unplaced NoProgram ∷ [];
-      outputs = (codes "a.c", []) ∷ (codes "h.h", codes "/*1:*/\n#line 2 \"a.w\"\n\n /*2:*/\n#line 4 \"a.w\"\n\n1\n/*:2*/\n#line 3 \"a.w\"\n\n/*:1*/\n") ∷ [];
+      outputs = (codes "a.c", []) ∷ (
+        codes "h.h",
+        codes "/*1:*/\n#line 2 \"a.w\"\n\n /*2:*/\n#line 4 \"a.w\"\n\n1\n/*:2*/\n#line 3 \"a.w\"\n\n/*:1*/\n",
+      ) ∷ [];
     }
 unfolding source_at web_at reads_in tokens_from lexeme occurrences_from levels heaviest digits
 a_named_file = refl

@@ -1,5 +1,6 @@
 -- How creating, writing and closing a file change the list of created files.
-use Rattle.std.proofs.Common.{◌≡◌, ◌∙◌, ◌++◌, inr, ℕ, List, [], ◌∷◌, Option, Some, None, ap, subst, refl, append_assoc, append-nil, take, zero, suc, Result, Ok, Err, OnOk, OnErr}
+use Rattle.std.proofs.Common.{◌≡◌, ◌∙◌, ◌++◌, inr, ℕ, List, [], ◌∷◌, Option, Some, None, ap, subst, refl, append_assoc}
+use Rattle.std.proofs.Common.{append-nil, take, zero, suc, Result, Ok, Err, OnOk, OnErr}
 use Rattle.std.specs.Io.KnownBytes.{Appends}
 use Rattle.tangle_folders.specs.declared.folder.FolderFault.{FolderFault}
 use Rattle.tangle_folders.specs.Folder.{Begins, Closes, ClosesWithin, File, with_created, with_last}
@@ -18,12 +19,14 @@ use Rattle.tangle_folders.specs.declared.folder.FolderFault.TheVariants.{Missing
 use Rattle.ctangle_cli.specs.Writing.{AddsPrefix}
 use Rattle.ctangle_cli.specs.Run.{StopsAt}
 
-with_last-push : (files : List File) (f : File) (bytes : List ℕ) → with_last (files ++ f ∷ []) bytes ≡ files ++ (f.0, bytes) ∷ []
+with_last-push : (files : List File) (f : File) (bytes : List ℕ)
+    → with_last (files ++ f ∷ []) bytes ≡ files ++ (f.0, bytes) ∷ []
 with_last-push [] f bytes = refl
 with_last-push (x ∷ []) f bytes = refl
 with_last-push (x ∷ (y ∷ rest)) f bytes = ap (λ l. x ∷ l) (with_last-push (y ∷ rest) f bytes)
 
-pub with_created-append : (old : Option (List File)) (xs ys : List File) → with_created (with_created old xs) ys ≡ with_created old (xs ++ ys)
+pub with_created-append : (old : Option (List File)) (xs ys : List File)
+    → with_created (with_created old xs) ys ≡ with_created old (xs ++ ys)
 with_created-append None xs ys = refl
 with_created-append (Some old) xs ys = ap Some (append_assoc old xs ys)
 
@@ -33,27 +36,37 @@ with_created-none (Some old) = ap Some (append-nil old)
 
 -- the created file has the bytes that its sink took
 pub wrote : (a b c : Option (List File)) (s t : Option (List ℕ)) (name bytes : List ℕ)
-    → Begins a s → b ≡ with_created a ((name, []) ∷ []) → Appends s t bytes → Closes b c t → c ≡ with_created a ((name, bytes) ∷ [])
+    → Begins a s → b ≡ with_created a ((name, []) ∷ []) → Appends s t bytes → Closes b c t
+    → c ≡ with_created a ((name, bytes) ∷ [])
 wrote None None c s t name bytes first added put closed = closed
 wrote None (Some ys) c s t name bytes first added put closed = absurd (cc)
 wrote (Some xs) None c s t name bytes first added put closed = absurd (cc)
-wrote (Some xs) (Some ys) c s None name bytes first added put closed = absurd (subst (λ u. Appends u None bytes) first put)
+wrote (Some xs) (Some ys) c s None name bytes first added put closed =
+    absurd (subst (λ u. Appends u None bytes) first put)
 wrote (Some xs) (Some ys) c s (Some all) name bytes first added put closed =
     let held : all ≡ bytes = subst (λ u. Appends u (Some all) bytes) first put in
     let made : ys ≡ xs ++ (name, []) ∷ [] = cc in
-    closed ∙ ap Some (ap (λ l. with_last l all) made ∙ with_last-push xs (name, []) all ∙ ap (λ b. xs ++ (name, b) ∷ []) held)
+    closed
+    ∙ ap Some (ap (λ l. with_last l all) made ∙ with_last-push xs (name, []) all ∙ ap (λ b. xs ++ (name, b) ∷ []) held)
 
--- or a prefix of them
+-- the created file has a prefix of the bytes that its sink took
 pub wrote_within : (a b c : Option (List File)) (s t : Option (List ℕ)) (name bytes : List ℕ)
-    → Begins a s → b ≡ with_created a ((name, []) ∷ []) → Appends s t bytes → ClosesWithin b c t → (n : ℕ) × (c ≡ with_created a ((name, take n bytes) ∷ []))
+    → Begins a s → b ≡ with_created a ((name, []) ∷ []) → Appends s t bytes → ClosesWithin b c t
+    → (n : ℕ) × (c ≡ with_created a ((name, take n bytes) ∷ []))
 wrote_within None None c s t name bytes first added put closed = (0, closed)
 wrote_within None (Some ys) c s t name bytes first added put closed = absurd (cc)
 wrote_within (Some xs) None c s t name bytes first added put closed = absurd (cc)
-wrote_within (Some xs) (Some ys) c s None name bytes first added put closed = absurd (subst (λ u. Appends u None bytes) first put)
+wrote_within (Some xs) (Some ys) c s None name bytes first added put closed =
+    absurd (subst (λ u. Appends u None bytes) first put)
 wrote_within (Some xs) (Some ys) c s (Some all) name bytes first added put closed =
     let held : all ≡ bytes = subst (λ u. Appends u (Some all) bytes) first put in
-    let made : ys ≡ xs ++ (name, []) ∷ [] = cc in
-    (closed.0, closed.1 ∙ ap Some (ap (λ l. with_last l (take closed.0 all)) made ∙ with_last-push xs (name, []) (take closed.0 all) ∙ ap (λ b. xs ++ (name, take closed.0 b) ∷ []) held))
+    let made : ys ≡ xs ++ (name, []) ∷ [] = cc in (
+      closed.0,
+      closed.1
+          ∙ ap Some
+          (ap (λ l. with_last l (take closed.0 all)) made ∙ with_last-push xs (name, []) (take closed.0 all)
+          ∙ ap (λ b. xs ++ (name, take closed.0 b) ∷ []) held),
+    )
 
 -- a prefix of a prefix is a prefix
 front_of_front : (n m : ℕ) (xs : List ℕ) → (k : ℕ) × (take n (take m xs) ≡ take k xs)
@@ -63,8 +76,10 @@ front_of_front (suc n) (suc m) [] = (0, refl)
 front_of_front (suc n) (suc m) (x ∷ xs) = let r = front_of_front n m xs in (suc r.0, ap (λ l. x ∷ l) r.1)
 
 -- a prefix of the file was created, whether or not closing it failed
-pub wrote_prefix : {T : Type 0} (r : Result T FolderFault) (a b c : Option (List File)) (s t : Option (List ℕ)) (name bytes : List ℕ) (m : ℕ)
-    → Begins a s → b ≡ with_created a ((name, []) ∷ []) → Appends s t (take m bytes) → OnOk r (Closes b c t) → OnErr r (ClosesWithin b c t)
+pub wrote_prefix : {T : Type 0} (r : Result T FolderFault)
+    (a b c : Option (List File)) (s t : Option (List ℕ)) (name bytes : List ℕ) (m : ℕ)
+    → Begins a s → b ≡ with_created a ((name, []) ∷ []) → Appends s t (take m bytes) → OnOk r (Closes b c t)
+    → OnErr r (ClosesWithin b c t)
     → AddsPrefix a c (name, bytes)
 wrote_prefix (Ok done) a b c s t name bytes m first added put whole prefix =
     ((name, take m bytes) ∷ [], inr (m, refl), wrote a b c s t name (take m bytes) first added put whole)
@@ -74,11 +89,13 @@ wrote_prefix (Err fault) a b c s t name bytes m first added put whole prefix =
     ((name, take k.0 bytes) ∷ [], inr (k.0, refl), w.1 ∙ ap (λ l. with_created a ((name, l) ∷ [])) k.1)
 
 -- the sink took all the bytes of an output that a session wrote, or a prefix of them
-pub took : (o : Option (List ℕ)) (a b : Stream) (n : ℕ) → IsSome o → WritesOutput o a b (Ok n) → Appends a.taken b.taken (unwrap_or o [])
+pub took : (o : Option (List ℕ)) (a b : Stream) (n : ℕ)
+    → IsSome o → WritesOutput o a b (Ok n) → Appends a.taken b.taken (unwrap_or o [])
 took None a b n some h = absurd (cc)
 took (Some bytes) a b n some h = h.1
 
-pub took_front : (o : Option (List ℕ)) (a b : Stream) (e : Refusal) → IsSome o → WritesOutput o a b (Err e) → (m : ℕ) × Appends a.taken b.taken (take m (unwrap_or o []))
+pub took_front : (o : Option (List ℕ)) (a b : Stream) (e : Refusal)
+    → IsSome o → WritesOutput o a b (Err e) → (m : ℕ) × Appends a.taken b.taken (take m (unwrap_or o []))
 took_front None a b e some h = absurd (cc)
 took_front (Some bytes) a b (refusal.WriteFault n) some h = (n, h.1)
 took_front (Some bytes) a b _ some h = absurd h
@@ -91,10 +108,13 @@ pub record HasWritten (outputs : List File) (old new : Option (List File)) (name
   pub created : new ≡ with_created old done
   pub names_are : names ≡ map (λ f. f.0) others
 
-pub wrote_none : (outputs : List File) (old : Option (List File)) (names : List (List ℕ)) → names ≡ map (λ f. f.0) outputs → HasWritten outputs old old names
-wrote_none outputs old names is = record { done = []; others = outputs; all = refl; created = sym (with_created-none old); names_are = is }
+pub wrote_none : (outputs : List File) (old : Option (List File)) (names : List (List ℕ))
+    → names ≡ map (λ f. f.0) outputs → HasWritten outputs old old names
+wrote_none outputs old names is =
+    record { done = []; others = outputs; all = refl; created = sym (with_created-none old); names_are = is }
 
-pub wrote_all : (outputs : List File) (old new : Option (List File)) (names : List (List ℕ)) → names ≡ [] → HasWritten outputs old new names → new ≡ with_created old outputs
+pub wrote_all : (outputs : List File) (old new : Option (List File)) (names : List (List ℕ))
+    → names ≡ [] → HasWritten outputs old new names → new ≡ with_created old outputs
 wrote_all outputs old new names none h = by h.others (sym none ∙ h.names_are) h.all
   where
     by : (others : List File) → [] ≡ map (λ f. f.0) others → outputs ≡ h.done ++ others → new ≡ with_created old outputs
@@ -102,21 +122,28 @@ wrote_all outputs old new names none h = by h.others (sym none ∙ h.names_are) 
     by (f ∷ others) is all = absurd (cc)
 
 -- the output of the next name is the first of the remaining outputs
-lookup_here : (done others : List File) (f : File) → IsDistinct bytes_eq (map (λ f. f.0) (done ++ f ∷ others)) → lookup (bytes_eq f.0) (done ++ f ∷ others) ≡ Some f.1
-lookup_here [] others f distinct = ap (λ b. cond b (Some f.1) (lookup (bytes_eq f.0) others)) ((bytes_eq-Decides f.0 f.0).1 refl)
+lookup_here : (done others : List File) (f : File)
+    → IsDistinct bytes_eq (map (λ f. f.0) (done ++ f ∷ others)) → lookup (bytes_eq f.0) (done ++ f ∷ others) ≡ Some f.1
+lookup_here [] others f distinct =
+    ap (λ b. cond b (Some f.1) (lookup (bytes_eq f.0) others)) ((bytes_eq-Decides f.0 f.0).1 refl)
 lookup_here (g ∷ done) others f distinct =
-    let apart : bytes_eq f.0 g.0 ≡ false = other done (IsDistinct-head bytes_eq g.0 (map (λ f. f.0) (done ++ f ∷ others)) distinct) in
-    ap (λ b. cond b (Some g.1) (lookup (bytes_eq f.0) (done ++ f ∷ others))) apart ∙ lookup_here done others f (IsDistinct-tail bytes_eq g.0 (map (λ f. f.0) (done ++ f ∷ others)) distinct)
+    let apart : bytes_eq f.0 g.0 ≡ false =
+    other done (IsDistinct-head bytes_eq g.0 (map (λ f. f.0) (done ++ f ∷ others)) distinct) in
+    ap (λ b. cond b (Some g.1) (lookup (bytes_eq f.0) (done ++ f ∷ others))) apart
+    ∙ lookup_here done others f (IsDistinct-tail bytes_eq g.0 (map (λ f. f.0) (done ++ f ∷ others)) distinct)
   where
     turned : (b c : Bool) → bytes_eq g.0 f.0 ≡ b → bytes_eq f.0 g.0 ≡ c → b ≡ false → c ≡ false
     turned b false p q e = refl
-    turned b true p q e = absurd (let same : g.0 ≡ f.0 = sym ((bytes_eq-Decides f.0 g.0).0 q) in let bad : true ≡ false = sym ((bytes_eq-Decides g.0 f.0).1 same) ∙ (p ∙ e) in cc)
+    turned b true p q e = absurd (let same : g.0 ≡ f.0 = sym ((bytes_eq-Decides f.0 g.0).0 q) in
+        let bad : true ≡ false = sym ((bytes_eq-Decides g.0 f.0).1 same) ∙ (p ∙ e) in cc)
 
-    other : (xs : List File) → AllByRecursion (λ y. bytes_eq g.0 y ≡ false) (map (λ f. f.0) (xs ++ f ∷ others)) → bytes_eq f.0 g.0 ≡ false
+    other : (xs : List File)
+        → AllByRecursion (λ y. bytes_eq g.0 y ≡ false) (map (λ f. f.0) (xs ++ f ∷ others)) → bytes_eq f.0 g.0 ≡ false
     other [] h = turned (bytes_eq g.0 f.0) (bytes_eq f.0 g.0) refl refl h.0
     other (x ∷ xs) h = other xs h.1
 
-pub record IsNext (outputs : List File) (old new : Option (List File)) (name : List ℕ) (names : List (List ℕ)) : Type 0 where
+pub record IsNext (outputs : List File) (old new : Option (List File))
+    (name : List ℕ) (names : List (List ℕ)) : Type 0 where
   pub done : List File
   pub others : List File
   pub all : outputs ≡ done ++ (name, unwrap_or (lookup (bytes_eq name) outputs) []) ∷ others
@@ -124,18 +151,24 @@ pub record IsNext (outputs : List File) (old new : Option (List File)) (name : L
   pub created : new ≡ with_created old done
   pub names_are : names ≡ map (λ f. f.0) others
 
-pub next_output : (outputs : List File) (old new : Option (List File)) (before : List (List ℕ)) (name : List ℕ) (names : List (List ℕ)) → before ≡ name ∷ names
-    → IsDistinct bytes_eq (map (λ f. f.0) outputs) → HasWritten outputs old new before → IsNext outputs old new name names
+pub next_output : (outputs : List File) (old new : Option (List File))
+    (before : List (List ℕ)) (name : List ℕ) (names : List (List ℕ))
+    → before ≡ name ∷ names
+    → IsDistinct bytes_eq (map (λ f. f.0) outputs) → HasWritten outputs old new before
+    → IsNext outputs old new name names
 next_output outputs old new before name names is distinct h = by h.others (sym is ∙ h.names_are) h.all
   where
-    by : (others : List File) → name ∷ names ≡ map (λ f. f.0) others → outputs ≡ h.done ++ others → IsNext outputs old new name names
+    by : (others : List File)
+        → name ∷ names ≡ map (λ f. f.0) others → outputs ≡ h.done ++ others → IsNext outputs old new name names
     by [] e all = absurd (cc)
     by (f ∷ others) e all =
         let same : name ≡ f.0 = cc in
         let found : lookup (bytes_eq name) outputs ≡ Some f.1 =
         ap (λ k. lookup (bytes_eq k) outputs) same
-        ∙ (ap (lookup (bytes_eq f.0)) all ∙ lookup_here h.done others f (subst (λ l. IsDistinct bytes_eq (map (λ f. f.0) l)) all distinct)) in
-        let whole : f ≡ (name, unwrap_or (lookup (bytes_eq name) outputs) []) = λ i. (sym same i, ap (λ o. unwrap_or o []) (sym found) i) in
+        ∙ (ap (lookup (bytes_eq f.0)) all
+        ∙ lookup_here h.done others f (subst (λ l. IsDistinct bytes_eq (map (λ f. f.0) l)) all distinct)) in
+        let whole : f ≡ (name, unwrap_or (lookup (bytes_eq name) outputs) []) =
+        λ i. (sym same i, ap (λ o. unwrap_or o []) (sym found) i) in
         record {
           done = h.done;
           others = others;
@@ -145,19 +178,24 @@ next_output outputs old new before name names is distinct h = by h.others (sym i
           names_are = cc;
         }
 
-pub wrote_next : (outputs : List File) (old mid new : Option (List File)) (name : List ℕ) (names : List (List ℕ)) → IsNext outputs old mid name names
-    → new ≡ with_created mid ((name, unwrap_or (lookup (bytes_eq name) outputs) []) ∷ []) → HasWritten outputs old new names
+pub wrote_next : (outputs : List File) (old mid new : Option (List File)) (name : List ℕ) (names : List (List ℕ))
+    → IsNext outputs old mid name names
+    → new ≡ with_created mid ((name, unwrap_or (lookup (bytes_eq name) outputs) []) ∷ [])
+    → HasWritten outputs old new names
 wrote_next outputs old mid new name names next is = record {
   done = next.done ++ (name, unwrap_or (lookup (bytes_eq name) outputs) []) ∷ [];
   others = next.others;
-  all = next.all ∙ sym (append_assoc next.done ((name, unwrap_or (lookup (bytes_eq name) outputs) []) ∷ []) next.others);
+  all =
+      next.all ∙ sym (append_assoc next.done ((name, unwrap_or (lookup (bytes_eq name) outputs) []) ∷ []) next.others);
   created = is ∙ (ap (λ m. with_created m ((name, unwrap_or (lookup (bytes_eq name) outputs) []) ∷ [])) next.created
       ∙ with_created-append old next.done ((name, unwrap_or (lookup (bytes_eq name) outputs) []) ∷ []));
   names_are = next.names_are;
 }
 
 -- writing stopped at the next output, because memory ran out or the folder failed
-stops_without : (outputs : List File) (old mid new : Option (List File)) (name : List ℕ) (names : List (List ℕ)) (fault : FolderFault) → IsNext outputs old mid name names
+stops_without : (outputs : List File) (old mid new : Option (List File))
+    (name : List ℕ) (names : List (List ℕ)) (fault : FolderFault)
+    → IsNext outputs old mid name names
     → new ≡ mid → StopsAt outputs old new name fault
 stops_without outputs old mid new name names fault next nothing = record {
   before = next.done;
@@ -170,8 +208,11 @@ stops_without outputs old mid new name names fault next nothing = record {
   created = nothing ∙ next.created ∙ ap (with_created old) (sym (append-nil next.done));
 }
 
-stops_with : (outputs : List File) (old mid new : Option (List File)) (name : List ℕ) (names : List (List ℕ)) (fault : FolderFault) → IsNext outputs old mid name names
-    → AddsPrefix mid new (name, unwrap_or (lookup (bytes_eq name) outputs) []) → fault ≢ NoMemory → StopsAt outputs old new name fault
+stops_with : (outputs : List File) (old mid new : Option (List File))
+    (name : List ℕ) (names : List (List ℕ)) (fault : FolderFault)
+    → IsNext outputs old mid name names
+    → AddsPrefix mid new (name, unwrap_or (lookup (bytes_eq name) outputs) []) → fault ≢ NoMemory
+    → StopsAt outputs old new name fault
 stops_with outputs old mid new name names fault next added failed = record {
   before = next.done;
   bytes = unwrap_or (lookup (bytes_eq name) outputs) [];
@@ -183,9 +224,16 @@ stops_with outputs old mid new name names fault next added failed = record {
   created = added.2 ∙ (ap (λ m. with_created m added.0) next.created ∙ with_created-append old next.done added.0);
 }
 
-pub stops_at_next : (outputs : List File) (old mid new : Option (List File)) (name : List ℕ) (names : List (List ℕ)) (fault : FolderFault) → IsNext outputs old mid name names
-    → AddsPrefix mid new (name, unwrap_or (lookup (bytes_eq name) outputs) []) → (fault ≡ NoMemory → new ≡ mid) → StopsAt outputs old new name fault
-stops_at_next outputs old mid new name names NoMemory next added nothing = stops_without outputs old mid new name names NoMemory next (nothing refl)
-stops_at_next outputs old mid new name names Missing next added nothing = stops_with outputs old mid new name names Missing next added (λ e. cc)
-stops_at_next outputs old mid new name names IsFailed next added nothing = stops_with outputs old mid new name names IsFailed next added (λ e. cc)
-stops_at_next outputs old mid new name names TooBig next added nothing = stops_with outputs old mid new name names TooBig next added (λ e. cc)
+pub stops_at_next : (outputs : List File) (old mid new : Option (List File))
+    (name : List ℕ) (names : List (List ℕ)) (fault : FolderFault)
+    → IsNext outputs old mid name names
+    → AddsPrefix mid new (name, unwrap_or (lookup (bytes_eq name) outputs) []) → (fault ≡ NoMemory → new ≡ mid)
+    → StopsAt outputs old new name fault
+stops_at_next outputs old mid new name names NoMemory next added nothing =
+    stops_without outputs old mid new name names NoMemory next (nothing refl)
+stops_at_next outputs old mid new name names Missing next added nothing =
+    stops_with outputs old mid new name names Missing next added (λ e. cc)
+stops_at_next outputs old mid new name names IsFailed next added nothing =
+    stops_with outputs old mid new name names IsFailed next added (λ e. cc)
+stops_at_next outputs old mid new name names TooBig next added nothing =
+    stops_with outputs old mid new name names TooBig next added (λ e. cc)

@@ -1,5 +1,6 @@
 -- The arguments of a run of `ctangle`, and the names that they give.
-use Rattle.std.specs.Prelude.{ℕ, Bool, false, ◌==◌, ◌||◌, ◌&&◌, not, nat_lt, length, filter, List, [], ◌∷◌, ◌++◌, codes, Option, None, Some, if◌then◌else◌}
+use Rattle.std.specs.Prelude.{ℕ, Bool, false, ◌==◌, ◌||◌, ◌&&◌, not, nat_lt, length, filter, List}
+use Rattle.std.specs.Prelude.{[], ◌∷◌, ◌++◌, codes, Option, None, Some, if◌then◌else◌}
 use Rattle.std.specs.List.{list_any, after_last, before_last}
 use Rattle.std.specs.Str.{bytes_eq}
 use Rattle.tangle_files.specs.Roles.{RolesRead, roles_of}
@@ -38,7 +39,8 @@ web_name argument = with_extension argument (codes ".w")
 
 -- the change file that this argument names; `-` names none
 abbrev pub change_name : List ℕ → Option (List ℕ)
-change_name argument = if bytes_eq argument (codes "-") then None else Some (with_extension argument (codes ".ch"))
+change_name argument =
+    if bytes_eq argument (codes "-") then None else Some (with_extension argument (codes ".ch"))
 
 abbrev pub out_name : List ℕ → List ℕ
 out_name argument = with_extension argument (codes ".c")
@@ -59,7 +61,8 @@ out_of web None = main_name web
 out_of web (Some argument) = out_name argument
 
 abbrev pub completed_names : List ℕ → Option (List ℕ) → Option (List ℕ) → RolesRead
-completed_names web change out = roles_of (web_name web) (change_of change) (out_of (web_name web) out)
+completed_names web change out =
+    roles_of (web_name web) (change_of change) (out_of (web_name web) out)
 
 -- the given names: a web, perhaps a change file, and then perhaps the main file
 abbrev pub named_by : List (List ℕ) → Option RolesRead

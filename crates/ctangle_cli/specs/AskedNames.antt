@@ -1,5 +1,6 @@
 -- The names for which loading asks a folder, in their order, and where it stops asking.
-use Rattle.std.specs.Prelude.{◌≡◌, ◌⊎◌, ℕ, zero, suc, List, [], ◌∷◌, ◌++◌, Option, None, Some, IfSome, filter, if◌then◌else◌}
+use Rattle.std.specs.Prelude.{◌≡◌, ◌⊎◌, ℕ, zero, suc, List, [], ◌∷◌, ◌++◌, Option, None, Some}
+use Rattle.std.specs.Prelude.{IfSome, filter, if◌then◌else◌}
 use Rattle.std.specs.List.{list_any}
 use Rattle.std.specs.Str.{bytes_eq}
 use Rattle.tangle_files.specs.Adding.{is_name}
@@ -8,6 +9,7 @@ use Rattle.tangle_files.specs.Roles.{RolesRead}
 use Rattle.tangle_streams.specs.Streams.{one_more_failure}
 use Rattle.tangle_folders.specs.Folder.{File, FolderRead, file_bytes, with_name_added}
 use Rattle.ctangle_cli.specs.Loading.{LoadEnd, IsAskedLast, bad_name, missing_of}
+use Rattle.ctangle_cli.specs.AskedOnce.{with_names_added}
 use Rattle.ctangle_cli.specs.Loading.LoadEnd.{CannotRead, Refused, NoMemory}
 
 -- this name is asked for too, unless it was asked for already
@@ -37,61 +39,70 @@ named_in (Some name) = name ∷ []
 module _ (all : List File) (roles : RolesRead) where
   -- one more round: the sources are read, and each missing name that is a file name is asked for
   abbrev pub asked_next : List (List ℕ) → List (List ℕ)
-  asked_next asked = with_all_asked asked (filter is_name (missing_of (files_under all asked) roles))
+  asked_next asked =
+      with_all_asked asked (filter is_name (missing_of (files_under all asked) roles))
 
   -- the names asked for in this number of rounds, after the web and the change file
   abbrev pub asked_in : ℕ → List (List ℕ)
   asked_in zero = with_all_asked [] (roles.web ∷ named_in roles.change)
   asked_in (suc rounds) = asked_next (asked_in rounds)
 
-  -- the same, but none where the web, the change file or the main file has a bad name
+  -- the names asked for in this number of rounds; none where the web, the change file or the main
+  -- file has a bad name
   abbrev pub asked_unless : Option (List ℕ) → ℕ → List (List ℕ)
   asked_unless (Some name) rounds = []
   asked_unless None rounds = asked_in rounds
 
   -- A loading that gives its files asks for the names of some number of rounds, and one more round
   -- would ask for none.
-  pub record AsksWhole (before : List (List ℕ)) (now : Option (List (List ℕ))) : Type 0 where
+  pub record AsksWhole (before now : Option (List (List ℕ))) : Type 0 where
     pub rounds : ℕ
-    pub after : now ≡ Some (before ++ asked_in rounds)
+    pub after : now ≡ with_names_added before (asked_in rounds)
     pub last : asked_next (asked_in rounds) ≡ asked_in rounds
 
 -- the names up to this one, and no later one, were asked for
-pub record AsksUpTo (names before : List (List ℕ)) (now : Option (List (List ℕ))) (name : List ℕ) : Type 0 where
+pub record AsksUpTo (names : List (List ℕ))
+    (before now : Option (List (List ℕ))) (name : List ℕ) : Type 0 where
   pub front : List (List ℕ)
   pub rest : List (List ℕ)
   pub split : names ≡ front ++ name ∷ rest
-  pub after : now ≡ Some (before ++ (front ++ name ∷ []))
+  pub after : now ≡ with_names_added before (front ++ name ∷ [])
 
 -- some of these names were asked for, from the first on, or none
-pub record AsksFront (names before : List (List ℕ)) (now : Option (List (List ℕ))) : Type 0 where
+pub record AsksFront (names : List (List ℕ)) (before now : Option (List (List ℕ))) : Type 0 where
   pub front : List (List ℕ)
   pub rest : List (List ℕ)
   pub split : names ≡ front ++ rest
-  pub after : now ≡ Some (before ++ front)
+  pub after : now ≡ with_names_added before front
 
 -- asking stopped at the name that the ending reports; out of memory, it stopped anywhere
-abbrev pub StopsAmong : List (List ℕ) → List (List ℕ) → Option (List (List ℕ)) → LoadEnd → Type 0
+abbrev pub StopsAmong : List (List ℕ) → Option (List (List ℕ)) → Option (List (List ℕ)) → LoadEnd
+    → Type 0
 StopsAmong names before now (CannotRead name) = AsksUpTo names before now name
 StopsAmong names before now (Refused name refusal) = AsksUpTo names before now name
 StopsAmong names before now NoMemory = AsksFront names before now
 
--- If the folder reports its files and what it is asked for: loading asked it for the names of its
--- rounds, and for no other.
-abbrev pub AsksByRounds : Option (List File) → RolesRead → Option (List (List ℕ)) → Option (List (List ℕ)) → Type 0
-AsksByRounds reported roles before now = IfSome reported (λ all. IfSome before (λ names. AsksWhole all roles names now))
+-- If the folder reports its files: loading asked it for the names of its rounds, and for no other.
+abbrev pub AsksByRounds : Option (List File) → RolesRead
+    → Option (List (List ℕ)) → Option (List (List ℕ)) → Type 0
+AsksByRounds reported roles before now = IfSome reported (λ all. AsksWhole all roles before now)
 
 -- A loading that ended without its files asked for some of these names, from the first on.
-abbrev pub AsksSome : Option (List File) → RolesRead → Option (List (List ℕ)) → Option (List (List ℕ)) → LoadEnd → Type 0
+abbrev pub AsksSome : Option (List File) → RolesRead
+    → Option (List (List ℕ)) → Option (List (List ℕ)) → LoadEnd → Type 0
 AsksSome reported roles before now ending =
-    IfSome reported (λ all. IfSome before (λ names. (rounds : ℕ) × StopsAmong (asked_unless all roles (bad_name roles) rounds) names now ending))
+    IfSome reported (λ all.
+    (rounds : ℕ) × StopsAmong (asked_unless all roles (bad_name roles) rounds) before now ending)
 
 -- The same, but a refused name may also be one of the three that are tested first, and then nothing
 -- was asked for.
-abbrev pub AsksUntil : Option (List File) → RolesRead → Option (List (List ℕ)) → Option (List (List ℕ)) → LoadEnd → Type 0
-AsksUntil reported roles before now (CannotRead name) = AsksSome reported roles before now (CannotRead name)
+abbrev pub AsksUntil : Option (List File) → RolesRead
+    → Option (List (List ℕ)) → Option (List (List ℕ)) → LoadEnd → Type 0
+AsksUntil reported roles before now (CannotRead name) =
+    AsksSome reported roles before now (CannotRead name)
 AsksUntil reported roles before now (Refused name refusal) =
-    ((bad_name roles ≡ Some name) × (now ≡ before)) ⊎ AsksSome reported roles before now (Refused name refusal)
+    ((bad_name roles ≡ Some name) × (now ≡ before))
+    ⊎ AsksSome reported roles before now (Refused name refusal)
 AsksUntil reported roles before now NoMemory = AsksSome reported roles before now NoMemory
 
 -- A folder failed at no file that it was asked for, or only at the last one: nothing was asked for
@@ -99,4 +110,5 @@ AsksUntil reported roles before now NoMemory = AsksSome reported roles before no
 abbrev pub FailsLast : FolderRead → FolderRead → Type 0
 FailsLast old new =
     ((new.failed ≡ old.failed) × (new.failures ≡ old.failures))
-    ⊎ ((name : List ℕ) × IsAskedLast new.asked name × (new.failed ≡ with_name_added old.failed name) × (new.failures ≡ one_more_failure old.failures))
+    ⊎ ((name : List ℕ) × IsAskedLast new.asked name × (new.failed ≡ with_name_added old.failed name)
+    × (new.failures ≡ one_more_failure old.failures))

@@ -85,7 +85,8 @@ pub data AnswersEdit (s : SessionRead) (made : Edit) (output : List ℕ) (t : Se
   IsRefused : (refusal : Refusal) → session_refusal s.files s.roles made ≡ Some refusal
       → output ≡ refused_line refusal → t ≡ s → AnswersEdit s made output t
 
--- the same for a list of edits, which may also run out of memory, and then changes nothing
+-- a list of edits is made, and the answer is `ok`; or it is refused, or memory runs out, and then
+-- nothing changes
 pub data AnswersList (s : SessionRead) (made : List Edit) (output : List ℕ) (t : SessionRead) :
     Type 0 where
   IsListMade : list_refusal s.files s.roles made ≡ None → output ≡ codes "ok\n" → AreMade s made t
@@ -94,7 +95,7 @@ pub data AnswersList (s : SessionRead) (made : List Edit) (output : List ℕ) (t
       → output ≡ list_refused_line refused → t ≡ s → AnswersList s made output t
   IsListOutOfMemory : output ≡ list_refused_line list_memory → t ≡ s → AnswersList s made output t
 
--- an edit is made while no list is open; else it is held, last in the open list
+-- an edit is made while no list is open; else it is added at the end of the open list
 abbrev pub AnswersIn :
     Option (List Edit) → SessionAndDraft → Edit → List ℕ → SessionAndDraft → Type 0
 AnswersIn None s made output t = AnswersEdit s.session made output t.session × (t.draft ≡ None)
@@ -134,7 +135,8 @@ AnswersCancel (Some held) s output t =
 -- the answer that shows the output file of this name, or says that there is none
 abbrev pub shown : List ℕ → Option (List ℕ) → List ℕ
 shown name None = codes "no NoOutput\n"
-shown name (Some bytes) = codes "= " ++ name ++ codes " " ++ decimal (length bytes) ++ codes "\n" ++ bytes
+shown name (Some bytes) =
+    codes "= " ++ name ++ codes " " ++ decimal (length bytes) ++ codes "\n" ++ bytes
 
 -- the answer that has the number of faults, and their lines
 abbrev pub listed_faults : List FaultRead → List ℕ

@@ -63,7 +63,7 @@ pub data IsCallOf (request : Request) (output : List ℕ) :
   IsOutOfMemory : (draft : Option (List Edit)) → is_edit request ≡ true
       → output ≡ codes "no NoMemory\n" → IsCallOf request output draft [] draft
 
--- the same for commands that were answered by this output, one after another
+-- How commands that were answered by this output, one after another, change the history.
 abbrev pub AreCallsOf :
     List Command → List ℕ → Option (List Edit) → List Call → Option (List Edit) → Type 0
 AreCallsOf [] output old calls new = (output ≡ []) × (calls ≡ []) × (new ≡ old)
@@ -73,8 +73,8 @@ AreCallsOf (command ∷ commands) output old calls new =
     × IsCallOf (request_of command) first old call between
     × AreCallsOf commands rest between later new
 
--- A session that answers `show` and `faults` with what plain tangling of these files and roles gives:
--- the bytes of the output file of that name, or that there is none, and the list of faults.
+-- A session that answers `show` and `faults` with what plain tangling of these files and roles
+-- gives: the bytes of the output file of that name, or that there is none, and the list of faults.
 pub record ShowsPlainOf (files : FileTable) (roles : RolesRead) (s : SessionAndDraft) : Type 0 where
   pub output_files : List (List ℕ × List ℕ)
   pub plain : (faults : List FaultRead) → AreFaultsOf files roles faults

@@ -6,6 +6,7 @@ pub mod Messages
 pub mod Run
 pub mod AskedNames
 pub mod AskedOnce
-pub mod Tries
+pub mod Loads
+pub mod Steps
 pub mod Conversation
 pub mod Histories

@@ -1,7 +1,10 @@
 -- Loading: the files that a run reads, and how loading ends where one can't be read or is refused.
-use Rattle.std.specs.Prelude.{◌≡◌, ◌⊎◌, ◌<◌, ◌≤◌, ⊤, ℕ, zero, suc, ◌-◌, ◌==◌, ◌||◌, not, nat_lt, length, map, filter, Bool, true, false, List, [], ◌∷◌, ◌++◌, Option, None, Some, IfSome, Result, Ok, Err, if◌then◌else◌, All}
+use Rattle.std.specs.Prelude.{◌≡◌, ◌⊎◌, ◌<◌, ◌≤◌, ⊤, ℕ, zero, suc, ◌-◌, ◌==◌, ◌||◌, not, nat_lt}
+use Rattle.std.specs.Prelude.{length, map, filter, Bool, true, false, List, [], ◌∷◌, ◌++◌, Option}
+use Rattle.std.specs.Prelude.{None, Some, IfSome, Result, Ok, Err, if◌then◌else◌, All}
 use Rattle.tangle_files.specs.declared.refusal.Refusal.{Refusal}
-use Rattle.tangle_files.specs.declared.refusal.Refusal.TheVariants.{BadName, NoMemory as RefusalMemory}
+use Rattle.tangle_files.specs.declared.refusal.Refusal.TheVariants.{BadName}
+use Rattle.tangle_files.specs.declared.refusal.Refusal.TheVariants.{NoMemory as RefusalMemory}
 use Rattle.tangle_faults.specs.declared.faults.FaultKind.{FaultKind}
 use Rattle.tangle_faults.specs.declared.faults.FaultKind.TheVariants.{IncludeMissing}
 use Rattle.tangle_faults.specs.Faults.{FaultRead}
@@ -37,9 +40,10 @@ unless_refused files name bytes (Some refusal) = Err (Refused name refusal)
 
 abbrev pub add_bytes : FileTable → List ℕ → List ℕ → Loaded
 add_bytes files name bytes =
-    if nat_lt file_limit (length bytes) then Err (CannotRead name) else unless_refused files name bytes (add_refusal files name bytes)
+    if nat_lt file_limit (length bytes) then Err (CannotRead name)
+    else unless_refused files name bytes (add_refusal files name bytes)
 
--- a file without which loading ends is added
+-- a file is added; if the folder does not have it, loading ends
 abbrev pub add_needed : FileTable → List ℕ → Option (List ℕ) → Loaded
 add_needed files name None = Err (CannotRead name)
 add_needed files name (Some bytes) = add_bytes files name bytes
@@ -93,11 +97,13 @@ module _ (all : List File) where
   -- in the table
   abbrev pub with_inclusion : FileTable → List ℕ → Loaded
   with_inclusion files name =
-      if has_file files name || not (is_name name) then Ok files else add_present files name (file_bytes all name)
+      if has_file files name || not (is_name name) then Ok files
+      else add_present files name (file_bytes all name)
 
   abbrev pub with_inclusions : List (List ℕ) → FileTable → Loaded
   with_inclusions [] files = Ok files
-  with_inclusions (name ∷ names) files = and_then (with_inclusion files name) (λ next. with_inclusions names next)
+  with_inclusions (name ∷ names) files =
+      and_then (with_inclusion files name) (λ next. with_inclusions names next)
 
   module _ (roles : RolesRead) where
     -- a round: the sources are read, and the missing files are added
@@ -120,12 +126,14 @@ bad_change (Some name) rest = if is_name name then rest else Some name
 -- the first of the web, the change file and the main file whose name is no file name
 abbrev pub bad_name : RolesRead → Option (List ℕ)
 bad_name roles =
-    if not (is_name roles.web) then Some roles.web else bad_change roles.change (if is_name roles.out then None else Some roles.out)
+    if not (is_name roles.web) then Some roles.web
+    else bad_change roles.change (if is_name roles.out then None else Some roles.out)
 
 abbrev pub load_unless : List File → RolesRead → Option (List ℕ) → Loaded
 load_unless all roles (Some name) = Err (Refused name BadName)
 load_unless all roles None =
-    and_then (with_needed all [] roles.web) (λ files. and_then (with_change all files roles.change) (λ more. rounds_from all roles more))
+    and_then (with_needed all [] roles.web)
+    (λ files. and_then (with_change all files roles.change) (λ more. rounds_from all roles more))
 
 -- What loading by these names gives, from a folder with these files: the web, then the change file,
 -- and then, in rounds, the files that inclusions miss.
@@ -138,21 +146,19 @@ pub record Grows (old new : FileTable) : Type 0 where
   pub is : new ≡ old ++ more
   pub within : 0 < length more → length new ≤ 256
 
--- the folder did not fail and, if it reports its files, loading them gives these files
-abbrev pub LoadsTo : Option (List File) → (List File → Loaded) → ℕ → ℕ → FileTable → Type 0
-LoadsTo reported loads failures failures' files = IfSome reported (λ all. loads all ≡ Ok files) × (failures' ≡ failures)
-
 -- why loading ended: by what the folder has, or because the folder failed, or out of memory
 abbrev pub StopsFor : Option (List File) → (List File → Loaded) → ℕ → ℕ → LoadEnd → Type 0
 StopsFor reported loads failures failures' (CannotRead name) =
-    (IfSome reported (λ all. loads all ≡ Err (CannotRead name)) × (failures' ≡ failures)) ⊎ Failed failures failures'
+    (IfSome reported (λ all. loads all ≡ Err (CannotRead name)) × (failures' ≡ failures))
+    ⊎ Failed failures failures'
 StopsFor reported loads failures failures' (Refused name refusal) =
     IfSome reported (λ all. loads all ≡ Err (Refused name refusal)) × (failures' ≡ failures)
 StopsFor reported loads failures failures' NoMemory = ⊤
 
 -- this is the name that the folder was asked for last, if it reports what it was asked for
 abbrev pub IsAskedLast : Option (List (List ℕ)) → List ℕ → Type 0
-IsAskedLast asked name = IfSome asked (λ names. (before : List (List ℕ)) × (names ≡ before ++ name ∷ []))
+IsAskedLast asked name =
+    IfSome asked (λ names. (before : List (List ℕ)) × (names ≡ before ++ name ∷ []))
 
 -- A file that can't be read is the one that the folder was asked for last. So where the folder
 -- failed, the name is that of the file at which it failed.

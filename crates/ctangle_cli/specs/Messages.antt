@@ -1,11 +1,28 @@
 -- The lines that the programs write on the error stream.
 use Rattle.std.specs.Prelude.{ℕ, List, [], ◌∷◌, ◌++◌, codes, if◌then◌else◌}
 use Rattle.tangle_files.specs.declared.refusal.Refusal.{Refusal}
-use Rattle.tangle_files.specs.declared.refusal.Refusal.TheVariants.{BadName, FileExists, TooManyFiles, LineTooLong, TooManyLines, NoMemory, UnknownFile, NoSuchLine, BadLine, NoWeb, NoChange, RoleFile, NoOutput, WriteFault}
+use Rattle.tangle_files.specs.declared.refusal.Refusal.TheVariants.{
+  BadName,
+  FileExists,
+  TooManyFiles,
+  LineTooLong,
+  TooManyLines,
+  NoMemory,
+  UnknownFile,
+  NoSuchLine,
+  BadLine,
+  NoWeb,
+  NoChange,
+  RoleFile,
+  NoOutput,
+  WriteFault,
+}
 use Rattle.tangle_faults.specs.Faults.{FaultRead, is_error}
 use Rattle.tangle_faults.specs.FaultLine.{fault_line}
 use Rattle.tangle_folders.specs.declared.folder.FolderFault.{FolderFault}
-use Rattle.tangle_folders.specs.declared.folder.FolderFault.TheVariants.{Missing, TooBig, Failed as IsFailed, NoMemory as FolderMemory}
+use Rattle.tangle_folders.specs.declared.folder.FolderFault.TheVariants.{Missing, TooBig}
+use Rattle.tangle_folders.specs.declared.folder.FolderFault.TheVariants.{Failed as IsFailed}
+use Rattle.tangle_folders.specs.declared.folder.FolderFault.TheVariants.{NoMemory as FolderMemory}
 use Rattle.ctangle_cli.specs.Loading.{LoadEnd}
 use Rattle.ctangle_cli.specs.Loading.LoadEnd.{CannotRead, Refused, NoMemory as LoadMemory}
 
@@ -31,7 +48,8 @@ refusal_name (WriteFault n) = codes "WriteFault"
 -- the line that reports why loading ended without files, after the program's name
 abbrev pub ending_line : List ℕ → LoadEnd → List ℕ
 ending_line program (CannotRead name) = program ++ codes ": cannot read " ++ name ++ codes "\n"
-ending_line program (Refused name refusal) = program ++ codes ": " ++ name ++ codes ": " ++ refusal_name refusal ++ codes "\n"
+ending_line program (Refused name refusal) =
+    program ++ codes ": " ++ name ++ codes ": " ++ refusal_name refusal ++ codes "\n"
 ending_line program LoadMemory = program ++ codes ": NoMemory\n"
 
 abbrev pub no_memory_line : List ℕ

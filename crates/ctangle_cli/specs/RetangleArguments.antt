@@ -1,6 +1,7 @@
 -- The command of `retangle`, and the names that its arguments give.
 use Rattle.std.specs.Prelude.{◌≡◌, true, List, Option, Some, codes, option_map}
-use Rattle.clap.specs.Words.{App, Row, Rule, Text, first_of, matches_of, new_app, new_rule, with_rule}
+use Rattle.clap.specs.Words.{App, Row, Rule, Text, first_of, matches_of, new_app, new_rule}
+use Rattle.clap.specs.Words.{with_rule}
 use Rattle.clap.specs.declared.builder.action.ArgAction.TheVariants.{Set}
 use Rattle.tangle_files.specs.Roles.{RolesRead}
 use Rattle.ctangle_cli.specs.Arguments.{completed_names}
@@ -17,16 +18,21 @@ file_rule name = record (new_rule name) { long = Some name; value_names = 1 }
 -- the command without its arguments: clap adds the flag for help and, since the command has a
 -- version, the flag for the version
 abbrev pub empty_app : App
-empty_app = let app = new_app (codes "retangle") in record app { top = record app.top { has_version = true } }
+empty_app =
+    let app = new_app (codes "retangle") in
+    record app { top = record app.top { has_version = true } }
 
 -- `retangle WEB [--change FILE] [--out FILE]`
 abbrev pub retangle_app : App
-retangle_app = with_rule (with_rule (with_rule empty_app web_rule) (file_rule (codes "change"))) (file_rule (codes "out"))
+retangle_app = with_rule (with_rule (with_rule empty_app web_rule) (file_rule (codes "change")))
+    (file_rule (codes "out"))
 
 -- the values of WEB, `--change` and `--out`, completed to file names; none without a value of WEB
 abbrev pub completed_values : List Row → Option RolesRead
 completed_values rows =
-    option_map (λ web. completed_names web (first_of (codes "change") rows) (first_of (codes "out") rows)) (first_of (codes "WEB") rows)
+    option_map
+    (λ web. completed_names web (first_of (codes "change") rows) (first_of (codes "out") rows))
+    (first_of (codes "WEB") rows)
 
 -- the names that the arguments give, by clap's definition of the matches of this command
 unfoldable pub retangle_names_of : List Text → Option RolesRead

@@ -15,4 +15,5 @@ IsPrefixOf file prefix = (prefix ≡ []) ⊎ ((n : ℕ) × (prefix ≡ (file.0, 
 
 -- nothing was created besides, or a prefix of the file
 abbrev pub AddsPrefix : Option (List File) → Option (List File) → File → Type 0
-AddsPrefix old new file = (prefix : List File) × IsPrefixOf file prefix × (new ≡ with_created old prefix)
+AddsPrefix old new file =
+    (prefix : List File) × IsPrefixOf file prefix × (new ≡ with_created old prefix)

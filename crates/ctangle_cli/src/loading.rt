@@ -1,25 +1,20 @@
 //! Loading: the files that a run reads.
-ghost use Rattle.std.specs.Prelude.{◌≡◌, ◌≤◌, ◌∷◌, ◌||◌, ℕ, List, [], filter, length, map, true};
-ghost use Rattle.std.specs.Prelude.{false, Option, IfOk, IfErr, IfSome, OnOk, OnErr};
-ghost use Rattle.std.specs.Prelude.{None};
+ghost use Rattle.std.specs.Prelude.{◌≡◌, ◌≤◌, ◌∷◌, ℕ, List, [], length, map, true};
+ghost use Rattle.std.specs.Prelude.{false, IfErr, IfOk, None, Ok, OnOk, Option};
 ghost use Rattle.std.specs.List.{list_any};
 ghost use Rattle.std.specs.Option.{option_copied};
 ghost use Rattle.std.specs.Str.{bytes_eq};
-ghost use Rattle.tangle_folders.specs.Folder.{file_limit};
-ghost use Rattle.tangle_files.specs.Adding.{has_file, is_name};
+ghost use Rattle.tangle_folders.specs.Folder.{file_bytes, file_limit};
+ghost use Rattle.tangle_files.specs.Adding.{has_file};
 ghost use Rattle.tangle_files.specs.Roles.{fits, has_file_if_any};
-ghost use Rattle.ctangle_cli.specs.AskedOnce.{AsksForNeeded, AsksOnce};
-ghost use Rattle.ctangle_cli.specs.AskedNames.{AsksByRounds, AsksUntil, AsksWhole, FailsLast};
-ghost use Rattle.ctangle_cli.specs.AskedNames.{StopsAmong, asked_in, named_in};
-ghost use Rattle.ctangle_cli.specs.Tries.{AsksOn, EndsAmong, GoesOn, InRounds, IsAbout, RoundsOnce};
-ghost use Rattle.ctangle_cli.specs.Tries.{StopsAsking, TriesAll, tried};
-ghost use Rattle.ctangle_cli.specs.Loading.{AreAbsent, Grows, IncludesNoMissing, IsLoadEnd};
-ghost use Rattle.ctangle_cli.specs.Loading.{LoadsTo, NamesLastAsked, StopsFor, add_bytes, bad_name};
-ghost use Rattle.ctangle_cli.specs.Loading.{ending_of, is_missing_kind, load_of, load_unless};
-ghost use Rattle.ctangle_cli.specs.Loading.{misses_file, missed_in, missing_of, refused_as};
-ghost use Rattle.ctangle_cli.specs.Loading.{rounds_from, with_change, with_inclusion};
-ghost use Rattle.ctangle_cli.specs.Loading.{with_inclusions, with_needed};
+ghost use Rattle.ctangle_cli.specs.AskedNames.{named_in, with_asked_once};
+ghost use Rattle.ctangle_cli.specs.Loading.{AreAbsent, IncludesNoMissing, IsLoadEnd};
+ghost use Rattle.ctangle_cli.specs.Loading.{StopsFor, add_bytes, add_present, bad_name, ending_of};
+ghost use Rattle.ctangle_cli.specs.Loading.{is_missing_kind, misses_file, missed_in, missing_of};
+ghost use Rattle.ctangle_cli.specs.Loading.{refused_as, with_change, with_needed};
 ghost use Rattle.ctangle_cli.specs.Loading.LoadEnd.{CannotRead};
+ghost use Rattle.ctangle_cli.specs.Loads.{Loads, StopsLoading};
+ghost use Rattle.ctangle_cli.specs.Steps.{IsAbout, ReadsMissing, Step, absent_after, progress};
 
 use crate::arguments::Words;
 use indexmap::IndexSet;
@@ -85,10 +80,7 @@ impl Absent {
     }
 
     fn insert(&mut self, alloc: Global, name: &[u8]) -> Result<(), NoMemory>
-        ensures absent { OnOk result ((reported : Option _) → AreAbsent reported self.old
-            → AreAbsent reported (name.now ∷ []) → AreAbsent reported self.new) }
-        ensures holds { OnOk result ((other : List ℕ) → list_any (bytes_eq other) self.new
-            ≡ (list_any (bytes_eq other) self.old || bytes_eq other name.now)) }
+        ensures { OnOk result (self.new ≡ with_asked_once self.old name.now) }
     {
         let name = Vec::from_slice(alloc, name)?;
         self.names.insert(name)?;
@@ -130,17 +122,40 @@ fn has(files: &Files, name: &[u8]) -> bool
 fn add_file(alloc: Global, files: &mut Files, name: &[u8], bytes: Vec<u8>) -> Result<(), LoadFault>
     requires { length bytes.items ≤ file_limit }
     ensures ok { OnOk result (add_bytes files.old name.now bytes.items ≡ Ok files.new) }
-    ensures grows { OnOk result (Grows files.old files.new) }
-    ensures has_file { OnOk result (has_file files.new name.now ≡ true) }
     ensures err { IfErr result (λ fault. (reported : Option _) (n : ℕ)
         → StopsFor reported (λ _. add_bytes files.old name.now bytes.items) n n (ending_of fault)) }
-    ensures reported { IfErr result
-        (λ fault. (asked : Option _) → NamesLastAsked asked (ending_of fault)) }
     ensures about { IfErr result (λ fault. IsAbout name.now (ending_of fault)) }
 {
     match files.add_owned(name, bytes) {
         Ok(()) => Ok(()),
         Err(refusal) => Err(refused(alloc, name, refusal)),
+    }
+}
+
+// Reads a file that is not in the table, if the folder has it. Returns whether it has.
+fn read_present<F: Folder>(
+    alloc: Global,
+    folder: &mut F,
+    files: &mut Files,
+    name: &[u8],
+) -> Result<bool, LoadFault>
+    requires { has_file files.old name.now ≡ false }
+    ensures present { IfOk result (λ present. has_file files.new name.now ≡ present) }
+    ensures step { (absent : List (List ℕ)) → AreAbsent (F.state folder.old).files absent
+        → list_any (bytes_eq name.now) absent ≡ false
+        → Step (λ all. add_present files.old name.now (file_bytes all name.now)) (name.now ∷ [])
+        (progress (F.state folder.old) files.old absent)
+        (progress (F.state folder.new) files.new (absent_after absent name.now result)) result }
+{
+    match folder.read_file(alloc, name) {
+        Ok(bytes) => {
+            add_file(alloc, files, name, bytes)?;
+            Ok(true)
+        }
+        Err(FolderFault::Missing) => Ok(false),
+        Err(FolderFault::TooBig) => Err(cannot_read(alloc, name)),
+        Err(FolderFault::Failed) => Err(cannot_read(alloc, name)),
+        Err(FolderFault::NoMemory) => Err(LoadFault::NoMemory),
     }
 }
 
@@ -152,41 +167,15 @@ fn read_needed<F: Folder>(
     name: &[u8],
 ) -> Result<(), LoadFault>
     requires { has_file files.old name.now ≡ false }
-    ensures ok { OnOk result (LoadsTo (F.state folder.old).files
-        (λ all. with_needed all files.old name.now)
-        (F.state folder.old).failures (F.state folder.new).failures files.new) }
-    ensures err { IfErr result
-        (λ fault. StopsFor (F.state folder.old).files (λ all. with_needed all files.old name.now)
-        (F.state folder.old).failures (F.state folder.new).failures (ending_of fault)) }
-    ensures grows { OnOk result (Grows files.old files.new) }
+    ensures step { Step (λ all. with_needed all files.old name.now) (name.now ∷ [])
+        (progress (F.state folder.old) files.old [])
+        (progress (F.state folder.new) files.new []) result }
     ensures has_file { OnOk result (has_file files.new name.now ≡ true) }
-    ensures reported { IfErr result
-        (λ fault. NamesLastAsked (F.state folder.new).asked (ending_of fault)) }
-    ensures asks { OnOk result
-        (AsksOn (tried (F.state folder.old).asked files.old [])
-        (tried (F.state folder.new).asked files.new [])
-        (name.now ∷ [])) }
-    ensures stops { OnErr result
-        (StopsAsking (tried (F.state folder.old).asked files.old []) (F.state folder.new).asked) }
-    ensures order { OnOk result
-        (GoesOn (F.state folder.old).files (tried (F.state folder.old).asked files.old [])
-        (tried (F.state folder.new).asked files.new []) (name.now ∷ [])) }
-    ensures ends { IfErr result
-        (λ fault. EndsAmong (F.state folder.old).files
-        (tried (F.state folder.old).asked files.old [])
-        (F.state folder.new).asked (name.now ∷ []) (ending_of fault)) }
-    ensures unfailed { OnOk result ((F.state folder.new).failed ≡ (F.state folder.old).failed) }
-    ensures fails { OnErr result (FailsLast (F.state folder.old) (F.state folder.new)) }
-    ensures files_stay { (F.state folder.new).files ≡ (F.state folder.old).files }
-    ensures created_stay { (F.state folder.new).created ≡ (F.state folder.old).created }
 {
-    match folder.read_file(alloc, name) {
-        Ok(bytes) => add_file(alloc, files, name, bytes),
-        Err(FolderFault::Missing) => Err(cannot_read(alloc, name)),
-        Err(FolderFault::TooBig) => Err(cannot_read(alloc, name)),
-        Err(FolderFault::Failed) => Err(cannot_read(alloc, name)),
-        Err(FolderFault::NoMemory) => Err(LoadFault::NoMemory),
+    if read_present(alloc, folder, files, name)? {
+        return Ok(());
     }
+    Err(cannot_read(alloc, name))
 }
 
 // Reads the change file, if one is named and isn't in the table already.
@@ -196,33 +185,10 @@ fn read_change<F: Folder>(
     files: &mut Files,
     change: Option<&[u8]>,
 ) -> Result<(), LoadFault>
-    ensures ok { OnOk result (LoadsTo (F.state folder.old).files
-        (λ all. with_change all files.old (option_copied change.entry))
-        (F.state folder.old).failures (F.state folder.new).failures files.new) }
-    ensures err { IfErr result (λ fault. StopsFor (F.state folder.old).files
-        (λ all. with_change all files.old (option_copied change.entry))
-        (F.state folder.old).failures (F.state folder.new).failures (ending_of fault)) }
-    ensures grows { OnOk result (Grows files.old files.new) }
+    ensures step { Step (λ all. with_change all files.old (option_copied change.entry))
+        (named_in (option_copied change.entry)) (progress (F.state folder.old) files.old [])
+        (progress (F.state folder.new) files.new []) result }
     ensures has_file { OnOk result (has_file_if_any files.new (option_copied change.entry) ≡ true) }
-    ensures reported { IfErr result
-        (λ fault. NamesLastAsked (F.state folder.new).asked (ending_of fault)) }
-    ensures asks { OnOk result
-        (AsksOn (tried (F.state folder.old).asked files.old [])
-        (tried (F.state folder.new).asked files.new [])
-        (named_in (option_copied change.entry))) }
-    ensures stops { OnErr result
-        (StopsAsking (tried (F.state folder.old).asked files.old []) (F.state folder.new).asked) }
-    ensures order { OnOk result
-        (GoesOn (F.state folder.old).files (tried (F.state folder.old).asked files.old [])
-        (tried (F.state folder.new).asked files.new []) (named_in (option_copied change.entry))) }
-    ensures ends { IfErr result
-        (λ fault. EndsAmong (F.state folder.old).files
-        (tried (F.state folder.old).asked files.old [])
-        (F.state folder.new).asked (named_in (option_copied change.entry)) (ending_of fault)) }
-    ensures unfailed { OnOk result ((F.state folder.new).failed ≡ (F.state folder.old).failed) }
-    ensures fails { OnErr result (FailsLast (F.state folder.old) (F.state folder.new)) }
-    ensures files_stay { (F.state folder.new).files ≡ (F.state folder.old).files }
-    ensures created_stay { (F.state folder.new).created ≡ (F.state folder.old).created }
 {
     match change {
         None => Ok(()),
@@ -245,34 +211,8 @@ fn read_inclusion<F: Folder>(
     name: &[u8],
 ) -> Result<(), LoadFault>
     requires { AreAbsent (F.state folder.old).files absent.old }
-    ensures ok { OnOk result (LoadsTo (F.state folder.old).files
-        (λ all. with_inclusion all files.old name.now)
-        (F.state folder.old).failures (F.state folder.new).failures files.new) }
-    ensures err { IfErr result
-        (λ fault. StopsFor (F.state folder.old).files (λ all. with_inclusion all files.old name.now)
-        (F.state folder.old).failures (F.state folder.new).failures (ending_of fault)) }
-    ensures grows { OnOk result (Grows files.old files.new) }
-    ensures absent { OnOk result (AreAbsent (F.state folder.old).files absent.new) }
-    ensures reported { IfErr result
-        (λ fault. NamesLastAsked (F.state folder.new).asked (ending_of fault)) }
-    ensures asks { OnOk result (AsksOn (tried (F.state folder.old).asked files.old absent.old)
-        (tried (F.state folder.new).asked files.new absent.new) (name.now ∷ [])) }
-    ensures tries { OnOk result (TriesAll (tried (F.state folder.old).asked files.old absent.old)
-        (tried (F.state folder.new).asked files.new absent.new) (name.now ∷ [])) }
-    ensures stops { OnErr result
-        (StopsAsking (tried (F.state folder.old).asked files.old absent.old)
-        (F.state folder.new).asked) }
-    ensures order { OnOk result
-        (GoesOn (F.state folder.old).files (tried (F.state folder.old).asked files.old absent.old)
-        (tried (F.state folder.new).asked files.new absent.new) (filter is_name (name.now ∷ []))) }
-    ensures ends { IfErr result
-        (λ fault. EndsAmong (F.state folder.old).files
-        (tried (F.state folder.old).asked files.old absent.old)
-        (F.state folder.new).asked (filter is_name (name.now ∷ [])) (ending_of fault)) }
-    ensures unfailed { OnOk result ((F.state folder.new).failed ≡ (F.state folder.old).failed) }
-    ensures fails { OnErr result (FailsLast (F.state folder.old) (F.state folder.new)) }
-    ensures files_stay { (F.state folder.new).files ≡ (F.state folder.old).files }
-    ensures created_stay { (F.state folder.new).created ≡ (F.state folder.old).created }
+    ensures { ReadsMissing (name.now ∷ []) (progress (F.state folder.old) files.old absent.old)
+        (progress (F.state folder.new) files.new absent.new) result }
 {
     if has(files, name) || !is_file_name(name) {
         return Ok(());
@@ -280,13 +220,10 @@ fn read_inclusion<F: Folder>(
     if absent.contains(name) {
         return Ok(());
     }
-    match folder.read_file(alloc, name) {
-        Ok(bytes) => add_file(alloc, files, name, bytes),
-        Err(FolderFault::Missing) => Ok(absent.insert(alloc, name)?),
-        Err(FolderFault::TooBig) => Err(cannot_read(alloc, name)),
-        Err(FolderFault::Failed) => Err(cannot_read(alloc, name)),
-        Err(FolderFault::NoMemory) => Err(LoadFault::NoMemory),
+    if read_present(alloc, folder, files, name)? {
+        return Ok(());
     }
+    Ok(absent.insert(alloc, name)?)
 }
 
 fn is_missing(kind: FaultKind) -> bool
@@ -307,35 +244,9 @@ fn read_inclusions<F: Folder>(
     faults: &[Fault],
 ) -> Result<(), LoadFault>
     requires { AreAbsent (F.state folder.old).files absent.old }
-    ensures ok { OnOk result (LoadsTo (F.state folder.old).files
-        (λ all. with_inclusions all (missed_in faults.now) files.old)
-        (F.state folder.old).failures (F.state folder.new).failures files.new) }
-    ensures err { IfErr result (λ fault. StopsFor (F.state folder.old).files
-        (λ all. with_inclusions all (missed_in faults.now) files.old)
-        (F.state folder.old).failures (F.state folder.new).failures (ending_of fault)) }
-    ensures grows { OnOk result (Grows files.old files.new) }
-    ensures absent { OnOk result (AreAbsent (F.state folder.old).files absent.new) }
-    ensures reported { IfErr result
-        (λ fault. NamesLastAsked (F.state folder.new).asked (ending_of fault)) }
-    ensures asks { OnOk result (AsksOn (tried (F.state folder.old).asked files.old absent.old)
-        (tried (F.state folder.new).asked files.new absent.new) (missed_in faults.now)) }
-    ensures tries { OnOk result (TriesAll (tried (F.state folder.old).asked files.old absent.old)
-        (tried (F.state folder.new).asked files.new absent.new) (missed_in faults.now)) }
-    ensures stops { OnErr result
-        (StopsAsking (tried (F.state folder.old).asked files.old absent.old)
-        (F.state folder.new).asked) }
-    ensures order { OnOk result
-        (GoesOn (F.state folder.old).files (tried (F.state folder.old).asked files.old absent.old)
-        (tried (F.state folder.new).asked files.new absent.new)
-        (filter is_name (missed_in faults.now))) }
-    ensures ends { IfErr result
-        (λ fault. EndsAmong (F.state folder.old).files
-        (tried (F.state folder.old).asked files.old absent.old)
-        (F.state folder.new).asked (filter is_name (missed_in faults.now)) (ending_of fault)) }
-    ensures unfailed { OnOk result ((F.state folder.new).failed ≡ (F.state folder.old).failed) }
-    ensures fails { OnErr result (FailsLast (F.state folder.old) (F.state folder.new)) }
-    ensures files_stay { (F.state folder.new).files ≡ (F.state folder.old).files }
-    ensures created_stay { (F.state folder.new).created ≡ (F.state folder.old).created }
+    ensures { ReadsMissing (missed_in faults.now)
+        (progress (F.state folder.old) files.old absent.old)
+        (progress (F.state folder.new) files.new absent.new) result }
 {
     for fault in faults {
         if is_missing(fault.kind()) {
@@ -390,57 +301,6 @@ fn faults_of(alloc: Global, files: &Files, roles: &Roles) -> Result<Vec<Fault>, 
     Ok(source.into_faults())
 }
 
-// Reads the files that inclusions miss, in rounds, until a round adds none.
-fn read_rounds<F: Folder>(
-    alloc: Global,
-    folder: &mut F,
-    files: &mut Files,
-    roles: &Roles,
-) -> Result<(), LoadFault>
-    requires { fits files.old roles.now ≡ true }
-    ensures ok { OnOk result (LoadsTo (F.state folder.old).files
-        (λ all. rounds_from all roles.now files.old)
-        (F.state folder.old).failures (F.state folder.new).failures files.new) }
-    ensures err { IfErr result
-        (λ fault. StopsFor (F.state folder.old).files (λ all. rounds_from all roles.now files.old)
-        (F.state folder.old).failures (F.state folder.new).failures (ending_of fault)) }
-    ensures fits { OnOk result (fits files.new roles.now ≡ true) }
-    ensures reported { IfErr result
-        (λ fault. NamesLastAsked (F.state folder.new).asked (ending_of fault)) }
-    ensures asks { OnOk result
-        ((before : Option _)
-        → RoundsOnce before (tried (F.state folder.old).asked files.old []) roles.now
-        → AsksForNeeded before (F.state folder.new).asked files.new roles.now) }
-    ensures stops { OnErr result
-        ((before : Option _)
-        → RoundsOnce before (tried (F.state folder.old).asked files.old []) roles.now
-        → AsksOnce before (F.state folder.new).asked) }
-    ensures order { OnOk result (IfSome (F.state folder.old).files (λ all. (before : List _)
-        → InRounds all roles.now before (tried (F.state folder.old).asked files.old [])
-        → AsksWhole all roles.now before (F.state folder.new).asked)) }
-    ensures ends { IfErr result
-        (λ fault. IfSome (F.state folder.old).files (λ all. (before : List _)
-        → InRounds all roles.now before (tried (F.state folder.old).asked files.old [])
-        → (rounds : ℕ) × StopsAmong (asked_in all roles.now rounds) before
-        (F.state folder.new).asked (ending_of fault))) }
-    ensures unfailed { OnOk result ((F.state folder.new).failed ≡ (F.state folder.old).failed) }
-    ensures fails { OnErr result (FailsLast (F.state folder.old) (F.state folder.new)) }
-    ensures files_stay { (F.state folder.new).files ≡ (F.state folder.old).files }
-    ensures created_stay { (F.state folder.new).created ≡ (F.state folder.old).created }
-{
-    // A folder stays as it is during a run, so a round that adds no file is the last. A chain of
-    // inclusions costs one reading of the sources for each link, and there are at most 256.
-    let mut absent = Absent::new(alloc);
-    loop {
-        let count = files.count();
-        let faults = faults_of(alloc, files, roles)?;
-        read_inclusions(alloc, folder, files, &mut absent, faults.as_slice())?;
-        if files.count() == count {
-            return Ok(());
-        }
-    }
-}
-
 // The first of the three names that is no file name.
 fn first_bad(names: &Words) -> Option<&[u8]>
     ensures { option_copied result ≡ bad_name names.now }
@@ -460,35 +320,27 @@ fn first_bad(names: &Words) -> Option<&[u8]>
 
 // Loads the files of roles whose three names are file names.
 fn load_files<F: Folder>(alloc: Global, roles: &Roles, folder: &mut F) -> Result<Files, LoadFault>
-    ensures ok { IfOk result (λ files. LoadsTo (F.state folder.old).files
-        (λ all. load_unless all roles.now None)
-        (F.state folder.old).failures (F.state folder.new).failures files) }
-    ensures err { IfErr result
-        (λ fault. StopsFor (F.state folder.old).files (λ all. load_unless all roles.now None)
-        (F.state folder.old).failures (F.state folder.new).failures (ending_of fault)) }
+    requires { bad_name roles.now ≡ None }
+    ensures ok { IfOk result
+        (λ files. Loads roles.now (F.state folder.old) (F.state folder.new) files) }
     ensures fits { IfOk result (λ files. fits files roles.now ≡ true) }
-    ensures reported { IfErr result
-        (λ fault. NamesLastAsked (F.state folder.new).asked (ending_of fault)) }
-    ensures asks { IfOk result
-        (λ files. AsksForNeeded (F.state folder.old).asked (F.state folder.new).asked files
-        roles.now) }
-    ensures once { AsksOnce (F.state folder.old).asked (F.state folder.new).asked }
-    ensures order { OnOk result
-        (AsksByRounds (F.state folder.old).files roles.now (F.state folder.old).asked
-        (F.state folder.new).asked) }
-    ensures ends { IfErr result (λ fault. bad_name roles.now ≡ None
-        → AsksUntil (F.state folder.old).files roles.now (F.state folder.old).asked
-        (F.state folder.new).asked (ending_of fault)) }
-    ensures unfailed { OnOk result ((F.state folder.new).failed ≡ (F.state folder.old).failed) }
-    ensures fails { OnErr result (FailsLast (F.state folder.old) (F.state folder.new)) }
-    ensures files_stay { (F.state folder.new).files ≡ (F.state folder.old).files }
-    ensures created_stay { (F.state folder.new).created ≡ (F.state folder.old).created }
+    ensures err { IfErr result (λ fault. StopsLoading roles.now (F.state folder.old)
+        (F.state folder.new) (ending_of fault)) }
 {
     let mut files = Files::new(alloc);
     read_needed(alloc, folder, &mut files, roles.web())?;
     read_change(alloc, folder, &mut files, roles.change())?;
-    read_rounds(alloc, folder, &mut files, roles)?;
-    Ok(files)
+    // A folder stays as it is during a run, so a round that adds no file is the last. A chain of
+    // inclusions costs one reading of the sources for each link, and there are at most 256.
+    let mut absent = Absent::new(alloc);
+    loop {
+        let count = files.count();
+        let faults = faults_of(alloc, &files, roles)?;
+        read_inclusions(alloc, folder, &mut files, &mut absent, faults.as_slice())?;
+        if files.count() == count {
+            return Ok(files);
+        }
+    }
 }
 
 /// Loads the files of a run: the web, then the change file, and then, in rounds, the files that
@@ -515,28 +367,11 @@ pub fn load<F: Folder>(
     folder: &mut F,
 ) -> Result<(Files, Roles), LoadFault>
     ensures ok { IfOk result
-        (λ r. LoadsTo (F.state folder.old).files (λ all. load_of all names.now)
-        (F.state folder.old).failures (F.state folder.new).failures r.0) }
+        (λ r. Loads names.now (F.state folder.old) (F.state folder.new) r.0) }
     ensures roles { IfOk result (λ r. r.1 ≡ names.now) }
     ensures fits { IfOk result (λ r. fits r.0 r.1 ≡ true) }
-    ensures err { IfErr result
-        (λ fault. StopsFor (F.state folder.old).files (λ all. load_of all names.now)
-        (F.state folder.old).failures (F.state folder.new).failures (ending_of fault)) }
-    ensures reported { IfErr result
-        (λ fault. NamesLastAsked (F.state folder.new).asked (ending_of fault)) }
-    ensures asks { IfOk result
-        (λ r. AsksForNeeded (F.state folder.old).asked (F.state folder.new).asked r.0 r.1) }
-    ensures once { AsksOnce (F.state folder.old).asked (F.state folder.new).asked }
-    ensures order { OnOk result
-        (AsksByRounds (F.state folder.old).files names.now (F.state folder.old).asked
-        (F.state folder.new).asked) }
-    ensures ends { IfErr result
-        (λ fault. AsksUntil (F.state folder.old).files names.now (F.state folder.old).asked
-        (F.state folder.new).asked (ending_of fault)) }
-    ensures unfailed { OnOk result ((F.state folder.new).failed ≡ (F.state folder.old).failed) }
-    ensures fails { OnErr result (FailsLast (F.state folder.old) (F.state folder.new)) }
-    ensures files_stay { (F.state folder.new).files ≡ (F.state folder.old).files }
-    ensures created_stay { (F.state folder.new).created ≡ (F.state folder.old).created }
+    ensures err { IfErr result (λ fault. StopsLoading names.now (F.state folder.old)
+        (F.state folder.new) (ending_of fault)) }
 {
     if let Some(name) = first_bad(names) {
         return Err(refused(alloc, name, Refusal::BadName));

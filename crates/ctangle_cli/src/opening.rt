@@ -5,7 +5,8 @@ use std::io::{Error, LineWriter, Write};
 use std::{env, io};
 use tangle_lines::IoSink;
 
-/// The arguments of the command line, the program's name first.
+/// The arguments of the command line, the program's name first. No clause says more of them: they
+/// are what the system gives.
 ///
 /// # Errors
 ///

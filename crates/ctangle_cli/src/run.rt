@@ -1,8 +1,9 @@
 //! A run of `ctangle`.
 ghost use Rattle.std.specs.Prelude.{◌≡◌, ℕ, List, IfOk, map};
 ghost use Rattle.ctangle_cli.specs.Messages.{faults_status};
-ghost use Rattle.ctangle_cli.specs.Run.{Loads, Moment, NamedEnds, RunEnds, SessionEnds, moment};
-ghost use Rattle.ctangle_cli.specs.Run.{nothing_done};
+ghost use Rattle.tangle_folders.specs.Folder.{FolderRead};
+ghost use Rattle.ctangle_cli.specs.Loads.{Loads};
+ghost use Rattle.ctangle_cli.specs.Run.{NamedEnds, RunEnds, SessionEnds, moment, nothing_done};
 
 use crate::arguments::{WordFault, Words, read_words};
 use crate::laws::output_names_differ;
@@ -89,9 +90,8 @@ fn run_loaded<F: Folder, E: Sink>(
     folder: &mut F,
     err: &mut E,
 ) -> Ended
-    ensures { (old : Moment) → Loads roles old
-        (moment (F.state folder.old) (E.stream err.old)) files
-        → NamedEnds roles old
+    ensures { (begun : FolderRead) → Loads roles begun (F.state folder.old) files
+        → NamedEnds roles (moment begun (E.stream err.old))
         (moment (F.state folder.new) (E.stream err.new)) result.status }
 {
     match started(alloc, files, roles) {

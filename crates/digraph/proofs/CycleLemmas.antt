@@ -1,5 +1,6 @@
 -- What the flags of a search mean for nodes that contain themselves.
-use Rattle.std.proofs.Common.{◌≡◌, ◌<◌, ◌+◌, ◌∙◌, ◌↔◌, ℕ, Bool, true, false, List, [], ◌∷◌, ◌++◌, length, get_or, set, Vec, sym, subst, arith, get_or-set_other, replicate, Contains, All}
+use Rattle.std.proofs.Common.{◌≡◌, ◌<◌, ◌+◌, ◌∙◌, ◌↔◌, ℕ, Bool, true, false, List, [], ◌∷◌, ◌++◌, length, get_or, set}
+use Rattle.std.proofs.Common.{Vec, sym, subst, arith, get_or-set_other, replicate, Contains, All}
 use Rattle.std.proofs.Math.Decide.{ℕ_discrete}
 use Rattle.std.proofs.lemmas.List.{get_or_push, get_or_append_left}
 use Rattle.std.proofs.lemmas.List.Elements.{All-contains}
@@ -14,38 +15,48 @@ use Rattle.digraph.proofs.ReachLemmas.{flagged_in, none_flagged, true_unless}
 pub flagged_alone : (size n m : ℕ) → IsFlagged (set (replicate size false) n true) m → m ≡ n
 flagged_alone size n m f = elim (ℕ_discrete m n) [
   | yes e ↦ e
-  | no other ↦ (let none : get_or (replicate size false) m false ≡ true = sym (get_or-set_other (replicate size false) n m true false other) ∙ f in
+  | no other ↦ (let none : get_or (replicate size false) m false ≡ true =
+      sym (get_or-set_other (replicate size false) n m true false other) ∙ f in
       let both : true ≡ false = sym none ∙ none_flagged size m in absurd (cc))
 ]
 
--- a search for the nodes that reach `n` alone decides whether `n` contains itself
-pub search_says : (graph : Graph) (flags found : List Bool) (n : ℕ) (row : Vec ℕ Global) (result : Bool) → InRange graph → n < length graph → row ≡ get_or graph n row
+-- if only `n` is flagged, a search for the nodes that reach a flagged one decides whether `n` contains itself
+pub search_says : (graph : Graph) (flags found : List Bool) (n : ℕ) (row : Vec ℕ Global) (result : Bool)
+    → InRange graph → n < length graph → row ≡ get_or graph n row
     → ((m : ℕ) → IsFlagged flags m → m ≡ n) → IsFlagged flags n → FlagsJust graph found (ReachesFlagged graph flags)
-    → (result ≡ true → (m : ℕ) × Contains row.items m × IsFlagged found m) → (result ≡ false → (m : ℕ) → Contains row.items m → ¬ (IsFlagged found m)) → (result ≡ true) ↔ ContainsItself (HasUse graph) n
+    → (result ≡ true → (m : ℕ) × Contains row.items m × IsFlagged found m)
+    → (result ≡ false → (m : ℕ) → Contains row.items m → ¬ (IsFlagged found m))
+    → (result ≡ true) ↔ ContainsItself (HasUse graph) n
 search_says graph flags found n row result range h e only flagged exact yes_when no_when = (
   λ is. (let one = yes_when is in let r = (exact one.0 (small one.0 one.1)).0 one.2 in
       (one.0, use_at graph n one.0 row h e one.1, subst (λ k. Reaches (HasUse graph) one.0 k) (only r.0 r.2) r.1)),
-  λ c. true_unless result (λ is. (let inside : Contains row.items c.0 = in_row graph n c.0 row h e c.1 in no_when is c.0 inside ((exact c.0 (small c.0 inside)).1 (n, c.2, flagged)))),
+  λ c. true_unless result (λ is. (let inside : Contains row.items c.0 = in_row graph n c.0 row h e c.1 in
+      no_when is c.0 inside ((exact c.0 (small c.0 inside)).1 (n, c.2, flagged)))),
 )
   where
     small : (m : ℕ) → Contains row.items m → m < length graph
-    small m inside = All-contains (λ k. k < length graph) row.items m (subst (λ r. All (λ k. k < length graph) r.items) (sym e) (range n row h)) inside
+    small m inside = All-contains (λ k. k < length graph) row.items m
+        (subst (λ r. All (λ k. k < length graph) r.items) (sym e) (range n row h)) inside
 
 -- a node reaches one that contains itself, where the flags say which nodes do
-pub cycles_reached : (graph : Graph) (flags found : List Bool) → length flags ≡ length graph → FlagsJust graph flags (ContainsItself (HasUse graph)) → FlagsJust graph found (ReachesFlagged graph flags) → FlagsJust graph found (ReachesCycle (HasUse graph))
+pub cycles_reached : (graph : Graph) (flags found : List Bool)
+    → length flags ≡ length graph → FlagsJust graph flags (ContainsItself (HasUse graph))
+    → FlagsJust graph found (ReachesFlagged graph flags) → FlagsJust graph found (ReachesCycle (HasUse graph))
 cycles_reached graph flags found size exact reported = λ n h. (
   λ f. (let r = (reported n h).0 f in (r.0, r.1, (exact r.0 (omega (arith, size, flagged_in flags r.0 r.2))).0 r.2)),
   λ c. (reported n h).1 (c.0, c.1, (exact c.0 (node_in graph c.0 c.2.0 c.2.1)).1 c.2),
 )
 
 -- one more flag, which says whether `P` holds
-pub flags_more : (P : ℕ → Type 0) (flags : List Bool) (n : ℕ) (flag : Bool) → length flags ≡ n → ((k : ℕ) → k < n → IsFlagged flags k ↔ P k) → ((flag ≡ true) ↔ P n)
+pub flags_more : (P : ℕ → Type 0) (flags : List Bool) (n : ℕ) (flag : Bool)
+    → length flags ≡ n → ((k : ℕ) → k < n → IsFlagged flags k ↔ P k) → ((flag ≡ true) ↔ P n)
     → (k : ℕ) → k < n + 1 → IsFlagged (flags ++ flag ∷ []) k ↔ P k
 flags_more P flags n flag size old says k h = elim (ℕ_discrete k n) [
   | yes e ↦ (let at : get_or (flags ++ flag ∷ []) k false ≡ flag = get_or_push flags flag false k (size ∙ sym e) in
       (λ f. subst P (sym e) (says.0 (sym at ∙ f)), λ p. at ∙ says.1 (subst P e p)))
   | no other ↦ (let low : k < length flags = omega (arith, h, size) in
-      let at : get_or (flags ++ flag ∷ []) k false ≡ get_or flags k false = get_or_append_left flags (flag ∷ []) false k low in
+      let at : get_or (flags ++ flag ∷ []) k false ≡ get_or flags k false =
+      get_or_append_left flags (flag ∷ []) false k low in
       let was : IsFlagged flags k ↔ P k = old k (omega (arith, low, size)) in
       (λ f. was.0 (sym at ∙ f), λ p. at ∙ was.1 p))
 ]

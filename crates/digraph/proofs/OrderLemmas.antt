@@ -1,5 +1,6 @@
 -- Induction along an order for its nodes, and on the fuel for the nodes that are left out.
-use Rattle.std.proofs.Common.{◌≡◌, ◌<◌, ◌∙◌, ℕ, zero, suc, List, length, take, get_or, sym, subst, arith, Contains, length-take}
+use Rattle.std.proofs.Common.{◌≡◌, ◌<◌, ◌∙◌, ℕ, zero, suc, List, length, take, get_or, sym, subst, arith, Contains}
+use Rattle.std.proofs.Common.{length-take}
 use Rattle.std.proofs.lemmas.List.{get_or_default, get_or-take}
 use Rattle.digraph.specs.Graph.{Graph, HasUse, InRange}
 use Rattle.digraph.specs.Reach.{Reaches, here, on, ContainsItself, ReachesCycle, HasPath}
@@ -7,14 +8,16 @@ use Rattle.digraph.specs.Order.{IsAfterUses, IsOrder}
 use Rattle.digraph.proofs.GraphLemmas.{use_in}
 
 -- an item among the first `k` is at a position below `k`
-earlier : (order : List ℕ) (k m : ℕ) → Contains (take k order) m → (j : ℕ) × (j < k) × (j < length order) × (get_or order j 0 ≡ m)
+earlier : (order : List ℕ) (k m : ℕ)
+    → Contains (take k order) m → (j : ℕ) × (j < k) × (j < length order) × (get_or order j 0 ≡ m)
 earlier order k m c =
     let short : c.0 < length (take k order) = c.1 in
     let low : c.0 < k = omega (arith, short, length-take k order) in
     let room : c.0 < length order = omega (arith, short, length-take k order) in
     (c.0, low, room, get_or_default order c.0 0 m room ∙ sym (get_or-take k order c.0 m low) ∙ c.2)
 
-module _ (graph : Graph) (order : List ℕ) (after_uses : IsAfterUses graph order) (P : ℕ → Type 0) (step : (n : ℕ) → ((m : ℕ) → HasUse graph n m → P m) → P n) where
+module _ (graph : Graph) (order : List ℕ) (after_uses : IsAfterUses graph order)
+    (P : ℕ → Type 0) (step : (n : ℕ) → ((m : ℕ) → HasUse graph n m → P m) → P n) where
   below : (bound k : ℕ) → k < bound → k < length order → P (get_or order k 0)
   below zero k h room = absurd (omega (arith, h))
   below (suc bound) k h room = step (get_or order k 0) (λ m u.
@@ -22,26 +25,33 @@ module _ (graph : Graph) (order : List ℕ) (after_uses : IsAfterUses graph orde
       let low : at.0 < bound = omega (arith, h, at.1) in
       subst P at.3 (below bound at.0 low at.2))
 
-  -- a property that a node has if all nodes that it uses have it holds for each node in the order
+  -- if each node has a property where all nodes that it uses have it, then each node in the order has it
   pub along : (n : ℕ) → Contains order n → P n
   along n c = subst P (get_or_default order c.0 0 n c.1 ∙ c.2) (below (suc c.0) c.0 (omega arith) c.1)
 
 -- if a node has a property with one more fuel than a node that it uses, each node that is left out has it with any fuel
-pub left_out_deep : (graph : Graph) (order : List ℕ) → IsOrder graph order → InRange graph → (P : ℕ → ℕ → Type 0) → ((n : ℕ) → P zero n)
-    → ((fuel n m : ℕ) → HasUse graph n m → P fuel m → P (suc fuel) n) → (fuel n : ℕ) → n < length graph → (Contains order n → ⊥) → P fuel n
+pub left_out_deep : (graph : Graph) (order : List ℕ)
+    → IsOrder graph order → InRange graph → (P : ℕ → ℕ → Type 0) → ((n : ℕ) → P zero n)
+    → ((fuel n m : ℕ) → HasUse graph n m → P fuel m → P (suc fuel) n) → (fuel n : ℕ)
+    → n < length graph → (Contains order n → ⊥) → P fuel n
 left_out_deep graph order is range P start up zero n h out = start n
 left_out_deep graph order is range P start up (suc fuel) n h out =
     let next = is.rest n h out in
-    up fuel n next.0 next.1 (left_out_deep graph order is range P start up fuel next.0 (use_in graph range n next.0 next.1) next.2)
+    up fuel n next.0 next.1
+    (left_out_deep graph order is range P start up fuel next.0 (use_in graph range n next.0 next.1) next.2)
 
 -- a node that reaches a cycle uses a node that reaches it
-cycle_used : (graph : Graph) (n k : ℕ) → Reaches (HasUse graph) n k → ContainsItself (HasUse graph) k → (m : ℕ) × HasUse graph n m × ReachesCycle (HasUse graph) m
+cycle_used : (graph : Graph) (n k : ℕ) → Reaches (HasUse graph) n k → ContainsItself (HasUse graph) k
+    → (m : ℕ) × HasUse graph n m × ReachesCycle (HasUse graph) m
 cycle_used graph n k here c = (c.0, c.1, (n, c.2, c))
 cycle_used graph n k (on {b = m} u r) c = (m, u, (k, r, c))
 
-pub ordered_acyclic : (graph : Graph) (order : List ℕ) (n : ℕ) → IsOrder graph order → Contains order n → ReachesCycle (HasUse graph) n → ⊥
+pub ordered_acyclic : (graph : Graph) (order : List ℕ) (n : ℕ)
+    → IsOrder graph order → Contains order n → ReachesCycle (HasUse graph) n → ⊥
 ordered_acyclic graph order n is = along graph order is.after_uses (λ k. ReachesCycle (HasUse graph) k → ⊥)
     (λ k below c. let next = cycle_used graph k c.0 c.1 c.2 in below next.0 next.1 next.2) n
 
-pub left_out_paths : (graph : Graph) (order : List ℕ) (n steps : ℕ) → IsOrder graph order → InRange graph → n < length graph → (Contains order n → ⊥) → HasPath (HasUse graph) steps n
-left_out_paths graph order n steps is range = left_out_deep graph order is range (λ k m. HasPath (HasUse graph) k m) (λ m. tt) (λ k a b u path. (b, u, path)) steps n
+pub left_out_paths : (graph : Graph) (order : List ℕ) (n steps : ℕ)
+    → IsOrder graph order → InRange graph → n < length graph → (Contains order n → ⊥) → HasPath (HasUse graph) steps n
+left_out_paths graph order n steps is range = left_out_deep graph order is range
+    (λ k m. HasPath (HasUse graph) k m) (λ m. tt) (λ k a b u path. (b, u, path)) steps n

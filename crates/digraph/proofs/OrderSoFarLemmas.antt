@@ -1,7 +1,10 @@
 -- One more node is added to an order.
-use Rattle.std.proofs.Common.{◌≡◌, ◌≢◌, ◌<◌, ◌≤◌, ◌+◌, ◌∙◌, ℕ, Bool, true, false, List, [], ◌∷◌, ◌++◌, length, take, get_or, set, Vec, sym, subst, inl, inr, arith, length-append, length-set, get_or-set_same, get_or-set_other, Contains, All}
+use Rattle.std.proofs.Common.{◌≡◌, ◌≢◌, ◌<◌, ◌≤◌, ◌+◌, ◌∙◌, ℕ, Bool, true, false, List, [], ◌∷◌, ◌++◌, length, take}
+use Rattle.std.proofs.Common.{get_or, set, Vec, sym, subst, inl, inr, arith, length-append, length-set, get_or-set_same}
+use Rattle.std.proofs.Common.{get_or-set_other, Contains, All}
 use Rattle.std.proofs.lemmas.List.{get_or_push, get_or_append_left, take_at, take-append-le}
-use Rattle.std.proofs.lemmas.List.Elements.{Contains-append_left, Contains-push, Contains-push_cases, Contains-get_or, All-contains}
+use Rattle.std.proofs.lemmas.List.Elements.{Contains-append_left, Contains-push, Contains-push_cases, Contains-get_or}
+use Rattle.std.proofs.lemmas.List.Elements.{All-contains}
 use Rattle.std.proofs.Math.Decide.{ℕ_discrete}
 use Rattle.std.specs.Global.{Global}
 use Rattle.digraph.specs.Graph.{Graph, HasUse}
@@ -14,7 +17,8 @@ use Rattle.digraph.proofs.GraphLemmas.{use_at, in_row}
 abbrev pub UsesListed : Graph → List ℕ → ℕ → Type 0
 UsesListed graph order n = (m : ℕ) → HasUse graph n m → Contains order m
 
-after_push : (graph : Graph) (order : List ℕ) (n : ℕ) → IsAfterUses graph order → n < length graph → (Contains order n → ⊥) → UsesListed graph order n
+after_push : (graph : Graph) (order : List ℕ) (n : ℕ)
+    → IsAfterUses graph order → n < length graph → (Contains order n → ⊥) → UsesListed graph order n
     → IsAfterUses graph (order ++ n ∷ [])
 after_push graph order n p in_graph new listed = record {
   nodes = λ k h. at_push (λ x. x < length graph) k h p.nodes in_graph;
@@ -25,33 +29,46 @@ after_push graph order n p in_graph new listed = record {
     size : length (order ++ n ∷ []) ≡ length order + 1
     size = length-append order (n ∷ [])
 
-    at_push : (P : ℕ → Type 0) (k : ℕ) → k < length (order ++ n ∷ []) → ((j : ℕ) → j < length order → P (get_or order j 0)) → P n → P (get_or (order ++ n ∷ []) k 0)
+    at_push : (P : ℕ → Type 0) (k : ℕ) → k < length (order ++ n ∷ [])
+        → ((j : ℕ) → j < length order → P (get_or order j 0)) → P n → P (get_or (order ++ n ∷ []) k 0)
     at_push P k h old here = elim (ℕ_discrete k (length order)) [
       | yes e ↦ subst P (sym (get_or_push order n 0 k (sym e))) here
-      | no other ↦ (let low : k < length order = omega (arith, size, h) in subst P (sym (get_or_append_left order (n ∷ []) 0 k low)) (old k low))
+      | no other ↦ (let low : k < length order = omega (arith, size, h) in
+          subst P (sym (get_or_append_left order (n ∷ []) 0 k low)) (old k low))
     ]
 
-    once : (j k : ℕ) → j < k → k < length (order ++ n ∷ []) → get_or (order ++ n ∷ []) j 0 ≢ get_or (order ++ n ∷ []) k 0
+    once : (j k : ℕ)
+        → j < k → k < length (order ++ n ∷ []) → get_or (order ++ n ∷ []) j 0 ≢ get_or (order ++ n ∷ []) k 0
     once j k less h = elim (ℕ_discrete k (length order)) [
       | yes e ↦ (let low : j < length order = omega (arith, less, e) in
-          λ same. new (subst (λ v. Contains order v) (sym (get_or_append_left order (n ∷ []) 0 j low) ∙ same ∙ get_or_push order n 0 k (sym e)) (Contains-get_or order j 0 low)))
-      | no other ↦ (let low : k < length order = omega (arith, size, h) in let lower : j < length order = omega (arith, less) in
-          λ same. p.once j k less low (sym (get_or_append_left order (n ∷ []) 0 j lower) ∙ same ∙ get_or_append_left order (n ∷ []) 0 k low))
+          λ same. new (subst (λ v. Contains order v)
+          (sym (get_or_append_left order (n ∷ []) 0 j low) ∙ same ∙ get_or_push order n 0 k (sym e))
+          (Contains-get_or order j 0 low)))
+      | no other ↦
+          (let low : k < length order = omega (arith, size, h) in let lower : j < length order = omega (arith, less) in
+          λ same. p.once j k less low
+          (sym (get_or_append_left order (n ∷ []) 0 j lower) ∙ same ∙ get_or_append_left order (n ∷ []) 0 k low))
     ]
 
-    after : (k m : ℕ) → k < length (order ++ n ∷ []) → HasUse graph (get_or (order ++ n ∷ []) k 0) m → Contains (take k (order ++ n ∷ [])) m
+    after : (k m : ℕ) → k < length (order ++ n ∷ []) → HasUse graph (get_or (order ++ n ∷ []) k 0) m
+        → Contains (take k (order ++ n ∷ [])) m
     after k m h u = elim (ℕ_discrete k (length order)) [
-      | yes e ↦ subst (λ xs. Contains xs m) (sym (take_at order (n ∷ []) k (sym e))) (listed m (subst (λ v. HasUse graph v m) (get_or_push order n 0 k (sym e)) u))
-      | no other ↦ (let low : k < length order = omega (arith, size, h) in let most : k ≤ length order = omega (arith, low) in
-          subst (λ xs. Contains xs m) (sym (take-append-le k order (n ∷ []) most)) (p.after k m low (subst (λ v. HasUse graph v m) (get_or_append_left order (n ∷ []) 0 k low) u)))
+      | yes e ↦ subst (λ xs. Contains xs m) (sym (take_at order (n ∷ []) k (sym e)))
+          (listed m (subst (λ v. HasUse graph v m) (get_or_push order n 0 k (sym e)) u))
+      | no other ↦
+          (let low : k < length order = omega (arith, size, h) in let most : k ≤ length order = omega (arith, low) in
+          subst (λ xs. Contains xs m) (sym (take-append-le k order (n ∷ []) most))
+          (p.after k m low (subst (λ v. HasUse graph v m) (get_or_append_left order (n ∷ []) 0 k low) u)))
     ]
 
-pub order_push : (graph : Graph) (flags : List Bool) (order : List ℕ) (n : ℕ) → IsOrderSoFar graph flags order → n < length graph
+pub order_push : (graph : Graph) (flags : List Bool) (order : List ℕ) (n : ℕ)
+    → IsOrderSoFar graph flags order → n < length graph
     → get_or flags n false ≡ false → UsesListed graph order n → IsOrderSoFar graph (set flags n true) (order ++ n ∷ [])
 order_push graph flags order n p in_graph free listed = record {
   size = length-set flags n true ∙ p.size;
   flagged = λ m. (is_inside m, shown m);
-  after_uses = after_push graph order n p.after_uses in_graph (λ c. let both : true ≡ false = sym ((p.flagged n).1 c) ∙ free in absurd (cc)) listed;
+  after_uses = after_push graph order n p.after_uses in_graph
+      (λ c. let both : true ≡ false = sym ((p.flagged n).1 c) ∙ free in absurd (cc)) listed;
 }
   where
     room : n < length flags
@@ -60,7 +77,8 @@ order_push graph flags order n p in_graph free listed = record {
     is_inside : (m : ℕ) → IsFlagged (set flags n true) m → Contains (order ++ n ∷ []) m
     is_inside m f = elim (ℕ_discrete m n) [
       | yes e ↦ subst (λ k. Contains (order ++ n ∷ []) k) (sym e) (Contains-push order n)
-      | no other ↦ Contains-append_left order (n ∷ []) m ((p.flagged m).0 (sym (get_or-set_other flags n m true false other) ∙ f))
+      | no other ↦ Contains-append_left order (n ∷ []) m
+          ((p.flagged m).0 (sym (get_or-set_other flags n m true false other) ∙ f))
     ]
 
     shown : (m : ℕ) → Contains (order ++ n ∷ []) m → IsFlagged (set flags n true) m
@@ -72,22 +90,28 @@ order_push graph flags order n p in_graph free listed = record {
       ]
     ]
 
--- the uses of `n`, by its row
-pub listed_row : (graph : Graph) (flags : List Bool) (order : List ℕ) (n : ℕ) (row : Vec ℕ Global) → IsOrderSoFar graph flags order → n < length graph → row ≡ get_or graph n row
+-- `n` uses only listed nodes if all nodes in its row are flagged
+pub listed_row : (graph : Graph) (flags : List Bool) (order : List ℕ) (n : ℕ) (row : Vec ℕ Global)
+    → IsOrderSoFar graph flags order → n < length graph → row ≡ get_or graph n row
     → All (λ m. IsFlagged flags m) row.items → UsesListed graph order n
-listed_row graph flags order n row p h e all m u = (p.flagged m).0 (All-contains (λ k. IsFlagged flags k) row.items m all (in_row graph n m row h e u))
+listed_row graph flags order n row p h e all m u =
+    (p.flagged m).0 (All-contains (λ k. IsFlagged flags k) row.items m all (in_row graph n m row h e u))
 
-pub stuck_row : (graph : Graph) (flags : List Bool) (order : List ℕ) (n : ℕ) (row : Vec ℕ Global) → IsOrderSoFar graph flags order → n < length graph → row ≡ get_or graph n row
+pub stuck_row : (graph : Graph) (flags : List Bool) (order : List ℕ) (n : ℕ) (row : Vec ℕ Global)
+    → IsOrderSoFar graph flags order → n < length graph → row ≡ get_or graph n row
     → (m : ℕ) × Contains row.items m × (¬ (IsFlagged flags m)) → IsStuck graph order n
-stuck_row graph flags order n row p h e one = inr (one.0, use_at graph n one.0 row h e one.1, λ c. one.2 ((p.flagged one.0).1 c))
+stuck_row graph flags order n row p h e one =
+    inr (one.0, use_at graph n one.0 row h e one.1, λ c. one.2 ((p.flagged one.0).1 c))
 
-pub is_order : (graph : Graph) (flags : List Bool) (order : List ℕ) → IsOrderSoFar graph flags order → ((n : ℕ) → n < length graph → IsStuck graph order n) → IsOrder graph order
+pub is_order : (graph : Graph) (flags : List Bool) (order : List ℕ)
+    → IsOrderSoFar graph flags order → ((n : ℕ) → n < length graph → IsStuck graph order n) → IsOrder graph order
 is_order graph flags order p stuck = record {
   after_uses = p.after_uses;
   rest = λ n h out. elim (stuck n h) [ inl c ↦ absurd (out c) | inr found ↦ found ];
 }
 
-pub stuck_more : (graph : Graph) (order : List ℕ) (i : ℕ) → ((k : ℕ) → k < i → IsStuck graph order k) → IsStuck graph order i → (k : ℕ) → k < i + 1 → IsStuck graph order k
+pub stuck_more : (graph : Graph) (order : List ℕ) (i : ℕ)
+    → ((k : ℕ) → k < i → IsStuck graph order k) → IsStuck graph order i → (k : ℕ) → k < i + 1 → IsStuck graph order k
 stuck_more graph order i below here k h = elim (ℕ_discrete k i) [
   | yes e ↦ subst (IsStuck graph order) (sym e) here
   | no other ↦ below k (omega (arith, h))
@@ -100,8 +124,10 @@ pub record Passed (graph : Graph) (before flags : List Bool) (first order : List
   pub more : any ≡ true → unflagged flags < unflagged before
   pub stuck : any ≡ false → (k : ℕ) → k < i → IsStuck graph order k
 
-pub passed_added : (graph : Graph) (before flags next : List Bool) (first order longer : List ℕ) (any : Bool) (i : ℕ) → Passed graph before flags first order any i
-    → IsOrderSoFar graph next longer → unflagged next < unflagged flags → Passed graph before next first longer true (i + 1)
+pub passed_added : (graph : Graph) (before flags next : List Bool) (first order longer : List ℕ) (any : Bool) (i : ℕ)
+    → Passed graph before flags first order any i
+    → IsOrderSoFar graph next longer → unflagged next < unflagged flags
+    → Passed graph before next first longer true (i + 1)
 passed_added graph before flags next first order longer any i p so_far less = record {
   so_far = so_far;
   fewer = omega (arith, p.fewer, less);
@@ -109,8 +135,10 @@ passed_added graph before flags next first order longer any i p so_far less = re
   stuck = λ e. absurd (let no : true ≡ false = e in cc);
 }
 
-pub passed_stuck : (graph : Graph) (before flags next : List Bool) (first order longer : List ℕ) (any : Bool) (i : ℕ) → Passed graph before flags first order any i
-    → IsOrderSoFar graph next longer → next ≡ flags → longer ≡ order → IsStuck graph order i → Passed graph before next first longer any (i + 1)
+pub passed_stuck : (graph : Graph) (before flags next : List Bool) (first order longer : List ℕ) (any : Bool) (i : ℕ)
+    → Passed graph before flags first order any i
+    → IsOrderSoFar graph next longer → next ≡ flags → longer ≡ order → IsStuck graph order i
+    → Passed graph before next first longer any (i + 1)
 passed_stuck graph before flags next first order longer any i p so_far same_flags same_order here = record {
   so_far = so_far;
   fewer = rw same_flags p.fewer;

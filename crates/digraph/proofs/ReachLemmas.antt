@@ -1,5 +1,6 @@
 -- Reaching along several uses, and what ranks that never fall exclude.
-use Rattle.std.proofs.Common.{◌≡◌, ◌<◌, ◌≤◌, ◌∙◌, ℕ, Bool, true, false, List, length, get_or, set, Vec, refl, sym, subst, arith, All, get_or-set_other, replicate}
+use Rattle.std.proofs.Common.{◌≡◌, ◌<◌, ◌≤◌, ◌∙◌, ℕ, Bool, true, false, List, length, get_or, set, Vec, refl, sym}
+use Rattle.std.proofs.Common.{subst, arith, All, get_or-set_other, replicate}
 use Rattle.std.proofs.Math.Decide.{ℕ_discrete, dec_lt}
 use Rattle.std.proofs.lemmas.List.{get_or_past, get_or-replicate, length-replicate}
 use Rattle.std.proofs.lemmas.List.Elements.{All-contains}
@@ -10,24 +11,29 @@ use Rattle.digraph.specs.Flags.{IsFlagged}
 use Rattle.digraph.specs.Roots.{NeverFalls}
 use Rattle.digraph.proofs.GraphLemmas.{in_row}
 
-pub reaches_trans : {X : Type 0} (Uses : X → X → Type 0) (a b c : X) → Reaches Uses a b → Reaches Uses b c → Reaches Uses a c
+pub reaches_trans : {X : Type 0} (Uses : X → X → Type 0) (a b c : X)
+    → Reaches Uses a b → Reaches Uses b c → Reaches Uses a c
 reaches_trans Uses a b c here s = s
 reaches_trans Uses a b c (on {b = m} u r) s = on u (reaches_trans Uses m b c r s)
 
-pub ranks_rise : (graph : Graph) (ranks : List ℕ) → NeverFalls graph ranks → (a b : ℕ) → Reaches (HasUse graph) a b → get_or ranks a 0 ≤ get_or ranks b 0
+pub ranks_rise : (graph : Graph) (ranks : List ℕ) → NeverFalls graph ranks → (a b : ℕ)
+    → Reaches (HasUse graph) a b → get_or ranks a 0 ≤ get_or ranks b 0
 ranks_rise graph ranks rising a b here = omega arith
 ranks_rise graph ranks rising a b (on {b = m} u r) = omega (arith, rising a m u, ranks_rise graph ranks rising m b r)
 
 -- a node whose rank is below those of all nodes that it uses does not contain itself
-pub not_itself : (graph : Graph) (ranks : List ℕ) (n low : ℕ) (row : Vec ℕ Global) → NeverFalls graph ranks → n < length graph → row ≡ get_or graph n row
+pub not_itself : (graph : Graph) (ranks : List ℕ) (n low : ℕ) (row : Vec ℕ Global)
+    → NeverFalls graph ranks → n < length graph → row ≡ get_or graph n row
     → All (λ m. low ≤ get_or ranks m 0) row.items → get_or ranks n 0 < low → ContainsItself (HasUse graph) n → ⊥
 not_itself graph ranks n low row rising h e above less c =
-    let step : low ≤ get_or ranks c.0 0 = All-contains (λ m. low ≤ get_or ranks m 0) row.items c.0 above (in_row graph n c.0 row h e c.1) in
+    let step : low ≤ get_or ranks c.0 0 =
+    All-contains (λ m. low ≤ get_or ranks m 0) row.items c.0 above (in_row graph n c.0 row h e c.1) in
     let back : get_or ranks c.0 0 ≤ get_or ranks n 0 = ranks_rise graph ranks rising c.0 n c.2 in
     absurd (omega arith)
 
 -- a property of all flagged nodes still holds when one more node with it is flagged
-pub flagged_set : (P : ℕ → Type 0) (flags : List Bool) (n : ℕ) → ((m : ℕ) → IsFlagged flags m → P m) → P n → (m : ℕ) → IsFlagged (set flags n true) m → P m
+pub flagged_set : (P : ℕ → Type 0) (flags : List Bool) (n : ℕ)
+    → ((m : ℕ) → IsFlagged flags m → P m) → P n → (m : ℕ) → IsFlagged (set flags n true) m → P m
 flagged_set P flags n old p m f = elim (ℕ_discrete m n) [
   | yes e ↦ subst P (sym e) p
   | no other ↦ old m (sym (get_or-set_other flags n m true false other) ∙ f)
@@ -36,7 +42,8 @@ flagged_set P flags n old p m f = elim (ℕ_discrete m n) [
 pub flagged_in : (flags : List Bool) (n : ℕ) → IsFlagged flags n → n < length flags
 flagged_in flags n f = elim (dec_lt n (length flags)) [
   | yes low ↦ low
-  | no past ↦ (let none : get_or flags n false ≡ false = get_or_past flags n false (omega (arith, past)) in let both : true ≡ false = sym f ∙ none in absurd (cc))
+  | no past ↦ (let none : get_or flags n false ≡ false = get_or_past flags n false (omega (arith, past)) in
+      let both : true ≡ false = sym f ∙ none in absurd (cc))
 ]
 
 pub true_unless : (b : Bool) → ((e : b ≡ false) → ⊥) → b ≡ true

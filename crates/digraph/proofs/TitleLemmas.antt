@@ -10,7 +10,8 @@ module _ {X : Type 0} (graph : Graph) (Uses : X → X → Type 0) (title : ℕ �
   reaches_up a b (on {b = m} u r) = on (titled.sound a m u) (reaches_up m b r)
 
   -- from a title that is the title of `a`
-  pub reaches_down : (t k : X) → Reaches Uses t k → (a : ℕ) → a < length graph → title a ≡ t → (b : ℕ) × Reaches (HasUse graph) a b × (b < length graph) × (title b ≡ k)
+  pub reaches_down : (t k : X) → Reaches Uses t k → (a : ℕ)
+      → a < length graph → title a ≡ t → (b : ℕ) × Reaches (HasUse graph) a b × (b < length graph) × (title b ≡ k)
   reaches_down t k here a h e = (a, here, h, e)
   reaches_down t k (on {b = used} u r) a h e =
       let next = titled.complete a used h (subst (λ s. Uses s used) (sym e) u) in

@@ -1,5 +1,7 @@
 -- The nodes that use a node: the positions of the rows that have it.
-use Rattle.std.proofs.Common.{◌≡◌, ◌≤◌, ◌<◌, ◌+◌, ◌∙◌, ◌||◌, ℕ, zero, suc, Bool, true, false, cond, eqb, List, [], ◌∷◌, ◌++◌, length, take, get_or, refl, ap, sym, subst, inl, inr, arith, append_assoc, append-nil, add-zero, zero-add, Vec, Contains, All}
+use Rattle.std.proofs.Common.{◌≡◌, ◌≤◌, ◌<◌, ◌+◌, ◌∙◌, ◌||◌, ℕ, zero, suc, Bool, true, false, cond, eqb, List, [], ◌∷◌}
+use Rattle.std.proofs.Common.{◌++◌, length, take, get_or, refl, ap, sym, subst, inl, inr, arith, append_assoc}
+use Rattle.std.proofs.Common.{append-nil, add-zero, zero-add, Vec, Contains, All}
 use Rattle.std.specs.Global.{Global}
 use Rattle.std.specs.List.{list_any}
 use Rattle.std.specs.List.Sorted.{IsStrictlyIncreasing}
@@ -7,7 +9,8 @@ use Rattle.std.proofs.Math.Decide.{dec_lt}
 use Rattle.std.proofs.lemmas.Bool.Decides.{Decides-eqb}
 use Rattle.std.proofs.lemmas.List.{length-map, get_or_default, get_or_past, length-take-le, get_or-take}
 use Rattle.std.proofs.lemmas.List.Folds.{list_any_more, Any-from_list_any, list_any-from_Any}
-use Rattle.std.proofs.lemmas.List.Elements.{Contains-get_or, All-nil, All-cons, All-contains, Contains-append_right, Contains-append_cases}
+use Rattle.std.proofs.lemmas.List.Elements.{Contains-get_or, All-nil, All-cons, All-contains, Contains-append_right}
+use Rattle.std.proofs.lemmas.List.Elements.{Contains-append_cases}
 use Rattle.std.proofs.lemmas.List.Kept.{AllPairs-from_increasing}
 use Rattle.digraph.specs.Graph.{Graph, InRange, rows_of, row_at}
 use Rattle.digraph.specs.Rows.{IsRowsOf, GrowsBy, IsReversed}
@@ -18,17 +21,22 @@ use Rattle.digraph.proofs.RowLemmas.{grows_more}
 pub positions_more : {X : Type 0} (p : X → Bool) (k : ℕ) (xs : List X) (i : ℕ) (d : X) → i < length xs
     → positions p k (take (i + 1) xs) ≡ positions p k (take i xs) ++ cond (p (get_or xs i d)) ((k + i) ∷ []) []
 positions_more p k [] i d h = absurd (omega (arith, h))
-positions_more p k (x ∷ xs) zero d h = append-nil (cond (p x) (k ∷ []) []) ∙ ap (λ j. cond (p x) (j ∷ []) []) (sym (add-zero k))
+positions_more p k (x ∷ xs) zero d h =
+    append-nil (cond (p x) (k ∷ []) []) ∙ ap (λ j. cond (p x) (j ∷ []) []) (sym (add-zero k))
 positions_more p k (x ∷ xs) (suc i) d h =
     let one_more : suc i + 1 ≡ suc (i + 1) = omega arith in
     let position : k + 1 + i ≡ k + suc i = omega arith in
     let low : i < length xs = omega (arith, h) in
     ap (λ n. positions p k (take n (x ∷ xs))) one_more
-    ∙ (ap (λ r. cond (p x) (k ∷ []) [] ++ r) (positions_more p (k + 1) xs i d low ∙ ap (λ n. positions p (k + 1) (take i xs) ++ cond (p (get_or xs i d)) (n ∷ []) []) position)
-    ∙ sym (append_assoc (cond (p x) (k ∷ []) []) (positions p (k + 1) (take i xs)) (cond (p (get_or xs i d)) ((k + suc i) ∷ []) [])))
+    ∙ (ap (λ r. cond (p x) (k ∷ []) [] ++ r)
+    (positions_more p (k + 1) xs i d low
+    ∙ ap (λ n. positions p (k + 1) (take i xs) ++ cond (p (get_or xs i d)) (n ∷ []) []) position)
+    ∙ sym (append_assoc (cond (p x) (k ∷ []) []) (positions p (k + 1) (take i xs))
+    (cond (p (get_or xs i d)) ((k + suc i) ∷ []) [])))
 
 -- a number is not twice in a row that increases
-pub not_before : (row : List ℕ) (j m : ℕ) → IsStrictlyIncreasing row → j < length row → get_or row j 0 ≡ m → list_any (λ x. eqb x m) (take j row) ≡ false
+pub not_before : (row : List ℕ) (j m : ℕ)
+    → IsStrictlyIncreasing row → j < length row → get_or row j 0 ≡ m → list_any (λ x. eqb x m) (take j row) ≡ false
 not_before row j m up h e = by (list_any (λ x. eqb x m) (take j row)) refl
   where
     by : (b : Bool) → list_any (λ x. eqb x m) (take j row) ≡ b → list_any (λ x. eqb x m) (take j row) ≡ false
@@ -38,36 +46,46 @@ not_before row j m up h e = by (list_any (λ x. eqb x m) (take j row)) refl
         let small : found.0 < length (take j row) = found.2 in
         let cut : length (take j row) ≡ j = length-take-le j row (omega arith) in
         let low : found.0 < j = omega (arith, small, cut) in
-        let less : get_or row found.0 found.1 < get_or row j found.1 = AllPairs-from_increasing row up found.0 j found.1 low h in
+        let less : get_or row found.0 found.1 < get_or row j found.1 =
+        AllPairs-from_increasing row up found.0 j found.1 low h in
         let first : get_or row found.0 found.1 ≡ found.1 = sym (get_or-take j row found.0 found.1 low) ∙ found.3 in
         let here : get_or row j found.1 ≡ m = get_or_default row j found.1 0 h ∙ e in
         let tie : found.1 ≡ m = (Decides-eqb found.1 m).0 found.4 in
         absurd (omega (arith, less, first, here, tie))
 
 pub added_more : (row : List ℕ) (j n m : ℕ) → IsStrictlyIncreasing row → j < length row
-    → cond (list_any (λ x. eqb x m) (take (j + 1) row)) (n ∷ []) [] ≡ cond (list_any (λ x. eqb x m) (take j row)) (n ∷ []) [] ++ cond (eqb (get_or row j 0) m) (n ∷ []) []
+    → cond (list_any (λ x. eqb x m) (take (j + 1) row)) (n ∷ []) []
+    ≡ cond (list_any (λ x. eqb x m) (take j row)) (n ∷ []) [] ++ cond (eqb (get_or row j 0) m) (n ∷ []) []
 added_more row j n m up h =
-    ap (λ b. cond b (n ∷ []) []) (list_any_more (λ x. eqb x m) row j 0 h) ∙ by (list_any (λ x. eqb x m) (take j row)) (eqb (get_or row j 0) m) refl refl
+    ap (λ b. cond b (n ∷ []) []) (list_any_more (λ x. eqb x m) row j 0 h)
+    ∙ by (list_any (λ x. eqb x m) (take j row)) (eqb (get_or row j 0) m) refl refl
   where
-    by : (a b : Bool) → list_any (λ x. eqb x m) (take j row) ≡ a → eqb (get_or row j 0) m ≡ b → cond (a || b) (n ∷ []) [] ≡ cond a (n ∷ []) [] ++ cond b (n ∷ []) []
-    by true true p q = absurd (let no : true ≡ false = sym p ∙ not_before row j m up h ((Decides-eqb (get_or row j 0) m).0 q) in cc)
+    by : (a b : Bool) → list_any (λ x. eqb x m) (take j row) ≡ a → eqb (get_or row j 0) m ≡ b
+        → cond (a || b) (n ∷ []) [] ≡ cond a (n ∷ []) [] ++ cond b (n ∷ []) []
+    by true true p q =
+        absurd (let no : true ≡ false = sym p ∙ not_before row j m up h ((Decides-eqb (get_or row j 0) m).0 q) in cc)
     by true false p q = refl
     by false true p q = refl
     by false false p q = refl
 
-pub users_more : (rows : List (Vec ℕ Global)) (n m : ℕ) (row : Vec ℕ Global) (seen : List ℕ) → n < length rows → row ≡ get_or rows n row → seen ≡ row.items
-    → users_of (take (n + 1) (rows_of rows)) m ≡ users_of (take n (rows_of rows)) m ++ cond (list_any (λ x. eqb x m) seen) (n ∷ []) []
+pub users_more : (rows : List (Vec ℕ Global)) (n m : ℕ) (row : Vec ℕ Global) (seen : List ℕ)
+    → n < length rows → row ≡ get_or rows n row → seen ≡ row.items
+    → users_of (take (n + 1) (rows_of rows)) m
+    ≡ users_of (take n (rows_of rows)) m ++ cond (list_any (λ x. eqb x m) seen) (n ∷ []) []
 users_more rows n m row seen h read shown =
     let inside : n < length (rows_of rows) = omega (arith, h, length-map rows (λ (v : Vec ℕ Global). v.items)) in
     positions_more (list_any (λ x. eqb x m)) 0 (rows_of rows) n [] inside
-    ∙ (λ i. users_of (take n (rows_of rows)) m ++ cond (list_any (λ x. eqb x m) ((row_read rows n row h read ∙ sym shown) i)) (zero-add n i ∷ []) [])
+    ∙ (λ i. users_of (take n (rows_of rows)) m
+    ++ cond (list_any (λ x. eqb x m) ((row_read rows n row h read ∙ sym shown) i)) (zero-add n i ∷ []) [])
 
 pub user_more : (before after next : List (List ℕ)) (row : List ℕ) (j n : ℕ) → IsStrictlyIncreasing row → j < length row
     → GrowsBy (λ m. cond (list_any (λ x. eqb x m) (take j row)) (n ∷ []) []) before after
     → GrowsBy (λ m. cond (eqb (get_or row j 0) m) (n ∷ []) []) after next
     → GrowsBy (λ m. cond (list_any (λ x. eqb x m) (take (j + 1) row)) (n ∷ []) []) before next
 user_more before after next row j n up h first second =
-    grows_more (λ m. cond (list_any (λ x. eqb x m) (take j row)) (n ∷ []) []) (λ m. cond (eqb (get_or row j 0) m) (n ∷ []) []) (λ m. cond (list_any (λ x. eqb x m) (take (j + 1) row)) (n ∷ []) [])
+    grows_more (λ m. cond (list_any (λ x. eqb x m) (take j row)) (n ∷ []) [])
+    (λ m. cond (eqb (get_or row j 0) m) (n ∷ []) [])
+    (λ m. cond (list_any (λ x. eqb x m) (take (j + 1) row)) (n ∷ []) [])
     before after next first second (λ m. added_more row j n m up h)
 
 module _ {X : Type 0} (p : X → Bool) (d : X) where
@@ -76,43 +94,53 @@ module _ {X : Type 0} (p : X → Bool) (d : X) where
   Passes k xs j = (i : ℕ) × (j ≡ k + i) × (i < length xs) × (p (get_or xs i d) ≡ true)
 
   one_of : (b : Bool) (k j : ℕ) → Contains (cond b (k ∷ []) []) j → (b ≡ true) × (k ≡ j)
-  one_of true k j c = (refl, All-contains (λ v. k ≡ v) (k ∷ []) j (All-cons (λ v. k ≡ v) k [] refl (All-nil (λ v. k ≡ v))) c)
+  one_of true k j c =
+      (refl, All-contains (λ v. k ≡ v) (k ∷ []) j (All-cons (λ v. k ≡ v) k [] refl (All-nil (λ v. k ≡ v))) c)
   one_of false k j c = absurd (omega (arith, c.1))
 
   pub passes_from : (k : ℕ) (xs : List X) (j : ℕ) → Contains (positions p k xs) j → Passes k xs j
   passes_from k [] j c = absurd (omega (arith, c.1))
   passes_from k (x ∷ xs) j c = elim (Contains-append_cases (cond (p x) (k ∷ []) []) (positions p (k + 1) xs) j c) [
     | inl here ↦ (let is = one_of (p x) k j here in (0, sym is.1 ∙ sym (add-zero k), omega arith, is.0))
-    | inr later ↦ (let is = passes_from (k + 1) xs j later in (suc is.0, omega (arith, is.1), omega (arith, is.2), is.3))
+    | inr later ↦
+        (let is = passes_from (k + 1) xs j later in (suc is.0, omega (arith, is.1), omega (arith, is.2), is.3))
   ]
 
-  pub passes_into : (k : ℕ) (xs : List X) (i : ℕ) → i < length xs → p (get_or xs i d) ≡ true → Contains (positions p k xs) (k + i)
+  pub passes_into : (k : ℕ) (xs : List X) (i : ℕ)
+      → i < length xs → p (get_or xs i d) ≡ true → Contains (positions p k xs) (k + i)
   passes_into k [] i h is = absurd (omega (arith, h))
   passes_into k (x ∷ xs) zero h is =
-      subst (λ b. Contains (cond b (k ∷ []) [] ++ positions p (k + 1) xs) (k + 0)) (sym is) (0, omega arith, sym (add-zero k))
+      subst (λ b. Contains (cond b (k ∷ []) [] ++ positions p (k + 1) xs) (k + 0))
+      (sym is) (0, omega arith, sym (add-zero k))
   passes_into k (x ∷ xs) (suc i) h is =
       let moved : k + 1 + i ≡ k + suc i = omega arith in
-      subst (Contains (positions p k (x ∷ xs))) moved (Contains-append_right (cond (p x) (k ∷ []) []) (positions p (k + 1) xs) (k + 1 + i) (passes_into (k + 1) xs i (omega (arith, h)) is))
+      subst (Contains (positions p k (x ∷ xs))) moved
+      (Contains-append_right (cond (p x) (k ∷ []) []) (positions p (k + 1) xs)
+      (k + 1 + i) (passes_into (k + 1) xs i (omega (arith, h)) is))
 
   low_position : (k : ℕ) (xs : List X) (j : ℕ) → Contains (positions p k xs) j → k ≤ j
   low_position k xs j c = let is = passes_from k xs j c in omega (arith, is.1)
 
   pub positions-low : (k : ℕ) (xs : List X) → All (λ j. k ≤ j) (positions p k xs)
-  positions-low k xs i e h = low_position k xs (get_or (positions p k xs) i e) (Contains-get_or (positions p k xs) i e h)
+  positions-low k xs i e h =
+      low_position k xs (get_or (positions p k xs) i e) (Contains-get_or (positions p k xs) i e h)
 
-  increasing_cons : (k : ℕ) (ys : List ℕ) → All (λ j. k + 1 ≤ j) ys → IsStrictlyIncreasing ys → IsStrictlyIncreasing (k ∷ ys)
+  increasing_cons : (k : ℕ) (ys : List ℕ)
+      → All (λ j. k + 1 ≤ j) ys → IsStrictlyIncreasing ys → IsStrictlyIncreasing (k ∷ ys)
   increasing_cons k ys low up zero h = let first = low 0 0 (omega (arith, h)) in omega (arith, first)
   increasing_cons k ys low up (suc i) h =
       let moved : suc (i + 1) ≡ suc i + 1 = omega arith in
       subst (λ n. get_or ys i 0 < get_or (k ∷ ys) n 0) moved (up i (omega (arith, h)))
 
-  increasing_head : (b : Bool) (k : ℕ) (ys : List ℕ) → All (λ j. k + 1 ≤ j) ys → IsStrictlyIncreasing ys → IsStrictlyIncreasing (cond b (k ∷ []) [] ++ ys)
+  increasing_head : (b : Bool) (k : ℕ) (ys : List ℕ)
+      → All (λ j. k + 1 ≤ j) ys → IsStrictlyIncreasing ys → IsStrictlyIncreasing (cond b (k ∷ []) [] ++ ys)
   increasing_head true k ys low up = increasing_cons k ys low up
   increasing_head false k ys low up = up
 
   pub positions-increasing : (k : ℕ) (xs : List X) → IsStrictlyIncreasing (positions p k xs)
   positions-increasing k [] = λ i h. absurd (omega (arith, h))
-  positions-increasing k (x ∷ xs) = increasing_head (p x) k (positions p (k + 1) xs) (positions-low (k + 1) xs) (positions-increasing (k + 1) xs)
+  positions-increasing k (x ∷ xs) =
+      increasing_head (p x) k (positions p (k + 1) xs) (positions-low (k + 1) xs) (positions-increasing (k + 1) xs)
 
 pub tested : (row : List ℕ) (m : ℕ) → list_any (λ x. eqb x m) row ≡ true → Contains row m
 tested row m is =
@@ -132,14 +160,18 @@ user_uses rows m n c =
     let same : n ≡ is.0 = is.1 ∙ zero-add is.0 in
     subst (λ k. Contains (row_at rows k) m) (sym same) (tested (row_at rows is.0) m is.3)
 
-uses_user : (rows : List (List ℕ)) (m n : ℕ) → n < length rows → Contains (row_at rows n) m → Contains (users_of rows m) n
-uses_user rows m n h c = subst (Contains (users_of rows m)) (zero-add n) (passes_into (list_any (λ x. eqb x m)) [] 0 rows n h (passed (row_at rows n) m c))
+uses_user : (rows : List (List ℕ)) (m n : ℕ)
+    → n < length rows → Contains (row_at rows n) m → Contains (users_of rows m) n
+uses_user rows m n h c = subst (Contains (users_of rows m)) (zero-add n)
+    (passes_into (list_any (λ x. eqb x m)) [] 0 rows n h (passed (row_at rows n) m c))
 
-pub is_reversed : (uses users : Graph) → InRange uses → IsRowsOf (length uses) (users_of (rows_of uses)) (rows_of users) → IsReversed uses users
+pub is_reversed : (uses users : Graph)
+    → InRange uses → IsRowsOf (length uses) (users_of (rows_of uses)) (rows_of users) → IsReversed uses users
 is_reversed uses users range is = record {
   increasing = λ m. elim (dec_lt m (length uses)) [
     | yes low ↦ subst IsStrictlyIncreasing (sym (is.row m low)) (rising (rows_of uses) m)
-    | no past ↦ (let none : row_at (rows_of users) m ≡ [] = get_or_past (rows_of users) m [] (omega (arith, past, is.size)) in
+    | no past ↦
+        (let none : row_at (rows_of users) m ≡ [] = get_or_past (rows_of users) m [] (omega (arith, past, is.size)) in
         subst IsStrictlyIncreasing (sym none) (λ i h. absurd (omega (arith, h))))
   ];
   reversed = λ n m. (

@@ -11,4 +11,6 @@ pub record IsFinding (graph : Graph) (flags found : List Bool) : Type 0 where
 -- the node was found, or nothing so far shows that it reaches a flagged one: it isn't flagged, and
 -- uses no node that was found
 abbrev pub IsDecided : Graph → List Bool → List Bool → ℕ → Type 0
-IsDecided graph flags found n = IsFlagged found n ⊎ ((¬ (IsFlagged flags n)) × ((m : ℕ) → HasUse graph n m → ¬ (IsFlagged found m)))
+IsDecided graph flags found n =
+    IsFlagged found n
+    ⊎ ((¬ (IsFlagged flags n)) × ((m : ℕ) → HasUse graph n m → ¬ (IsFlagged found m)))

@@ -6,9 +6,12 @@ use Rattle.digraph.specs.Graph.{Graph, HasUse}
 pub record IsAfterUses (graph : Graph) (order : List ℕ) : Type 0 where
   pub nodes : (k : ℕ) → k < length order → slice_index order k < length graph
   pub once : (j k : ℕ) → j < k → k < length order → slice_index order j ≢ slice_index order k
-  pub after : (k m : ℕ) → k < length order → HasUse graph (slice_index order k) m → Contains (take k order) m
+  pub after : (k m : ℕ)
+      → k < length order → HasUse graph (slice_index order k) m → Contains (take k order) m
 
--- the same, and each node that is not in the list uses one that isn't
+-- each node of the list comes once, and after all nodes that it uses; each node that is not in the
+-- list uses one that isn't
 pub record IsOrder (graph : Graph) (order : List ℕ) : Type 0 where
   pub after_uses : IsAfterUses graph order
-  pub rest : (n : ℕ) → n < length graph → ¬ (Contains order n) → (m : ℕ) × HasUse graph n m × (¬ (Contains order m))
+  pub rest : (n : ℕ) → n < length graph → ¬ (Contains order n)
+      → (m : ℕ) × HasUse graph n m × (¬ (Contains order m))

@@ -13,7 +13,7 @@ pub record GrowsBy (f : ℕ → List ℕ) (old new : List (List ℕ)) : Type 0 w
   pub size : length new ≡ length old
   pub row : (n : ℕ) → n < length old → row_at new n ≡ row_at old n ++ f n
 
--- the same numbers, each once, in increasing order
+-- `once` has the numbers that `all` has, each once, in increasing order
 pub record IsOnceEach (all once : List ℕ) : Type 0 where
   pub increasing : IsStrictlyIncreasing once
   pub same : (m : ℕ) → Contains once m ↔ Contains all m

@@ -17,7 +17,7 @@ pub fn never_falls(uses: &[Vec<usize>], ranks: &[usize]) -> bool
     true
 }
 
-/// A number that exceeds no rank in the row.
+/// A number that exceeds the rank of no node in the row.
 pub fn lowest(row: &[usize], ranks: &[usize]) -> usize
     requires { All (λ m. m < length ranks.now) row.now }
     ensures { All (λ m. result ≤ slice_index ranks.now m) row.now }

@@ -53,7 +53,7 @@ fn run<E: Sink>(rt: &HostRuntime, err: &mut E) -> u8 {
     }
 }
 
-// It has no `?`: an error that `main` returned would be status 1.
+// `main` has no `?`: an error that `main` returned would be status 1.
 fn main(rt: HostRuntime) -> ExitCode {
     let mut err = lines_to(&rt, rt.stderr());
     let status = run(&rt, &mut err);

@@ -3,3 +3,4 @@ mod NameLemmas
 mod FlagLemmas
 mod ListLemmas
 mod KeepLemmas
+pub mod OutputLemmas

@@ -1,5 +1,6 @@
 -- The nodes that are listed along the order are the affected ones.
-use Rattle.std.proofs.Common.{◌≡◌, ◌≢◌, ◌<◌, ℕ, zero, Bool, true, List, [], ◌∷◌, length, take, get_or, refl, sym, subst, arith, Contains}
+use Rattle.std.proofs.Common.{◌≡◌, ◌≢◌, ◌<◌, ℕ, zero, Bool, true, List, [], ◌∷◌, length, take, get_or, refl, sym, subst}
+use Rattle.std.proofs.Common.{arith, Contains}
 use Rattle.std.specs.List.{filter}
 use Rattle.std.proofs.lemmas.Bool.{and_parts, and_from}
 use Rattle.std.proofs.lemmas.List.Kept.{AllPairs-filter}
@@ -14,24 +15,32 @@ use Rattle.tangle_graph.specs.Stores.{StoreRead, IsStoreOf, IsNodeIn, flag_at, i
 use Rattle.tangle_affected.specs.Affected.{ListsAffected}
 use Rattle.tangle_affected.specs.Keeping.{IsExpandableList, ListsExpandable}
 use Rattle.tangle_affected.specs.Flags.{AreFlagged, FlagsJustListed, FlagsAffected, is_expandable_and_flagged}
-use Rattle.tangle_affected.proofs.FilterLemmas.{filter_position, out_of_filter, into_filter}
+use Rattle.tangle_names.proofs.ContainsLemmas.{into_filter, out_of_filter}
+use Rattle.tangle_affected.proofs.FilterLemmas.{filter_position}
 use Rattle.tangle_affected.proofs.FlagLemmas.{at_position}
 use Rattle.tangle_affected.proofs.NameLemmas.{node_with_piece}
 
-module _ (shapes : Shapes) (store : StoreRead) (order : List Node) (is : IsStoreOf shapes store) (ordered : IsOrderIn store order) where
+module _ (shapes : Shapes) (store : StoreRead) (order : List Node)
+    (is : IsStoreOf shapes store) (ordered : IsOrderIn store order) where
   -- a node of a filter of the order comes after those of the filter that it uses
-  filtered_after : (p : Node → Bool) (k : ℕ) (used : Node) → k < length (filter p order) → Contains (filter p order) used
-      → UsesTitle shapes (title_in_store store (get_or (filter p order) k Program)) (title_in_store store used) → Contains (take k (filter p order)) used
+  filtered_after : (p : Node → Bool) (k : ℕ) (used : Node)
+      → k < length (filter p order) → Contains (filter p order) used
+      → UsesTitle shapes (title_in_store store (get_or (filter p order) k Program)) (title_in_store store used)
+      → Contains (take k (filter p order)) used
   filtered_after p k used h c u =
       let position = filter_position p order k Program h in
       let there = out_of_filter p order used c in
-      let user : UsesTitle shapes (title_in_store store (get_or order position.at Program)) (title_in_store store used) =
+      let user : UsesTitle shapes (title_in_store store (get_or order position.at Program))
+      (title_in_store store used) =
       subst (λ a. UsesTitle shapes (title_in_store store a) (title_in_store store used)) (sym position.same) u in
-      let uses = (is.uses (get_or order position.at Program) used (at_position store order ordered position.at position.inside)).1 (ordered.inside used there.0, user) in
+      let uses =
+      (is.uses (get_or order position.at Program) used (at_position store order ordered position.at position.inside)).1
+      (ordered.inside used there.0, user) in
       let before = ordered.after position.at used position.inside uses in
       subst (λ l. Contains l used) (sym position.front) (into_filter p (take position.at order) used before there.1)
 
-  pub expandable_list : (p : Node → Bool) → ((a : Node) → p a ≡ true → is_expandable_at store a ≡ true) → IsExpandableList shapes store (filter p order)
+  pub expandable_list : (p : Node → Bool)
+      → ((a : Node) → p a ≡ true → is_expandable_at store a ≡ true) → IsExpandableList shapes store (filter p order)
   expandable_list p passes = record {
     expandable = λ a c. passes a (out_of_filter p order a c).1;
     after = λ k used h c u. filtered_after p k used h c u;
@@ -47,7 +56,8 @@ module _ (shapes : Shapes) (store : StoreRead) (order : List Node) (is : IsStore
   }
 
   module _ (old : Shapes) (flags : List Bool) (are : AreFlagged old shapes store flags order) where
-    pub is_affected : (a : Node) → Contains order a → is_expandable_at store a ≡ true → flag_at store flags a ≡ true → IsAffected levels heaviest old shapes (title_in_store store a)
+    pub is_affected : (a : Node) → Contains order a → is_expandable_at store a ≡ true → flag_at store flags a ≡ true
+        → IsAffected levels heaviest old shapes (title_in_store store a)
     is_affected a c flag is_flagged =
         let r = (are a c).0 is_flagged in
         record {
@@ -65,22 +75,34 @@ module _ (shapes : Shapes) (store : StoreRead) (order : List Node) (is : IsStore
       after = λ k used h c u. filtered_after (is_expandable_and_flagged store flags) k used h c u;
     }
       where
-        all : (node : Title) → IsAffected levels heaviest old shapes node → (a : Node) × (title_in_store store a ≡ node) × Contains (filter (is_expandable_and_flagged store flags) order) a
+        all : (node : Title) → IsAffected levels heaviest old shapes node
+            → (a : Node) × (title_in_store store a ≡ node)
+            × Contains (filter (is_expandable_and_flagged store flags) order) a
         all node affected =
             let at = node_with_piece shapes store node is affected.expandable.has_piece in
             let flag = (is.expandable at.0 at.1).1 (subst (IsExpandableNode shapes) (sym at.2) affected.expandable) in
             let c = ordered.expandable at.0 at.1 flag in
-            let is_flagged = (are at.0 c).1 (affected.cause, subst (λ t. Reaches shapes t affected.cause) (sym at.2) affected.reaches, affected.changed) in
-            (at.0, at.2, into_filter (is_expandable_and_flagged store flags) order at.0 c (and_from (is_expandable_at store at.0) (flag_at store flags at.0) flag is_flagged))
+            let is_flagged = (are at.0 c).1 (
+              affected.cause,
+              subst (λ t. Reaches shapes t affected.cause) (sym at.2) affected.reaches,
+              affected.changed,
+            ) in (
+              at.0,
+              at.2,
+              into_filter (is_expandable_and_flagged store flags) order at.0 c
+                  (and_from (is_expandable_at store at.0) (flag_at store flags at.0) flag is_flagged),
+            )
 
-        only : (a : Node) → Contains (filter (is_expandable_and_flagged store flags) order) a → IsNodeIn store a × IsAffected levels heaviest old shapes (title_in_store store a)
+        only : (a : Node) → Contains (filter (is_expandable_and_flagged store flags) order) a
+            → IsNodeIn store a × IsAffected levels heaviest old shapes (title_in_store store a)
         only a c =
             let there = out_of_filter (is_expandable_and_flagged store flags) order a c in
             let both = and_parts (is_expandable_at store a) (flag_at store flags a) there.1 in
             (ordered.inside a there.0, is_affected a there.0 both.0 both.1)
 
 -- if the nodes of such a list are flagged, each affected node is
-pub listed_flagged : (old new : Shapes) (store : StoreRead) (nodes : List Node) (flags : List Bool) → IsStoreOf new store → ListsAffected old new store nodes
+pub listed_flagged : (old new : Shapes) (store : StoreRead) (nodes : List Node) (flags : List Bool)
+    → IsStoreOf new store → ListsAffected old new store nodes
     → FlagsJustListed store flags nodes → FlagsAffected old new store flags
 listed_flagged old new store nodes flags is lists are node inside affected =
     let at = lists.all (title_in_store store node) affected in
@@ -91,5 +113,7 @@ no_element : (nodes : List Node) → ((a : Node) → Contains nodes a → ⊥) �
 no_element [] none = refl
 no_element (a ∷ nodes) none = absurd (none a (zero, omega arith, refl))
 
-pub nothing_listed : (old new : Shapes) (store : StoreRead) (nodes : List Node) → ((node : Title) → new node ≡ old node) → ListsAffected old new store nodes → nodes ≡ []
-nothing_listed old new store nodes alike lists = no_element nodes (λ a c. (let affected = (lists.only a c).1 in affected.changed (alike affected.cause)))
+pub nothing_listed : (old new : Shapes) (store : StoreRead) (nodes : List Node)
+    → ((node : Title) → new node ≡ old node) → ListsAffected old new store nodes → nodes ≡ []
+nothing_listed old new store nodes alike lists =
+    no_element nodes (λ a c. (let affected = (lists.only a c).1 in affected.changed (alike affected.cause)))

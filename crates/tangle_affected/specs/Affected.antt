@@ -1,5 +1,6 @@
 -- The nodes that an edit affects, as a list.
-use Rattle.std.specs.Prelude.{◌≡◌, ◌≢◌, ◌<◌, ◌++◌, ℕ, List, length, take, slice_index_or, AllPairs, Contains}
+use Rattle.std.specs.Prelude.{◌≡◌, ◌≢◌, ◌<◌, ◌++◌, ℕ, List, length, take, slice_index_or, AllPairs}
+use Rattle.std.specs.Prelude.{Contains}
 use Rattle.tangle_expansion.specs.Affected.{IsAffected}
 use Rattle.tangle_expansion.specs.Limits.{levels, heaviest}
 use Rattle.tangle_plans.specs.Shapes.{Title, Shapes}
@@ -17,12 +18,17 @@ pub record EditedShapes : Type 0 where
 -- that it uses. Whether a node is affected is said of its title, which names the same node in both
 -- shapes.
 pub record ListsAffected (old new : Shapes) (store : StoreRead) (nodes : List Node) : Type 0 where
-  pub all : (title : Title) → IsAffected levels heaviest old new title → (node : Node) × (title_in_store store node ≡ title) × Contains nodes node
-  pub only : (node : Node) → Contains nodes node → IsNodeIn store node × IsAffected levels heaviest old new (title_in_store store node)
+  pub all : (title : Title) → IsAffected levels heaviest old new title
+      → (node : Node) × (title_in_store store node ≡ title) × Contains nodes node
+  pub only : (node : Node) → Contains nodes node
+      → IsNodeIn store node × IsAffected levels heaviest old new (title_in_store store node)
   pub once : AllPairs (λ a b. a ≢ b) nodes
   pub after : (k : ℕ) (used : Node) → k < length nodes → Contains nodes used
-      → UsesTitle new (title_in_store store (slice_index_or nodes k Program)) (title_in_store store used) → Contains (take k nodes) used
+      → UsesTitle new (title_in_store store (slice_index_or nodes k Program))
+      (title_in_store store used)
+      → Contains (take k nodes) used
 
 -- exactly the affected nodes were added to the end of the list
 abbrev pub ListsAffectedAfter : Shapes → Shapes → StoreRead → List Node → List Node → Type 0
-ListsAffectedAfter old new store before after = (nodes : List Node) × (after ≡ before ++ nodes) × ListsAffected old new store nodes
+ListsAffectedAfter old new store before after =
+    (nodes : List Node) × (after ≡ before ++ nodes) × ListsAffected old new store nodes

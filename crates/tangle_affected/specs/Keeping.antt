@@ -1,5 +1,6 @@
 -- Which expansions of a web's nodes are kept, and which nodes were expanded to make them.
-use Rattle.std.specs.Prelude.{◌≡◌, ◌≢◌, ◌<◌, ◌↔◌, ◌++◌, ℕ, Bool, true, false, List, length, take, slice_index_or, Some, None, AllPairs, Contains}
+use Rattle.std.specs.Prelude.{◌≡◌, ◌≢◌, ◌<◌, ◌↔◌, ◌++◌, ℕ, Bool, true, false, List, length, take}
+use Rattle.std.specs.Prelude.{slice_index_or, Some, None, AllPairs, Contains}
 use Rattle.tangle_expansion.specs.Affected.{IsAffected}
 use Rattle.tangle_expansion.specs.Kept.{kept_at}
 use Rattle.tangle_expansion.specs.Limits.{levels, heaviest, flat_of, IsExpandableNode}
@@ -8,16 +9,19 @@ use Rattle.tangle_expansion.specs.declared.kept.Kept.{Kept}
 use Rattle.tangle_plans.specs.declared.nodes.Node.{Node}
 use Rattle.tangle_plans.specs.declared.nodes.Node.TheVariants.{Program}
 use Rattle.tangle_graph.specs.Nodes.{UsesTitle}
-use Rattle.tangle_graph.specs.Stores.{StoreRead, IsStoreOf, IsNodeIn, is_expandable_at, title_in_store}
+use Rattle.tangle_graph.specs.Stores.{StoreRead, IsStoreOf, IsNodeIn, is_expandable_at}
+use Rattle.tangle_graph.specs.Stores.{title_in_store}
 use Rattle.tangle_affected.specs.Affected.{EditedShapes}
 
 -- the kept expansion of the node is its right one
 abbrev pub IsKeptRight : Shapes → StoreRead → Kept → Node → Type 0
-IsKeptRight shapes store kept node = kept_at kept node ≡ Some (flat_of shapes (title_in_store store node))
+IsKeptRight shapes store kept node =
+    kept_at kept node ≡ Some (flat_of shapes (title_in_store store node))
 
 -- for each expandable node the right expansion is kept, and for other nodes none
 pub record KeepsJust (shapes : Shapes) (store : StoreRead) (kept : Kept) : Type 0 where
-  pub expandable : (node : Node) → is_expandable_at store node ≡ true → IsKeptRight shapes store kept node
+  pub expandable : (node : Node)
+      → is_expandable_at store node ≡ true → IsKeptRight shapes store kept node
   pub others : (node : Node) → is_expandable_at store node ≡ false → kept_at kept node ≡ None
 
 -- the stores before and after an edit are those of the old and the new shapes, and the old
@@ -30,37 +34,47 @@ pub record IsEditOf (old new : StoreRead) (kept : Kept) (shapes : EditedShapes) 
 -- the node is expandable and not affected
 abbrev pub IsUnaffected : StoreRead → EditedShapes → Node → Type 0
 IsUnaffected new shapes node =
-    IsExpandableNode shapes.new (title_in_store new node) × (¬ (IsAffected levels heaviest shapes.old shapes.new (title_in_store new node)))
+    IsExpandableNode shapes.new (title_in_store new node)
+    × (¬ (IsAffected levels heaviest shapes.old shapes.new (title_in_store new node)))
 
 -- the list has each expandable node of the store once, and no other node
 pub record ListsExpandable (store : StoreRead) (nodes : List Node) : Type 0 where
   pub once : AllPairs (λ a b. a ≢ b) nodes
-  pub just : (node : Node) → Contains nodes node ↔ (IsNodeIn store node × (is_expandable_at store node ≡ true))
+  pub just : (node : Node)
+      → Contains nodes node ↔ (IsNodeIn store node × (is_expandable_at store node ≡ true))
 
 -- exactly the expandable nodes were added to the end of the list
 abbrev pub ListsExpandableAfter : StoreRead → List Node → List Node → Type 0
-ListsExpandableAfter store before after = (nodes : List Node) × (after ≡ before ++ nodes) × ListsExpandable store nodes
+ListsExpandableAfter store before after =
+    (nodes : List Node) × (after ≡ before ++ nodes) × ListsExpandable store nodes
 
 -- the nodes can be expanded in the order of the list: each is expandable, and comes after those of
 -- the list that it uses
 pub record IsExpandableList (shapes : Shapes) (store : StoreRead) (nodes : List Node) : Type 0 where
   pub expandable : (node : Node) → Contains nodes node → is_expandable_at store node ≡ true
   pub after : (k : ℕ) (used : Node) → k < length nodes → Contains nodes used
-      → UsesTitle shapes (title_in_store store (slice_index_or nodes k Program)) (title_in_store store used) → Contains (take k nodes) used
+      → UsesTitle shapes (title_in_store store (slice_index_or nodes k Program))
+      (title_in_store store used)
+      → Contains (take k nodes) used
 
 -- The right expansion is kept for each expandable node that is outside the list or among its first
 -- `done` nodes, and none is kept for a node that isn't expandable.
-pub record KeepsDone (shapes : Shapes) (store : StoreRead) (list : List Node) (done : ℕ) (kept : Kept) : Type 0 where
-  pub expandable : (node : Node) → is_expandable_at store node ≡ true → (Contains list node → Contains (take done list) node) → IsKeptRight shapes store kept node
+pub record KeepsDone (shapes : Shapes) (store : StoreRead)
+    (list : List Node) (done : ℕ) (kept : Kept) : Type 0 where
+  pub expandable : (node : Node) → is_expandable_at store node ≡ true
+      → (Contains list node → Contains (take done list) node) → IsKeptRight shapes store kept node
   pub others : (node : Node) → is_expandable_at store node ≡ false → kept_at kept node ≡ None
 
 -- for each of these nodes that is expandable and has no flag the right expansion is kept
-pub record KeepsUnflagged (shapes : Shapes) (store : StoreRead) (flagged : Node → Bool) (nodes : List Node) (kept : Kept) : Type 0 where
-  pub unflagged : (node : Node) → Contains nodes node → is_expandable_at store node ≡ true → flagged node ≡ false → IsKeptRight shapes store kept node
+pub record KeepsUnflagged (shapes : Shapes) (store : StoreRead)
+    (flagged : Node → Bool) (nodes : List Node) (kept : Kept) : Type 0 where
+  pub unflagged : (node : Node) → Contains nodes node → is_expandable_at store node ≡ true
+      → flagged node ≡ false → IsKeptRight shapes store kept node
   pub others : (node : Node) → is_expandable_at store node ≡ false → kept_at kept node ≡ None
 
 -- the list can be expanded: for each expandable node outside it the right expansion is kept
-pub record CanExpand (shapes : Shapes) (store : StoreRead) (list : List Node) (kept : Kept) : Type 0 where
+pub record CanExpand (shapes : Shapes) (store : StoreRead)
+    (list : List Node) (kept : Kept) : Type 0 where
   pub store_is : IsStoreOf shapes store
   pub list_is : IsExpandableList shapes store list
   pub expansions : KeepsDone shapes store list 0 kept

@@ -36,15 +36,15 @@ pub(crate) fn affected_over(
     alloc: Global,
     old: &Store,
     new: &Store,
-    are_as_before: &[bool],
+    are_kept: &[bool],
 ) -> Result<Vec<Node>, NoMemory>
-    requires bodies { KeepsBodies old.now new.now are_as_before.now }
+    requires bodies { KeepsBodies old.now new.now are_kept.now }
     ensures { (old_shapes new_shapes : Shapes) → IsStoreOf old_shapes old.now
         → IsStoreOf new_shapes new.now
         → IfOk result (λ nodes. ListsAffected old_shapes new_shapes new.now nodes.items) }
 {
     let order = new.order();
-    let flags = reaching_new_shapes(alloc, old, new, are_as_before, order)?;
+    let flags = reaching_new_shapes(alloc, old, new, are_kept, order)?;
     listed_nodes(alloc, new, &flags, order)
 }
 
@@ -53,10 +53,10 @@ fn reaching_new_shapes(
     alloc: Global,
     old: &Store,
     new: &Store,
-    are_as_before: &[bool],
+    are_kept: &[bool],
     order: &[Node],
 ) -> Result<Vec<bool>, NoMemory>
-    requires bodies { KeepsBodies old.now new.now are_as_before.now }
+    requires bodies { KeepsBodies old.now new.now are_kept.now }
     requires order { IsOrderIn new.now order.now }
     ensures { (old_shapes new_shapes : Shapes) → IsStoreOf old_shapes old.now
         → IsStoreOf new_shapes new.now
@@ -65,7 +65,7 @@ fn reaching_new_shapes(
     // `digraph::reaching` would search, and takes rows of numbers, which a store does not give.
     let mut flags = new.no_flags(alloc)?;
     for node in order {
-        let is_flagged = has_new_shape(old, new, are_as_before, *node)
+        let is_flagged = has_new_shape(old, new, are_kept, *node)
             || any_flagged(new, &flags, new.uses(*node));
         new.set_flag(&mut flags, *node, is_flagged);
     }
@@ -74,15 +74,15 @@ fn reaching_new_shapes(
 
 /// Whether the shape of the node differs from its old shape. A node that the old store does not
 /// have has a new shape if it has a piece.
-fn has_new_shape(old: &Store, new: &Store, are_as_before: &[bool], node: Node) -> bool
-    requires bodies { KeepsBodies old.now new.now are_as_before.now }
+fn has_new_shape(old: &Store, new: &Store, are_kept: &[bool], node: Node) -> bool
+    requires bodies { KeepsBodies old.now new.now are_kept.now }
     requires node { IsNodeIn new.now node }
     ensures { (old_shapes new_shapes : Shapes) → IsStoreOf old_shapes old.now
         → IsStoreOf new_shapes new.now
         → ((result ≡ true) ↔ (new_shapes (title_in_store new.now node) ≢ old_shapes
         (title_in_store new.now node))) }
 {
-    if keeps_shape(old, new, are_as_before, node) {
+    if keeps_shape(old, new, are_kept, node) {
         return false;
     }
     match node_before(old, new, node) {

@@ -50,17 +50,17 @@ pub fn expand_again(
     old: &Store,
     old_kept: &Kept,
     new: &Store,
-    are_as_before: &[bool],
+    are_kept: &[bool],
     work: &mut Work,
 ) -> Result<Kept, NoMemory>
-    requires bodies { KeepsBodies old.now new.now are_as_before.now }
+    requires bodies { KeepsBodies old.now new.now are_kept.now }
     requires edit { (shapes : EditedShapes) × IsEditOf old.now new.now old_kept.now shapes }
     ensures kept { (shapes : EditedShapes) → IsEditOf old.now new.now old_kept.now shapes
         → IfOk result (λ kept. KeepsJust shapes.new new.now kept) }
     ensures work { (shapes : EditedShapes) → IsEditOf old.now new.now old_kept.now shapes
         → OnOk result (ListsAffectedAfter shapes.old shapes.new new.now work.old work.new) }
 {
-    let list = affected_over(alloc, old, new, are_as_before)?;
+    let list = affected_over(alloc, old, new, are_kept)?;
     // The clause of `affected_over` is about its list, not about the flags that it was made of.
     let flags = flags_of(alloc, new, &list)?;
     let order = new.order();

@@ -1,11 +1,13 @@
 -- The numbers of names, one name after another.
-use Rattle.std.proofs.Common.{◌≡◌, ◌∙◌, ℕ, ◌+◌, ◌<◌, ◌≤◌, zero, suc, List, [], ◌∷◌, ◌++◌, map, length, take, refl, ap, sym, arith, get_or, add-one}
+use Rattle.std.proofs.Common.{◌≡◌, ◌∙◌, ℕ, ◌+◌, ◌<◌, List, [], ◌∷◌, ◌++◌, map, length, take, ap, sym, get_or, add-one}
 use Rattle.std.proofs.lemmas.List.{map-append}
 use Rattle.std.proofs.Math.Seq.{take-suc}
 use Rattle.tangle_expansion.specs.Numbers.{PieceNumbersRead}
 
 -- one more row is added at the end
-pub rows_next : (f : List ℕ → List PieceNumbersRead) (names : List (List ℕ)) (id : ℕ) (rows : List (List PieceNumbersRead)) (row : List PieceNumbersRead) → id < length names
+pub rows_next : (f : List ℕ → List PieceNumbersRead) (names : List (List ℕ))
+    (id : ℕ) (rows : List (List PieceNumbersRead)) (row : List PieceNumbersRead)
+    → id < length names
     → rows ≡ map f (take id names) → row ≡ f (get_or names id [])
     → rows ++ row ∷ [] ≡ map f (take (id + 1) names)
 rows_next f names id rows row low h is =
@@ -13,9 +15,3 @@ rows_next f names id rows row low h is =
     ∙ ap (λ r. map f (take id names) ++ r ∷ []) is
     ∙ sym (map-append f (take id names) (get_or names id [] ∷ []))
     ∙ ap (map f) (sym (take-suc names id [] low) ∙ ap (λ j. take j names) (sym (add-one id)))
-
-pub take_whole : (xs : List (List ℕ)) (n : ℕ) → length xs ≤ n → take n xs ≡ xs
-take_whole [] zero h = refl
-take_whole [] (suc n) h = refl
-take_whole (x ∷ xs) zero h = absurd (omega (arith, h))
-take_whole (x ∷ xs) (suc n) h = ap (λ l. x ∷ l) (take_whole xs n (omega (arith, h)))

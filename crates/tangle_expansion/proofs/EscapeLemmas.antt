@@ -1,8 +1,12 @@
 -- A name is escaped by two replacements; replacing a needle of one byte means replacing each such byte.
-use Rattle.std.proofs.Common.{◌≡◌, ℕ, zero, suc, ◌+◌, ◌-◌, ◌<◌, ◌≤◌, Bool, true, false, ◌&&◌, ◌||◌, ◌==◌, List, [], ◌∷◌, ◌++◌, length, get_or, take, drop, flat_map, refl, ap, sym, subst, ◌∙◌, arith, ⊎_elim, cond, take_all, append_assoc, append-nil, length-drop, get_or-drop, bytes_eq, if◌then◌else◌}
+use Rattle.std.proofs.Common.{◌≡◌, ℕ, zero, suc, ◌+◌, ◌-◌, ◌<◌, ◌≤◌, Bool, true, false, ◌&&◌, ◌||◌, ◌==◌, List, [], ◌∷◌}
+use Rattle.std.proofs.Common.{◌++◌, length, get_or, take, drop, flat_map, refl, ap, sym, subst, ◌∙◌, arith, ⊎_elim}
+use Rattle.std.proofs.Common.{cond, take_all, append_assoc, append-nil, length-drop, get_or-drop, bytes_eq}
+use Rattle.std.proofs.Common.{if◌then◌else◌}
 use Rattle.std.proofs.lemmas.Bool.{cases_Bool, eqb-true, le-leb, lt-leb, cases_lt}
 use Rattle.std.proofs.lemmas.List.{drop_more, drop_all, take_more}
 use Rattle.std.proofs.lemmas.Grind.{flat_map-append}
+use Rattle.std.proofs.Math.Bool.{and-true}
 use Rattle.bstr.specs.Find.{occurs_at, matches_from, matches}
 use Rattle.bstr.specs.Text.{replaced_at, part}
 use Rattle.tangle_lines.specs.Bytes.{double_quote}
@@ -13,10 +17,6 @@ use Rattle.tangle_expansion.specs.Numbers.{escaped_byte, escaped}
 abbrev replaced_byte : ℕ → List ℕ → ℕ → List ℕ
 replaced_byte c others b = if b == c then others else b ∷ []
 
-and-true : (t : Bool) → (t && true) ≡ t
-and-true true = refl
-and-true false = refl
-
 module _ (hay : List ℕ) (c : ℕ) (others : List ℕ) where
   occurs-byte : (i : ℕ) → i < length hay → occurs_at hay (c ∷ []) i ≡ (get_or hay i 0 == c)
   occurs-byte i within =
@@ -25,13 +25,15 @@ module _ (hay : List ℕ) (c : ℕ) (others : List ℕ) where
       ∙ and-true (get_or hay i 0 == c)
 
   occurs-past : (i : ℕ) → length hay ≤ i → occurs_at hay (c ∷ []) i ≡ false
-  occurs-past i past = ap (λ t. t && bytes_eq (take 1 (drop i hay)) (c ∷ [])) (lt-leb (i + 1) (length hay) (omega (arith, past)))
+  occurs-past i past =
+      ap (λ t. t && bytes_eq (take 1 (drop i hay)) (c ∷ [])) (lt-leb (i + 1) (length hay) (omega (arith, past)))
 
   -- the bytes from a position on, with replacements
   abbrev replaced_from : ℕ → List ℕ
   replaced_from i = flat_map (replaced_byte c others) (drop i hay)
 
-  replaced_from-more : (i : ℕ) → i < length hay → replaced_from i ≡ replaced_byte c others (get_or hay i 0) ++ replaced_from (i + 1)
+  replaced_from-more : (i : ℕ)
+      → i < length hay → replaced_from i ≡ replaced_byte c others (get_or hay i 0) ++ replaced_from (i + 1)
   replaced_from-more i within = ap (flat_map (replaced_byte c others)) (drop_more hay i 0 within)
 
   part-all : (last i : ℕ) → length hay ≤ i → part last i hay ++ replaced_from i ≡ drop last hay
@@ -39,7 +41,8 @@ module _ (hay : List ℕ) (c : ℕ) (others : List ℕ) where
       ap (λ t. part last i hay ++ t) (ap (flat_map (replaced_byte c others)) (drop_all i hay past))
       ∙ append-nil (part last i hay) ∙ take_all (i - last) (drop last hay) (omega (arith, length-drop last hay, past))
 
-  part-more : (last i : ℕ) → last ≤ i → i < length hay → part last (i + 1) hay ≡ part last i hay ++ (get_or hay i 0 ∷ [])
+  part-more : (last i : ℕ)
+      → last ≤ i → i < length hay → part last (i + 1) hay ≡ part last i hay ++ (get_or hay i 0 ∷ [])
   part-more last i le within =
       let more : i + 1 - last ≡ i - last + 1 = omega (arith, le) in
       let at : last + (i - last) ≡ i = omega (arith, le) in
@@ -60,14 +63,18 @@ module _ (hay : List ℕ) (c : ℕ) (others : List ℕ) where
   replaced_at-is (suc n) last i le fit =
       let later = matches_from hay (c ∷ []) 0 (i + 1) n in
       let found : (t : Bool) → occurs_at hay (c ∷ []) i ≡ t
-      → replaced_at hay 1 others last (matches_from hay (c ∷ []) 0 i (suc n)) ≡ replaced_at hay 1 others last (cond t (i ∷ later) later) =
+      → replaced_at hay 1 others last (matches_from hay (c ∷ []) 0 i (suc n))
+      ≡ replaced_at hay 1 others last (cond t (i ∷ later) later) =
       λ t is. ap (λ t. replaced_at hay 1 others last (cond t (i ∷ later) later)) is in
-      let this : (t : Bool) → i < length hay → (get_or hay i 0 == c) ≡ t → replaced_from i ≡ cond t others (get_or hay i 0 ∷ []) ++ replaced_from (i + 1) =
-      λ t within is. replaced_from-more i within ∙ ap (λ t. cond t others (get_or hay i 0 ∷ []) ++ replaced_from (i + 1)) is in
+      let this : (t : Bool) → i < length hay → (get_or hay i 0 == c) ≡ t
+      → replaced_from i ≡ cond t others (get_or hay i 0 ∷ []) ++ replaced_from (i + 1) =
+      λ t within is.
+      replaced_from-more i within ∙ ap (λ t. cond t others (get_or hay i 0 ∷ []) ++ replaced_from (i + 1)) is in
       ⊎_elim
       (λ within. ⊎_elim
       (λ yes.
-      let after = replaced_at-is n (i + 1) (i + 1) (omega arith) (omega (arith, fit)) ∙ ap (λ p. p ++ replaced_from (i + 1)) (part-none (i + 1)) in
+      let after = replaced_at-is n (i + 1) (i + 1) (omega arith) (omega (arith, fit))
+      ∙ ap (λ p. p ++ replaced_from (i + 1)) (part-none (i + 1)) in
       found true (occurs-byte i within ∙ yes)
       ∙ ap (λ l. part last i hay ++ (others ++ l)) after
       ∙ ap (λ l. part last i hay ++ l) (sym (this true within yes)))
@@ -96,7 +103,8 @@ with_quotes = replaced_byte double_quote (backslash ∷ double_quote ∷ [])
 
 byte-by_two : (b : ℕ) → flat_map with_quotes (with_slashes b) ≡ escaped_byte b
 byte-by_two b =
-    let known : (k : ℕ) → (b == k) ≡ true → flat_map with_quotes (with_slashes k) ≡ escaped_byte k → flat_map with_quotes (with_slashes b) ≡ escaped_byte b =
+    let known : (k : ℕ) → (b == k) ≡ true → flat_map with_quotes (with_slashes k) ≡ escaped_byte k
+    → flat_map with_quotes (with_slashes b) ≡ escaped_byte b =
     λ k is. subst (λ n. flat_map with_quotes (with_slashes n) ≡ escaped_byte n) (sym (eqb-true b k is)) in
     ⊎_elim
     (λ slash. known backslash slash refl)
@@ -105,7 +113,8 @@ byte-by_two b =
     (λ no_quote.
     ap (λ t. flat_map with_quotes (cond t (backslash ∷ backslash ∷ []) (b ∷ []))) no_slash
     ∙ ap (λ t. cond t (backslash ∷ double_quote ∷ []) (b ∷ []) ++ []) no_quote
-    ∙ sym (ap (λ t. cond (t || (b == double_quote)) (backslash ∷ b ∷ []) (b ∷ [])) no_slash ∙ ap (λ t. cond t (backslash ∷ b ∷ []) (b ∷ [])) no_quote))
+    ∙ sym (ap (λ t. cond (t || (b == double_quote)) (backslash ∷ b ∷ []) (b ∷ [])) no_slash
+    ∙ ap (λ t. cond t (backslash ∷ b ∷ []) (b ∷ [])) no_quote))
     (cases_Bool (b == double_quote)))
     (cases_Bool (b == backslash))
 

@@ -1,5 +1,6 @@
 -- The slots of pieces, filled with the symbols of the used names, are the expansion of the pieces.
-use Rattle.std.proofs.Common.{◌<◌, ◌≡◌, ◌∙◌, ℕ, ◌+◌, Bool, true, false, List, [], ◌∷◌, ◌++◌, map, length, refl, ap, sym, append-nil, inl, inr}
+use Rattle.std.proofs.Common.{◌<◌, ◌≡◌, ◌∙◌, ℕ, ◌+◌, Bool, true, false, List, [], ◌∷◌, ◌++◌, map, length, refl, ap, sym}
+use Rattle.std.proofs.Common.{append-nil, inl, inr}
 use Rattle.std.specs.Prelude.{if◌then◌else◌, slice_index_or, decimal}
 use Rattle.std.proofs.lemmas.Grind.{flat_map-append}
 use Rattle.tangle_files.specs.Bytes.{space}
@@ -11,30 +12,39 @@ use Rattle.tangle_names.specs.declared.Resolved.{Resolved}
 use Rattle.tangle_names.specs.declared.Resolved.TheVariants.{Name, NoFullName, Ambiguous}
 use Rattle.tangle_names.specs.NameTable.{TableRead}
 use Rattle.tangle_plans.specs.Shapes.{Title, IsUseOf, UsesInPiece, UsesInShape, Uses, Named}
-use Rattle.tangle_plans.specs.Flat.{depth, flat, Symbol, Byte, Opening, MarkOf, marks_after_shape_item, item_flat, items_flat, pieces_flat}
-use Rattle.tangle_plans.specs.WebShapes.{shapes, pieces_of, resolved_at, use_of, shape_item, IsNameBelow, ResolvesInside}
+use Rattle.tangle_plans.specs.Flat.{depth, flat, Symbol, Byte, Opening, MarkOf, marks_after_shape_item, item_flat}
+use Rattle.tangle_plans.specs.Flat.{items_flat, pieces_flat}
+use Rattle.tangle_plans.specs.WebShapes.{shapes, pieces_of, resolved_at, use_of, shape_item, IsNameBelow}
+use Rattle.tangle_plans.specs.WebShapes.{ResolvesInside}
 use Rattle.tangle_plans.specs.Slots.{Own, Used, filled_slot, filled}
 use Rattle.tangle_plans.specs.ItemSlots.{marks_after_item, name_slots, item_slots, items_slots, pieces_slots}
 use Rattle.tangle_expansion.proofs.UseLemmas.{bytes_filled}
 use Rattle.tangle_expansion.proofs.SameShapes.{flat_by_uses}
 
-module _ (texts : List (List ℕ)) (table : TableRead) (has_piece : ℕ → Bool) (symbols : ℕ → List Symbol) (used : List ℕ → List Symbol) (node : Title) (inside : ResolvesInside table) where
+module _ (texts : List (List ℕ)) (table : TableRead) (has_piece : ℕ → Bool) (symbols : ℕ → List Symbol)
+    (used : List ℕ → List Symbol) (node : Title) (inside : ResolvesInside table) where
   -- the name with this number has these symbols, if it has a piece, and else none
   abbrev pub Fits : ℕ → Type 0
   Fits id = (if has_piece id then symbols id else []) ≡ used (slice_index_or table.names id [])
 
-  name_filled : (piece marks : ℕ) (r : Resolved) → IsNameBelow (length table.names) r → ((id : ℕ) → id < length table.names → IsUseOf (use_of table r) (slice_index_or table.names id []) → Fits id)
+  name_filled : (piece marks : ℕ) (r : Resolved) → IsNameBelow (length table.names) r
+      → ((id : ℕ) → id < length table.names → IsUseOf (use_of table r) (slice_index_or table.names id []) → Fits id)
       → filled symbols (name_slots has_piece r) ≡ item_flat used node piece marks (use_of table r)
   name_filled piece marks (Name id) low fit = by (has_piece id) ∙ ap (λ l. Byte space ∷ l) (fit id low refl)
     where
-      by : (t : Bool) → filled symbols (if t then Used id ∷ [] else Own (Byte space) ∷ []) ≡ Byte space ∷ (if t then symbols id else [])
+      by : (t : Bool)
+          → filled symbols (if t then Used id ∷ [] else Own (Byte space) ∷ [])
+          ≡ Byte space ∷ (if t then symbols id else [])
       by true = ap (λ l. Byte space ∷ l) (append-nil (symbols id))
       by false = refl
   name_filled piece marks NoFullName low fit = refl
   name_filled piece marks Ambiguous low fit = refl
 
-  item_filled : (piece marks : ℕ) (x : Item) → ((id : ℕ) → id < length table.names → IsUseOf (shape_item texts table x) (slice_index_or table.names id []) → Fits id)
-      → filled symbols (item_slots texts table has_piece node piece marks x) ≡ item_flat used node piece marks (shape_item texts table x)
+  item_filled : (piece marks : ℕ) (x : Item)
+      → ((id : ℕ)
+      → id < length table.names → IsUseOf (shape_item texts table x) (slice_index_or table.names id []) → Fits id)
+      → filled symbols (item_slots texts table has_piece node piece marks x)
+      ≡ item_flat used node piece marks (shape_item texts table x)
   item_filled piece marks (item.Word span) fit = bytes_filled symbols (span_text texts span)
   item_filled piece marks (item.Sign span) fit = bytes_filled symbols (span_text texts span)
   item_filled piece marks (item.Quoted span) fit = bytes_filled symbols (span_text texts span)
@@ -44,7 +54,8 @@ module _ (texts : List (List ℕ)) (table : TableRead) (has_piece : ℕ → Bool
   item_filled piece marks item.Blank fit = refl
   item_filled piece marks item.LineEnd fit = refl
   item_filled piece marks (item.LineMark origin) fit = refl
-  item_filled piece marks (item.UseOf occurrence) fit = name_filled piece marks (resolved_at table occurrence) (inside occurrence) fit
+  item_filled piece marks (item.UseOf occurrence) fit =
+      name_filled piece marks (resolved_at table occurrence) (inside occurrence) fit
   item_filled piece marks item.Defs fit = refl
 
   name_marks : (marks : ℕ) (r : Resolved) → marks_after_shape_item marks (use_of table r) ≡ marks
@@ -52,7 +63,8 @@ module _ (texts : List (List ℕ)) (table : TableRead) (has_piece : ℕ → Bool
   name_marks marks NoFullName = refl
   name_marks marks Ambiguous = refl
 
-  item_marks : (marks : ℕ) (x : Item) → marks_after_item marks x ≡ marks_after_shape_item marks (shape_item texts table x)
+  item_marks : (marks : ℕ) (x : Item)
+      → marks_after_item marks x ≡ marks_after_shape_item marks (shape_item texts table x)
   item_marks marks (item.Word span) = refl
   item_marks marks (item.Sign span) = refl
   item_marks marks (item.Quoted span) = refl
@@ -65,31 +77,50 @@ module _ (texts : List (List ℕ)) (table : TableRead) (has_piece : ℕ → Bool
   item_marks marks (item.UseOf occurrence) = sym (name_marks marks (resolved_at table occurrence))
   item_marks marks item.Defs = refl
 
-  items_filled : (piece marks : ℕ) (items : List Item) → ((id : ℕ) → id < length table.names → UsesInPiece (map (shape_item texts table) items) (slice_index_or table.names id []) → Fits id)
-      → filled symbols (items_slots texts table has_piece node piece marks items) ≡ items_flat used node piece marks (map (shape_item texts table) items)
+  items_filled : (piece marks : ℕ) (items : List Item)
+      → ((id : ℕ) → id < length table.names
+      → UsesInPiece (map (shape_item texts table) items) (slice_index_or table.names id []) → Fits id)
+      → filled symbols (items_slots texts table has_piece node piece marks items)
+      ≡ items_flat used node piece marks (map (shape_item texts table) items)
   items_filled piece marks [] fit = refl
   items_filled piece marks (x ∷ items) fit =
-      flat_map-append (filled_slot symbols) (item_slots texts table has_piece node piece marks x) (items_slots texts table has_piece node piece (marks_after_item marks x) items)
-      ∙ ap (λ l. l ++ filled symbols (items_slots texts table has_piece node piece (marks_after_item marks x) items)) (item_filled piece marks x (λ id low u. fit id low (inl u)))
-      ∙ ap (λ l. item_flat used node piece marks (shape_item texts table x) ++ l) (items_filled piece (marks_after_item marks x) items (λ id low u. fit id low (inr u)))
-      ∙ ap (λ m. item_flat used node piece marks (shape_item texts table x) ++ items_flat used node piece m (map (shape_item texts table) items)) (item_marks marks x)
+      flat_map-append (filled_slot symbols) (item_slots texts table has_piece node piece marks x)
+      (items_slots texts table has_piece node piece (marks_after_item marks x) items)
+      ∙ ap (λ l. l ++ filled symbols (items_slots texts table has_piece node piece (marks_after_item marks x) items))
+      (item_filled piece marks x (λ id low u. fit id low (inl u)))
+      ∙ ap (λ l. item_flat used node piece marks (shape_item texts table x) ++ l)
+      (items_filled piece (marks_after_item marks x) items (λ id low u. fit id low (inr u)))
+      ∙ ap
+      (λ m. item_flat used node piece marks (shape_item texts table x)
+      ++ items_flat used node piece m (map (shape_item texts table) items)) (item_marks marks x)
 
   pub pieces_filled : (piece : ℕ) (pieces : List PieceRead)
-      → ((id : ℕ) → id < length table.names → UsesInShape (map (λ p. map (shape_item texts table) p.items) pieces) (slice_index_or table.names id []) → Fits id)
-      → filled symbols (pieces_slots texts table has_piece node piece pieces) ≡ pieces_flat used node piece (map (λ p. map (shape_item texts table) p.items) pieces)
+      → ((id : ℕ) → id < length table.names
+      → UsesInShape (map (λ p. map (shape_item texts table) p.items) pieces) (slice_index_or table.names id [])
+      → Fits id)
+      → filled symbols (pieces_slots texts table has_piece node piece pieces)
+      ≡ pieces_flat used node piece (map (λ p. map (shape_item texts table) p.items) pieces)
   pieces_filled piece [] fit = refl
   pieces_filled piece (p ∷ pieces) fit =
       ap (λ l. Opening node piece ∷ MarkOf node piece 0 ∷ l)
-      (flat_map-append (filled_slot symbols) (items_slots texts table has_piece node piece 0 p.items) (pieces_slots texts table has_piece node (piece + 1) pieces)
-      ∙ ap (λ l. l ++ filled symbols (pieces_slots texts table has_piece node (piece + 1) pieces)) (items_filled piece 0 p.items (λ id low u. fit id low (inl u)))
-      ∙ ap (λ l. items_flat used node piece 0 (map (shape_item texts table) p.items) ++ l) (pieces_filled (piece + 1) pieces (λ id low u. fit id low (inr u))))
+      (flat_map-append (filled_slot symbols) (items_slots texts table has_piece node piece 0 p.items)
+      (pieces_slots texts table has_piece node (piece + 1) pieces)
+      ∙ ap (λ l. l ++ filled symbols (pieces_slots texts table has_piece node (piece + 1) pieces))
+      (items_filled piece 0 p.items (λ id low u. fit id low (inl u)))
+      ∙ ap (λ l. items_flat used node piece 0 (map (shape_item texts table) p.items) ++ l)
+      (pieces_filled (piece + 1) pieces (λ id low u. fit id low (inr u))))
 
 -- the slots of a node, filled with the expansions of the names that it uses, are its expansion
-pub node_filled : (web : WebRead) (table : TableRead) (has_piece : ℕ → Bool) (symbols : ℕ → List Symbol) (levels : ℕ) (node : Title) → ResolvesInside table
+pub node_filled : (web : WebRead) (table : TableRead) (has_piece : ℕ → Bool)
+    (symbols : ℕ → List Symbol) (levels : ℕ) (node : Title)
+    → ResolvesInside table
     → depth levels (shapes web table) node < levels
     → ((id : ℕ) → id < length table.names → Uses (shapes web table) node (slice_index_or table.names id [])
-    → (if has_piece id then symbols id else []) ≡ flat levels (shapes web table) (Named (slice_index_or table.names id [])))
-    → filled symbols (pieces_slots web.texts table has_piece node 0 (pieces_of web table node)) ≡ flat levels (shapes web table) node
+    → (if has_piece id then symbols id else [])
+    ≡ flat levels (shapes web table) (Named (slice_index_or table.names id [])))
+    → filled symbols (pieces_slots web.texts table has_piece node 0 (pieces_of web table node))
+    ≡ flat levels (shapes web table) node
 node_filled web table has_piece symbols levels node inside shallow fit =
-    pieces_filled web.texts table has_piece symbols (λ name. flat levels (shapes web table) (Named name)) node inside 0 (pieces_of web table node) fit
+    pieces_filled web.texts table has_piece symbols
+    (λ name. flat levels (shapes web table) (Named name)) node inside 0 (pieces_of web table node) fit
     ∙ sym (flat_by_uses levels (shapes web table) node shallow)

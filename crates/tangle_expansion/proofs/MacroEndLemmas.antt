@@ -1,12 +1,14 @@
 -- The items of a macro without those that are dropped at its end.
-use Rattle.std.proofs.Common.{◌≡◌, ℕ, ◌-◌, ◌<◌, ◌≤◌, suc, Bool, true, false, List, [], ◌∷◌, ◌++◌, length, take, get_or, All, refl, sym, ap, ◌∙◌, arith}
+use Rattle.std.proofs.Common.{◌≡◌, ℕ, ◌-◌, ◌<◌, ◌≤◌, suc, Bool, true, false, List, [], ◌∷◌, ◌++◌, length, take, get_or}
+use Rattle.std.proofs.Common.{All, refl, sym, ap, ◌∙◌, arith}
 use Rattle.std.proofs.Math.Seq.{take-suc}
 use Rattle.std.proofs.lemmas.List.Elements.{All-take}
 use Rattle.tangle_scan.specs.declared.items.Item.{Item}
 use Rattle.tangle_scan.specs.MacroBytes.{is_dropped_at_end, without_end, without_end_after}
 
 module _ (texts : List (List ℕ)) where
-  dropped_last : (xs : List Item) (x : Item) → is_dropped_at_end texts x ≡ true → without_end texts (xs ++ x ∷ []) ≡ without_end texts xs
+  dropped_last : (xs : List Item) (x : Item)
+      → is_dropped_at_end texts x ≡ true → without_end texts (xs ++ x ∷ []) ≡ without_end texts xs
   dropped_last [] x dropped = rw dropped
   dropped_last (y ∷ ys) x dropped = ap (without_end_after texts y) (dropped_last ys x dropped)
 
@@ -14,42 +16,49 @@ module _ (texts : List (List ℕ)) where
   written_tail y [] x = refl
   written_tail y (z ∷ zs) x = refl
 
-  written_last : (xs : List Item) (x : Item) → is_dropped_at_end texts x ≡ false → without_end texts (xs ++ x ∷ []) ≡ xs ++ x ∷ []
+  written_last : (xs : List Item) (x : Item)
+      → is_dropped_at_end texts x ≡ false → without_end texts (xs ++ x ∷ []) ≡ xs ++ x ∷ []
   written_last [] x written = rw written
   written_last (y ∷ ys) x written = ap (without_end_after texts y) (written_last ys x written) ∙ written_tail y ys x
 
-  front_by : (x : Item) (xs written : List Item) (n : ℕ) (u : Bool) → is_dropped_at_end texts x ≡ u → written ≡ take n xs
+  front_by : (x : Item) (xs written : List Item) (n : ℕ) (u : Bool)
+      → is_dropped_at_end texts x ≡ u → written ≡ take n xs
       → (m : ℕ) × (without_end_after texts x written ≡ take m (x ∷ xs))
   front_by x xs [] n true dropped is = (0, rw dropped)
   front_by x xs [] n false dropped is = (1, rw dropped)
   front_by x xs (y ∷ ys) n u dropped is = (suc n, ap (λ t. x ∷ t) is)
 
-  -- they are a prefix of all items
+  -- the items without those dropped at the end are a prefix of all items
   is_front : (xs : List Item) → (n : ℕ) × (without_end texts xs ≡ take n xs)
   is_front [] = (0, refl)
-  is_front (x ∷ xs) = front_by x xs (without_end texts xs) (is_front xs).0 (is_dropped_at_end texts x) refl (is_front xs).1
+  is_front (x ∷ xs) =
+      front_by x xs (without_end texts xs) (is_front xs).0 (is_dropped_at_end texts x) refl (is_front xs).1
 
   pub All-without_end : (P : Item → Type 0) (xs : List Item) → All P xs → All P (without_end texts xs)
   All-without_end P xs all = rw (is_front xs).1 (All-take P (is_front xs).0 xs all)
 
-  dropped_by : (xs : List Item) (n m : ℕ) (d : Item) → n ≡ suc m → n ≤ length xs → is_dropped_at_end texts (get_or xs m d) ≡ true
+  dropped_by : (xs : List Item) (n m : ℕ) (d : Item)
+      → n ≡ suc m → n ≤ length xs → is_dropped_at_end texts (get_or xs m d) ≡ true
       → without_end texts (take n xs) ≡ without_end texts (take m xs)
   dropped_by xs n m d is within dropped =
       let one : take n xs ≡ take m xs ++ get_or xs m d ∷ [] = ap (λ k. take k xs) is ∙ take-suc xs m d (omega arith) in
       ap (without_end texts) one ∙ dropped_last (take m xs) (get_or xs m d) dropped
 
-  written_by : (xs : List Item) (n m : ℕ) (d : Item) → n ≡ suc m → n ≤ length xs → is_dropped_at_end texts (get_or xs m d) ≡ false
+  written_by : (xs : List Item) (n m : ℕ) (d : Item)
+      → n ≡ suc m → n ≤ length xs → is_dropped_at_end texts (get_or xs m d) ≡ false
       → without_end texts (take n xs) ≡ take n xs
   written_by xs n m d is within written =
       let one : take n xs ≡ take m xs ++ get_or xs m d ∷ [] = ap (λ k. take k xs) is ∙ take-suc xs m d (omega arith) in
       ap (without_end texts) one ∙ (written_last (take m xs) (get_or xs m d) written ∙ sym one)
 
   -- a prefix whose last item is dropped
-  pub dropped_at : (xs : List Item) (n : ℕ) (d : Item) → 0 < n → n ≤ length xs → is_dropped_at_end texts (get_or xs (n - 1) d) ≡ true
+  pub dropped_at : (xs : List Item) (n : ℕ) (d : Item)
+      → 0 < n → n ≤ length xs → is_dropped_at_end texts (get_or xs (n - 1) d) ≡ true
       → without_end texts (take n xs) ≡ without_end texts (take (n - 1) xs)
   dropped_at xs n d some within dropped = dropped_by xs n (n - 1) d (omega arith) within dropped
 
   -- a prefix whose last item is written
-  pub written_at : (xs : List Item) (n : ℕ) (d : Item) → 0 < n → n ≤ length xs → is_dropped_at_end texts (get_or xs (n - 1) d) ≡ false
+  pub written_at : (xs : List Item) (n : ℕ) (d : Item)
+      → 0 < n → n ≤ length xs → is_dropped_at_end texts (get_or xs (n - 1) d) ≡ false
       → without_end texts (take n xs) ≡ take n xs
   written_at xs n d some within written = written_by xs n (n - 1) d (omega arith) within written

@@ -1,5 +1,6 @@
 -- The bytes of a node are those of its pieces.
-use Rattle.std.proofs.Common.{◌≡◌, ◌∙◌, ℕ, ◌+◌, List, [], ◌∷◌, ◌++◌, map, drop, get_or, refl, ap, sym, append_assoc, append-nil}
+use Rattle.std.proofs.Common.{◌≡◌, ◌∙◌, ℕ, ◌+◌, List, [], ◌∷◌, ◌++◌, map, drop, get_or, refl, ap, sym, append_assoc}
+use Rattle.std.proofs.Common.{append-nil}
 use Rattle.std.specs.Prelude.{decimal, flat_map, slice_index_or}
 use Rattle.tangle_files.specs.Bytes.{space, line_feed}
 use Rattle.tangle_faults.specs.declared.faults.Origin.{Origin}
@@ -15,81 +16,119 @@ use Rattle.tangle_plans.specs.Flat.{Symbol, Byte, MarkOf, items_flat, pieces_fla
 use Rattle.tangle_plans.specs.WebShapes.{resolved_at, shape_item, use_of}
 use Rattle.tangle_files.specs.declared.marks.MarkMode.{MarkMode}
 use Rattle.tangle_files.specs.declared.marks.MarkMode.TheVariants.{Full, Bare}
-use Rattle.tangle_expansion.specs.Numbers.{NumbersRead, closing_bytes, expansion_bytes, item_origins, mark_bytes, mark_bytes_at, no_origin, node_numbers, numbers_at, numbers_of_piece, opening_bytes, origin_of_mark}
+use Rattle.tangle_expansion.specs.Numbers.{NumbersRead, closing_bytes, expansion_bytes, item_origins, mark_bytes}
+use Rattle.tangle_expansion.specs.Numbers.{mark_bytes_at, no_origin, node_numbers, numbers_at, numbers_of_piece}
+use Rattle.tangle_expansion.specs.Numbers.{opening_bytes, origin_of_mark}
 use Rattle.tangle_expansion.specs.PieceBytes.{bytes_after_mark, items_bytes, piece_bytes, resolved_bytes, used_bytes}
 use Rattle.tangle_expansion.proofs.LineTruth.{next_mark, next_numbers}
 use Rattle.tangle_expansion.proofs.WrittenLemmas.{written-append, written-bytes}
 
-then : (own tail closing rest whole : List ℕ) → whole ≡ own ++ rest → rest ≡ tail ++ closing → whole ≡ (own ++ tail) ++ closing
+then : (own tail closing rest whole : List ℕ)
+    → whole ≡ own ++ rest → rest ≡ tail ++ closing → whole ≡ (own ++ tail) ++ closing
 then own tail closing rest whole first more = first ∙ ap (λ l. own ++ l) more ∙ sym (append_assoc own tail closing)
 
-piece_then : (opening mark inner after whole items closing rest : List ℕ) → whole ≡ inner ++ after → inner ≡ items ++ closing → after ≡ rest
+piece_then : (opening mark inner after whole items closing rest : List ℕ)
+    → whole ≡ inner ++ after → inner ≡ items ++ closing → after ≡ rest
     → opening ++ (mark ++ whole) ≡ opening ++ mark ++ items ++ closing ++ rest
 piece_then opening mark inner after whole items closing rest e f g =
-    ap (λ (l : List ℕ). opening ++ (mark ++ l)) (e ∙ ap (λ (l : List ℕ). l ++ after) f ∙ ap (λ (l : List ℕ). items ++ closing ++ l) g)
+    ap (λ (l : List ℕ). opening ++ (mark ++ l))
+    (e ∙ ap (λ (l : List ℕ). l ++ after) f ∙ ap (λ (l : List ℕ). items ++ closing ++ l) g)
     ∙ sym (append_assoc opening mark (items ++ closing ++ rest))
     ∙ sym (append_assoc (opening ++ mark) (items ++ closing) rest)
     ∙ ap (λ (l : List ℕ). l ++ rest) (sym (append_assoc (opening ++ mark) items closing))
 
-line_feed_first : (marks : MarkMode) (file : List ℕ) (line : ℕ) → mark_bytes marks file line ≡ line_feed ∷ drop 1 (mark_bytes marks file line)
+line_feed_first : (marks : MarkMode) (file : List ℕ) (line : ℕ)
+    → mark_bytes marks file line ≡ line_feed ∷ drop 1 (mark_bytes marks file line)
 line_feed_first Full file line = refl
 line_feed_first Bare file line = refl
 
 module _ (numbers : NumbersRead) where
-  bytes_then : (bytes : List ℕ) (rest : List Symbol) → expansion_bytes numbers (map Byte bytes ++ rest) ≡ bytes ++ expansion_bytes numbers rest
-  bytes_then bytes rest = written-append numbers (map Byte bytes) rest ∙ ap (λ l. l ++ expansion_bytes numbers rest) (written-bytes numbers bytes)
+  bytes_then : (bytes : List ℕ) (rest : List Symbol)
+      → expansion_bytes numbers (map Byte bytes ++ rest) ≡ bytes ++ expansion_bytes numbers rest
+  bytes_then bytes rest =
+      written-append numbers (map Byte bytes) rest
+      ∙ ap (λ l. l ++ expansion_bytes numbers rest) (written-bytes numbers bytes)
 
-  mark_then : (node : Title) (piece mark : ℕ) (origin : Origin) (rest : List Symbol) → origin_of_mark numbers node piece mark ≡ origin
-      → expansion_bytes numbers (MarkOf node piece mark ∷ rest) ≡ (line_feed ∷ bytes_after_mark numbers origin) ++ expansion_bytes numbers rest
+  mark_then : (node : Title) (piece mark : ℕ) (origin : Origin) (rest : List Symbol)
+      → origin_of_mark numbers node piece mark ≡ origin
+      → expansion_bytes numbers (MarkOf node piece mark ∷ rest)
+      ≡ (line_feed ∷ bytes_after_mark numbers origin) ++ expansion_bytes numbers rest
   mark_then node piece mark origin rest is =
       ap (λ o. mark_bytes_at numbers o ++ expansion_bytes numbers rest) is
-      ∙ ap (λ l. l ++ expansion_bytes numbers rest) (line_feed_first numbers.marks (get_or numbers.file_names origin.file []) origin.line)
+      ∙ ap (λ l. l ++ expansion_bytes numbers rest)
+      (line_feed_first numbers.marks (get_or numbers.file_names origin.file []) origin.line)
 
   module _ (texts : List (List ℕ)) (table : TableRead) (used : List ℕ → List Symbol) (node : Title) where
     use_then : (piece marks : ℕ) (items : List ShapeItem) (r : Resolved)
         → expansion_bytes numbers (items_flat used node piece marks (use_of table r ∷ items))
-        ≡ (space ∷ resolved_bytes numbers table used r) ++ expansion_bytes numbers (items_flat used node piece marks items)
-    use_then piece marks items (Name id) = ap (λ l. space ∷ l) (written-append numbers (used (slice_index_or table.names id [])) (items_flat used node piece marks items))
+        ≡ (space ∷ resolved_bytes numbers table used r)
+        ++ expansion_bytes numbers (items_flat used node piece marks items)
+    use_then piece marks items (Name id) = ap (λ l. space ∷ l)
+        (written-append numbers (used (slice_index_or table.names id [])) (items_flat used node piece marks items))
     use_then piece marks items NoFullName = refl
     use_then piece marks items Ambiguous = refl
 
     -- the items of a piece, after this number of its marks
-    items_written : (piece marks : ℕ) (items : List Item) → drop (marks + 1) (numbers_at numbers node piece).origins ≡ flat_map item_origins items
+    items_written : (piece marks : ℕ) (items : List Item)
+        → drop (marks + 1) (numbers_at numbers node piece).origins ≡ flat_map item_origins items
         → expansion_bytes numbers (items_flat used node piece marks (map (shape_item texts table) items))
         ≡ items_bytes numbers table used texts items ++ closing_bytes (numbers_at numbers node piece).section
     items_written piece marks [] origins = append-nil (closing_bytes (numbers_at numbers node piece).section)
-    items_written piece marks (item.Word span ∷ items) origins = then _ _ _ _ _ (bytes_then (span_text texts span) _) (items_written piece marks items origins)
-    items_written piece marks (item.Sign span ∷ items) origins = then _ _ _ _ _ (bytes_then (span_text texts span) _) (items_written piece marks items origins)
-    items_written piece marks (item.Quoted span ∷ items) origins = then _ _ _ _ _ (bytes_then (span_text texts span) _) (items_written piece marks items origins)
-    items_written piece marks (item.Verbatim span ∷ items) origins = then _ _ _ _ _ (bytes_then (span_text texts span) _) (items_written piece marks items origins)
-    items_written piece marks (item.Code value ∷ items) origins = then _ _ _ _ _ (bytes_then (decimal value) _) (items_written piece marks items origins)
-    items_written piece marks (item.QuoteBreak ∷ items) origins = ap (λ l. line_feed ∷ l) (items_written piece marks items origins)
-    items_written piece marks (item.LineEnd ∷ items) origins = ap (λ l. line_feed ∷ l) (items_written piece marks items origins)
-    items_written piece marks (item.Blank ∷ items) origins = ap (λ l. space ∷ l) (items_written piece marks items origins)
+    items_written piece marks (item.Word span ∷ items) origins =
+        then _ _ _ _ _ (bytes_then (span_text texts span) _) (items_written piece marks items origins)
+    items_written piece marks (item.Sign span ∷ items) origins =
+        then _ _ _ _ _ (bytes_then (span_text texts span) _) (items_written piece marks items origins)
+    items_written piece marks (item.Quoted span ∷ items) origins =
+        then _ _ _ _ _ (bytes_then (span_text texts span) _) (items_written piece marks items origins)
+    items_written piece marks (item.Verbatim span ∷ items) origins =
+        then _ _ _ _ _ (bytes_then (span_text texts span) _) (items_written piece marks items origins)
+    items_written piece marks (item.Code value ∷ items) origins =
+        then _ _ _ _ _ (bytes_then (decimal value) _) (items_written piece marks items origins)
+    items_written piece marks (item.QuoteBreak ∷ items) origins =
+        ap (λ l. line_feed ∷ l) (items_written piece marks items origins)
+    items_written piece marks (item.LineEnd ∷ items) origins =
+        ap (λ l. line_feed ∷ l) (items_written piece marks items origins)
+    items_written piece marks (item.Blank ∷ items) origins =
+        ap (λ l. space ∷ l) (items_written piece marks items origins)
     items_written piece marks (item.LineMark origin ∷ items) origins =
-        let next = next_mark (numbers_at numbers node piece).origins (marks + 1) origin (flat_map item_origins items) origins in
-        then (line_feed ∷ bytes_after_mark numbers origin) _ _ _ _ (mark_then node piece (marks + 1) origin _ next.0) (items_written piece (marks + 1) items next.1)
+        let next =
+        next_mark (numbers_at numbers node piece).origins (marks + 1) origin (flat_map item_origins items) origins in
+        then (line_feed ∷ bytes_after_mark numbers origin) _ _ _ _
+        (mark_then node piece (marks + 1) origin _ next.0) (items_written piece (marks + 1) items next.1)
     items_written piece marks (item.UseOf occurrence ∷ items) origins =
-        then (space ∷ used_bytes numbers table used occurrence) _ _ _ _ (use_then piece marks (map (shape_item texts table) items) (resolved_at table occurrence))
+        then (space ∷ used_bytes numbers table used occurrence) _ _ _ _
+        (use_then piece marks (map (shape_item texts table) items) (resolved_at table occurrence))
         (items_written piece marks items origins)
-    items_written piece marks (item.Defs ∷ items) origins = then (line_feed ∷ numbers.macros) _ _ _ _ refl (items_written piece marks items origins)
+    items_written piece marks (item.Defs ∷ items) origins =
+        then (line_feed ∷ numbers.macros) _ _ _ _ refl (items_written piece marks items origins)
 
     -- the pieces of a node, from the one with this number on
-    pub pieces_written : (piece : ℕ) (pieces : List PieceRead) → drop piece (node_numbers numbers node) ≡ map numbers_of_piece pieces
-        → expansion_bytes numbers (pieces_flat used node piece (map (λ (p : PieceRead). map (shape_item texts table) p.items) pieces))
+    pub pieces_written : (piece : ℕ) (pieces : List PieceRead)
+        → drop piece (node_numbers numbers node) ≡ map numbers_of_piece pieces
+        → expansion_bytes numbers
+        (pieces_flat used node piece (map (λ (p : PieceRead). map (shape_item texts table) p.items) pieces))
         ≡ flat_map (piece_bytes numbers table used texts) pieces
     pieces_written piece [] are = refl
     pieces_written piece (p ∷ pieces) are =
-        let next = next_numbers (node_numbers numbers node) piece (numbers_of_piece p) (map numbers_of_piece pieces) are in
+        let next =
+        next_numbers (node_numbers numbers node) piece (numbers_of_piece p) (map numbers_of_piece pieces) are in
         let section : (numbers_at numbers node piece).section ≡ p.section = ap (λ n. n.section) next.0 in
         let mark : origin_of_mark numbers node piece 0 ≡ p.origin = ap (λ n. get_or n.origins 0 no_origin) next.0 in
-        let marks : drop (0 + 1) (numbers_at numbers node piece).origins ≡ flat_map item_origins p.items = ap (λ n. drop 1 n.origins) next.0 in
+        let marks : drop (0 + 1) (numbers_at numbers node piece).origins ≡ flat_map item_origins p.items =
+        ap (λ n. drop 1 n.origins) next.0 in
         let rest = flat_map (piece_bytes numbers table used texts) pieces in
         let items = items_bytes numbers table used texts p.items in
         let inner = items_flat used node piece 0 (map (shape_item texts table) p.items) in
-        let after = pieces_flat used node (piece + 1) (map (λ (p : PieceRead). map (shape_item texts table) p.items) pieces) in
-        piece_then (opening_bytes (numbers_at numbers node piece).section) (mark_bytes_at numbers (origin_of_mark numbers node piece 0)) _ _ _
+        let after =
+        pieces_flat used node (piece + 1) (map (λ (p : PieceRead). map (shape_item texts table) p.items) pieces) in
+        piece_then (opening_bytes (numbers_at numbers node piece).section)
+        (mark_bytes_at numbers (origin_of_mark numbers node piece 0)) _ _ _
         items (closing_bytes (numbers_at numbers node piece).section) rest
-        (written-append numbers inner after) (items_written piece 0 p.items marks) (pieces_written (piece + 1) pieces next.1)
-        ∙ ap (λ (n : ℕ). opening_bytes n ++ mark_bytes_at numbers (origin_of_mark numbers node piece 0) ++ items ++ closing_bytes n ++ rest) section
-        ∙ ap (λ (o : Origin). opening_bytes p.section ++ mark_bytes_at numbers o ++ items ++ closing_bytes p.section ++ rest) mark
+        (written-append numbers inner after) (items_written piece 0 p.items marks)
+        (pieces_written (piece + 1) pieces next.1)
+        ∙ ap
+        (λ (n : ℕ). opening_bytes n ++ mark_bytes_at numbers (origin_of_mark numbers node piece 0)
+        ++ items ++ closing_bytes n ++ rest) section
+        ∙ ap
+        (λ (o : Origin). opening_bytes p.section ++ mark_bytes_at numbers o ++ items ++ closing_bytes p.section ++ rest)
+        mark

@@ -4,7 +4,8 @@ use mathlib.Core.HLevel.{Discrete, ×_discrete}
 use mathlib.Core.List.{List-discrete}
 use native.Mathlib.Decide.{ℕ_discrete}
 use Rattle.std.proofs.Math.Decide.{map_dec}
-use Rattle.tangle_plans.specs.Shapes.{Title, Kind, Word, Sign, Quoted, QuoteBreak, Verbatim, AsciiConstant, Blank, LineEnd, ShapeItem, Written, Mark, AllMacros, Use, NoUse, Shape, Shapes, here}
+use Rattle.tangle_plans.specs.Shapes.{Title, Kind, Word, Sign, Quoted, QuoteBreak, Verbatim, AsciiConstant, Blank}
+use Rattle.tangle_plans.specs.Shapes.{LineEnd, ShapeItem, Written, Mark, AllMacros, Use, NoUse, Shape, Shapes, here}
 use Rattle.tangle_plans.specs.Flat.{flat, weight}
 use Rattle.tangle_expansion.specs.Affected.{IsExpandable, IsAffected}
 use Rattle.tangle_expansion.proofs.SameShapes.{SameReached, flat-same, depth-same, ReachesCycle, cycle_deep}
@@ -73,20 +74,23 @@ item_discrete x y =
 pub shape_discrete : Discrete Shape
 shape_discrete = List-discrete (List-discrete item_discrete)
 
-reached_same : (levels limit : ℕ) (old new : Shapes) (node : Title) → IsExpandable levels limit new node → ((h : IsAffected levels limit old new node) → ⊥) → SameReached old new node
+reached_same : (levels limit : ℕ) (old new : Shapes) (node : Title)
+    → IsExpandable levels limit new node → ((h : IsAffected levels limit old new node) → ⊥) → SameReached old new node
 reached_same levels limit old new node expandable unaffected other r =
     elim (shape_discrete (new other) (old other)) [
       | yes e ↦ e
       | no f ↦ absurd (unaffected (record { expandable = expandable; cause = other; reaches = r; changed = f }))
     ]
 
-pub stays : (levels limit : ℕ) (old new : Shapes) (node : Title) → IsExpandable levels limit new node → ((h : IsAffected levels limit old new node) → ⊥)
+pub stays : (levels limit : ℕ) (old new : Shapes) (node : Title)
+    → IsExpandable levels limit new node → ((h : IsAffected levels limit old new node) → ⊥)
     → IsExpandable levels limit old node × (flat levels new node ≡ flat levels old node)
 stays levels limit old new node expandable unaffected =
     let same : SameReached old new node = reached_same levels limit old new node expandable unaffected in
     let shape : new node ≡ old node = same node here in
     let symbols : flat levels new node ≡ flat levels old node = flat-same levels old new node same in
-    let heavy : weight levels new node ≡ weight levels old node = weight-length levels new node ∙ ap length symbols ∙ sym (weight-length levels old node) in (
+    let heavy : weight levels new node ≡ weight levels old node =
+    weight-length levels new node ∙ ap length symbols ∙ sym (weight-length levels old node) in (
       record {
         has_piece = λ e. expandable.has_piece (shape ∙ e);
         shallow = subst (λ d. d < levels) (depth-same levels old new node same) expandable.shallow;
@@ -96,5 +100,7 @@ stays levels limit old new node expandable unaffected =
     )
 
 -- an expandable node reaches no name that contains itself
-pub no_cycle : (levels limit : ℕ) (shapes : Shapes) (node : Title) → IsExpandable levels limit shapes node → ReachesCycle shapes node → ⊥
-no_cycle levels limit shapes node expandable c = absurd (omega (arith, cycle_deep levels shapes node c, expandable.shallow))
+pub no_cycle : (levels limit : ℕ) (shapes : Shapes) (node : Title)
+    → IsExpandable levels limit shapes node → ReachesCycle shapes node → ⊥
+no_cycle levels limit shapes node expandable c =
+    absurd (omega (arith, cycle_deep levels shapes node c, expandable.shallow))

@@ -9,15 +9,21 @@ use Rattle.tangle_scan.specs.LineTruth.{Location, piece_locations}
 use Rattle.tangle_scan.specs.Web.{WebRead, PieceRead}
 use Rattle.tangle_names.specs.NameTable.{TableRead}
 use Rattle.tangle_plans.specs.Shapes.{Title, Named, ShapeItem, Written, Mark, AllMacros, Use, NoUse, Shapes}
-use Rattle.tangle_plans.specs.Flat.{Symbol, Byte, Opening, MarkOf, marks_after_shape_item, item_flat, items_flat, pieces_flat, flat}
+use Rattle.tangle_plans.specs.Flat.{Symbol, Byte, Opening, MarkOf, marks_after_shape_item, item_flat, items_flat}
+use Rattle.tangle_plans.specs.Flat.{pieces_flat, flat}
 use Rattle.tangle_plans.specs.WebShapes.{shape_item, is_piece_of, shapes}
-use Rattle.tangle_expansion.specs.Location.{ByteClass, LocatedItem, LocatedSymbol, locations_after, first_locations, located_items, located_pieces, located_shapes, located_item, items_located, pieces_located, located}
+use Rattle.tangle_expansion.specs.Location.{ByteClass, LocatedItem, LocatedSymbol, locations_after, first_locations}
+use Rattle.tangle_expansion.specs.Location.{located_items, located_pieces, located_shapes, located_item, items_located}
+use Rattle.tangle_expansion.specs.Location.{pieces_located, located}
 
-bytes_without_class : (class : ByteClass) (bytes : List ℕ) → map (λ (p : LocatedSymbol). p.symbol) (map (λ b. record { symbol = Byte b; class = class }) bytes) ≡ map Byte bytes
+bytes_without_class : (class : ByteClass) (bytes : List ℕ)
+    → map (λ (p : LocatedSymbol). p.symbol) (map (λ b. record { symbol = Byte b; class = class }) bytes)
+    ≡ map Byte bytes
 bytes_without_class class [] = refl
 bytes_without_class class (b ∷ bytes) = ap (λ t. Byte b ∷ t) (bytes_without_class class bytes)
 
-module _ (used : List ℕ → List LocatedSymbol) (f : List ℕ → List Symbol) (same : (name : List ℕ) → map (λ p. p.symbol) (used name) ≡ f name) where
+module _ (used : List ℕ → List LocatedSymbol) (f : List ℕ → List Symbol)
+    (same : (name : List ℕ) → map (λ p. p.symbol) (used name) ≡ f name) where
   item_without_class : (node : Title) (piece marks : ℕ) (class : ByteClass) (x : ShapeItem)
       → map (λ p. p.symbol) (located_item used node piece marks class x) ≡ item_flat f node piece marks x
   item_without_class node piece marks class (Written kind bytes) = bytes_without_class class bytes
@@ -27,21 +33,29 @@ module _ (used : List ℕ → List LocatedSymbol) (f : List ℕ → List Symbol)
   item_without_class node piece marks class NoUse = refl
 
   items_without_classes : (node : Title) (piece marks : ℕ) (items : List LocatedItem)
-      → map (λ p. p.symbol) (items_located used node piece marks items) ≡ items_flat f node piece marks (map (λ x. x.item) items)
+      → map (λ p. p.symbol) (items_located used node piece marks items)
+      ≡ items_flat f node piece marks (map (λ x. x.item) items)
   items_without_classes node piece marks [] = refl
   items_without_classes node piece marks (x ∷ items) =
-      map-append (λ (p : LocatedSymbol). p.symbol) (located_item used node piece marks x.class x.item) (items_located used node piece (marks_after_shape_item marks x.item) items)
-      ∙ ap (λ t. t ++ map (λ p. p.symbol) (items_located used node piece (marks_after_shape_item marks x.item) items)) (item_without_class node piece marks x.class x.item)
-      ∙ ap (λ t. item_flat f node piece marks x.item ++ t) (items_without_classes node piece (marks_after_shape_item marks x.item) items)
+      map-append (λ (p : LocatedSymbol). p.symbol) (located_item used node piece marks x.class x.item)
+      (items_located used node piece (marks_after_shape_item marks x.item) items)
+      ∙ ap (λ t. t ++ map (λ p. p.symbol) (items_located used node piece (marks_after_shape_item marks x.item) items))
+      (item_without_class node piece marks x.class x.item)
+      ∙ ap (λ t. item_flat f node piece marks x.item ++ t)
+      (items_without_classes node piece (marks_after_shape_item marks x.item) items)
 
   pieces_without_classes : (node : Title) (piece : ℕ) (pieces : List (List LocatedItem))
-      → map (λ p. p.symbol) (pieces_located used node piece pieces) ≡ pieces_flat f node piece (map (map (λ x. x.item)) pieces)
+      → map (λ p. p.symbol) (pieces_located used node piece pieces)
+      ≡ pieces_flat f node piece (map (map (λ x. x.item)) pieces)
   pieces_without_classes node piece [] = refl
   pieces_without_classes node piece (items ∷ pieces) =
       ap (λ t. Opening node piece ∷ MarkOf node piece 0 ∷ t)
-      (map-append (λ (p : LocatedSymbol). p.symbol) (items_located used node piece 0 items) (pieces_located used node (piece + 1) pieces)
-      ∙ ap (λ t. t ++ map (λ p. p.symbol) (pieces_located used node (piece + 1) pieces)) (items_without_classes node piece 0 items)
-      ∙ ap (λ t. items_flat f node piece 0 (map (λ x. x.item) items) ++ t) (pieces_without_classes node (piece + 1) pieces))
+      (map-append (λ (p : LocatedSymbol). p.symbol)
+      (items_located used node piece 0 items) (pieces_located used node (piece + 1) pieces)
+      ∙ ap (λ t. t ++ map (λ p. p.symbol) (pieces_located used node (piece + 1) pieces))
+      (items_without_classes node piece 0 items)
+      ∙ ap (λ t. items_flat f node piece 0 (map (λ x. x.item) items) ++ t)
+      (pieces_without_classes node (piece + 1) pieces))
 
 -- for any shapes whose items have classes
 pub located_without_classes : (fuel : ℕ) (located_of : Title → List (List LocatedItem)) (shapes : Shapes)
@@ -55,24 +69,32 @@ located_without_classes (suc fuel) located_of shapes same node =
 
 module _ (texts : List (List ℕ)) (table : TableRead) (lines : List SourceLine) where
   piece_items_without_classes : (ss : List Location) (items : List Item)
-      → map (λ (x : LocatedItem). x.item) (located_items texts table lines ss items) ≡ map (shape_item texts table) items
+      → map (λ (x : LocatedItem). x.item) (located_items texts table lines ss items)
+      ≡ map (shape_item texts table) items
   piece_items_without_classes ss [] = refl
-  piece_items_without_classes ss (x ∷ items) = ap (λ t. shape_item texts table x ∷ t) (piece_items_without_classes (locations_after ss x) items)
+  piece_items_without_classes ss (x ∷ items) =
+      ap (λ t. shape_item texts table x ∷ t) (piece_items_without_classes (locations_after ss x) items)
 
   node_pieces_without_classes : (node : Title) (pieces : List PieceRead) (locations : List (List Location))
       → map (map (λ (x : LocatedItem). x.item)) (located_pieces texts table lines node pieces locations)
       ≡ map (λ piece. map (shape_item texts table) piece.items) (filter (is_piece_of table node) pieces)
   node_pieces_without_classes node [] locations = refl
-  node_pieces_without_classes node (piece ∷ pieces) locations = by (is_piece_of table node piece) (node_pieces_without_classes node pieces (drop 1 locations))
+  node_pieces_without_classes node (piece ∷ pieces) locations =
+      by (is_piece_of table node piece) (node_pieces_without_classes node pieces (drop 1 locations))
     where
-      by : (t : Bool) → map (map (λ (x : LocatedItem). x.item)) (located_pieces texts table lines node pieces (drop 1 locations)) ≡ map (λ piece. map (shape_item texts table) piece.items) (filter (is_piece_of table node) pieces)
+      by : (t : Bool)
+          → map (map (λ (x : LocatedItem). x.item)) (located_pieces texts table lines node pieces (drop 1 locations))
+          ≡ map (λ piece. map (shape_item texts table) piece.items) (filter (is_piece_of table node) pieces)
           → map (map (λ (x : LocatedItem). x.item))
-          (if t then located_items texts table lines (first_locations locations) piece.items ∷ located_pieces texts table lines node pieces (drop 1 locations)
+          (if t
+          then located_items texts table lines (first_locations locations) piece.items
+          ∷ located_pieces texts table lines node pieces (drop 1 locations)
           else located_pieces texts table lines node pieces (drop 1 locations))
           ≡ map (λ piece. map (shape_item texts table) piece.items)
           (if t then piece ∷ filter (is_piece_of table node) pieces else filter (is_piece_of table node) pieces)
       by true rest =
-          ap (λ t. t ∷ map (map (λ (x : LocatedItem). x.item)) (located_pieces texts table lines node pieces (drop 1 locations)))
+          ap (λ t.
+          t ∷ map (map (λ (x : LocatedItem). x.item)) (located_pieces texts table lines node pieces (drop 1 locations)))
           (piece_items_without_classes _ piece.items)
           ∙ ap (λ t. map (shape_item texts table) piece.items ∷ t) rest
       by false rest = rest
@@ -82,4 +104,5 @@ pub without_classes : (source : SourceRead) (web : WebRead) (table : TableRead) 
     → map (λ p. p.symbol) (located fuel (located_shapes source web table) node) ≡ flat fuel (shapes web table) node
 without_classes source web table fuel node =
     located_without_classes fuel (located_shapes source web table) (shapes web table)
-    (λ node. node_pieces_without_classes web.texts table source.lines node web.pieces (piece_locations source.lines)) node
+    (λ node. node_pieces_without_classes web.texts table source.lines node web.pieces (piece_locations source.lines))
+    node

@@ -16,7 +16,8 @@ use Rattle.tangle_files.specs.declared.marks.MarkMode.TheVariants.{Full}
 -- the source lines of the file `a.w`, from a line number on
 abbrev numbered_lines : ℕ → List (List ℕ) → List SourceLine
 numbered_lines n [] = []
-numbered_lines n (line ∷ lines) = record { bytes = line; origin = record { file = 0; line = n }; changed = false } ∷ numbered_lines (n + 1) lines
+numbered_lines n (line ∷ lines) =
+    record { bytes = line; origin = record { file = 0; line = n }; changed = false } ∷ numbered_lines (n + 1) lines
 
 abbrev source : List (List ℕ) → SourceRead
 source lines = record { files = (codes "a.w", lines) ∷ []; lines = numbered_lines 1 lines; faults = [] }
@@ -26,12 +27,17 @@ abbrev web : List (List ℕ) → WebRead
 web lines = web_of (source lines)
 
 abbrev output : List (List ℕ) → List ℕ
-output lines = expansion_bytes (numbers_of (web lines) (table_of (web lines)) Full) (flat 1001 (shapes (web lines) (table_of (web lines))) Program) ++ codes "\n"
+output lines =
+    expansion_bytes (numbers_of (web lines) (table_of (web lines)) Full)
+    (flat 1001 (shapes (web lines) (table_of (web lines))) Program)
+    ++ codes "\n"
 
 -- the output of a named node, and a line feed
 abbrev output_of : List (List ℕ) → List ℕ → List ℕ
 output_of lines name =
-    expansion_bytes (numbers_of (web lines) (table_of (web lines)) Full) (flat 1001 (shapes (web lines) (table_of (web lines))) (Named name)) ++ codes "\n"
+    expansion_bytes (numbers_of (web lines) (table_of (web lines)) Full)
+    (flat 1001 (shapes (web lines) (table_of (web lines))) (Named name))
+    ++ codes "\n"
 
 abbrev weight_in : List (List ℕ) → Title → ℕ
 weight_in lines node = weight 16777217 (shapes (web lines) (table_of (web lines))) node
@@ -45,7 +51,8 @@ written_lines lines = flat_map (λ line. line ++ 10 ∷ []) lines
 abbrev one_part : List (List ℕ)
 one_part = codes "@ A." ∷ codes "@c" ∷ codes "int x;" ∷ []
 
-one_part_output : output one_part ≡ written_lines (codes "/*1:*/" ∷ codes "#line 2 \"a.w\"" ∷ [] ∷ codes "int x;" ∷ codes "/*:1*/" ∷ [])
+one_part_output : output one_part
+    ≡ written_lines (codes "/*1:*/" ∷ codes "#line 2 \"a.w\"" ∷ [] ∷ codes "int x;" ∷ codes "/*:1*/" ∷ [])
 unfolding lexeme tokens_from occurrences_from digits
 one_part_output = refl
 
@@ -62,7 +69,8 @@ abbrev one_use : List (List ℕ)
 one_use = codes "@ A." ∷ codes "@c" ∷ codes "int x=@<v@>;" ∷ codes "@ @<v@>=" ∷ codes "1" ∷ []
 
 one_use_output : output one_use ≡ written_lines (
-    codes "/*1:*/" ∷ codes "#line 2 \"a.w\"" ∷ [] ∷ codes "int x= /*2:*/" ∷ codes "#line 4 \"a.w\"" ∷ [] ∷ codes "1" ∷ codes "/*:2*/"
+    codes "/*1:*/" ∷ codes "#line 2 \"a.w\"" ∷ [] ∷ codes "int x= /*2:*/"
+    ∷ codes "#line 4 \"a.w\"" ∷ [] ∷ codes "1" ∷ codes "/*:2*/"
     ∷ codes "#line 3 \"a.w\"" ∷ codes ";" ∷ codes "/*:1*/" ∷ [])
 unfolding lexeme tokens_from occurrences_from digits
 one_use_output = refl
@@ -85,7 +93,8 @@ one_use_name_depth = refl
 
 -- one more line at the top adds 1 to each line number
 shifted_output : output (codes "% top" ∷ one_use) ≡ written_lines (
-    codes "/*1:*/" ∷ codes "#line 3 \"a.w\"" ∷ [] ∷ codes "int x= /*2:*/" ∷ codes "#line 5 \"a.w\"" ∷ [] ∷ codes "1" ∷ codes "/*:2*/"
+    codes "/*1:*/" ∷ codes "#line 3 \"a.w\"" ∷ [] ∷ codes "int x= /*2:*/"
+    ∷ codes "#line 5 \"a.w\"" ∷ [] ∷ codes "1" ∷ codes "/*:2*/"
     ∷ codes "#line 4 \"a.w\"" ∷ codes ";" ∷ codes "/*:1*/" ∷ [])
 unfolding lexeme tokens_from occurrences_from digits
 shifted_output = refl
@@ -95,7 +104,8 @@ abbrev macros_in_program : List (List ℕ)
 macros_in_program = codes "@ A." ∷ codes "@d N 10" ∷ codes "@c" ∷ codes "@h" ∷ codes "int x=N;" ∷ []
 
 macros_in_program_output : output macros_in_program ≡ written_lines (
-    codes "/*1:*/" ∷ codes "#line 3 \"a.w\"" ∷ [] ∷ [] ∷ codes "#define N 10" ∷ [] ∷ codes "#line 4 \"a.w\"" ∷ [] ∷ codes "int x=N;" ∷ codes "/*:1*/" ∷ [])
+    codes "/*1:*/" ∷ codes "#line 3 \"a.w\"" ∷ [] ∷ [] ∷ codes "#define N 10"
+    ∷ [] ∷ codes "#line 4 \"a.w\"" ∷ [] ∷ codes "int x=N;" ∷ codes "/*:1*/" ∷ [])
 unfolding lexeme tokens_from occurrences_from digits
 macros_in_program_output = refl
 
@@ -104,13 +114,16 @@ abbrev joined : List (List ℕ)
 joined = codes "@ A." ∷ codes "@c" ∷ codes "a@&" ∷ codes "b;" ∷ codes "c;" ∷ []
 
 joined_output : output joined ≡ written_lines (
-    codes "/*1:*/" ∷ codes "#line 2 \"a.w\"" ∷ [] ∷ codes "ab;" ∷ codes "#line 5 \"a.w\"" ∷ codes "c;" ∷ codes "/*:1*/" ∷ [])
+    codes "/*1:*/" ∷ codes "#line 2 \"a.w\"" ∷ [] ∷ codes "ab;"
+    ∷ codes "#line 5 \"a.w\"" ∷ codes "c;" ∷ codes "/*:1*/" ∷ [])
 unfolding lexeme tokens_from occurrences_from digits
 joined_output = refl
 
 -- An abbreviation that resolves to two names: its uses give no symbols of a name, and no other name is used.
 abbrev ambiguous : List (List ℕ)
-ambiguous = codes "@ A." ∷ codes "@c" ∷ codes "@<Ini...@>" ∷ codes "@ @<Initialize@>=" ∷ codes "x=0;" ∷ codes "@ @<Init table@>=" ∷ []
+ambiguous =
+    codes "@ A." ∷ codes "@c" ∷ codes "@<Ini...@>" ∷ codes "@ @<Initialize@>="
+    ∷ codes "x=0;" ∷ codes "@ @<Init table@>=" ∷ []
 
 ambiguous_output : output ambiguous ≡ written_lines (
     codes "/*1:*/" ∷ codes "#line 2 \"a.w\"" ∷ [] ∷ codes " " ∷ codes "#line 3 \"a.w\"" ∷ [] ∷ codes "/*:1*/" ∷ [])
@@ -122,14 +135,16 @@ abbrev early : List (List ℕ)
 early = codes "@ A." ∷ codes "@c" ∷ codes "@<Ini...@>" ∷ codes "@ @<Initialize@>=" ∷ codes "x=0;" ∷ []
 
 early_output : output early ≡ written_lines (
-    codes "/*1:*/" ∷ codes "#line 2 \"a.w\"" ∷ [] ∷ codes " /*2:*/" ∷ codes "#line 4 \"a.w\"" ∷ [] ∷ codes "x=0;" ∷ codes "/*:2*/" ∷ codes "#line 3 \"a.w\""
+    codes "/*1:*/" ∷ codes "#line 2 \"a.w\"" ∷ [] ∷ codes " /*2:*/"
+    ∷ codes "#line 4 \"a.w\"" ∷ [] ∷ codes "x=0;" ∷ codes "/*:2*/" ∷ codes "#line 3 \"a.w\""
     ∷ [] ∷ codes "/*:1*/" ∷ [])
 unfolding lexeme tokens_from occurrences_from digits
 early_output = refl
 
 -- one more section at the top adds 1 to each section number and to each line number
 renumbered_output : output (codes "@ Z." ∷ one_use) ≡ written_lines (
-    codes "/*2:*/" ∷ codes "#line 3 \"a.w\"" ∷ [] ∷ codes "int x= /*3:*/" ∷ codes "#line 5 \"a.w\"" ∷ [] ∷ codes "1" ∷ codes "/*:3*/"
+    codes "/*2:*/" ∷ codes "#line 3 \"a.w\"" ∷ [] ∷ codes "int x= /*3:*/"
+    ∷ codes "#line 5 \"a.w\"" ∷ [] ∷ codes "1" ∷ codes "/*:3*/"
     ∷ codes "#line 4 \"a.w\"" ∷ codes ";" ∷ codes "/*:2*/" ∷ [])
 unfolding lexeme tokens_from occurrences_from digits
 renumbered_output = refl
@@ -137,9 +152,11 @@ renumbered_output = refl
 -- Two names that use each other, and a named file.
 abbrev cyclic : List (List ℕ)
 cyclic =
-    codes "@ P." ∷ codes "@c" ∷ codes "@<A@>" ∷ codes "@ @<A@>=" ∷ codes "@<B@>" ∷ codes "@ @<B@>=" ∷ codes "@<A@>" ∷ codes "@ @(h.h@>=" ∷ codes "int h;" ∷ []
+    codes "@ P." ∷ codes "@c" ∷ codes "@<A@>" ∷ codes "@ @<A@>=" ∷ codes "@<B@>"
+    ∷ codes "@ @<B@>=" ∷ codes "@<A@>" ∷ codes "@ @(h.h@>=" ∷ codes "int h;" ∷ []
 
-cyclic_file : output_of cyclic (codes "h.h") ≡ written_lines (codes "/*4:*/" ∷ codes "#line 8 \"a.w\"" ∷ [] ∷ codes "int h;" ∷ codes "/*:4*/" ∷ [])
+cyclic_file : output_of cyclic (codes "h.h")
+    ≡ written_lines (codes "/*4:*/" ∷ codes "#line 8 \"a.w\"" ∷ [] ∷ codes "int h;" ∷ codes "/*:4*/" ∷ [])
 unfolding lexeme tokens_from occurrences_from digits
 cyclic_file = refl
 
@@ -153,18 +170,23 @@ cyclic_other = (codes "A", inl (inr (inl refl)), on (inl (inr (inl refl))) here)
 
 -- the same web without the cycle
 abbrev acyclic : List (List ℕ)
-acyclic = codes "@ P." ∷ codes "@c" ∷ codes "@<A@>" ∷ codes "@ @<A@>=" ∷ codes "@<B@>" ∷ codes "@ @<B@>=" ∷ codes "b;" ∷ codes "@ @(h.h@>=" ∷ codes "int h;" ∷ []
+acyclic =
+    codes "@ P." ∷ codes "@c" ∷ codes "@<A@>" ∷ codes "@ @<A@>=" ∷ codes "@<B@>"
+    ∷ codes "@ @<B@>=" ∷ codes "b;" ∷ codes "@ @(h.h@>=" ∷ codes "int h;" ∷ []
 
 acyclic_output : output acyclic ≡ written_lines (
-    codes "/*1:*/" ∷ codes "#line 2 \"a.w\"" ∷ [] ∷ codes " /*2:*/" ∷ codes "#line 4 \"a.w\"" ∷ [] ∷ codes " /*3:*/" ∷ codes "#line 6 \"a.w\"" ∷ [] ∷ codes "b;"
-    ∷ codes "/*:3*/" ∷ codes "#line 5 \"a.w\"" ∷ [] ∷ codes "/*:2*/" ∷ codes "#line 3 \"a.w\"" ∷ [] ∷ codes "/*:1*/" ∷ [])
+    codes "/*1:*/" ∷ codes "#line 2 \"a.w\"" ∷ [] ∷ codes " /*2:*/" ∷ codes "#line 4 \"a.w\""
+    ∷ [] ∷ codes " /*3:*/" ∷ codes "#line 6 \"a.w\"" ∷ [] ∷ codes "b;"
+    ∷ codes "/*:3*/" ∷ codes "#line 5 \"a.w\"" ∷ [] ∷ codes "/*:2*/"
+    ∷ codes "#line 3 \"a.w\"" ∷ [] ∷ codes "/*:1*/" ∷ [])
 unfolding lexeme tokens_from occurrences_from digits
 acyclic_output = refl
 
 -- names that each use the next one twice: the `j`-th before the last weighs 15 * 2 ^ j - 9
 abbrev doubling : List (List ℕ)
 doubling =
-    codes "@ @<a@>=" ∷ codes "@<b@>@<b@>" ∷ codes "@ @<b@>=" ∷ codes "@<d@>@<d@>" ∷ codes "@ @<d@>=" ∷ codes "@<e@>@<e@>" ∷ codes "@ @<e@>=" ∷ codes "1" ∷ []
+    codes "@ @<a@>=" ∷ codes "@<b@>@<b@>" ∷ codes "@ @<b@>=" ∷ codes "@<d@>@<d@>"
+    ∷ codes "@ @<d@>=" ∷ codes "@<e@>@<e@>" ∷ codes "@ @<e@>=" ∷ codes "1" ∷ []
 
 doubling_last : weight_in doubling (Named (codes "e")) ≡ 15 * 2 ^ 0 - 9
 unfolding lexeme tokens_from occurrences_from
@@ -190,7 +212,8 @@ doubling_depth = refl
 abbrev long_macro : List (List ℕ)
 long_macro = codes "@ A." ∷ codes "@d F(x) x" ∷ codes "  +1" ∷ [] ∷ codes "@d 3" ∷ codes "@c" ∷ codes "y" ∷ []
 
-long_macro_bytes : (numbers_of (web long_macro) (table_of (web long_macro)) Full).macros ≡ codes "#define F(x) x\\\n+1\n"
+long_macro_bytes : (numbers_of (web long_macro) (table_of (web long_macro)) Full).macros
+    ≡ codes "#define F(x) x\\\n+1\n"
 unfolding lexeme tokens_from occurrences_from digits
 long_macro_bytes = refl
 
@@ -198,7 +221,8 @@ long_macro_bytes = refl
 abbrev ended_macro : List (List ℕ)
 ended_macro = codes "@ A." ∷ codes "@d N 1 \\" ∷ codes "@d M 2" ∷ codes "@c" ∷ codes "y" ∷ []
 
-ended_macro_bytes : (numbers_of (web ended_macro) (table_of (web ended_macro)) Full).macros ≡ codes "#define N 1\n#define M 2\n"
+ended_macro_bytes : (numbers_of (web ended_macro) (table_of (web ended_macro)) Full).macros
+    ≡ codes "#define N 1\n#define M 2\n"
 unfolding lexeme tokens_from occurrences_from digits
 ended_macro_bytes = refl
 
@@ -209,7 +233,8 @@ class_byte (OfItem origin true) = 97 + origin.line
 class_byte LineFeed = 10
 class_byte Other = 32
 
-joined_classes : map (λ p. class_byte p.class) (located 1001 (located_shapes (source joined) (web joined) (table_of (web joined))) Program)
+joined_classes : map (λ p. class_byte p.class)
+    (located 1001 (located_shapes (source joined) (web joined) (table_of (web joined))) Program)
     ≡ 32 ∷ 32 ∷ 10 ∷ (48 + 3) ∷ (97 + 4) ∷ (97 + 4) ∷ 32 ∷ (48 + 5) ∷ (48 + 5) ∷ 10 ∷ 32 ∷ []
 unfolding lexeme tokens_from occurrences_from digits
 joined_classes = refl

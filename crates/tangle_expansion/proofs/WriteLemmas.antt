@@ -1,7 +1,7 @@
 -- Several writes, one after another.
-use Rattle.std.proofs.Common.{◌≡◌, ◌∙◌, ℕ, List, [], ◌++◌, Option, refl, ap, sym, subst, append_assoc, append-nil, arith, length-append}
-use Rattle.std.specs.Prelude.{Result, Ok, None, Some}
-use Rattle.std.specs.Io.KnownBytes.{Appends}
+use Rattle.std.proofs.Common.{◌≡◌, ◌∙◌, ℕ, List, [], ◌++◌, refl, ap, sym, subst, append_assoc, append-nil, arith}
+use Rattle.std.proofs.Common.{length-append}
+use Rattle.std.specs.Prelude.{Result}
 use Rattle.tangle_streams.specs.declared.failures.WriteFault.{WriteFault}
 use Rattle.tangle_streams.specs.Streams.{Stream, IsWritten, IsWrittenAfter}
 
@@ -15,7 +15,8 @@ writes_then a b c r s t xs ys first second = λ old done so_far fits.
 pub writes_nothing : (a : Stream) (r : Result ℕ WriteFault) → IsWrittenAfter a a r [] r
 writes_nothing a r = λ old done so_far fits. subst (λ l. IsWritten old a l r) (sym (append-nil done)) so_far
 
-pub writes_same : (a b : Stream) (r s : Result ℕ WriteFault) (xs ys : List ℕ) → xs ≡ ys → IsWrittenAfter a b r xs s → IsWrittenAfter a b r ys s
+pub writes_same : (a b : Stream) (r s : Result ℕ WriteFault) (xs ys : List ℕ)
+    → xs ≡ ys → IsWrittenAfter a b r xs s → IsWrittenAfter a b r ys s
 writes_same a b r s xs ys e h = subst (λ l. IsWrittenAfter a b r l s) e h
 
 -- the bytes that were written, and those of the whole that remain
@@ -38,16 +39,10 @@ wrote_more a b c r s t left xs rest whole w e p = record {
 pub wrote_all : (a b c : Stream) (r s t : Result ℕ WriteFault) (left xs whole : List ℕ)
     → Wrote a b r s left whole → left ≡ xs → IsWrittenAfter b c s xs t → IsWrittenAfter a c r whole t
 wrote_all a b c r s t left xs whole w e p =
-    writes_same a c r t (w.done ++ xs) whole (ap (λ l. w.done ++ l) (sym e) ∙ w.split) (writes_then a b c r s t w.done xs w.writes p)
+    writes_same a c r t (w.done ++ xs) whole (ap (λ l. w.done ++ l) (sym e) ∙ w.split)
+    (writes_then a b c r s t w.done xs w.writes p)
 
-pub wrote_whole : (a b : Stream) (r s : Result ℕ WriteFault) (left whole : List ℕ) → Wrote a b r s left whole → left ≡ [] → IsWrittenAfter a b r whole s
+pub wrote_whole : (a b : Stream) (r s : Result ℕ WriteFault) (left whole : List ℕ)
+    → Wrote a b r s left whole → left ≡ [] → IsWrittenAfter a b r whole s
 wrote_whole a b r s left whole w e =
     writes_same a b r s w.done whole (sym (append-nil w.done) ∙ ap (λ l. w.done ++ l) (sym e) ∙ w.split) w.writes
-
--- nothing is written yet
-pub writes_at_first : (a : Stream) → IsWritten a a [] (Ok 0)
-writes_at_first a = (refl, keeps a.taken, refl)
-  where
-    keeps : (a : Option (List ℕ)) → Appends a a []
-    keeps None = tt
-    keeps (Some xs) = sym (append-nil xs)

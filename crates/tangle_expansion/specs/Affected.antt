@@ -4,8 +4,8 @@ use Rattle.tangle_plans.specs.Shapes.{Title, Shapes, Reaches}
 use Rattle.tangle_plans.specs.Flat.{weight, depth}
 
 -- The node has a piece and is within both limits; `levels` is one more than the greatest allowed
--- depth. So it reaches no name that contains itself: a node that reaches one is deeper and heavier
--- than any number, by `expandable_nodes_reach_no_cycle`.
+-- depth. So it reaches no name that contains itself: the depth of a node that reaches one is at
+-- least `levels`, by `expandable_nodes_reach_no_cycle`.
 pub record IsExpandable (levels limit : ℕ) (shapes : Shapes) (node : Title) : Type 0 where
   pub has_piece : shapes node ≢ []
   pub shallow : depth levels shapes node < levels

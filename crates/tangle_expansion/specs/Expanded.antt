@@ -11,26 +11,42 @@ use Rattle.tangle_plans.specs.declared.steps.Step.TheVariants as step
 use Rattle.tangle_expansion.specs.declared.expansion.Expansion.TheInside.{Inside}
 
 abbrev pub expansion_symbols : Inside → List Symbol
-expansion_symbols e = plan_flat (title_of e.shared.value.body.value.name) e.shared.value.body.value.bytes.items 0 0 0 e.shared.value.body.value.plan.items e.shared.value.used.items
+expansion_symbols e =
+    plan_flat (title_of e.shared.value.body.value.name) e.shared.value.body.value.bytes.items
+    0 0 0 e.shared.value.body.value.plan.items e.shared.value.used.items
 
-left_over_is_longer : (used : List (List Symbol)) → most (λ symbols. length symbols + 1) used ≤ length (left_over used)
+left_over_is_longer : (used : List (List Symbol))
+    → most (λ symbols. length symbols + 1) used ≤ length (left_over used)
 left_over_is_longer [] = omega arith
-left_over_is_longer (symbols ∷ rest) = omega (arith, left_over_is_longer rest, length-append symbols (left_over rest))
+left_over_is_longer (symbols ∷ rest) =
+    omega (arith, left_over_is_longer rest, length-append symbols (left_over rest))
 
-pub plan_is_longer : (node : Title) (bytes : List ℕ) (piece marks start : ℕ) (plan : List Step) (used : List (List Symbol))
-    → most (λ symbols. length symbols + 1) used ≤ length (plan_flat node bytes piece marks start plan used)
+pub plan_is_longer : (node : Title) (bytes : List ℕ)
+    (piece marks start : ℕ) (plan : List Step) (used : List (List Symbol))
+    → most (λ symbols. length symbols + 1) used
+    ≤ length (plan_flat node bytes piece marks start plan used)
 plan_is_longer node bytes piece marks start [] used = left_over_is_longer used
-plan_is_longer node bytes piece marks start (step.Open ∷ plan) used = omega (arith, plan_is_longer node bytes piece 0 start plan used)
+plan_is_longer node bytes piece marks start (step.Open ∷ plan) used =
+    omega (arith, plan_is_longer node bytes piece 0 start plan used)
 plan_is_longer node bytes piece marks start (step.Run end ∷ plan) used =
     omega (
       arith,
       plan_is_longer node bytes piece marks end plan used,
-      length-append (map Byte (bytes_between bytes start end)) (plan_flat node bytes piece marks end plan used),
+      length-append (map Byte (bytes_between bytes start end))
+          (plan_flat node bytes piece marks end plan used),
     )
-plan_is_longer node bytes piece marks start (step.Mark ∷ plan) used = omega (arith, plan_is_longer node bytes piece (marks + 1) start plan used)
-plan_is_longer node bytes piece marks start (step.AllMacros ∷ plan) used = omega (arith, plan_is_longer node bytes piece marks start plan used)
-plan_is_longer node bytes piece marks start (step.Space ∷ plan) used = omega (arith, plan_is_longer node bytes piece marks start plan used)
+plan_is_longer node bytes piece marks start (step.Mark ∷ plan) used =
+    omega (arith, plan_is_longer node bytes piece (marks + 1) start plan used)
+plan_is_longer node bytes piece marks start (step.AllMacros ∷ plan) used =
+    omega (arith, plan_is_longer node bytes piece marks start plan used)
+plan_is_longer node bytes piece marks start (step.Space ∷ plan) used =
+    omega (arith, plan_is_longer node bytes piece marks start plan used)
 plan_is_longer node bytes piece marks start (step.Use id ∷ plan) [] = omega arith
 plan_is_longer node bytes piece marks start (step.Use id ∷ plan) (symbols ∷ rest) =
-    omega (arith, plan_is_longer node bytes piece marks start plan rest, length-append symbols (plan_flat node bytes piece marks start plan rest))
-plan_is_longer node bytes piece marks start (step.Close ∷ plan) used = omega (arith, plan_is_longer node bytes (piece + 1) 0 start plan used)
+    omega (
+      arith,
+      plan_is_longer node bytes piece marks start plan rest,
+      length-append symbols (plan_flat node bytes piece marks start plan rest),
+    )
+plan_is_longer node bytes piece marks start (step.Close ∷ plan) used =
+    omega (arith, plan_is_longer node bytes (piece + 1) 0 start plan used)

@@ -1,6 +1,7 @@
 -- The lines of a whole output: at each byte of a word, sign, quoted or verbatim text or ASCII
 -- constant, the counted origin is that of the byte's source line.
-use Rattle.std.specs.Prelude.{◌≡◌, ℕ, ◌+◌, zero, suc, Bool, false, List, [], ◌∷◌, ◌++◌, map, drop, if◌then◌else◌, Option, Some, None}
+use Rattle.std.specs.Prelude.{◌≡◌, ℕ, ◌+◌, zero, suc, Bool, false, List, [], ◌∷◌, ◌++◌, map, drop}
+use Rattle.std.specs.Prelude.{if◌then◌else◌, Option, Some, None}
 use Rattle.tangle_files.specs.Bytes.{space}
 use Rattle.tangle_faults.specs.declared.faults.Origin.{Origin}
 use Rattle.tangle_lines.specs.Reading.{SourceLine, SourceRead, origin_at}
@@ -11,7 +12,8 @@ use Rattle.tangle_scan.specs.Web.{WebRead, PieceRead}
 use Rattle.tangle_names.specs.NameTable.{TableRead}
 use Rattle.tangle_plans.specs.Shapes.{Title, Named, ShapeItem, Written, Mark, Use, NoUse}
 use Rattle.tangle_plans.specs.Shapes as shape
-use Rattle.tangle_plans.specs.Flat.{Symbol, Byte, Opening, MarkOf, Closing, AllMacros, marks_after_shape_item}
+use Rattle.tangle_plans.specs.Flat.{Symbol, Byte, Opening, MarkOf, Closing, AllMacros}
+use Rattle.tangle_plans.specs.Flat.{marks_after_shape_item}
 use Rattle.tangle_expansion.specs.Numbers.{NumbersRead, origin_of_mark, no_origin}
 use Rattle.tangle_plans.specs.WebShapes.{is_piece_of, shape_item}
 use Rattle.tangle_files.specs.declared.marks.MarkMode.{MarkMode}
@@ -79,45 +81,56 @@ module _ (texts : List (List ℕ)) (table : TableRead) (lines : List SourceLine)
   abbrev pub located_items : List Location → List Item → List LocatedItem
   located_items ss [] = []
   located_items ss (x ∷ items) =
-      record { item = shape_item texts table x; class = class_of lines ss x } ∷ located_items (locations_after ss x) items
+      record { item = shape_item texts table x; class = class_of lines ss x }
+      ∷ located_items (locations_after ss x) items
 
   -- the pieces of a node, among the pieces whose source items have these locations
-  abbrev pub located_pieces : Title → List PieceRead → List (List Location) → List (List LocatedItem)
+  abbrev pub located_pieces : Title → List PieceRead → List (List Location)
+      → List (List LocatedItem)
   located_pieces node [] locations = []
   located_pieces node (piece ∷ pieces) locations =
       if is_piece_of table node piece
-      then located_items (first_locations locations) piece.items ∷ located_pieces node pieces (drop 1 locations)
+      then located_items (first_locations locations) piece.items
+      ∷ located_pieces node pieces (drop 1 locations)
       else located_pieces node pieces (drop 1 locations)
 
 -- the shapes of a web, with the origins of its source items
 abbrev pub located_shapes : SourceRead → WebRead → TableRead → Title → List (List LocatedItem)
-located_shapes source web table node = located_pieces web.texts table source.lines node web.pieces (piece_locations source.lines)
+located_shapes source web table node =
+    located_pieces web.texts table source.lines node web.pieces (piece_locations source.lines)
 
 -- The expansion of a node, with the classes of its symbols. Otherwise this is as in Flat.
 
 abbrev pub other : Symbol → LocatedSymbol
 other symbol = record { symbol = symbol; class = Other }
 
-abbrev pub located_item : (List ℕ → List LocatedSymbol) → Title → ℕ → ℕ → ByteClass → ShapeItem → List LocatedSymbol
-located_item used node piece marks class (Written kind bytes) = map (λ b. record { symbol = Byte b; class = class }) bytes
+abbrev pub located_item : (List ℕ → List LocatedSymbol) → Title → ℕ → ℕ → ByteClass → ShapeItem
+    → List LocatedSymbol
+located_item used node piece marks class (Written kind bytes) =
+    map (λ b. record { symbol = Byte b; class = class }) bytes
 located_item used node piece marks class Mark = other (MarkOf node piece (marks + 1)) ∷ []
 located_item used node piece marks class shape.AllMacros = other AllMacros ∷ []
 located_item used node piece marks class (Use name) = other (Byte space) ∷ used name
 located_item used node piece marks class NoUse = other (Byte space) ∷ []
 
-abbrev pub items_located : (List ℕ → List LocatedSymbol) → Title → ℕ → ℕ → List LocatedItem → List LocatedSymbol
+abbrev pub items_located : (List ℕ → List LocatedSymbol) → Title → ℕ → ℕ → List LocatedItem
+    → List LocatedSymbol
 items_located used node piece marks [] = other (Closing node piece) ∷ []
 items_located used node piece marks (x ∷ items) =
-    located_item used node piece marks x.class x.item ++ items_located used node piece (marks_after_shape_item marks x.item) items
+    located_item used node piece marks x.class x.item
+    ++ items_located used node piece (marks_after_shape_item marks x.item) items
 
-abbrev pub pieces_located : (List ℕ → List LocatedSymbol) → Title → ℕ → List (List LocatedItem) → List LocatedSymbol
+abbrev pub pieces_located : (List ℕ → List LocatedSymbol) → Title → ℕ → List (List LocatedItem)
+    → List LocatedSymbol
 pieces_located used node piece [] = []
 pieces_located used node piece (items ∷ pieces) =
-    other (Opening node piece) ∷ other (MarkOf node piece 0) ∷ items_located used node piece 0 items ++ pieces_located used node (piece + 1) pieces
+    other (Opening node piece) ∷ other (MarkOf node piece 0)
+    ∷ items_located used node piece 0 items ++ pieces_located used node (piece + 1) pieces
 
 abbrev pub located : ℕ → (Title → List (List LocatedItem)) → Title → List LocatedSymbol
 located zero shapes node = []
-located (suc fuel) shapes node = pieces_located (λ name. located fuel shapes (Named name)) node 0 (shapes node)
+located (suc fuel) shapes node =
+    pieces_located (λ name. located fuel shapes (Named name)) node 0 (shapes node)
 
 -- The counted origin.
 
@@ -143,11 +156,13 @@ module _ (numbers : NumbersRead) where
   abbrev pub origin_after : Option Origin → Symbol → ByteClass → Option Origin
   origin_after origin (Byte b) class = origin_after_byte origin class
   origin_after origin (Opening node piece) class = origin
-  origin_after origin (MarkOf node piece mark) class = origin_set numbers.marks origin (origin_of_mark numbers node piece mark)
+  origin_after origin (MarkOf node piece mark) class =
+      origin_set numbers.marks origin (origin_of_mark numbers node piece mark)
   origin_after origin (Closing node piece) class = origin
   origin_after origin AllMacros class = None
 
   -- each symbol is at its own origin, where this is the counted origin before the first
   abbrev pub AreAtTheirOrigins : Option Origin → List LocatedSymbol → Type 0
   AreAtTheirOrigins origin [] = Unit {0}
-  AreAtTheirOrigins origin (p ∷ symbols) = IsOwnOrigin origin p.class × AreAtTheirOrigins (origin_after origin p.symbol p.class) symbols
+  AreAtTheirOrigins origin (p ∷ symbols) =
+      IsOwnOrigin origin p.class × AreAtTheirOrigins (origin_after origin p.symbol p.class) symbols

@@ -8,4 +8,8 @@ use Rattle.tangle_expansion.specs.declared.expansion.Expansion.TheDeep.{deep-Exp
 
 pub is_longer : (e : Inside) → deep-Expansion e ≤ length (expansion_symbols e)
 is_longer e =
-    omega (arith, plan_is_longer (title_of e.shared.value.body.value.name) e.shared.value.body.value.bytes.items 0 0 0 e.shared.value.body.value.plan.items e.shared.value.used.items)
+    omega (
+      arith,
+      plan_is_longer (title_of e.shared.value.body.value.name) e.shared.value.body.value.bytes.items
+          0 0 0 e.shared.value.body.value.plan.items e.shared.value.used.items,
+    )

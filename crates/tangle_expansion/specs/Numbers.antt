@@ -1,6 +1,7 @@
 -- The section numbers and origins of a web, the bytes of its macros, and the bytes that an
 -- expansion gives with them.
-use Rattle.std.specs.Prelude.{ℕ, ◌==◌, ◌||◌, List, [], ◌∷◌, ◌++◌, map, flat_map, get_or, codes, decimal, unwrap_or, if◌then◌else◌}
+use Rattle.std.specs.Prelude.{ℕ, ◌==◌, ◌||◌, List, [], ◌∷◌, ◌++◌, map, flat_map, get_or, codes}
+use Rattle.std.specs.Prelude.{decimal, unwrap_or, if◌then◌else◌}
 use Rattle.std.specs.Map.{lookup}
 use Rattle.std.specs.Str.{bytes_eq}
 use Rattle.tangle_files.specs.Bytes.{line_feed}
@@ -46,11 +47,13 @@ item_origins (item.LineMark origin) = origin ∷ []
 item_origins _ = []
 
 abbrev pub numbers_of_piece : PieceRead → PieceNumbersRead
-numbers_of_piece piece = record { section = piece.section; origins = piece.origin ∷ flat_map item_origins piece.items }
+numbers_of_piece piece =
+    record { section = piece.section; origins = piece.origin ∷ flat_map item_origins piece.items }
 
 module _ (web : WebRead) (table : TableRead) where
   abbrev pub name_numbers : List (List ℕ × List PieceNumbersRead)
-  name_numbers = map (λ name. (name, map numbers_of_piece (pieces_of web table (Named name)))) table.names
+  name_numbers =
+      map (λ name. (name, map numbers_of_piece (pieces_of web table (Named name)))) table.names
 
   abbrev pub numbers_of : MarkMode → NumbersRead
   numbers_of marks = record {
@@ -98,7 +101,8 @@ module _ (numbers : NumbersRead) where
 
   -- the bytes of a line mark with this origin
   abbrev pub mark_bytes_at : Origin → List ℕ
-  mark_bytes_at origin = mark_bytes numbers.marks (get_or numbers.file_names origin.file []) origin.line
+  mark_bytes_at origin =
+      mark_bytes numbers.marks (get_or numbers.file_names origin.file []) origin.line
 
   abbrev pub symbol_bytes : Symbol → List ℕ
   symbol_bytes (Byte b) = b ∷ []

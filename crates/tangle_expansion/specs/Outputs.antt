@@ -1,5 +1,6 @@
 -- The bytes of an output file, each of which is at its line of the source.
-use Rattle.std.specs.Prelude.{◌≡◌, ◌≤◌, length, true, unwrap_or, IsSome, ℕ, Bool, List, [], ◌∷◌, ◌++◌, map, if◌then◌else◌, None}
+use Rattle.std.specs.Prelude.{◌≡◌, ◌≤◌, length, true, unwrap_or, IsSome, ℕ, Bool, List, [], ◌∷◌}
+use Rattle.std.specs.Prelude.{◌++◌, map, if◌then◌else◌, None}
 use Rattle.tangle_files.specs.Bytes.{line_feed}
 use Rattle.tangle_lines.specs.Reading.{SourceRead}
 use Rattle.tangle_scan.specs.Web.{WebRead}
@@ -12,7 +13,8 @@ use Rattle.tangle_expansion.specs.Kept.{kept_at}
 use Rattle.tangle_files.specs.declared.marks.MarkMode.TheVariants.{Full}
 use Rattle.tangle_plans.specs.declared.nodes.Node.{Node}
 use Rattle.tangle_expansion.specs.declared.kept.Kept.{Kept}
-use Rattle.tangle_expansion.specs.Location.{LocatedSymbol, located, located_shapes, AreAtTheirOrigins}
+use Rattle.tangle_expansion.specs.Location.{LocatedSymbol, located, located_shapes}
+use Rattle.tangle_expansion.specs.Location.{AreAtTheirOrigins}
 
 abbrev pub front_bytes : NumbersRead → Bool → List ℕ
 front_bytes numbers has_macros = if has_macros then numbers.macros else []
@@ -21,7 +23,8 @@ front_bytes numbers has_macros = if has_macros then numbers.macros else []
 -- if the node has a piece
 abbrev pub output_file_bytes : NumbersRead → Bool → Bool → List Symbol → List ℕ
 output_file_bytes numbers has_macros has_piece symbols =
-    front_bytes numbers has_macros ++ (if has_piece then expansion_bytes numbers symbols ++ line_feed ∷ [] else [])
+    front_bytes numbers has_macros
+    ++ (if has_piece then expansion_bytes numbers symbols ++ line_feed ∷ [] else [])
 
 -- an output file: its name, the node that is written, whether all macros begin the file, and
 -- whether the node has a piece
@@ -41,7 +44,8 @@ pub record IsReady (output : OutputRead) (kept : Kept) : Type 0 where
   pub light : length (node_symbols kept output.node) ≤ heaviest
 
 abbrev pub kept_output_bytes : NumbersRead → Kept → OutputRead → List ℕ
-kept_output_bytes numbers kept output = output_file_bytes numbers output.has_macros output.has_piece (node_symbols kept output.node)
+kept_output_bytes numbers kept output =
+    output_file_bytes numbers output.has_macros output.has_piece (node_symbols kept output.node)
 
 -- the expansion of a node, with the origin of each source item
 abbrev pub located_of : SourceRead → WebRead → Title → List LocatedSymbol
@@ -50,6 +54,10 @@ located_of source web node = located levels (located_shapes source web (table_of
 -- The bytes are those of the node's expansion and, where marks are written in full, the counted
 -- origin at each byte of a source item outside stretches is that of the byte's source line. Before
 -- the first mark of a file the origin is unknown.
-pub record IsTrueToLines (source : SourceRead) (web : WebRead) (node : Title) (bytes : List ℕ) : Type 0 where
-  pub written : bytes ≡ expansion_bytes (numbers_of web (table_of web) Full) (map (λ p. p.symbol) (located_of source web node))
-  pub origins : AreAtTheirOrigins (numbers_of web (table_of web) Full) None (located_of source web node)
+pub record IsTrueToLines (source : SourceRead) (web : WebRead)
+    (node : Title) (bytes : List ℕ) : Type 0 where
+  pub written : bytes
+      ≡ expansion_bytes (numbers_of web (table_of web) Full)
+      (map (λ p. p.symbol) (located_of source web node))
+  pub origins : AreAtTheirOrigins (numbers_of web (table_of web) Full)
+      None (located_of source web node)

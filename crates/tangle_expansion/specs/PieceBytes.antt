@@ -1,12 +1,14 @@
 -- The bytes of the pieces of a node; where the source keeps two items of a piece apart, a C
 -- compiler reads both in these bytes.
-use Rattle.std.specs.Prelude.{◌≡◌, ℕ, false, List, [], ◌∷◌, ◌++◌, None, drop, flat_map, slice_index_or}
+use Rattle.std.specs.Prelude.{◌≡◌, ℕ, false, List, [], ◌∷◌, ◌++◌, None, drop, flat_map}
+use Rattle.std.specs.Prelude.{slice_index_or}
 use Rattle.std.specs.List.{AllZip}
 use Rattle.tangle_files.specs.Bytes.{space, line_feed}
 use Rattle.tangle_faults.specs.declared.faults.Origin.{Origin}
 use Rattle.tangle_lexer.specs.declared.tokens.Token.{Token}
 use Rattle.tangle_lines.specs.Reading.{SourceRead}
-use Rattle.tangle_scan.specs.Apart.{AreReadApart, EndsPiece, IsMacroReadApart, all_macro_tokens, all_piece_tokens, piece_item_bytes, read_tokens}
+use Rattle.tangle_scan.specs.Apart.{AreReadApart, EndsPiece, IsMacroReadApart, all_macro_tokens}
+use Rattle.tangle_scan.specs.Apart.{all_piece_tokens, piece_item_bytes, read_tokens}
 use Rattle.tangle_scan.specs.MacroBytes.{macro_bytes}
 use Rattle.tangle_scan.specs.Web.{WebRead, PieceRead}
 use Rattle.tangle_scan.specs.declared.items.Item.{Item}
@@ -15,7 +17,8 @@ use Rattle.tangle_names.specs.declared.Resolved.TheVariants.{Name, NoFullName, A
 use Rattle.tangle_names.specs.NameTable.{TableRead}
 use Rattle.tangle_plans.specs.Flat.{Symbol}
 use Rattle.tangle_plans.specs.WebShapes.{resolved_at}
-use Rattle.tangle_expansion.specs.Numbers.{NumbersRead, closing_bytes, expansion_bytes, mark_bytes_at, opening_bytes}
+use Rattle.tangle_expansion.specs.Numbers.{NumbersRead, closing_bytes, expansion_bytes}
+use Rattle.tangle_expansion.specs.Numbers.{mark_bytes_at, opening_bytes}
 
 module _ (numbers : NumbersRead) where
   -- the bytes of a mark after its first line feed
@@ -33,22 +36,31 @@ module _ (numbers : NumbersRead) where
     used_bytes occurrence = resolved_bytes (resolved_at table occurrence)
 
     module _ (texts : List (List ℕ)) where
-      -- the items of a piece
+      -- the bytes of the items of a piece
       abbrev pub items_bytes : List Item → List ℕ
-      items_bytes items = flat_map (piece_item_bytes texts used_bytes bytes_after_mark numbers.macros) items
+      items_bytes items =
+          flat_map (piece_item_bytes texts used_bytes bytes_after_mark numbers.macros) items
 
-      -- a piece: its opening, its mark, its items and its closing
+      -- the bytes of a piece: those of its opening, its mark, its items and its closing
       abbrev pub piece_bytes : PieceRead → List ℕ
-      piece_bytes piece = opening_bytes piece.section ++ mark_bytes_at numbers piece.origin ++ items_bytes piece.items ++ closing_bytes piece.section
+      piece_bytes piece =
+          opening_bytes piece.section ++ mark_bytes_at numbers piece.origin
+          ++ items_bytes piece.items ++ closing_bytes piece.section
 
       -- the bytes of the items of a piece with these tokens are read apart
       abbrev pub IsWrittenApart : List Token → PieceRead → Type 0
       IsWrittenApart tokens piece =
-          AreReadApart texts (λ occurrence. space ∷ used_bytes occurrence) (line_feed ∷ numbers.macros) (EndsPiece texts) false false None (read_tokens texts false tokens) (items_bytes piece.items)
+          AreReadApart texts (λ occurrence. space ∷ used_bytes occurrence)
+          (line_feed ∷ numbers.macros) (EndsPiece texts) false false
+          None (read_tokens texts false tokens) (items_bytes piece.items)
 
--- The bytes of the macros are those of each macro in turn. Where the source keeps two items of a
--- macro or a piece apart, a C compiler reads both in these bytes.
-pub record AreWrittenApart (source : SourceRead) (web : WebRead) (table : TableRead) (used : List ℕ → List Symbol) (numbers : NumbersRead) : Type 0 where
+-- The bytes of the macros are those of each macro, one after another. Where the source keeps two
+-- items of a macro or a piece apart, a C compiler reads both in these bytes.
+pub record AreWrittenApart (source : SourceRead) (web : WebRead) (table : TableRead)
+    (used : List ℕ → List Symbol) (numbers : NumbersRead) : Type 0 where
   pub macros_written : numbers.macros ≡ flat_map (macro_bytes web.texts) web.macros
-  pub macros : AllZip (λ items tokens. IsMacroReadApart web.texts tokens (macro_bytes web.texts items)) web.macros (all_macro_tokens source.lines)
-  pub pieces : AllZip (λ piece tokens. IsWrittenApart numbers table used web.texts tokens piece) web.pieces (all_piece_tokens source.lines)
+  pub macros : AllZip
+      (λ items tokens. IsMacroReadApart web.texts tokens (macro_bytes web.texts items))
+      web.macros (all_macro_tokens source.lines)
+  pub pieces : AllZip (λ piece tokens. IsWrittenApart numbers table used web.texts tokens piece)
+      web.pieces (all_piece_tokens source.lines)

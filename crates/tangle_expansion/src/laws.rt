@@ -51,7 +51,11 @@ pub fn bytes_are_at_their_origins()
     names_resolve_inside();
 }
 
-/// In the output of each node, each byte is at its line of the source.
+/// The expansion of each node, written with marks in full, is true to lines if each piece is, which
+/// `tangle_scan::scan` promises. The counted origin at each byte of a word, a sign, a quoted or
+/// verbatim text or an ASCII constant is that of the byte's source line, except in stretches. Of
+/// all other bytes nothing is said: those of macros, blanks, line ends, marks and the comments
+/// around a piece.
 pub fn outputs_are_true_to_lines()
     ensures { (source : SourceRead) (web : WebRead) (node : Title)
         → PiecesAreAtTheirLines source web
@@ -71,8 +75,9 @@ pub fn unaffected_nodes_stay()
         → IsExpandable levels limit old node × (flat levels new node ≡ flat levels old node) }
 {}
 
-/// An expandable node reaches no name that contains itself, since a node that reaches one is deeper
-/// and heavier than any number.
+/// An expandable node reaches no name that contains itself. So a caller that expands only
+/// expandable nodes needs no search for cycles. With any fuel, the depth and the weight of a node
+/// that reaches such a name are at least the fuel: the limit of depth alone excludes the node.
 pub fn expandable_nodes_reach_no_cycle()
     ensures none { (levels limit : ℕ) (shapes : Shapes) (node other : Title)
         → IsExpandable levels limit shapes node → Reaches shapes node other

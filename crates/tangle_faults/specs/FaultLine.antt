@@ -1,9 +1,41 @@
 -- The line of a fault.
 use Rattle.std.specs.Prelude.{ℕ, List, [], ◌++◌, Option, None, Some, codes, decimal, if◌then◌else◌}
 use Rattle.tangle_faults.specs.declared.faults.FaultKind.{FaultKind}
-use Rattle.tangle_faults.specs.declared.faults.FaultKind.TheVariants.{StrayMark, MissingY, MissingZ, EmptyOld, IncludeNoName, IncludeMissing, IncludeTooDeep, ChangeMismatch, SourceTooLong, ChangeUnused, CodeInC, MisplacedH, MacroName, ControlText, StringAt, StringEnd, VerbatimEnd, AsciiBad, CommentEnd, NameEnd, NameEquals, NoFullName, Ambiguous, PrefixName, Undefined, Unused, SelfContaining, TooLarge, FileClash, NoProgram}
+use Rattle.tangle_faults.specs.declared.faults.FaultKind.TheVariants.{
+  StrayMark,
+  MissingY,
+  MissingZ,
+  EmptyOld,
+  IncludeNoName,
+  IncludeMissing,
+  IncludeTooDeep,
+  ChangeMismatch,
+  SourceTooLong,
+  ChangeUnused,
+  CodeInC,
+  MisplacedH,
+  MacroName,
+  ControlText,
+  StringAt,
+  StringEnd,
+  VerbatimEnd,
+  AsciiBad,
+  CommentEnd,
+  NameEnd,
+  NameEquals,
+  NoFullName,
+  Ambiguous,
+  PrefixName,
+  Undefined,
+  Unused,
+  SelfContaining,
+  TooLarge,
+  FileClash,
+  NoProgram,
+}
 use Rattle.tangle_faults.specs.declared.fault_line.Ending.{Ending}
-use Rattle.tangle_faults.specs.declared.fault_line.Ending.TheVariants.{Nothing, FileName, Count, SectionName, NameOrProgram}
+use Rattle.tangle_faults.specs.declared.fault_line.Ending.TheVariants.{Nothing, FileName, Count}
+use Rattle.tangle_faults.specs.declared.fault_line.Ending.TheVariants.{SectionName, NameOrProgram}
 use Rattle.tangle_faults.specs.Faults.{PlaceRead, FaultRead, is_error_kind}
 
 -- the message of a fault of this kind, and the kind of its ending
@@ -70,4 +102,5 @@ severity kind = if is_error_kind kind then codes "error: " else codes "warning: 
 -- the line of a fault, with its line feed
 abbrev pub fault_line : FaultRead → List ℕ
 fault_line fault =
-    place_bytes_if_any fault.place ++ severity fault.kind ++ (wording fault.kind).0 ++ ending_bytes (wording fault.kind).1 fault ++ codes "\n"
+    place_bytes_if_any fault.place ++ severity fault.kind ++ (wording fault.kind).0
+    ++ ending_bytes (wording fault.kind).1 fault ++ codes "\n"

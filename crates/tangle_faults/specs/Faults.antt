@@ -19,10 +19,12 @@ abbrev pub fault_at : FaultKind → PlaceRead → FaultRead
 fault_at kind place = record { kind = kind; place = Some place; subject = []; count = 0 }
 
 abbrev pub fault_about : FaultKind → PlaceRead → List ℕ → FaultRead
-fault_about kind place subject = record { kind = kind; place = Some place; subject = subject; count = 0 }
+fault_about kind place subject =
+    record { kind = kind; place = Some place; subject = subject; count = 0 }
 
 abbrev pub fault_counting : FaultKind → PlaceRead → ℕ → FaultRead
-fault_counting kind place count = record { kind = kind; place = Some place; subject = []; count = count }
+fault_counting kind place count =
+    record { kind = kind; place = Some place; subject = []; count = count }
 
 abbrev pub fault_unplaced : FaultKind → FaultRead
 fault_unplaced kind = record { kind = kind; place = None; subject = []; count = 0 }

@@ -1,5 +1,6 @@
 -- The table of files after an edit.
-use Rattle.std.proofs.Common.{◌≡◌, ℕ, ◌+◌, ◌<◌, Bool, true, false, cond, List, [], ◌∷◌, ◌++◌, take, length, set, map, refl, sym, ap, ◌∙◌, None, Some, IfSome, subst}
+use Rattle.std.proofs.Common.{◌≡◌, ℕ, ◌+◌, ◌<◌, Bool, true, false, cond, List, [], ◌∷◌, ◌++◌, take, length, set, map}
+use Rattle.std.proofs.Common.{refl, sym, ap, ◌∙◌, None, Some, IfSome, subst}
 use Rattle.std.specs.Map.{lookup, set_value, remove_entry}
 use Rattle.std.specs.Str.{bytes_eq}
 use Rattle.std.specs.declared.vec.Vec.{Vec}
@@ -12,13 +13,17 @@ use Rattle.tangle_files.specs.Edited.{spliced, with_lines_edited}
 use Rattle.tangle_files.proofs.TableLemmas.{lines_of-entries}
 
 map-set_value : (name : List ℕ) (es : List (Vec ℕ Global × SharedLines)) (w : SharedLines)
-    → map file_of (set_value (λ k. bytes_eq name k.items) es w) ≡ set_value (bytes_eq name) (map file_of es) w.value.items
+    → map file_of (set_value (λ k. bytes_eq name k.items) es w)
+    ≡ set_value (bytes_eq name) (map file_of es) w.value.items
 map-set_value name [] w = refl
 map-set_value name (e ∷ es) w = by (bytes_eq name e.0.items) (map-set_value name es w)
   where
-    by : (b : Bool) → map file_of (set_value (λ k. bytes_eq name k.items) es w) ≡ set_value (bytes_eq name) (map file_of es) w.value.items
+    by : (b : Bool)
+        → map file_of (set_value (λ k. bytes_eq name k.items) es w)
+        ≡ set_value (bytes_eq name) (map file_of es) w.value.items
         → map file_of (cond b ((e.0, w) ∷ es) (e ∷ set_value (λ k. bytes_eq name k.items) es w))
-        ≡ cond b ((e.0.items, w.value.items) ∷ map file_of es) (file_of e ∷ set_value (bytes_eq name) (map file_of es) w.value.items)
+        ≡ cond b ((e.0.items, w.value.items) ∷ map file_of es)
+        (file_of e ∷ set_value (bytes_eq name) (map file_of es) w.value.items)
     by true h = refl
     by false h = ap (λ l. file_of e ∷ l) h
 
@@ -28,13 +33,15 @@ pub lines_of-found : (t : Table) (name : List ℕ) (v : SharedLines)
 lines_of-found t name v found = rw (lines_of-entries, ← found) refl
 
 -- a look-up in the table that finds nothing finds nothing among the files
-pub lines_of-absent : (t : Table) (name : List ℕ) → None ≡ lookup (λ k. bytes_eq name k.items) t.entries → lines_of (files_of t) name ≡ None
+pub lines_of-absent : (t : Table) (name : List ℕ)
+    → None ≡ lookup (λ k. bytes_eq name k.items) t.entries → lines_of (files_of t) name ≡ None
 lines_of-absent t name found = rw (lines_of-entries, ← found) refl
 
 -- replacing the lines of a table entry replaces the lines of its file
 pub files_of-written : (old new : Table) (name : List ℕ) (v w : SharedLines) (splice : List (List ℕ) → List (List ℕ))
     → Some v ≡ lookup (λ k. bytes_eq name k.items) old.entries → w.value.items ≡ splice v.value.items
-    → new.entries ≡ set_value (λ k. bytes_eq name k.items) old.entries w → files_of new ≡ with_lines_edited (files_of old) name splice
+    → new.entries ≡ set_value (λ k. bytes_eq name k.items) old.entries w
+    → files_of new ≡ with_lines_edited (files_of old) name splice
 files_of-written old new name v w splice found is written =
     rw (lines_of-found old name v found)
     (ap (map file_of) written ∙ map-set_value name old.entries w ∙ ap (set_value (bytes_eq name) (files_of old)) is)
@@ -48,9 +55,11 @@ files_of-same old new name v w found is written =
     ∙ set_value_same (bytes_eq name) (files_of old) v.value.items (lines_of-found old name v found)
 
 -- a line that is set replaces the old one
-pub spliced-set : (lines : List (List ℕ)) (start : ℕ) (line : List ℕ) → start < length lines → set lines start line ≡ spliced lines start (line ∷ []) (start + 1)
+pub spliced-set : (lines : List (List ℕ)) (start : ℕ) (line : List ℕ)
+    → start < length lines → set lines start line ≡ spliced lines start (line ∷ []) (start + 1)
 spliced-set lines start line inside =
-    sym (take-append-drop start (set lines start line)) ∙ (λ i. take-set lines start line i ++ drop-set lines start line inside i)
+    sym (take-append-drop start (set lines start line))
+    ∙ (λ i. take-set lines start line i ++ drop-set lines start line inside i)
     ∙ sym (append_assoc (take start lines) (line ∷ []) _)
 
 -- a property of the lines of a file holds of the lines that a look-up found
@@ -64,11 +73,14 @@ map-remove_entry : (name : List ℕ) (es : List (Vec ℕ Global × SharedLines))
 map-remove_entry name [] = refl
 map-remove_entry name (e ∷ es) = by (bytes_eq name e.0.items) (map-remove_entry name es)
   where
-    by : (b : Bool) → map file_of (remove_entry (λ k. bytes_eq name k.items) es) ≡ remove_entry (bytes_eq name) (map file_of es)
-        → map file_of (cond b es (e ∷ remove_entry (λ k. bytes_eq name k.items) es)) ≡ cond b (map file_of es) (file_of e ∷ remove_entry (bytes_eq name) (map file_of es))
+    by : (b : Bool)
+        → map file_of (remove_entry (λ k. bytes_eq name k.items) es) ≡ remove_entry (bytes_eq name) (map file_of es)
+        → map file_of (cond b es (e ∷ remove_entry (λ k. bytes_eq name k.items) es))
+        ≡ cond b (map file_of es) (file_of e ∷ remove_entry (bytes_eq name) (map file_of es))
     by true h = refl
     by false h = ap (λ l. file_of e ∷ l) h
 
 pub files_of-discarded : (old new : Table) (name : List ℕ)
-    → new.entries ≡ remove_entry (λ k. bytes_eq name k.items) old.entries → files_of new ≡ remove_entry (bytes_eq name) (files_of old)
+    → new.entries ≡ remove_entry (λ k. bytes_eq name k.items) old.entries
+    → files_of new ≡ remove_entry (bytes_eq name) (files_of old)
 files_of-discarded old new name removed = ap (map file_of) removed ∙ map-remove_entry name old.entries

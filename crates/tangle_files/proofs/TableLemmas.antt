@@ -1,11 +1,13 @@
 -- A look-up in the table is a look-up among the files.
-use Rattle.std.proofs.Common.{◌≡◌, ℕ, zero, suc, ◌+◌, ◌||◌, Bool, true, false, cond, not, List, [], ◌∷◌, ◌++◌, map, refl, sym, ap, subst, ◌∙◌, Option, None, Some, is_some, true≢false, arith, length-append}
+use Rattle.std.proofs.Common.{◌≡◌, ℕ, zero, suc, ◌+◌, ◌||◌, Bool, true, false, cond, not, List, [], ◌∷◌, ◌++◌, map}
+use Rattle.std.proofs.Common.{refl, sym, ap, subst, ◌∙◌, Option, None, Some, is_some, true≢false, arith, length-append}
 use Rattle.indexmap.specs.IndexMap.{insert_entry}
-use Rattle.tangle_files.specs.Adding.{is_name, has_file, most_files, most_lines, is_too_long, add_refusal, name_refusal, cut_refusal, or_else, with_file, HasDistinctNames, IsWithinLimits}
+use Rattle.tangle_files.specs.Adding.{is_name, has_file, most_files, most_lines, is_too_long, add_refusal, name_refusal}
+use Rattle.tangle_files.specs.Adding.{cut_refusal, or_else, with_file, HasDistinctNames, IsWithinLimits}
 use Rattle.std.specs.Option.{option_map}
 use Rattle.tangle_files.specs.declared.refusal.Refusal.{Refusal}
 use Rattle.std.specs.Prelude.{position, nat_lt, nat_le, length, slice_get, ◌≤◌}
-use Rattle.std.specs.List.{position_or_len, list_any, All, AllZip, IsDistinct}
+use Rattle.std.specs.List.{position_or_len, list_any, All, AllZip, IsDistinct, each_same}
 use Rattle.std.specs.Vec.{vec_len}
 use Rattle.std.proofs.lemmas.Bool.{leb-false, ltb-false}
 use Rattle.std.proofs.lemmas.List.{length-map, map-append}
@@ -20,14 +22,16 @@ use Rattle.tangle_files.specs.Lines.{FileTable, file_number, lines_of, lines_at,
 use Rattle.tangle_files.specs.Table.{SharedLines, Table, file_of, files_of}
 
 -- `option_map` distributes over `cond`
-option_map-cond : {X Y : Type 0} (f : X → Y) (b : Bool) (x : X) (o : Option X) (p : Option Y) → p ≡ option_map f o → cond b (Some (f x)) p ≡ option_map f (cond b (Some x) o)
+option_map-cond : {X Y : Type 0} (f : X → Y) (b : Bool) (x : X) (o : Option X) (p : Option Y)
+    → p ≡ option_map f o → cond b (Some (f x)) p ≡ option_map f (cond b (Some x) o)
 option_map-cond f true x o p e = refl
 option_map-cond f false x o p e = e
 
 pub lines_of-entries : (name : List ℕ) (es : List (Vec ℕ Global × SharedLines))
     → lines_of (map file_of es) name ≡ option_map (λ v. v.value.items) (lookup (λ k. bytes_eq name k.items) es)
 lines_of-entries name [] = refl
-lines_of-entries name (e ∷ es) = option_map-cond (λ v. v.value.items) (bytes_eq name e.0.items) e.1 _ _ (lines_of-entries name es)
+lines_of-entries name (e ∷ es) =
+    option_map-cond (λ v. v.value.items) (bytes_eq name e.0.items) e.1 _ _ (lines_of-entries name es)
 
 -- if `cond` gives `None`, its condition is false and its other branch is `None`
 none_from_cond : {X : Type 0} (b : Bool) (x : X) (o : Option X) → cond b (Some x) o ≡ None → (b ≡ false) × (o ≡ None)
@@ -62,7 +66,8 @@ new_name files name h =
     let below_limit = none_from_cond (nat_le most_files (length files)) _ _ new.1 in
     record { absent = none_from_is_some (lines_of files name) new.0; below_limit = below_limit.0 }
 
-pub accepted : (files : FileTable) (name bytes : List ℕ) → None ≡ add_refusal files name bytes → IsAccepted files name bytes
+pub accepted : (files : FileTable) (name bytes : List ℕ)
+    → None ≡ add_refusal files name bytes → IsAccepted files name bytes
 accepted files name bytes h =
     let refusals = both_none (name_refusal files name) (cut_refusal bytes) h in
     let new = new_name files name refusals.0 in
@@ -71,37 +76,44 @@ accepted files name bytes h =
     record { absent = new.absent; below_limit = new.below_limit; short = short.0; few = few.0 }
 
 -- if a name is not refused, only the lines of the file can be
-pub refused_by_lines : (files : FileTable) (name bytes : List ℕ) → name_refusal files name ≡ None → add_refusal files name bytes ≡ cut_refusal bytes
+pub refused_by_lines : (files : FileTable) (name bytes : List ℕ)
+    → name_refusal files name ≡ None → add_refusal files name bytes ≡ cut_refusal bytes
 refused_by_lines files name bytes h = ap (λ refusal. or_else refusal (cut_refusal bytes)) h
 
 -- the limit of lines, for a list of one file
-pub last_few : (f : List ℕ × List (List ℕ)) → length f.1 ≤ most_lines → All (λ (file : List ℕ × List (List ℕ)). length file.1 ≤ most_lines) (f ∷ [])
+pub last_few : (f : List ℕ × List (List ℕ))
+    → length f.1 ≤ most_lines → All (λ (file : List ℕ × List (List ℕ)). length file.1 ≤ most_lines) (f ∷ [])
 last_few f few zero d h = few
 last_few f few (suc k) d h = absurd (omega arith)
 
 -- the lines at each number are within the limit; a number that no file has gives none
-few_lines : (files : FileTable) (n : ℕ) → All (λ (file : List ℕ × List (List ℕ)). length file.1 ≤ most_lines) files → length (lines_at files n) ≤ most_lines
+few_lines : (files : FileTable) (n : ℕ)
+    → All (λ (file : List ℕ × List (List ℕ)). length file.1 ≤ most_lines) files → length (lines_at files n) ≤ most_lines
 few_lines [] n h = omega arith
 few_lines (f ∷ fs) zero h = h 0 ([], []) (omega arith)
 few_lines (f ∷ fs) (suc n) h = few_lines fs n (λ k d l. h (suc k) d (omega arith))
 
 -- the lines of a table entry are those of the file with its number
-lines_at-entries : (es : List (Vec ℕ Global × SharedLines)) (n : ℕ) (e : Vec ℕ Global × SharedLines) → Some e ≡ slice_get es n → e.1.value.items ≡ lines_at (map file_of es) n
+lines_at-entries : (es : List (Vec ℕ Global × SharedLines)) (n : ℕ) (e : Vec ℕ Global × SharedLines)
+    → Some e ≡ slice_get es n → e.1.value.items ≡ lines_at (map file_of es) n
 lines_at-entries [] n e h = absurd (cc)
 lines_at-entries (f ∷ es) zero e h = let same : e ≡ f = cc in ap (λ x. x.1.value.items) same
 lines_at-entries (f ∷ es) (suc n) e h = lines_at-entries es n e h
 
-pub entry-limit : (t : Table) (n : ℕ) (e : Vec ℕ Global × SharedLines) → IsWithinLimits (files_of t) → Some e ≡ slice_get t.entries n → length e.1.value.items ≤ most_lines
+pub entry-limit : (t : Table) (n : ℕ) (e : Vec ℕ Global × SharedLines)
+    → IsWithinLimits (files_of t) → Some e ≡ slice_get t.entries n → length e.1.value.items ≤ most_lines
 entry-limit t n e within h = rw (lines_at-entries t.entries n e h) (few_lines (files_of t) n within.lines)
 
 -- if a look-up of a name finds no file, no file has the name
-other_names : (files : FileTable) (name : List ℕ) → lines_of files name ≡ None → list_any (bytes_eq name) (map (λ file. file.0) files) ≡ false
+other_names : (files : FileTable) (name : List ℕ)
+    → lines_of files name ≡ None → list_any (bytes_eq name) (map (λ file. file.0) files) ≡ false
 other_names [] name none = refl
 other_names (f ∷ fs) name none =
     let h = none_from_cond (bytes_eq name f.0) _ _ none in
     ap (λ b. b || list_any (bytes_eq name) (map (λ file. file.0) fs)) h.0 ∙ other_names fs name h.1
 
-pub distinct-with_file : (files : FileTable) (name : List ℕ) (lines : List (List ℕ)) → lines_of files name ≡ None → HasDistinctNames files → HasDistinctNames (files ++ (name, lines) ∷ [])
+pub distinct-with_file : (files : FileTable) (name : List ℕ) (lines : List (List ℕ))
+    → lines_of files name ≡ None → HasDistinctNames files → HasDistinctNames (files ++ (name, lines) ∷ [])
 distinct-with_file files name lines none distinct =
     subst (IsDistinct bytes_eq) (sym (map-append (λ file. file.0) files ((name, lines) ∷ [])))
     (IsDistinct-push nat_list_eq_equiv (map (λ file. file.0) files) name distinct (other_names files name none))
@@ -112,7 +124,8 @@ unfolding IsDistinct
 IsWithinLimits-none = record { count = omega arith; names = tt; lines = λ k d h. absurd (omega arith) }
 
 -- an accepted file keeps the limits
-pub IsWithinLimits-with_file : (files : FileTable) (name bytes : List ℕ) → None ≡ add_refusal files name bytes → IsWithinLimits files → IsWithinLimits (with_file files name bytes)
+pub IsWithinLimits-with_file : (files : FileTable) (name bytes : List ℕ)
+    → None ≡ add_refusal files name bytes → IsWithinLimits files → IsWithinLimits (with_file files name bytes)
 IsWithinLimits-with_file files name bytes h within =
     let a = accepted files name bytes h in
     let below_limit = leb-false most_files (length files) a.below_limit in
@@ -123,51 +136,52 @@ IsWithinLimits-with_file files name bytes h within =
       lines = All-append (λ file. length file.1 ≤ most_lines) files _ within.lines (last_few (name, cut bytes) few);
     }
 
--- lists whose items are equal one by one are equal
-AllZip-same : {X : Type 0} (xs ys : List X) → AllZip (λ x y. y ≡ x) xs ys → ys ≡ xs
-AllZip-same [] [] h = refl
-AllZip-same [] (y ∷ ys) h = absurd h
-AllZip-same (x ∷ xs) [] h = absurd h
-AllZip-same (x ∷ xs) (y ∷ ys) h = λ i. h.0 i ∷ AllZip-same xs ys h.1 i
-
 -- a clone of the table has the same files
 pub files_of-clone : (es fs : List (Vec ℕ Global × SharedLines))
-    → AllZip (λ p q. (AllZip (λ x y. y ≡ x) p.0.items q.0.items × (vec_len q.0 ≡ vec_len p.0)) × (q.1.value ≡ p.1.value)) es fs
+    → AllZip
+    (λ p q. (AllZip (λ x y. y ≡ x) p.0.items q.0.items × (vec_len q.0 ≡ vec_len p.0)) × (q.1.value ≡ p.1.value)) es fs
     → map file_of fs ≡ map file_of es
 files_of-clone [] [] h = refl
 files_of-clone [] (f ∷ fs) h = absurd h
 files_of-clone (e ∷ es) [] h = absurd h
 files_of-clone (e ∷ es) (f ∷ fs) h =
-    λ i. (AllZip-same e.0.items f.0.items h.0.0.0 i, (h.0.1 i).items) ∷ files_of-clone es fs h.1 i
+    λ i. (each_same e.0.items f.0.items h.0.0.0 i, (h.0.1 i).items) ∷ files_of-clone es fs h.1 i
 
 -- inserting a file with a new name appends it
 pub map-insert_entry : (es : List (Vec ℕ Global × SharedLines)) (k : Vec ℕ Global) (v : SharedLines)
     → lines_of (map file_of es) k.items ≡ None
-    → map file_of (insert_entry (λ x y. bytes_eq x.items y.items) es k v) ≡ map file_of es ++ (k.items, v.value.items) ∷ []
+    → map file_of (insert_entry (λ x y. bytes_eq x.items y.items) es k v)
+    ≡ map file_of es ++ (k.items, v.value.items) ∷ []
 map-insert_entry [] k v none = refl
 map-insert_entry (e ∷ es) k v none =
     let h = none_from_cond (bytes_eq k.items e.0.items) _ _ none in
     rw h.0 (ap (λ l. file_of e ∷ l) (map-insert_entry es k v h.1))
 
-pub files_of-with_file : (files : FileTable) (name bytes : List ℕ) (old new : Table) (k : Vec ℕ Global) (v : SharedLines)
+pub files_of-with_file : (files : FileTable) (name bytes : List ℕ)
+    (old new : Table) (k : Vec ℕ Global) (v : SharedLines)
     → None ≡ add_refusal files name bytes → files_of old ≡ files → k.items ≡ name → v.value.items ≡ cut bytes
-    → new.entries ≡ insert_entry (λ x y. bytes_eq x.items y.items) old.entries k v → files_of new ≡ with_file files name bytes
+    → new.entries ≡ insert_entry (λ x y. bytes_eq x.items y.items) old.entries k v
+    → files_of new ≡ with_file files name bytes
 files_of-with_file files name bytes old new k v none is key value inserted =
     ap (map file_of) inserted
     ∙ map-insert_entry old.entries k v (rw (key, is) (accepted files name bytes none).absent)
     ∙ (λ i. is i ++ (key i, value i) ∷ [])
 
 position_or_len-entries : (name : List ℕ) (es : List (Vec ℕ Global × SharedLines))
-    → position_or_len (λ (f : List ℕ × List (List ℕ)). bytes_eq name f.0) (map file_of es) ≡ position_or_len (λ (k : Vec ℕ Global). bytes_eq name k.items) (map (λ e. e.0) es)
+    → position_or_len (λ (f : List ℕ × List (List ℕ)). bytes_eq name f.0) (map file_of es)
+    ≡ position_or_len (λ (k : Vec ℕ Global). bytes_eq name k.items) (map (λ e. e.0) es)
 position_or_len-entries name [] = refl
-position_or_len-entries name (e ∷ es) = ap (λ n. cond (not (bytes_eq name e.0.items)) (1 + n) 0) (position_or_len-entries name es)
+position_or_len-entries name (e ∷ es) =
+    ap (λ n. cond (not (bytes_eq name e.0.items)) (1 + n) 0) (position_or_len-entries name es)
 
 -- a name is at the same position in the table as among the files
 pub position-entries : (name : List ℕ) (es : List (Vec ℕ Global × SharedLines))
-    → position (λ (f : List ℕ × List (List ℕ)). bytes_eq name f.0) (map file_of es) ≡ position (λ (k : Vec ℕ Global). bytes_eq name k.items) (map (λ e. e.0) es)
+    → position (λ (f : List ℕ × List (List ℕ)). bytes_eq name f.0) (map file_of es)
+    ≡ position (λ (k : Vec ℕ Global). bytes_eq name k.items) (map (λ e. e.0) es)
 position-entries name es =
     let at = position_or_len-entries name es in
-    let len : length (map file_of es) ≡ length (map (λ e. e.0) es) = length-map es file_of ∙ sym (length-map es (λ e. e.0)) in
+    let len : length (map file_of es) ≡ length (map (λ e. e.0) es) =
+    length-map es file_of ∙ sym (length-map es (λ e. e.0)) in
     λ i. cond (nat_lt (at i) (len i)) (Some (at i)) None
 
 pub file_number-entries : (t : Table) (files : FileTable) (name : List ℕ) → files_of t ≡ files

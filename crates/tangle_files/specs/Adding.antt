@@ -1,13 +1,17 @@
 -- Adding a file, with each refusal and the limits that it keeps.
-use Rattle.std.specs.Prelude.{ℕ, Bool, ◌≤◌, ◌==◌, ◌&&◌, not, nat_lt, nat_le, length, List, [], ◌∷◌, ◌++◌, if◌then◌else◌, Option, None, Some, is_some, map}
+use Rattle.std.specs.Prelude.{ℕ, Bool, ◌≤◌, ◌==◌, ◌&&◌, not, nat_lt, nat_le, length, List, [], ◌∷◌}
+use Rattle.std.specs.Prelude.{◌++◌, if◌then◌else◌, Option, None, Some, is_some, map}
 use Rattle.std.specs.List.{list_any, All, IsDistinct}
 use Rattle.std.specs.Str.{bytes_eq}
 use Rattle.tangle_files.specs.declared.refusal.Refusal.{Refusal}
-use Rattle.tangle_files.specs.declared.refusal.Refusal.TheVariants.{BadName, FileExists, TooManyFiles, LineTooLong, TooManyLines}
+use Rattle.tangle_files.specs.declared.refusal.Refusal.TheVariants.{BadName, FileExists}
+use Rattle.tangle_files.specs.declared.refusal.Refusal.TheVariants.{TooManyFiles, LineTooLong}
+use Rattle.tangle_files.specs.declared.refusal.Refusal.TheVariants.{TooManyLines}
 use Rattle.tangle_files.specs.Bytes.{line_feed}
 use Rattle.tangle_files.specs.Lines.{FileTable, lines_of, cut}
 
--- the most bytes of a file's name and of a line, the most files of a table, and the most lines of a file
+-- the most bytes of a file's name and of a line, the
+-- most files of a table, and the most lines of a file
 abbrev pub longest_name : ℕ
 longest_name = 255
 
@@ -22,7 +26,9 @@ most_lines = 1000000
 
 -- a file name: one to 255 bytes without a line feed
 abbrev pub is_name : List ℕ → Bool
-is_name name = nat_lt 0 (length name) && nat_le (length name) longest_name && not (list_any (λ b. b == line_feed) name)
+is_name name =
+    nat_lt 0 (length name) && nat_le (length name) longest_name
+    && not (list_any (λ b. b == line_feed) name)
 
 abbrev pub has_file : FileTable → List ℕ → Bool
 has_file files name = is_some (lines_of files name)

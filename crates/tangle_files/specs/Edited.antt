@@ -4,7 +4,8 @@ use Rattle.std.specs.Option.{option_map_or}
 use Rattle.std.specs.Map.{set_value, remove_entry}
 use Rattle.std.specs.Str.{bytes_eq}
 use Rattle.tangle_files.specs.declared.edits.Edit.{Edit}
-use Rattle.tangle_files.specs.declared.edits.Edit.TheVariants.{Insert, Remove, Replace, Create, Discard, Marks}
+use Rattle.tangle_files.specs.declared.edits.Edit.TheVariants.{Insert, Remove, Replace, Create}
+use Rattle.tangle_files.specs.declared.edits.Edit.TheVariants.{Discard, Marks}
 use Rattle.tangle_files.specs.Lines.{FileTable, lines_of, trimmed}
 use Rattle.tangle_files.specs.Roles.{RolesRead}
 
@@ -14,14 +15,19 @@ spliced lines start new_lines end = take start lines ++ new_lines ++ drop end li
 
 -- the files, with `splice` applied to the lines of the file of this name
 abbrev pub with_lines_edited : FileTable → List ℕ → (List (List ℕ) → List (List ℕ)) → FileTable
-with_lines_edited files name splice = option_map_or (λ lines. set_value (bytes_eq name) files (splice lines)) (lines_of files name) files
+with_lines_edited files name splice =
+    option_map_or (λ lines. set_value (bytes_eq name) files (splice lines))
+    (lines_of files name) files
 
 -- the files after an edit: line `at` is inserted, removed or replaced; a new file has no lines and
 -- is the last; the number of each file after a discarded one decreases by one
 abbrev pub edited : FileTable → Edit → FileTable
-edited files (Insert file at text) = with_lines_edited files file.items (λ lines. spliced lines (at - 1) (trimmed text.items ∷ []) (at - 1))
-edited files (Remove file at) = with_lines_edited files file.items (λ lines. spliced lines (at - 1) [] at)
-edited files (Replace file at text) = with_lines_edited files file.items (λ lines. spliced lines (at - 1) (trimmed text.items ∷ []) at)
+edited files (Insert file at text) = with_lines_edited files file.items
+    (λ lines. spliced lines (at - 1) (trimmed text.items ∷ []) (at - 1))
+edited files (Remove file at) =
+    with_lines_edited files file.items (λ lines. spliced lines (at - 1) [] at)
+edited files (Replace file at text) = with_lines_edited files file.items
+    (λ lines. spliced lines (at - 1) (trimmed text.items ∷ []) at)
 edited files (Create file) = files ++ (file.items, []) ∷ []
 edited files (Discard file) = remove_entry (bytes_eq file.items) files
 edited files (Marks mode) = files

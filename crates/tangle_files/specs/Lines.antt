@@ -1,5 +1,6 @@
 -- Files as lists of lines, and the cutting of bytes into lines.
-use Rattle.std.specs.Prelude.{ℕ, ◌==◌, List, [], ◌∷◌, if◌then◌else◌, map, Option, position, get_or, length, unwrap_or}
+use Rattle.std.specs.Prelude.{ℕ, ◌==◌, List, [], ◌∷◌, if◌then◌else◌, map, Option, position, get_or}
+use Rattle.std.specs.Prelude.{length, unwrap_or}
 use Rattle.std.specs.Str.{bytes_eq}
 use Rattle.std.specs.Map.{lookup}
 use Rattle.tangle_files.specs.Bytes.{space, line_feed}
@@ -22,7 +23,8 @@ before_first_line b (l ∷ ls) = (b ∷ l) ∷ ls
 -- the bytes split at line feeds: the last line may lack its line feed, and no bytes give no lines
 abbrev pub raw_lines : List ℕ → List (List ℕ)
 raw_lines [] = []
-raw_lines (b ∷ bs) = if b == line_feed then [] ∷ raw_lines bs else before_first_line b (raw_lines bs)
+raw_lines (b ∷ bs) =
+    if b == line_feed then [] ∷ raw_lines bs else before_first_line b (raw_lines bs)
 
 -- the lines of the bytes, without trailing spaces
 abbrev pub cut : List ℕ → List (List ℕ)

@@ -25,7 +25,9 @@ is_name_if_any (Some name) = is_name name
 
 -- each of the names has to be a file name
 abbrev pub roles_refusal : RolesRead → Option Refusal
-roles_refusal roles = if is_name roles.web && is_name_if_any roles.change && is_name roles.out then None else Some BadName
+roles_refusal roles =
+    if is_name roles.web && is_name_if_any roles.change && is_name roles.out then None
+    else Some BadName
 
 abbrev pub has_file_if_any : FileTable → Option (List ℕ) → Bool
 has_file_if_any files None = true

@@ -1,4 +1,5 @@
--- What a contract sees of the table of files: names with lines, in the order in which they were added.
+-- What a contract sees of the table of files: names
+-- with lines, in the order in which they were added.
 use Rattle.std.specs.Prelude.{ℕ, List, map}
 use Rattle.std.specs.declared.hash.FoldHasher.{FoldHasher}
 use Rattle.std.specs.declared.hash.BuildHasherDefault.{BuildHasherDefault}

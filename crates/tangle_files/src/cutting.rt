@@ -13,7 +13,7 @@ use memchr::memchr;
 use std::alloc::{AllocError, Global};
 use std::rc::Rc;
 
-/// The most bytes of a line.
+/// The most bytes that a line may have.
 pub(crate) const LONGEST_LINE: usize = 65_535;
 
 /// What decides whether the lines of a file are within the limits.
@@ -21,7 +21,7 @@ pub(crate) const LONGEST_LINE: usize = 65_535;
 pub(crate) struct LineMeasure {
     /// Whether a line is longer than the limit.
     pub(crate) is_too_long: bool,
-    /// How many lines there are.
+    /// The number of lines.
     pub(crate) count: usize,
 }
 

@@ -22,13 +22,13 @@ use tangle_streams::NoMemory;
 
 // With these limits an origin fits into a `u16` and a `u32`, and a span into eight bytes.
 
-/// The most bytes of a file's name.
+/// The most bytes that the name of a file may have.
 const LONGEST_NAME: usize = 255;
 
-/// The most files of a table.
+/// The most files that a table may have.
 const MOST_FILES: usize = 256;
 
-/// The most lines of a file.
+/// The most lines that a file may have.
 pub(crate) const MOST_LINES: usize = 1_000_000;
 
 /// Files with distinct names and their lines, in the order in which they were added: at most 256

@@ -1,12 +1,14 @@
 -- What a folder reports to contracts, and how each call changes it.
-use Rattle.std.specs.Prelude.{◌≡◌, ◌⊎◌, ◌<◌, ℕ, ◌==◌, if◌then◌else◌, List, [], ◌∷◌, ◌++◌, Option, Some, None, Result, Ok, Err, ⊤, IsSomeAnd, length, take}
+use Rattle.std.specs.Prelude.{◌≡◌, ◌⊎◌, ◌<◌, ℕ, ◌==◌, if◌then◌else◌, List, [], ◌∷◌, ◌++◌, Option}
+use Rattle.std.specs.Prelude.{Some, None, Result, Ok, Err, ⊤, IsSomeAnd, length, take}
 use Rattle.std.specs.Map.{lookup}
 use Rattle.std.specs.Str.{bytes_eq}
 use Rattle.std.specs.declared.vec.Vec.{Vec}
 use Rattle.std.specs.Global.{Global}
 use Rattle.tangle_streams.specs.Streams.{one_more_failure}
 use Rattle.tangle_folders.specs.declared.folder.FolderFault.{FolderFault}
-use Rattle.tangle_folders.specs.declared.folder.FolderFault.TheVariants.{Missing, Failed, TooBig, NoMemory}
+use Rattle.tangle_folders.specs.declared.folder.FolderFault.TheVariants.{Missing, Failed, TooBig}
+use Rattle.tangle_folders.specs.declared.folder.FolderFault.TheVariants.{NoMemory}
 
 -- a file: its name and its bytes
 abbrev pub File : Type 0
@@ -35,7 +37,8 @@ abbrev pub IsFileAnswer : Option (List File) → List ℕ → Result (Vec ℕ Gl
 IsFileAnswer None name result = ⊤
 IsFileAnswer (Some files) name (Ok bytes) = file_bytes files name ≡ Some bytes.items
 IsFileAnswer (Some files) name (Err Missing) = file_bytes files name ≡ None
-IsFileAnswer (Some files) name (Err TooBig) = IsSomeAnd (file_bytes files name) (λ bytes. file_limit < length bytes)
+IsFileAnswer (Some files) name (Err TooBig) =
+    IsSomeAnd (file_bytes files name) (λ bytes. file_limit < length bytes)
 IsFileAnswer (Some files) name (Err Failed) = ⊤
 IsFileAnswer (Some files) name (Err NoMemory) = ⊤
 
@@ -50,7 +53,8 @@ with_name_added None name = None
 with_name_added (Some old) name = Some (old ++ name ∷ [])
 
 -- `read_file` appends its name to the names asked for; at `NoMemory` it may leave the name out
-abbrev pub AddsAsked : Option (List (List ℕ)) → Option (List (List ℕ)) → List ℕ → Result (Vec ℕ Global) FolderFault → Type 0
+abbrev pub AddsAsked : Option (List (List ℕ)) → Option (List (List ℕ))
+    → List ℕ → Result (Vec ℕ Global) FolderFault → Type 0
 AddsAsked old new name (Ok bytes) = new ≡ with_name_added old name
 AddsAsked old new name (Err Missing) = new ≡ with_name_added old name
 AddsAsked old new name (Err TooBig) = new ≡ with_name_added old name
@@ -58,7 +62,8 @@ AddsAsked old new name (Err Failed) = new ≡ with_name_added old name
 AddsAsked old new name (Err NoMemory) = (new ≡ old) ⊎ (new ≡ with_name_added old name)
 
 -- the names at which `read_file` failed, if reported: `Failed` appends this one
-abbrev pub with_failed : Option (List (List ℕ)) → List ℕ → Result (Vec ℕ Global) FolderFault → Option (List (List ℕ))
+abbrev pub with_failed : Option (List (List ℕ)) → List ℕ → Result (Vec ℕ Global) FolderFault
+    → Option (List (List ℕ))
 with_failed old name (Ok bytes) = old
 with_failed old name (Err Missing) = old
 with_failed old name (Err TooBig) = old

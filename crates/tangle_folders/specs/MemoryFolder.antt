@@ -1,5 +1,6 @@
 -- What a folder in memory reports.
-use Rattle.std.specs.Prelude.{ℕ, ◌-◌, ◌==◌, Bool, false, if◌then◌else◌, List, Option, None, Some, map}
+use Rattle.std.specs.Prelude.{ℕ, ◌-◌, ◌==◌, Bool, false, if◌then◌else◌, List, Option, None, Some}
+use Rattle.std.specs.Prelude.{map}
 use Rattle.std.specs.declared.hash.FoldHasher.{FoldHasher}
 use Rattle.std.specs.declared.hash.BuildHasherDefault.{BuildHasherDefault}
 use Rattle.std.specs.declared.vec.Vec.{Vec}

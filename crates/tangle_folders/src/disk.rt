@@ -4,6 +4,7 @@ ghost use Rattle.tangle_streams.specs.Streams.{one_more_failure};
 
 use crate::folder::{FILE_LIMIT, Folder, FolderFault};
 use std::alloc::Global;
+use std::fs::OpenFile;
 use std::io::{BufWriter, ErrorKind, Read};
 use std::rt::Files;
 use std::{fs, io, str};
@@ -50,11 +51,29 @@ fn fault_of(error: &io::Error) -> FolderFault {
     }
 }
 
-// The bytes of a file. One byte more than the limit is enough to see that a file is too big.
+// The most bytes that are read of a file. One byte more than the limit is enough to see that a
+// file is too big.
+const MOST_READ: usize = FILE_LIMIT + 1;
+
+// A buffer that need not grow if the file has the size that the system reports: the end of the file
+// is found while there is room for one byte more. That size may be wrong, and then the buffer grows.
+// If it cannot be allocated, the file may be smaller, so the buffer begins empty.
+fn buffer_for(alloc: Global, file: &impl OpenFile) -> Vec<u8> {
+    let size = match file.metadata() {
+        Ok(metadata) => metadata.len().min(MOST_READ as u64) as usize,
+        Err(_) => 0,
+    };
+    match Vec::with_capacity(alloc, size + 1) {
+        Ok(buffer) => buffer,
+        Err(_) => Vec::new(alloc),
+    }
+}
+
+// The bytes of a file, up to one byte more than the limit.
 fn read_at<R: Files>(rt: &R, alloc: Global, path: &str) -> io::Result<Vec<u8>> {
-    let mut bytes = Vec::new(alloc);
     let file = fs::open(rt, path)?;
-    file.take(FILE_LIMIT as u64 + 1).read_to_end(&mut bytes)?;
+    let mut bytes = buffer_for(alloc, &file);
+    file.take(MOST_READ as u64).read_to_end(&mut bytes)?;
     Ok(bytes)
 }
 

@@ -148,7 +148,8 @@ impl MemoryFolder {
     }
 
     /// Makes one call of `read_file`, `create` or `close` fail: the one after the next `calls` of
-    /// them.
+    /// them. It makes no later call fail; another `fail_after` replaces this one. A `close` that
+    /// fails keeps the bytes that its writer took.
     pub fn fail_after(&mut self, calls: u64)
         ensures { self.new ≡ record self.old { calls_to_failure = Some calls } }
     {

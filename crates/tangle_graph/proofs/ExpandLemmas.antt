@@ -1,11 +1,13 @@
 -- A plan with its uses filled in is the expansion of its node.
-use Rattle.std.proofs.Common.{◌≡◌, ◌∙◌, ◌<◌, ℕ, Bool, true, false, List, [], ◌∷◌, length, map, get_or, refl, ap, sym, inl, inr, arith}
+use Rattle.std.proofs.Common.{◌≡◌, ◌∙◌, ◌<◌, ℕ, Bool, true, false, List, [], length, map, get_or, refl, ap, sym, inl}
+use Rattle.std.proofs.Common.{inr, arith}
 use Rattle.std.specs.Global.{Global}
 use Rattle.std.specs.declared.rc.Rc.{Rc}
 use Rattle.std.proofs.lemmas.List.{get_or-map, get_or_past}
 use Rattle.std.proofs.lemmas.Option.{get_or_from_slice_get, slice_get_cases, slice_get_within}
 use Rattle.std.specs.Prelude.{nat_lt, if◌then◌else◌, Option, Some, None, unwrap_or}
 use Rattle.std.proofs.lemmas.Bool.Decides.{nat_tests}
+use Rattle.std.proofs.lemmas.Simd.{map-map}
 use Rattle.tangle_plans.specs.Shapes.{Shapes}
 use Rattle.tangle_expansion.specs.Kept.{used_symbols}
 use Rattle.tangle_expansion.specs.Limits.{flat_of}
@@ -16,54 +18,63 @@ use Rattle.tangle_expansion.specs.declared.kept.Kept.{Kept}
 use Rattle.tangle_plans.specs.declared.nodes.Node.{Node}
 use Rattle.tangle_plans.specs.declared.nodes.Node.TheVariants.{Program, Name}
 use Rattle.tangle_graph.specs.Nodes.{IsNodeOf, number_in, entry, entry_if}
-use Rattle.tangle_graph.specs.Stores.{StoreRead, IsStoreOf, KeepsUsed, is_expandable_at, slots_at, plan_uses_at, body_at, title_in_store}
+use Rattle.tangle_graph.specs.Stores.{StoreRead, IsStoreOf, KeepsUsed, is_expandable_at, slots_at, plan_uses_at}
+use Rattle.tangle_graph.specs.Stores.{body_at, title_in_store}
 use Rattle.tangle_graph.specs.Plans.{node_bodies, slots_of, uses_of_plans}
 
 -- a node whose flag is set is a node of the store
-pub node_in : (names : List (List ℕ)) (flags : List Bool) (node : Node) → entry false flags (number_in (length names) node) ≡ true → IsNodeOf names node
+pub node_in : (names : List (List ℕ)) (flags : List Bool) (node : Node)
+    → entry false flags (number_in (length names) node) ≡ true → IsNodeOf names node
 node_in names flags Program e = tt
 node_in names flags (Name id) e = by (nat_lt id (length names)) refl e
   where
-    by : (b : Bool) → nat_lt id (length names) ≡ b → entry false flags (if b then Some id else None) ≡ true → id < length names
+    by : (b : Bool)
+        → nat_lt id (length names) ≡ b → entry false flags (if b then Some id else None) ≡ true → id < length names
     by true t d = grind (arith, nat_tests)
     by false t d = absurd (let no : false ≡ true = d in cc)
 
-pub expanded_right : (shapes : Shapes) (store : StoreRead) (kept : Kept) (node : Node) → IsStoreOf shapes store → is_expandable_at store node ≡ true → KeepsUsed shapes store kept node
+pub expanded_right : (shapes : Shapes) (store : StoreRead) (kept : Kept) (node : Node)
+    → IsStoreOf shapes store → is_expandable_at store node ≡ true → KeepsUsed shapes store kept node
     → filled (used_symbols kept) (slots_at store node) ≡ flat_of shapes (title_in_store store node)
 expanded_right shapes store kept node is e keeps =
     let ha = node_in store.names store.expandable node e in
-    is.plans node (used_symbols kept) ha ((is.expandable node ha).0 e).shallow (λ id u. ap (λ o. unwrap_or o []) (keeps id u))
+    is.plans node (used_symbols kept) ha ((is.expandable node ha).0 e).shallow
+    (λ id u. ap (λ o. unwrap_or o []) (keeps id u))
 
 -- an expandable node has a body
-pub body_there : (store : StoreRead) (node : Node) → length store.bodies ≡ length store.expandable → is_expandable_at store node ≡ true → (body : NodeBody) × (body_at store node ≡ Some body)
+pub body_there : (store : StoreRead) (node : Node) → length store.bodies ≡ length store.expandable
+    → is_expandable_at store node ≡ true → (body : NodeBody) × (body_at store node ≡ Some body)
 body_there store node size e = by (number_in (length store.names) node) e
   where
-    by : (o : Option ℕ) → entry false store.expandable o ≡ true → (body : NodeBody) × (entry_if store.bodies o ≡ Some body)
+    by : (o : Option ℕ)
+        → entry false store.expandable o ≡ true → (body : NodeBody) × (entry_if store.bodies o ≡ Some body)
     by None t = absurd (let no : false ≡ true = t in cc)
     by (Some n) t = elim (slice_get_cases store.bodies n).1 [
       | inl found ↦ (found.0, found.2)
-      | inr past ↦ absurd (let no : false ≡ true = sym (get_or_past store.expandable n false (omega (arith, past.0, size))) ∙ t in cc)
+      | inr past ↦ absurd
+          (let no : false ≡ true = sym (get_or_past store.expandable n false (omega (arith, past.0, size))) ∙ t in cc)
     ]
 
-mapped : {X Y Z : Type 0} (f : Y → Z) (g : X → Y) (xs : List X) → map f (map g xs) ≡ map (λ x. f (g x)) xs
-mapped f g [] = refl
-mapped f g (x ∷ xs) = ap (λ l. f (g x) ∷ l) (mapped f g xs)
-
 -- a part of a body, read from the list of this part of all bodies, is the entry with the same number
-read_at : {Y : Type 0} (f : NodeBody → List Y) (bodies : List (Rc NodeBody Global)) (entries : List (List Y)) (o : Option ℕ) (body : NodeBody)
-    → map (λ (t : Rc NodeBody Global). f t.value) bodies ≡ entries → entry_if (node_bodies bodies) o ≡ Some body → entry [] entries o ≡ f body
+read_at : {Y : Type 0} (f : NodeBody → List Y) (bodies : List (Rc NodeBody Global))
+    (entries : List (List Y)) (o : Option ℕ) (body : NodeBody)
+    → map (λ (t : Rc NodeBody Global). f t.value) bodies ≡ entries → entry_if (node_bodies bodies) o ≡ Some body
+    → entry [] entries o ≡ f body
 read_at f bodies entries None body same e = absurd (let both : None ≡ Some body = e in cc)
 read_at f bodies entries (Some n) body same e =
     let low : n < length (node_bodies bodies) = slice_get_within (node_bodies bodies) n body e in
     ap (λ l. get_or l n []) (sym same)
-    ∙ ap (λ l. get_or l n []) (sym (mapped f (λ (t : Rc NodeBody Global). t.value) bodies))
+    ∙ ap (λ l. get_or l n []) (sym (map-map f (λ (t : Rc NodeBody Global). t.value) bodies))
     ∙ get_or-map f (node_bodies bodies) n body [] low
     ∙ ap f (get_or_from_slice_get (node_bodies bodies) n body body e)
 
-module _ (store : StoreRead) (bodies : List (Rc NodeBody Global)) (node : Node) (body : NodeBody) (same : node_bodies bodies ≡ store.bodies) (there : body_at store node ≡ Some body) where
+module _ (store : StoreRead) (bodies : List (Rc NodeBody Global)) (node : Node) (body : NodeBody)
+    (same : node_bodies bodies ≡ store.bodies) (there : body_at store node ≡ Some body) where
   -- the uses and slots of a node's body are those that the store has for the node
   pub plan_uses_read : uses_of_plans bodies ≡ store.plan_uses → plan_uses body ≡ plan_uses_at store node
-  plan_uses_read is = sym (read_at plan_uses bodies store.plan_uses (number_in (length store.names) node) body is (ap (λ ts. entry_if ts (number_in (length store.names) node)) same ∙ there))
+  plan_uses_read is = sym (read_at plan_uses bodies store.plan_uses (number_in (length store.names) node)
+      body is (ap (λ ts. entry_if ts (number_in (length store.names) node)) same ∙ there))
 
   pub slots_read : slots_of bodies ≡ store.slots → plan_slots body ≡ slots_at store node
-  slots_read is = sym (read_at plan_slots bodies store.slots (number_in (length store.names) node) body is (ap (λ ts. entry_if ts (number_in (length store.names) node)) same ∙ there))
+  slots_read is = sym (read_at plan_slots bodies store.slots (number_in (length store.names) node)
+      body is (ap (λ ts. entry_if ts (number_in (length store.names) node)) same ∙ there))

@@ -1,5 +1,7 @@
 -- The first uses of names, the faults of names one by one, and the flags of nodes.
-use Rattle.std.proofs.Common.{◌≡◌, ◌∙◌, ◌<◌, ◌≤◌, ◌+◌, ◌↔◌, ◌&&◌, ℕ, zero, suc, Bool, true, false, cond, not, List, [], ◌∷◌, ◌++◌, length, map, flat_map, take, get_or, refl, ap, sym, arith, append-nil, append_assoc, add-zero, zero-add}
+use Rattle.std.proofs.Common.{◌≡◌, ◌∙◌, ◌<◌, ◌≤◌, ◌+◌, ◌↔◌, ◌&&◌, ℕ, zero, suc, Bool, true, false, cond, not, List, []}
+use Rattle.std.proofs.Common.{◌∷◌, ◌++◌, length, map, flat_map, take, get_or, refl, ap, sym, arith, append-nil}
+use Rattle.std.proofs.Common.{append_assoc, add-zero, zero-add}
 use Rattle.std.specs.List.{range_with_len}
 use Rattle.std.proofs.lemmas.List.{flat_map_more, take_all, take_more}
 use Rattle.std.specs.Prelude.{None, if◌then◌else◌}
@@ -23,7 +25,8 @@ use Rattle.digraph.specs.Reach as graph
 use Rattle.digraph.proofs.GraphLemmas.{rows_size}
 use Rattle.digraph.proofs.TitleLemmas.{contains_alike, cycle_alike}
 use Rattle.tangle_graph.specs.FaultFlags.{flag_of_number}
-use Rattle.tangle_graph.specs.Faults.{has_piece_by_number, is_too_large, ReachesCycle, AreGraphFaults, fault_of, faults_of_names, first_occurrence_number, graph_faults, large_program, no_program}
+use Rattle.tangle_graph.specs.Faults.{has_piece_by_number, is_too_large, ReachesCycle, AreGraphFaults, fault_of}
+use Rattle.tangle_graph.specs.Faults.{faults_of_names, first_occurrence_number, graph_faults, large_program, no_program}
 use Rattle.tangle_graph.specs.Groups.{IsGraphOf}
 use Rattle.tangle_graph.specs.Nodes.{title_at, UsesTitle}
 use Rattle.tangle_graph.specs.Outputs.{shape_has_piece, is_expandable}
@@ -32,44 +35,60 @@ use Rattle.tangle_graph.specs.Stores.{row_has_piece}
 use Rattle.tangle_graph.proofs.ReachLemmas.{contains_by_titles, cycle_by_titles}
 
 -- the first uses, counted over the occurrences of the web
-pub uses_of_web : (web : WebRead) (table : TableRead) (os : List OccurrenceRead) (counted numbers : List ℕ) → table ≡ record (table_of web) { faults = table.faults } → os ≡ web.occurrences → numbers ≡ counted
-    → ((f : OccurrenceRead → Resolved) → table.resolved ≡ map f os → (id : ℕ) → id < length table.names → get_or counted id 0 ≡ first_by_number f Uses os id)
-    → (id : ℕ) → id < length table.names → get_or numbers id 0 ≡ first_by_number (resolve web.occurrences) Uses web.occurrences id
+pub uses_of_web : (web : WebRead) (table : TableRead) (os : List OccurrenceRead) (counted numbers : List ℕ)
+    → table ≡ record (table_of web) { faults = table.faults } → os ≡ web.occurrences → numbers ≡ counted
+    → ((f : OccurrenceRead → Resolved) → table.resolved ≡ map f os → (id : ℕ)
+    → id < length table.names → get_or counted id 0 ≡ first_by_number f Uses os id)
+    → (id : ℕ)
+    → id < length table.names → get_or numbers id 0 ≡ first_by_number (resolve web.occurrences) Uses web.occurrences id
 uses_of_web web table os counted numbers is read same known id h =
     ap (λ l. get_or l id 0) same
-    ∙ known (resolve web.occurrences) (ap (λ (t : TableRead). t.resolved) is ∙ ap (map (resolve web.occurrences)) (sym read)) id h
+    ∙ known (resolve web.occurrences)
+    (ap (λ (t : TableRead). t.resolved) is ∙ ap (map (resolve web.occurrences)) (sym read)) id h
     ∙ ap (λ l. first_by_number (resolve web.occurrences) Uses l id) read
 
 -- the faults of one more name
-pub range_more : (g : ℕ → List FaultRead) (a n : ℕ) → flat_map g (range_with_len a (n + 1)) ≡ flat_map g (range_with_len a n) ++ g (a + n)
+pub range_more : (g : ℕ → List FaultRead) (a n : ℕ)
+    → flat_map g (range_with_len a (n + 1)) ≡ flat_map g (range_with_len a n) ++ g (a + n)
 range_more g a zero = append-nil (g a) ∙ ap g (sym (add-zero a))
 range_more g a (suc n) =
     let position : a + 1 + n ≡ a + suc n = omega arith in
     let one_more : suc n + 1 ≡ suc (n + 1) = omega arith in
-    ap (λ k. flat_map g (range_with_len a k)) one_more ∙ ap (λ l. g a ++ l) (range_more g (a + 1) n) ∙ sym (append_assoc (g a) (flat_map g (range_with_len (a + 1) n)) (g (a + 1 + n)))
+    ap (λ k. flat_map g (range_with_len a k)) one_more ∙ ap (λ l. g a ++ l) (range_more g (a + 1) n)
+    ∙ sym (append_assoc (g a) (flat_map g (range_with_len (a + 1) n)) (g (a + 1 + n)))
     ∙ ap (λ k. (g a ++ flat_map g (range_with_len (a + 1) n)) ++ g k) position
 
-pub listed_step : (g : ℕ → List FaultRead) (names : List ℕ) (i : ℕ) (before now next : List FaultRead) → i < length names → now ≡ before ++ flat_map g (take i names) → next ≡ now ++ g (get_or names i 0)
+pub listed_step : (g : ℕ → List FaultRead) (names : List ℕ) (i : ℕ) (before now next : List FaultRead)
+    → i < length names → now ≡ before ++ flat_map g (take i names) → next ≡ now ++ g (get_or names i 0)
     → next ≡ before ++ flat_map g (take (i + 1) names)
 listed_step g names i before now next h sofar is =
-    is ∙ ap (λ l. l ++ g (get_or names i 0)) sofar ∙ append_assoc before (flat_map g (take i names)) (g (get_or names i 0))
-    ∙ ap (λ l. before ++ l) (flat_map_more g [] (take i names) (get_or names i 0) ∙ ap (flat_map g) (sym (take_more names i 0 h)))
+    is ∙ ap (λ l. l ++ g (get_or names i 0)) sofar
+    ∙ append_assoc before (flat_map g (take i names)) (g (get_or names i 0))
+    ∙ ap (λ l. before ++ l)
+    (flat_map_more g [] (take i names) (get_or names i 0) ∙ ap (flat_map g) (sym (take_more names i 0 h)))
 
 -- one more number of a list, from which numbers without a fault may be left out
-pub candidates_step : (g : ℕ → List FaultRead) (n : ℕ) (names : List ℕ) (needed : Bool) → (needed ≡ false → g n ≡ []) → flat_map g names ≡ flat_map g (range_with_len 0 n)
+pub candidates_step : (g : ℕ → List FaultRead) (n : ℕ) (names : List ℕ) (needed : Bool)
+    → (needed ≡ false → g n ≡ []) → flat_map g names ≡ flat_map g (range_with_len 0 n)
     → flat_map g (names ++ cond needed (n ∷ []) []) ≡ flat_map g (range_with_len 0 (n + 1))
 candidates_step g n names true none sofar =
-    sym (flat_map_more g [] names n) ∙ ap (λ l. l ++ g n) sofar ∙ ap (λ k. flat_map g (range_with_len 0 n) ++ g k) (sym (zero-add n)) ∙ sym (range_more g 0 n)
+    sym (flat_map_more g [] names n) ∙ ap (λ l. l ++ g n) sofar
+    ∙ ap (λ k. flat_map g (range_with_len 0 n) ++ g k) (sym (zero-add n)) ∙ sym (range_more g 0 n)
 candidates_step g n names false none sofar =
-    ap (flat_map g) (append-nil names) ∙ sofar ∙ sym (append-nil (flat_map g (range_with_len 0 n))) ∙ ap (λ l. flat_map g (range_with_len 0 n) ++ l) (sym (ap g (zero-add n) ∙ none refl)) ∙ sym (range_more g 0 n)
+    ap (flat_map g) (append-nil names) ∙ sofar ∙ sym (append-nil (flat_map g (range_with_len 0 n)))
+    ∙ ap (λ l. flat_map g (range_with_len 0 n) ++ l) (sym (ap g (zero-add n) ∙ none refl)) ∙ sym (range_more g 0 n)
 
 -- the faults of one more kind
-pub kinds_step : (f : FaultKind → List FaultRead) (ks : List FaultKind) (i : ℕ) (d : FaultKind) (before now : List FaultRead) → i < length ks
+pub kinds_step : (f : FaultKind → List FaultRead) (ks : List FaultKind)
+    (i : ℕ) (d : FaultKind) (before now : List FaultRead)
+    → i < length ks
     → before ≡ flat_map f (take i ks) → now ≡ before ++ f (get_or ks i d) → now ≡ flat_map f (take (i + 1) ks)
 kinds_step f ks i d before now h sofar is =
-    is ∙ ap (λ l. l ++ f (get_or ks i d)) sofar ∙ flat_map_more f [] (take i ks) (get_or ks i d) ∙ ap (flat_map f) (sym (take_more ks i d h))
+    is ∙ ap (λ l. l ++ f (get_or ks i d)) sofar ∙ flat_map_more f [] (take i ks) (get_or ks i d)
+    ∙ ap (flat_map f) (sym (take_more ks i d h))
 
-pub kinds_whole : (f : FaultKind → List FaultRead) (ks : List FaultKind) (i : ℕ) (now : List FaultRead) → length ks ≤ i → now ≡ flat_map f (take i ks) → now ≡ flat_map f ks
+pub kinds_whole : (f : FaultKind → List FaultRead) (ks : List FaultKind) (i : ℕ) (now : List FaultRead)
+    → length ks ≤ i → now ≡ flat_map f (take i ks) → now ≡ flat_map f ks
 kinds_whole f ks i now h is = is ∙ ap (flat_map f) (take_all i ks h)
 
 -- a node has a piece if its row has a number
@@ -80,20 +99,25 @@ module _ (web : WebRead) (table : TableRead) (rows uses : Graph) (is : IsGraphOf
   row_below : (n : ℕ) → n ≤ length table.names → n < length rows
   row_below n h = omega (arith, h, is.rows_size)
 
-  has_mapped : (row : List ℕ) → row_has_piece row ≡ shape_has_piece (map (λ (p : PieceRead). map (shape_item web.texts table) p.items) (pieces_at web.pieces row))
+  has_mapped : (row : List ℕ)
+      → row_has_piece row
+      ≡ shape_has_piece (map (λ (p : PieceRead). map (shape_item web.texts table) p.items) (pieces_at web.pieces row))
   has_mapped [] = refl
   has_mapped (k ∷ row) = refl
 
-  pub has_piece_flag : (flags : List Bool) → ArePieceFlags (rows_of rows) flags → (n : ℕ) → n ≤ length table.names → flag_of_number flags n ≡ has_piece_by_number web table n
+  pub has_piece_flag : (flags : List Bool) → ArePieceFlags (rows_of rows) flags → (n : ℕ)
+      → n ≤ length table.names → flag_of_number flags n ≡ has_piece_by_number web table n
   has_piece_flag flags flagged n h =
       flagged.flag n (let low = row_below n h in omega (arith, low, rows_size rows))
       ∙ has_mapped (row_at (rows_of rows) n)
-      ∙ ap (λ ps. shape_has_piece (map (λ (p : PieceRead). map (shape_item web.texts table) p.items) ps)) (is.pieces n (row_below n h))
+      ∙ ap (λ ps. shape_has_piece (map (λ (p : PieceRead). map (shape_item web.texts table) p.items) ps))
+      (is.pieces n (row_below n h))
 
   pub has_piece_size : (flags : List Bool) → ArePieceFlags (rows_of rows) flags → length flags ≡ length table.names + 1
   has_piece_size flags flagged = flagged.size ∙ rows_size rows ∙ is.rows_size
 
-  pub containing_flag : (flags : List Bool) → FlagsJust uses flags (graph.ContainsItself (HasUse uses)) → (n : ℕ) → n ≤ length table.names
+  pub containing_flag : (flags : List Bool)
+      → FlagsJust uses flags (graph.ContainsItself (HasUse uses)) → (n : ℕ) → n ≤ length table.names
       → (flag_of_number flags n ≡ true) ↔ title.ContainsItself (shapes web table) (title_at table.names n)
   containing_flag flags just n h =
       let alike = contains_alike uses (UsesTitle (shapes web table)) (title_at table.names) is.titled n (below n h) in
@@ -101,7 +125,8 @@ module _ (web : WebRead) (table : TableRead) (rows uses : Graph) (is : IsGraphOf
       let flag = just n (below n h) in
       (λ e. titles.0 (alike.0 (flag.0 e)), λ c. flag.1 (alike.1 (titles.1 c)))
 
-  pub reaching_flag : (flags : List Bool) → FlagsJust uses flags (graph.ReachesCycle (HasUse uses)) → (n : ℕ) → n ≤ length table.names
+  pub reaching_flag : (flags : List Bool)
+      → FlagsJust uses flags (graph.ReachesCycle (HasUse uses)) → (n : ℕ) → n ≤ length table.names
       → (flag_of_number flags n ≡ true) ↔ ReachesCycle (shapes web table) (title_at table.names n)
   reaching_flag flags just n h =
       let alike = cycle_alike uses (UsesTitle (shapes web table)) (title_at table.names) is.titled n (below n h) in
@@ -110,11 +135,16 @@ module _ (web : WebRead) (table : TableRead) (rows uses : Graph) (is : IsGraphOf
       (λ e. titles.0 (alike.0 (flag.0 e)), λ c. flag.1 (alike.1 (titles.1 c)))
 
 -- lists that are appended one after another, the first four at once
-pub joined : {X : Type 0} (now a b c d e f g : List X) (l0 l1 l2 : List X) → l0 ≡ a ++ (b ++ (c ++ (d ++ []))) → l1 ≡ l0 ++ e → l2 ≡ l1 ++ f → now ≡ l2 ++ g
+pub joined : {X : Type 0} (now a b c d e f g : List X) (l0 l1 l2 : List X)
+    → l0 ≡ a ++ (b ++ (c ++ (d ++ []))) → l1 ≡ l0 ++ e → l2 ≡ l1 ++ f → now ≡ l2 ++ g
     → now ≡ a ++ (b ++ (c ++ (d ++ (e ++ (f ++ g)))))
 joined now a b c d e f g l0 l1 l2 h0 h1 h2 h3 =
-    h3 ∙ next l1 l2 f g h2 ∙ next l0 l1 e (f ++ g) h1 ∙ ap (λ l. l ++ (e ++ (f ++ g))) h0 ∙ append_assoc a (b ++ (c ++ (d ++ []))) (e ++ (f ++ g))
-    ∙ ap (λ l. a ++ l) (append_assoc b (c ++ (d ++ [])) (e ++ (f ++ g)) ∙ ap (λ l. b ++ l) (append_assoc c (d ++ []) (e ++ (f ++ g)) ∙ ap (λ l. c ++ l) (append_assoc d [] (e ++ (f ++ g)))))
+    h3 ∙ next l1 l2 f g h2 ∙ next l0 l1 e (f ++ g) h1 ∙ ap (λ l. l ++ (e ++ (f ++ g))) h0
+    ∙ append_assoc a (b ++ (c ++ (d ++ []))) (e ++ (f ++ g))
+    ∙ ap (λ l. a ++ l)
+    (append_assoc b (c ++ (d ++ [])) (e ++ (f ++ g))
+    ∙ ap (λ l. b ++ l)
+    (append_assoc c (d ++ []) (e ++ (f ++ g)) ∙ ap (λ l. c ++ l) (append_assoc d [] (e ++ (f ++ g)))))
   where
     next : {X : Type 0} (before now x y : List X) → now ≡ before ++ x → now ++ y ≡ before ++ (x ++ y)
     next before now x y h = ap (λ l. l ++ y) h ∙ append_assoc before x y
@@ -131,7 +161,8 @@ same_flag true false p q = sym (q.1 (p.0 refl))
 same_flag false true p q = p.1 (q.0 refl)
 same_flag false false p q = refl
 
-same_in_range : (f g : ℕ → List FaultRead) (a n : ℕ) → ((k : ℕ) → a ≤ k → k < a + n → f k ≡ g k) → flat_map f (range_with_len a n) ≡ flat_map g (range_with_len a n)
+same_in_range : (f g : ℕ → List FaultRead) (a n : ℕ)
+    → ((k : ℕ) → a ≤ k → k < a + n → f k ≡ g k) → flat_map f (range_with_len a n) ≡ flat_map g (range_with_len a n)
 same_in_range f g a zero same = refl
 same_in_range f g a (suc n) same =
     let first : f a ≡ g a = same a (omega arith) (omega arith) in
@@ -139,26 +170,36 @@ same_in_range f g a (suc n) same =
     λ i. first i ++ rest i
 
 module _ (web : WebRead) (table : TableRead) (out : List ℕ) (c d r s : ℕ → Bool)
-    (containing : (n : ℕ) → n ≤ length table.names → c n ≡ d n) (reaching : (n : ℕ) → n ≤ length table.names → r n ≡ s n) where
+    (containing : (n : ℕ) → n ≤ length table.names → c n ≡ d n)
+    (reaching : (n : ℕ) → n ≤ length table.names → r n ≡ s n) where
   same_large : (n : ℕ) → n ≤ length table.names → is_too_large web table r n ≡ is_too_large web table s n
-  same_large n h = ap (λ b. has_piece_by_number web table n && (not b && not (is_expandable (shapes web table) (title_at table.names n)))) (reaching n h)
+  same_large n h = ap
+      (λ b. has_piece_by_number web table n
+      && (not b && not (is_expandable (shapes web table) (title_at table.names n)))) (reaching n h)
 
-  same_containing : faults_of_names web table out c r kind.SelfContaining ≡ faults_of_names web table out d s kind.SelfContaining
+  same_containing : faults_of_names web table out c r kind.SelfContaining
+      ≡ faults_of_names web table out d s kind.SelfContaining
   same_containing = same_in_range _ _ 0 (length table.names) (λ k low high.
-      ap (λ b. fault_of web table kind.SelfContaining k (if b then first_occurrence_number web table k else None)) (containing k (omega (arith, high))))
+      ap (λ b. fault_of web table kind.SelfContaining k (if b then first_occurrence_number web table k else None))
+      (containing k (omega (arith, high))))
 
   same_too_large : faults_of_names web table out c r kind.TooLarge ≡ faults_of_names web table out d s kind.TooLarge
   same_too_large = same_in_range _ _ 0 (length table.names) (λ k low high.
-      ap (λ b. fault_of web table kind.TooLarge k (if b then first_occurrence_number web table k else None)) (same_large k (omega (arith, high))))
+      ap (λ b. fault_of web table kind.TooLarge k (if b then first_occurrence_number web table k else None))
+      (same_large k (omega (arith, high))))
 
   same_program : large_program web table out c r ≡ large_program web table out d s
-  same_program = ap (λ b. if b then fault_unplaced kind.TooLarge ∷ [] else []) (same_large (length table.names) (omega arith))
+  same_program =
+      ap (λ b. if b then fault_unplaced kind.TooLarge ∷ [] else []) (same_large (length table.names) (omega arith))
 
   same_faults : graph_faults web table out c r ≡ graph_faults web table out d s
-  same_faults = λ i. faults_of_names web table out c r kind.Undefined ++ (faults_of_names web table out c r kind.Unused ++ (same_containing i
-      ++ (same_too_large i ++ (same_program i ++ (faults_of_names web table out c r kind.FileClash ++ no_program web table out c r)))))
+  same_faults = λ i. faults_of_names web table out c r kind.Undefined
+      ++ (faults_of_names web table out c r kind.Unused ++ (same_containing i
+      ++ (same_too_large i
+      ++ (same_program i ++ (faults_of_names web table out c r kind.FileClash ++ no_program web table out c r)))))
 
-pub one_list : (web : WebRead) (table : TableRead) (out : List ℕ) (a b : List FaultRead) → AreGraphFaults web table out a → AreGraphFaults web table out b → a ≡ b
+pub one_list : (web : WebRead) (table : TableRead) (out : List ℕ) (a b : List FaultRead)
+    → AreGraphFaults web table out a → AreGraphFaults web table out b → a ≡ b
 one_list web table out a b x y =
     x.list ∙ same_faults web table out x.contains_itself y.contains_itself x.reaches_cycle y.reaches_cycle
     (λ n h. same_flag (x.contains_itself n) (y.contains_itself n) (x.self_containing n h) (y.self_containing n h))

@@ -15,6 +15,7 @@ mod PushLemmas
 mod ReachLemmas
 pub mod ExpandLemmas
 mod StoreIs
+pub mod OutputLemmas
 mod OrderingLemmas
 mod FaultLemmas
 pub mod WeightLemmas

@@ -23,10 +23,12 @@ piece_in_both (k ∷ row) [] e = absurd (omega (arith, e))
 piece_in_both (k ∷ row) (x ∷ s) e = refl
 
 module _ (web : WebRead) (table : TableRead) (rows uses : Graph) (is : IsGraphOf web table rows uses) where
-  pub shape_size : (n : ℕ) → n < length uses → length (shapes web table (title_at table.names n)) ≡ length (row_at (rows_of rows) n)
+  pub shape_size : (n : ℕ)
+      → n < length uses → length (shapes web table (title_at table.names n)) ≡ length (row_at (rows_of rows) n)
   shape_size n h =
       let pieces = is.pieces n (omega (arith, h, is.rows_size, is.uses_size)) in
-      length-map (pieces_of web table (title_at table.names n)) (λ (p : PieceRead). map (shape_item web.texts table) p.items)
+      length-map (pieces_of web table (title_at table.names n))
+      (λ (p : PieceRead). map (shape_item web.texts table) p.items)
       ∙ ap length (sym pieces) ∙ length-map (row_at (rows_of rows) n) (λ k. get_or web.pieces k no_piece)
 
   pub limited : (weights depths : List ℕ) (flags : List Bool) → AreWithin (rows_of rows) weights depths flags
@@ -35,9 +37,13 @@ module _ (web : WebRead) (table : TableRead) (rows uses : Graph) (is : IsGraphOf
       → (n : ℕ) → n < length uses → get_or flags n false ≡ is_expandable (shapes web table) (title_at table.names n)
   limited weights depths flags within weighed measured n h =
       within.flag n (omega (arith, h, is.rows_size, is.uses_size, rows_size rows))
-      ∙ expandable_by_limits (shapes web table) (title_at table.names n) (row_at (rows_of rows) n) (get_or weights n 0) (get_or depths n 0) (shape_size n h) (weighed n h) (measured n h)
+      ∙ expandable_by_limits (shapes web table) (title_at table.names n) (row_at (rows_of rows) n)
+      (get_or weights n 0) (get_or depths n 0) (shape_size n h) (weighed n h) (measured n h)
 
-  pub program_has_piece : row_has_piece (row_at (rows_of rows) (length table.names)) ≡ shape_has_piece (shapes web table Program)
+  pub program_has_piece : row_has_piece (row_at (rows_of rows) (length table.names))
+      ≡ shape_has_piece (shapes web table Program)
   program_has_piece =
-      piece_in_both (row_at (rows_of rows) (length table.names)) (shapes web table (title_at table.names (length table.names))) (shape_size (length table.names) (omega (arith, is.uses_size)))
+      piece_in_both (row_at (rows_of rows) (length table.names))
+      (shapes web table (title_at table.names (length table.names)))
+      (shape_size (length table.names) (omega (arith, is.uses_size)))
       ∙ ap (λ t. shape_has_piece (shapes web table t)) (title_past table.names (length table.names) (omega arith))

@@ -24,24 +24,32 @@ title_past names n h = ap title_of_name (slice_get_past names n h)
 pub named_inside : (names : List (List ℕ)) (n : ℕ) (name : List ℕ) → title_at names n ≡ Named name → n < length names
 named_inside names n name e = elim (dec_lt n (length names)) [
   | yes low ↦ low
-  | no past ↦ (let is : title_at names n ≡ title.Program = title_past names n (omega (arith, past)) in let both : Named name ≡ title.Program = sym e ∙ is in absurd (cc))
+  | no past ↦ (let is : title_at names n ≡ title.Program = title_past names n (omega (arith, past)) in
+      let both : Named name ≡ title.Program = sym e ∙ is in absurd (cc))
 ]
 
 pub named_injective : (a b : List ℕ) → Named a ≡ Named b → a ≡ b
 named_injective a b e = cc
 
 -- each name has one number
-pub once_named : (names : List (List ℕ)) (n m : ℕ) → IsDistinct bytes_eq names → n < length names → m < length names → get_or names n [] ≡ get_or names m [] → n ≡ m
+pub once_named : (names : List (List ℕ)) (n m : ℕ)
+    → IsDistinct bytes_eq names → n < length names → m < length names → get_or names n [] ≡ get_or names m [] → n ≡ m
 once_named names n m distinct hn hm e = elim (ℕ_discrete n m) [
   | yes same ↦ same
   | no other ↦ elim (dec_lt n m) [
-    | yes low ↦ absurd (let apart = apart_from_distinct bytes_eq names n m [] distinct low hm in let is = (bytes_eq-Decides (get_or names n []) (get_or names m [])).1 e in let both : true ≡ false = sym is ∙ apart in cc)
-    | no high ↦ absurd (let apart = apart_from_distinct bytes_eq names m n [] distinct (omega (arith, high, other)) hn in let is = (bytes_eq-Decides (get_or names m []) (get_or names n [])).1 (sym e) in let both : true ≡ false = sym is ∙ apart in cc)
+    | yes low ↦ absurd (let apart = apart_from_distinct bytes_eq names n m [] distinct low hm in
+        let is = (bytes_eq-Decides (get_or names n []) (get_or names m [])).1 e in
+        let both : true ≡ false = sym is ∙ apart in cc)
+    | no high ↦
+        absurd (let apart = apart_from_distinct bytes_eq names m n [] distinct (omega (arith, high, other)) hn in
+        let is = (bytes_eq-Decides (get_or names m []) (get_or names n [])).1 (sym e) in
+        let both : true ≡ false = sym is ∙ apart in cc)
   ]
 ]
 
 -- each title has one number
-pub once_titled : (names : List (List ℕ)) (n m : ℕ) → IsDistinct bytes_eq names → n ≤ length names → m ≤ length names → title_at names n ≡ title_at names m → n ≡ m
+pub once_titled : (names : List (List ℕ)) (n m : ℕ)
+    → IsDistinct bytes_eq names → n ≤ length names → m ≤ length names → title_at names n ≡ title_at names m → n ≡ m
 once_titled names n m distinct hn hm e = elim (dec_lt n (length names)) [
   | yes low ↦ (let named : title_at names m ≡ Named (get_or names n []) = sym e ∙ title_inside names n low in
       let within : m < length names = named_inside names m (get_or names n []) named in
@@ -56,31 +64,38 @@ once_titled names n m distinct hn hm e = elim (dec_lt n (length names)) [
 ]
 
 pub node_below : (count n : ℕ) → n < count → node_at count n ≡ Name n
-node_below count n h = (let test : nat_lt n count ≡ true = grind (arith, nat_tests) in ap (λ b. if b then Name n else Program) test)
+node_below count n h =
+    (let test : nat_lt n count ≡ true = grind (arith, nat_tests) in ap (λ b. if b then Name n else Program) test)
 
 pub node_past : (count n : ℕ) → count ≤ n → node_at count n ≡ Program
-node_past count n h = (let test : nat_lt n count ≡ false = grind (arith, nat_tests) in ap (λ b. if b then Name n else Program) test)
+node_past count n h =
+    (let test : nat_lt n count ≡ false = grind (arith, nat_tests) in ap (λ b. if b then Name n else Program) test)
 
-pub title-node : (names : List (List ℕ)) (n : ℕ) → n ≤ length names → title_of_node names (node_at (length names) n) ≡ title_at names n
+pub title-node : (names : List (List ℕ)) (n : ℕ)
+    → n ≤ length names → title_of_node names (node_at (length names) n) ≡ title_at names n
 title-node names n h = elim (dec_lt n (length names)) [
   | yes low ↦ ap (title_of_node names) (node_below (length names) n low)
-  | no past ↦ (let end : length names ≤ n = omega (arith, past) in ap (title_of_node names) (node_past (length names) n end) ∙ sym (title_past names n end))
+  | no past ↦ (let end : length names ≤ n = omega (arith, past) in
+      ap (title_of_node names) (node_past (length names) n end) ∙ sym (title_past names n end))
 ]
 
 pub node_is : (names : List (List ℕ)) (n : ℕ) → n ≤ length names → IsNodeOf names (node_at (length names) n)
 node_is names n h = elim (dec_lt n (length names)) [
   | yes low ↦ subst (IsNodeOf names) (sym (node_below (length names) n low)) low
-  | no past ↦ (let end : length names ≤ n = omega (arith, past) in subst (IsNodeOf names) (sym (node_past (length names) n end)) tt)
+  | no past ↦ (let end : length names ≤ n = omega (arith, past) in
+      subst (IsNodeOf names) (sym (node_past (length names) n end)) tt)
 ]
 
 -- each node has a number, by which its entries are found
-pub numbered : (names : List (List ℕ)) (node : Node) → IsNodeOf names node → (n : ℕ) × (n ≤ length names) × (node_at (length names) n ≡ node) × (number_in (length names) node ≡ Some n)
+pub numbered : (names : List (List ℕ)) (node : Node) → IsNodeOf names node
+    → (n : ℕ) × (n ≤ length names) × (node_at (length names) n ≡ node) × (number_in (length names) node ≡ Some n)
 numbered names Program h = (length names, omega arith, node_past (length names) (length names) (omega arith), refl)
 numbered names (Name id) h =
     let test : nat_lt id (length names) ≡ true = grind (arith, nat_tests) in
     (id, omega (arith, h), node_below (length names) id h, ap (λ b. if b then Some id else None) test)
 
-pub number_at : (names : List (List ℕ)) (n : ℕ) → n ≤ length names → number_in (length names) (node_at (length names) n) ≡ Some n
+pub number_at : (names : List (List ℕ)) (n : ℕ)
+    → n ≤ length names → number_in (length names) (node_at (length names) n) ≡ Some n
 number_at names n h = elim (dec_lt n (length names)) [
   | yes low ↦ (let test : nat_lt n (length names) ≡ true = grind (arith, nat_tests) in
       ap (number_in (length names)) (node_below (length names) n low) ∙ ap (λ b. if b then Some n else None) test)

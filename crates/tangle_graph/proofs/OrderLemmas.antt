@@ -1,5 +1,6 @@
 -- Values computed for each node along an order, in which a node comes after those that it uses.
-use Rattle.std.proofs.Common.{◌≡◌, ◌≢◌, ◌∙◌, ◌<◌, ◌≤◌, ◌+◌, ◌⊎◌, ℕ, zero, suc, List, [], ◌∷◌, ◌++◌, length, take, get_or, set, sym, subst, inl, inr, arith, length-set, get_or-set_same, get_or-set_other}
+use Rattle.std.proofs.Common.{◌≡◌, ◌≢◌, ◌∙◌, ◌<◌, ◌≤◌, ◌+◌, ◌⊎◌, ℕ, zero, suc, List, [], ◌∷◌, ◌++◌, length, take}
+use Rattle.std.proofs.Common.{get_or, set, sym, subst, inl, inr, arith, length-set, get_or-set_same, get_or-set_other}
 use Rattle.std.specs.Prelude.{Contains}
 use Rattle.std.proofs.Math.Decide.{ℕ_discrete}
 use Rattle.std.proofs.lemmas.List.{take_more, take_all}
@@ -12,7 +13,7 @@ use Rattle.tangle_plans.specs.Shapes.{Title, Program, Named, Shapes}
 use Rattle.tangle_plans.specs.Flat.{weight, depth}
 use Rattle.tangle_graph.specs.Nodes.{UsesTitle}
 use Rattle.tangle_graph.specs.Measures.{AreMeasured}
-use Rattle.tangle_graph.proofs.MeasureLemmas.{pieces_depth-use, pieces_weight-use}
+use Rattle.tangle_expansion.proofs.UsedLemmas.{pieces_depth-use, pieces_weight-use}
 
 -- a number is in a list or not
 pub among : (xs : List ℕ) (n : ℕ) → Contains xs n ⊎ ((c : Contains xs n) → ⊥)
@@ -33,13 +34,15 @@ among (x ∷ xs) n = elim (ℕ_discrete x n) [
         cases (zero, h, e) = inl e
         cases (suc k, h, e) = inr (k, omega (arith, h), e)
 
-pub measured_none : (value : ℕ → ℕ) (other : ℕ) (values order : List ℕ) → ((n : ℕ) → n < length values → get_or values n 0 ≡ other) → AreMeasured value other values (take 0 order)
+pub measured_none : (value : ℕ → ℕ) (other : ℕ) (values order : List ℕ)
+    → ((n : ℕ) → n < length values → get_or values n 0 ≡ other) → AreMeasured value other values (take 0 order)
 measured_none value other values order all = record {
   listed = λ n c. absurd (omega (arith, c.1));
   unlisted = λ n h none. all n h;
 }
 
-pub measured_next : (graph : Graph) (value : ℕ → ℕ) (other : ℕ) (values order : List ℕ) (i v : ℕ) → IsAfterUses graph order → i < length order → length values ≡ length graph
+pub measured_next : (graph : Graph) (value : ℕ → ℕ) (other : ℕ) (values order : List ℕ) (i v : ℕ)
+    → IsAfterUses graph order → i < length order → length values ≡ length graph
     → AreMeasured value other values (take i order) → v ≡ value (get_or order i 0)
     → AreMeasured value other (set values (get_or order i 0) v) (take (i + 1) order)
 measured_next graph value other values order i v after_uses h size sofar e = record { listed = here; unlisted = left }
@@ -56,21 +59,26 @@ measured_next graph value other values order i v after_uses h size sofar e = rec
     here : (n : ℕ) → Contains (take (i + 1) order) n → get_or (set values (get_or order i 0) v) n 0 ≡ value n
     here n c = elim (ℕ_discrete n (get_or order i 0)) [
       | yes same ↦ subst (λ k. get_or (set values (get_or order i 0) v) k 0 ≡ value k) (sym same) is
-      | no apart ↦ get_or-set_other values (get_or order i 0) n v 0 apart ∙ elim (Contains-push_cases (take i order) (get_or order i 0) n (subst (λ l. Contains l n) more c)) [
-        | inl before ↦ sofar.listed n before
-        | inr last ↦ absurd (apart (sym last))
-      ]
+      | no apart ↦ get_or-set_other values (get_or order i 0) n v 0 apart
+          ∙ elim (Contains-push_cases (take i order) (get_or order i 0) n (subst (λ l. Contains l n) more c)) [
+            | inl before ↦ sofar.listed n before
+            | inr last ↦ absurd (apart (sym last))
+          ]
     ]
 
-    left : (n : ℕ) → n < length (set values (get_or order i 0) v) → ((c : Contains (take (i + 1) order) n) → ⊥) → get_or (set values (get_or order i 0) v) n 0 ≡ other
+    left : (n : ℕ) → n < length (set values (get_or order i 0) v) → ((c : Contains (take (i + 1) order) n) → ⊥)
+        → get_or (set values (get_or order i 0) v) n 0 ≡ other
     left n low none = elim (ℕ_discrete n (get_or order i 0)) [
-      | yes same ↦ absurd (none (subst (λ l. Contains l n) (sym more) (Contains-append_right (take i order) (get_or order i 0 ∷ []) n (0, omega arith, sym same))))
+      | yes same ↦ absurd (none (subst (λ l. Contains l n) (sym more)
+          (Contains-append_right (take i order) (get_or order i 0 ∷ []) n (0, omega arith, sym same))))
       | no apart ↦ get_or-set_other values (get_or order i 0) n v 0 apart
-          ∙ sofar.unlisted n (omega (arith, low, length-set values (get_or order i 0) v)) (λ c. none (subst (λ l. Contains l n) (sym more) (Contains-append_left (take i order) (get_or order i 0 ∷ []) n c)))
+          ∙ sofar.unlisted n (omega (arith, low, length-set values (get_or order i 0) v)) (λ c.
+          none (subst (λ l. Contains l n) (sym more) (Contains-append_left (take i order) (get_or order i 0 ∷ []) n c)))
     ]
 
 -- at the end of the order the values of all nodes are known
-pub measured_all : (value : ℕ → ℕ) (other : ℕ) (values order : List ℕ) (i n : ℕ) → length order ≤ i → AreMeasured value other values (take i order)
+pub measured_all : (value : ℕ → ℕ) (other : ℕ) (values order : List ℕ) (i n : ℕ)
+    → length order ≤ i → AreMeasured value other values (take i order)
     → n < length values → (((c : Contains order n) → ⊥) → value n ≡ other) → get_or values n 0 ≡ value n
 measured_all value other values order i n h sofar low rest =
     let all : take i order ≡ order = take_all i order h in
@@ -81,16 +89,21 @@ measured_all value other values order i n h sofar low rest =
 
 -- A node is one level deeper than a name that it uses, and heavier by at least 1.
 
-deeper : (steps : ℕ) (shapes : Shapes) (a b : Title) → UsesTitle shapes a b → steps ≤ depth steps shapes b → suc steps ≤ depth (suc steps) shapes a
+deeper : (steps : ℕ) (shapes : Shapes) (a b : Title)
+    → UsesTitle shapes a b → steps ≤ depth steps shapes b → suc steps ≤ depth (suc steps) shapes a
 deeper steps shapes a Program u h = absurd u
-deeper steps shapes a (Named name) u h = omega (arith, h, pieces_depth-use (λ other. depth steps shapes (Named other)) (shapes a) name u)
+deeper steps shapes a (Named name) u h =
+    omega (arith, h, pieces_depth-use (λ other. depth steps shapes (Named other)) (shapes a) name u)
 
-heavier : (steps : ℕ) (shapes : Shapes) (a b : Title) → UsesTitle shapes a b → steps ≤ weight steps shapes b → suc steps ≤ weight (suc steps) shapes a
+heavier : (steps : ℕ) (shapes : Shapes) (a b : Title)
+    → UsesTitle shapes a b → steps ≤ weight steps shapes b → suc steps ≤ weight (suc steps) shapes a
 heavier steps shapes a Program u h = absurd u
-heavier steps shapes a (Named name) u h = omega (arith, h, pieces_weight-use (λ other. weight steps shapes (Named other)) (shapes a) name u)
+heavier steps shapes a (Named name) u h =
+    omega (arith, h, pieces_weight-use (λ other. weight steps shapes (Named other)) (shapes a) name u)
 
--- a node that is left out of an order is deeper, and heavier, than any number
-pub left_out_deepest : (graph : Graph) (shapes : Shapes) (title : ℕ → Title) (order : List ℕ) (steps n : ℕ) → IsTitled graph (UsesTitle shapes) title → InRange graph → IsOrder graph order
+-- for each number of steps, the depth and the weight of a node that is left out of an order are at least that number
+pub left_out_deepest : (graph : Graph) (shapes : Shapes) (title : ℕ → Title) (order : List ℕ) (steps n : ℕ)
+    → IsTitled graph (UsesTitle shapes) title → InRange graph → IsOrder graph order
     → n < length graph → ((c : Contains order n) → ⊥) → steps ≤ depth steps shapes (title n)
 left_out_deepest graph shapes title order zero n titled range is low out = omega arith
 left_out_deepest graph shapes title order (suc steps) n titled range is low out =
@@ -98,10 +111,12 @@ left_out_deepest graph shapes title order (suc steps) n titled range is low out 
     deeper steps shapes (title n) (title next.0) (titled.sound n next.0 next.1)
     (left_out_deepest graph shapes title order steps next.0 titled range is (use_in graph range n next.0 next.1) next.2)
 
-pub left_out_heaviest : (graph : Graph) (shapes : Shapes) (title : ℕ → Title) (order : List ℕ) (steps n : ℕ) → IsTitled graph (UsesTitle shapes) title → InRange graph → IsOrder graph order
+pub left_out_heaviest : (graph : Graph) (shapes : Shapes) (title : ℕ → Title) (order : List ℕ) (steps n : ℕ)
+    → IsTitled graph (UsesTitle shapes) title → InRange graph → IsOrder graph order
     → n < length graph → ((c : Contains order n) → ⊥) → steps ≤ weight steps shapes (title n)
 left_out_heaviest graph shapes title order zero n titled range is low out = omega arith
 left_out_heaviest graph shapes title order (suc steps) n titled range is low out =
     let next = is.rest n low out in
     heavier steps shapes (title n) (title next.0) (titled.sound n next.0 next.1)
-    (left_out_heaviest graph shapes title order steps next.0 titled range is (use_in graph range n next.0 next.1) next.2)
+    (left_out_heaviest graph shapes title order steps next.0
+    titled range is (use_in graph range n next.0 next.1) next.2)

@@ -1,7 +1,9 @@
 -- The names that a plan uses have a piece, and the plan is right if each of them is replaced by its own symbols.
-use Rattle.std.proofs.Common.{◌≡◌, ◌≢◌, ◌∙◌, ◌<◌, ℕ, zero, suc, Bool, true, false, List, [], ◌∷◌, length, filter, flat_map, get_or, option_to_list, refl, ap, sym, subst, arith}
+use Rattle.std.proofs.Common.{◌≡◌, ◌≢◌, ◌∙◌, ◌<◌, ℕ, zero, suc, Bool, true, false, List, [], ◌∷◌, length, filter}
+use Rattle.std.proofs.Common.{flat_map, get_or, option_to_list, refl, ap, sym, subst, arith}
 use Rattle.std.specs.Prelude.{Contains, if◌then◌else◌}
 use Rattle.std.proofs.lemmas.List.Elements.{All-contains}
+use Rattle.std.proofs.lemmas.List.{nil_from_length}
 use Rattle.tangle_scan.specs.declared.items.Item.{Item}
 use Rattle.tangle_scan.specs.declared.items.Item.TheVariants as item
 use Rattle.tangle_scan.specs.Web.{WebRead, PieceRead}
@@ -27,7 +29,8 @@ out_of_filter : (p : ℕ → Bool) (xs : List ℕ) (x : ℕ) → Contains (filte
 out_of_filter p [] x c = c
 out_of_filter p (y ∷ xs) x c = by (p y) (out_of_filter p xs x) c
   where
-    by : (b : Bool) → (Contains (filter p xs) x → Contains xs x) → Contains (if b then y ∷ filter p xs else filter p xs) x → Contains (y ∷ xs) x
+    by : (b : Bool) → (Contains (filter p xs) x → Contains xs x)
+        → Contains (if b then y ∷ filter p xs else filter p xs) x → Contains (y ∷ xs) x
     by true rest (zero, h, e) = (zero, omega arith, e)
     by true rest (suc k, h, e) = (let r = rest (k, omega (arith, h), e) in (suc r.0, omega (arith, r.1), r.2))
     by false rest d = (let r = rest d in (suc r.0, omega (arith, r.1), r.2))
@@ -36,7 +39,8 @@ passes_filter : (p : ℕ → Bool) (xs : List ℕ) (x : ℕ) → Contains (filte
 passes_filter p [] x c = absurd (omega (arith, c.1))
 passes_filter p (y ∷ xs) x c = by (p y) refl (passes_filter p xs x) c
   where
-    by : (b : Bool) → p y ≡ b → (Contains (filter p xs) x → p x ≡ true) → Contains (if b then y ∷ filter p xs else filter p xs) x → p x ≡ true
+    by : (b : Bool) → p y ≡ b → (Contains (filter p xs) x → p x ≡ true)
+        → Contains (if b then y ∷ filter p xs else filter p xs) x → p x ≡ true
     by true t rest (zero, h, e) = ap p (sym e) ∙ t
     by true t rest (suc k, h, e) = rest (k, omega (arith, h), e)
     by false t rest d = rest d
@@ -59,44 +63,53 @@ item_same table item.LineEnd = refl
 item_same table (item.LineMark origin) = refl
 item_same table item.Defs = refl
 
-pub names_same : (table : TableRead) (pieces : List PieceRead) → pieces_uses table pieces ≡ flat_map (used_in table) pieces
+pub names_same : (table : TableRead) (pieces : List PieceRead)
+    → pieces_uses table pieces ≡ flat_map (used_in table) pieces
 names_same table pieces = λ i. flat_map (λ (p : PieceRead). flat_map (λ x. item_same table x i) p.items) pieces
-
-empty_shape : (s : Shape) → length s ≡ 0 → s ≡ []
-empty_shape [] e = refl
-empty_shape (x ∷ s) e = absurd (omega (arith, e))
 
 some_shape : (row : List ℕ) (s : Shape) → length s ≡ length row → row_has_piece row ≡ true → s ≢ []
 some_shape [] s e t = absurd (let no : false ≡ true = t in cc)
 some_shape (k ∷ row) s e t = λ none. absurd (omega (arith, e, ap length none))
 
 no_shape : (row : List ℕ) (s : Shape) → length s ≡ length row → row_has_piece row ≡ false → s ≡ []
-no_shape [] s e t = empty_shape s e
+no_shape [] s e t = nil_from_length s e
 no_shape (k ∷ row) s e t = absurd (let no : true ≡ false = t in cc)
 
 flat_empty : (all : Shapes) (node : Title) → all node ≡ [] → flat_of all node ≡ []
 unfolding levels
 flat_empty all node e = ap (λ (s : Shape). pieces_flat (λ name. flat 1000 all (Named name)) node 0 s) e
 
-module _ (web : WebRead) (table : TableRead) (rows uses : Graph) (is : IsGraphOf web table rows uses) (inside : ResolvesInside table) (has : ℕ → Bool)
+module _ (web : WebRead) (table : TableRead) (rows uses : Graph)
+    (is : IsGraphOf web table rows uses) (inside : ResolvesInside table) (has : ℕ → Bool)
     (flags : (id : ℕ) → id < length table.names → has id ≡ row_has_piece (row_at (rows_of rows) id)) where
   -- the node with the number `n` uses the name with the number `id`, which has a piece
   abbrev pub UsesWithPiece : ℕ → ℕ → Type 0
-  UsesWithPiece n id = (id < length table.names) × Uses (shapes web table) (title_at table.names n) (get_or table.names id []) × (shapes web table (Named (get_or table.names id [])) ≢ [])
+  UsesWithPiece n id =
+      (id < length table.names) × Uses (shapes web table) (title_at table.names n) (get_or table.names id [])
+      × (shapes web table (Named (get_or table.names id [])) ≢ [])
 
-  shape_of_name : (id : ℕ) → id < length table.names → length (shapes web table (Named (get_or table.names id []))) ≡ length (row_at (rows_of rows) id)
-  shape_of_name id h = ap (λ t. length (shapes web table t)) (sym (title_inside table.names id h)) ∙ shape_size web table rows uses is id (omega (arith, h, is.uses_size))
+  shape_of_name : (id : ℕ) → id < length table.names
+      → length (shapes web table (Named (get_or table.names id []))) ≡ length (row_at (rows_of rows) id)
+  shape_of_name id h =
+      ap (λ t. length (shapes web table t)) (sym (title_inside table.names id h))
+      ∙ shape_size web table rows uses is id (omega (arith, h, is.uses_size))
 
-  pub plan_uses_pieces : (n id : ℕ) → Contains (filter has (pieces_uses table (pieces_of web table (title_at table.names n)))) id → UsesWithPiece n id
+  pub plan_uses_pieces : (n id : ℕ)
+      → Contains (filter has (pieces_uses table (pieces_of web table (title_at table.names n)))) id → UsesWithPiece n id
   plan_uses_pieces n id c =
       let used : Contains (flat_map (used_in table) (pieces_of web table (title_at table.names n))) id =
-      subst (λ l. Contains l id) (names_same table (pieces_of web table (title_at table.names n))) (out_of_filter has (pieces_uses table (pieces_of web table (title_at table.names n))) id c) in
+      subst (λ l. Contains l id) (names_same table (pieces_of web table (title_at table.names n)))
+      (out_of_filter has (pieces_uses table (pieces_of web table (title_at table.names n))) id c) in
       let low : id < length table.names =
-      All-contains (λ k. k < length table.names) (flat_map (used_in table) (pieces_of web table (title_at table.names n))) id (pieces_below table inside (pieces_of web table (title_at table.names n))) used in (
+      All-contains (λ k. k < length table.names)
+      (flat_map (used_in table) (pieces_of web table (title_at table.names n))) id
+      (pieces_below table inside (pieces_of web table (title_at table.names n))) used in (
         low,
         pieces_use web.texts table inside (pieces_of web table (title_at table.names n)) id used,
-        some_shape (row_at (rows_of rows) id) (shapes web table (Named (get_or table.names id []))) (shape_of_name id low)
-            (sym (flags id low) ∙ passes_filter has (pieces_uses table (pieces_of web table (title_at table.names n))) id c),
+        some_shape (row_at (rows_of rows) id)
+            (shapes web table (Named (get_or table.names id []))) (shape_of_name id low)
+            (sym (flags id low)
+            ∙ passes_filter has (pieces_uses table (pieces_of web table (title_at table.names n))) id c),
       )
 
   pub symbols_fit : (symbols : ℕ → List Symbol) (n : ℕ)
@@ -105,7 +118,14 @@ module _ (web : WebRead) (table : TableRead) (rows uses : Graph) (is : IsGraphOf
       → (if has id then symbols id else []) ≡ flat_of (shapes web table) (Named (get_or table.names id []))
   symbols_fit symbols n right id low u = by (has id) refl
     where
-      by : (b : Bool) → has id ≡ b → (if b then symbols id else []) ≡ flat_of (shapes web table) (Named (get_or table.names id []))
-      by true e = right id (low, u, some_shape (row_at (rows_of rows) id) (shapes web table (Named (get_or table.names id []))) (shape_of_name id low) (sym (flags id low) ∙ e))
+      by : (b : Bool)
+          → has id ≡ b → (if b then symbols id else []) ≡ flat_of (shapes web table) (Named (get_or table.names id []))
+      by true e = right id (
+        low,
+        u,
+        some_shape (row_at (rows_of rows) id) (shapes web table (Named (get_or table.names id [])))
+            (shape_of_name id low) (sym (flags id low) ∙ e),
+      )
       by false e = sym (flat_empty (shapes web table) (Named (get_or table.names id []))
-          (no_shape (row_at (rows_of rows) id) (shapes web table (Named (get_or table.names id []))) (shape_of_name id low) (sym (flags id low) ∙ e)))
+          (no_shape (row_at (rows_of rows) id) (shapes web table (Named (get_or table.names id [])))
+          (shape_of_name id low) (sym (flags id low) ∙ e)))

@@ -11,7 +11,8 @@ use Rattle.tangle_names.specs.declared.Resolved.TheVariants.{Name, NoFullName, A
 use Rattle.tangle_names.specs.NameTable.{TableRead}
 use Rattle.tangle_plans.specs.Comparing.{IsPlanned}
 use Rattle.tangle_plans.specs.Flat.{Byte, Opening, MarkOf}
-use Rattle.tangle_plans.specs.ItemSlots.{marks_after_item, name_slots, item_slots, items_slots, piece_slots, pieces_slots}
+use Rattle.tangle_plans.specs.ItemSlots.{marks_after_item, name_slots, item_slots, items_slots, piece_slots}
+use Rattle.tangle_plans.specs.ItemSlots.{pieces_slots}
 use Rattle.tangle_plans.specs.ItemTags.{uses_in, uses_resolved, pieces_uses}
 use Rattle.tangle_plans.specs.NodeBodies.{body_title, body_uses}
 use Rattle.tangle_plans.specs.Shapes.{Title}
@@ -27,7 +28,8 @@ module _ (has has' : ℕ → Bool) where
 
   one_by_one : (ids : List ℕ) → All (λ id. has id ≡ has' id) ids → Agrees ids
   one_by_one [] all = tt
-  one_by_one (id ∷ ids) all = (All-head (λ k. has k ≡ has' k) id ids all, one_by_one ids (All-tail (λ k. has k ≡ has' k) id ids all))
+  one_by_one (id ∷ ids) all =
+      (All-head (λ k. has k ≡ has' k) id ids all, one_by_one ids (All-tail (λ k. has k ≡ has' k) id ids all))
 
   front : (ids more : List ℕ) → Agrees (ids ++ more) → Agrees ids
   front [] more agrees = tt
@@ -49,7 +51,8 @@ module _ (has has' : ℕ → Bool) where
   same_name Ambiguous agrees = refl
 
   module _ (texts : List (List ℕ)) (table : TableRead) (node : Title) where
-    same_item : (piece marks : ℕ) (x : Item) → Agrees (uses_in table x) → item_slots texts table has node piece marks x ≡ item_slots texts table has' node piece marks x
+    same_item : (piece marks : ℕ) (x : Item) → Agrees (uses_in table x)
+        → item_slots texts table has node piece marks x ≡ item_slots texts table has' node piece marks x
     same_item piece marks (item.UseOf occurrence) agrees = same_name (resolved_at table occurrence) agrees
     same_item piece marks (item.Word span) agrees = refl
     same_item piece marks (item.Sign span) agrees = refl
@@ -69,8 +72,10 @@ module _ (has has' : ℕ → Bool) where
         let used = uses_in table x in
         let after = flat_map (uses_in table) items in
         let next = marks_after_item marks x in
-        ap (λ l. l ++ items_slots texts table has node piece next items) (same_item piece marks x (front used after agrees))
-        ∙ ap (λ l. item_slots texts table has' node piece marks x ++ l) (same_items piece next items (back used after agrees))
+        ap (λ l. l ++ items_slots texts table has node piece next items)
+        (same_item piece marks x (front used after agrees))
+        ∙ ap (λ l. item_slots texts table has' node piece marks x ++ l)
+        (same_items piece next items (back used after agrees))
 
     same_pieces : (piece : ℕ) (pieces : List PieceRead) → Agrees (pieces_uses table pieces)
         → pieces_slots texts table has node piece pieces ≡ pieces_slots texts table has' node piece pieces
@@ -78,13 +83,18 @@ module _ (has has' : ℕ → Bool) where
     same_pieces piece (p ∷ pieces) agrees =
         let used = flat_map (uses_in table) p.items in
         let after = pieces_uses table pieces in
-        ap (λ l. (Own (Opening node piece) ∷ Own (MarkOf node piece 0) ∷ l) ++ pieces_slots texts table has node (piece + 1) pieces) (same_items piece 0 p.items (front used after agrees))
-        ∙ ap (λ l. piece_slots texts table has' node piece p.items ++ l) (same_pieces (piece + 1) pieces (back used after agrees))
+        ap
+        (λ l. (Own (Opening node piece) ∷ Own (MarkOf node piece 0) ∷ l)
+        ++ pieces_slots texts table has node (piece + 1) pieces) (same_items piece 0 p.items (front used after agrees))
+        ∙ ap (λ l. piece_slots texts table has' node piece p.items ++ l)
+        (same_pieces (piece + 1) pieces (back used after agrees))
 
   -- the body does not change if each name that it uses has a piece in both cases or in neither
-  pub planned_over : (node : NodeBody) → All (λ id. has id ≡ has' id) (body_uses node) → IsPlanned has node → IsPlanned has' node
+  pub planned_over : (node : NodeBody)
+      → All (λ id. has id ≡ has' id) (body_uses node) → IsPlanned has node → IsPlanned has' node
   planned_over node all is =
-      let agrees = one_by_one (pieces_uses is.table is.pieces) (subst (All (λ id. has id ≡ has' id)) is.items.uses all) in
+      let agrees =
+      one_by_one (pieces_uses is.table is.pieces) (subst (All (λ id. has id ≡ has' id)) is.items.uses all) in
       record {
         texts = is.texts;
         table = is.table;

@@ -1,18 +1,23 @@
 -- Rows of the positions of items.
-use Rattle.std.proofs.Common.{◌≡◌, ◌∙◌, ◌<◌, ◌≤◌, ◌+◌, length-append, ℕ, Bool, true, false, cond, List, [], ◌∷◌, ◌++◌, length, map, filter, get_or, refl, ap, sym, arith, append_assoc, Vec}
+use Rattle.std.proofs.Common.{◌≡◌, ◌∙◌, ◌<◌, ◌≤◌, ◌+◌, length-append, ℕ, Bool, true, false, cond, List, [], ◌∷◌, ◌++◌}
+use Rattle.std.proofs.Common.{length, map, filter, get_or, refl, ap, sym, arith, append_assoc, Vec}
 use Rattle.std.specs.Global.{Global}
 use Rattle.std.proofs.lemmas.List.{map-append, get_or_append_left, get_or_push}
 use Rattle.std.specs.Prelude.{All, if◌then◌else◌}
 use Rattle.std.proofs.lemmas.List.Elements.{All-append, All-cons, All-nil}
 use Rattle.std.proofs.Math.Decide.{dec_lt}
+use Rattle.std.proofs.Math.Seq.{get_or-append_seam}
 use Rattle.digraph.specs.Graph.{rows_of}
 use Rattle.digraph.specs.Rows.{IsRowsOf}
 use Rattle.digraph.specs.Users.{positions}
 
 -- one more empty row
-pub row_more : (rows : List (Vec ℕ Global)) (count : ℕ) (row : Vec ℕ Global) → IsRowsOf count (λ _. []) (rows_of rows) → row.items ≡ [] → IsRowsOf (count + 1) (λ _. []) (rows_of (rows ++ row ∷ []))
+pub row_more : (rows : List (Vec ℕ Global)) (count : ℕ) (row : Vec ℕ Global) → IsRowsOf count (λ _. []) (rows_of rows)
+    → row.items ≡ [] → IsRowsOf (count + 1) (λ _. []) (rows_of (rows ++ row ∷ []))
 row_more rows count row is none = record {
-  size = ap length (map-append (λ (v : Vec ℕ Global). v.items) rows (row ∷ [])) ∙ (let n = is.size in more (rows_of rows) row.items count n);
+  size =
+      ap length (map-append (λ (v : Vec ℕ Global). v.items) rows (row ∷ []))
+      ∙ (let n = is.size in more (rows_of rows) row.items count n);
   row = λ n h. ap (λ l. get_or l n []) (map-append (λ (v : Vec ℕ Global). v.items) rows (row ∷ [])) ∙ at n h;
 }
   where
@@ -27,27 +32,28 @@ row_more rows count row is none = record {
     ]
 
 -- positions are below the length of the list
-pub positions_below : {X : Type 0} (p : X → Bool) (k bound : ℕ) (xs : List X) → k + length xs ≤ bound → All (λ j. j < bound) (positions p k xs)
+pub positions_below : {X : Type 0} (p : X → Bool) (k bound : ℕ) (xs : List X)
+    → k + length xs ≤ bound → All (λ j. j < bound) (positions p k xs)
 positions_below p k bound [] h = All-nil (λ j. j < bound)
 positions_below p k bound (x ∷ xs) h =
-    All-append (λ j. j < bound) (cond (p x) (k ∷ []) []) (positions p (k + 1) xs) (here (p x)) (positions_below p (k + 1) bound xs (omega (arith, h)))
+    All-append (λ j. j < bound) (cond (p x) (k ∷ []) []) (positions p (k + 1) xs)
+    (here (p x)) (positions_below p (k + 1) bound xs (omega (arith, h)))
   where
     here : (b : Bool) → All (λ j. j < bound) (cond b (k ∷ []) [])
     here true = All-cons (λ j. j < bound) k [] (omega (arith, h)) (All-nil (λ j. j < bound))
     here false = All-nil (λ j. j < bound)
 
-at_seam : {X : Type 0} (ys : List X) (x : X) (xs : List X) (d : X) → get_or (ys ++ x ∷ xs) (length ys) d ≡ x
-at_seam [] x xs d = refl
-at_seam (y ∷ ys) x xs d = at_seam ys x xs d
-
 -- the items at the positions that pass are the items that pass
-pub positions_read : {X : Type 0} (p : X → Bool) (before xs : List X) (d : X) → map (λ n. get_or (before ++ xs) n d) (positions p (length before) xs) ≡ filter p xs
+pub positions_read : {X : Type 0} (p : X → Bool) (before xs : List X) (d : X)
+    → map (λ n. get_or (before ++ xs) n d) (positions p (length before) xs) ≡ filter p xs
 positions_read p before [] d = refl
 positions_read p before (x ∷ xs) d =
-    map-append (λ n. get_or (before ++ x ∷ xs) n d) (cond (p x) (length before ∷ []) []) (positions p (length before + 1) xs)
+    map-append (λ n. get_or (before ++ x ∷ xs) n d)
+    (cond (p x) (length before ∷ []) []) (positions p (length before + 1) xs)
     ∙ ap (λ l. map (λ n. get_or (before ++ x ∷ xs) n d) (cond (p x) (length before ∷ []) []) ++ l)
     (ap (λ k. map (λ n. get_or (before ++ x ∷ xs) n d) (positions p k xs)) (sym size)
-    ∙ ap (λ whole. map (λ n. get_or whole n d) (positions p (length (before ++ x ∷ [])) xs)) (sym (append_assoc before (x ∷ []) xs))
+    ∙ ap (λ whole. map (λ n. get_or whole n d) (positions p (length (before ++ x ∷ [])) xs))
+    (sym (append_assoc before (x ∷ []) xs))
     ∙ positions_read p (before ++ x ∷ []) xs d)
     ∙ by (p x)
   where
@@ -55,8 +61,10 @@ positions_read p before (x ∷ xs) d =
     size = length-append before (x ∷ [])
 
     at : get_or (before ++ x ∷ xs) (length before) d ≡ x
-    at = at_seam before x xs d
+    at = get_or-append_seam before x xs d
 
-    by : (b : Bool) → map (λ n. get_or (before ++ x ∷ xs) n d) (cond b (length before ∷ []) []) ++ filter p xs ≡ (if b then x ∷ filter p xs else filter p xs)
+    by : (b : Bool)
+        → map (λ n. get_or (before ++ x ∷ xs) n d) (cond b (length before ∷ []) []) ++ filter p xs
+        ≡ (if b then x ∷ filter p xs else filter p xs)
     by true = ap (λ y. y ∷ filter p xs) at
     by false = refl

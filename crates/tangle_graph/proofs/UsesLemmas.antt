@@ -18,8 +18,10 @@ use Rattle.tangle_graph.specs.Plans.{ArePiecesInside, AreBodies}
 use Rattle.tangle_graph.proofs.PlanLemmas.{names_same}
 use Rattle.tangle_graph.proofs.RowLemmas.{positions_below, positions_read}
 
-pub uses_collected : (web : WebRead) (table : TableRead) (pieces : List (List ℕ)) (bodies : List NodeBody) (uses : List (List ℕ))
-    → IsRowsOf (length table.names + 1) (positions_of table web.pieces) pieces → AreBodies web table pieces bodies → uses ≡ map body_uses bodies
+pub uses_collected : (web : WebRead) (table : TableRead)
+    (pieces : List (List ℕ)) (bodies : List NodeBody) (uses : List (List ℕ))
+    → IsRowsOf (length table.names + 1) (positions_of table web.pieces) pieces → AreBodies web table pieces bodies
+    → uses ≡ map body_uses bodies
     → IsRowsOf (length table.names + 1) (used_numbers table web.pieces) uses
 uses_collected web table pieces bodies uses grouped are e = rw e (record {
   size = length-map bodies body_uses ∙ are.size ∙ grouped.size;
@@ -34,9 +36,12 @@ uses_collected web table pieces bodies uses grouped are e = rw e (record {
 })
 
 -- the positions of pieces are numbers of pieces
-pub pieces_inside : (table : TableRead) (pieces : List PieceRead) (rows : List (Vec ℕ Global)) → IsRowsOf (length table.names + 1) (positions_of table pieces) (rows_of rows)
+pub pieces_inside : (table : TableRead) (pieces : List PieceRead) (rows : List (Vec ℕ Global))
+    → IsRowsOf (length table.names + 1) (positions_of table pieces) (rows_of rows)
     → ArePiecesInside (length pieces) rows
 pieces_inside table pieces rows grouped = λ k d h. (
     let within : k < length table.names + 1 = omega (arith, h, rows_size rows, grouped.size) in
-    let row : row_at (rows_of rows) k ≡ (get_or rows k d).items = get_or-map (λ (v : Vec ℕ Global). v.items) rows k d [] h in
-    subst (All (λ i. i < length pieces)) (sym (grouped.row k within) ∙ row) (positions_below (is_piece_of_number table k) 0 (length pieces) pieces (omega arith)))
+    let row : row_at (rows_of rows) k ≡ (get_or rows k d).items =
+    get_or-map (λ (v : Vec ℕ Global). v.items) rows k d [] h in
+    subst (All (λ i. i < length pieces)) (sym (grouped.row k within) ∙ row)
+    (positions_below (is_piece_of_number table k) 0 (length pieces) pieces (omega arith)))

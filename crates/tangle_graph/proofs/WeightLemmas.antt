@@ -13,7 +13,8 @@ use Rattle.tangle_names.specs.NameTable.{TableRead}
 use Rattle.tangle_plans.specs.Shapes.{Title}
 use Rattle.tangle_plans.specs.Flat.{Byte}
 use Rattle.tangle_plans.specs.ItemTags.{uses_resolved, uses_in, pieces_uses}
-use Rattle.tangle_plans.specs.ItemSlots.{marks_after_item, name_slots, item_slots, items_slots, piece_slots, pieces_slots}
+use Rattle.tangle_plans.specs.ItemSlots.{marks_after_item, name_slots, item_slots, items_slots, piece_slots}
+use Rattle.tangle_plans.specs.ItemSlots.{pieces_slots}
 use Rattle.tangle_plans.specs.WebShapes.{resolved_at}
 use Rattle.tangle_plans.specs.Slots.{Own, Used, byte_slots}
 use Rattle.tangle_graph.specs.Grouping.{resolved_number}
@@ -23,16 +24,20 @@ module _ (texts : List (List ℕ)) (table : TableRead) (has_piece : ℕ → Bool
   of_bytes : (bytes : List ℕ) → length bytes ≡ length (byte_slots bytes) + 0
   of_bytes bytes = omega (arith, length-map bytes (λ b. Own (Byte b)))
 
-  of_flag : (flag : Bool) (id : ℕ) → 1 + used id ≡ length (if flag then Used id ∷ [] else Own (Byte 32) ∷ []) + sum_by used (id ∷ [])
+  of_flag : (flag : Bool) (id : ℕ)
+      → 1 + used id ≡ length (if flag then Used id ∷ [] else Own (Byte 32) ∷ []) + sum_by used (id ∷ [])
   of_flag true id = omega (arith, sum_by-cons used id [])
   of_flag false id = omega (arith, sum_by-cons used id [])
 
-  of_use : (r : Resolved) → use_weight used (resolved_number r) ≡ length (name_slots has_piece r) + sum_by used (uses_resolved r)
+  of_use : (r : Resolved)
+      → use_weight used (resolved_number r) ≡ length (name_slots has_piece r) + sum_by used (uses_resolved r)
   of_use (resolved.Name id) = of_flag (has_piece id) id
   of_use resolved.NoFullName = refl
   of_use resolved.Ambiguous = refl
 
-  of_item : (piece marks : ℕ) (x : Item) → weight_of_item texts table used x ≡ length (item_slots texts table has_piece node piece marks x) + sum_by used (uses_in table x)
+  of_item : (piece marks : ℕ) (x : Item)
+      → weight_of_item texts table used x
+      ≡ length (item_slots texts table has_piece node piece marks x) + sum_by used (uses_in table x)
   of_item piece marks (item.Word span) = of_bytes (span_text texts span)
   of_item piece marks (item.Sign span) = of_bytes (span_text texts span)
   of_item piece marks (item.Quoted span) = of_bytes (span_text texts span)
@@ -46,27 +51,31 @@ module _ (texts : List (List ℕ)) (table : TableRead) (has_piece : ℕ → Bool
   of_item piece marks item.Defs = refl
 
   of_items : (piece marks : ℕ) (items : List Item)
-      → 1 + sum_by (weight_of_item texts table used) items ≡ length (items_slots texts table has_piece node piece marks items) + sum_by used (flat_map (uses_in table) items)
+      → 1 + sum_by (weight_of_item texts table used) items
+      ≡ length (items_slots texts table has_piece node piece marks items) + sum_by used (flat_map (uses_in table) items)
   of_items piece marks [] = refl
   of_items piece marks (x ∷ items) =
       let after = marks_after_item marks x in
       omega (
         arith,
         sum_by-cons (weight_of_item texts table used) x items,
-        length-append (item_slots texts table has_piece node piece marks x) (items_slots texts table has_piece node piece after items),
+        length-append (item_slots texts table has_piece node piece marks x)
+            (items_slots texts table has_piece node piece after items),
         sum_by-append used (uses_in table x) (flat_map (uses_in table) items),
         of_item piece marks x,
         of_items piece after items,
       )
 
   pub weight_counted : (piece : ℕ) (pieces : List PieceRead)
-      → weight_of_pieces texts table used pieces ≡ length (pieces_slots texts table has_piece node piece pieces) + sum_by used (pieces_uses table pieces)
+      → weight_of_pieces texts table used pieces
+      ≡ length (pieces_slots texts table has_piece node piece pieces) + sum_by used (pieces_uses table pieces)
   weight_counted piece [] = refl
   weight_counted piece (p ∷ pieces) =
       omega (
         arith,
         sum_by-cons (weight_of_piece texts table used) p pieces,
-        length-append (piece_slots texts table has_piece node piece p.items) (pieces_slots texts table has_piece node (piece + 1) pieces),
+        length-append (piece_slots texts table has_piece node piece p.items)
+            (pieces_slots texts table has_piece node (piece + 1) pieces),
         sum_by-append used (flat_map (uses_in table) p.items) (pieces_uses table pieces),
         of_items piece 0 p.items,
         weight_counted (piece + 1) pieces,

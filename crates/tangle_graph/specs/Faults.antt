@@ -1,6 +1,8 @@
 -- The faults of the graph of names: a name is undefined, never used, contains itself, is too large
 -- or is that of the main file; or the program is too large or has no piece.
-use Rattle.std.specs.Prelude.{◌≡◌, ◌≤◌, ◌↔◌, ℕ, Bool, true, not, ◌&&◌, List, [], ◌∷◌, ◌++◌, length, map, flat_map, slice_get, slice_index_or, Option, Some, None, option_to_list, is_some, position, if◌then◌else◌}
+use Rattle.std.specs.Prelude.{◌≡◌, ◌≤◌, ◌↔◌, ℕ, Bool, true, not, ◌&&◌, List, [], ◌∷◌, ◌++◌, length}
+use Rattle.std.specs.Prelude.{map, flat_map, slice_get, slice_index_or, Option, Some, None}
+use Rattle.std.specs.Prelude.{option_to_list, is_some, position, if◌then◌else◌}
 use Rattle.std.specs.List.{range_with_len}
 use Rattle.std.specs.Str.{bytes_eq}
 use Rattle.tangle_faults.specs.declared.faults.FaultKind.{FaultKind}
@@ -18,13 +20,16 @@ use Rattle.tangle_graph.specs.Outputs.{shape_has_piece, is_expandable, name_with
 
 -- the node with this title is a name that contains itself, or reaches one
 abbrev pub ReachesCycle : Shapes → Title → Type 0
-ReachesCycle shapes title = (other : Title) × Reaches shapes title other × ContainsItself shapes other
+ReachesCycle shapes title =
+    (other : Title) × Reaches shapes title other × ContainsItself shapes other
 
 -- a fault about a name, at the occurrence with this number, or none where there is no number
 module _ (web : WebRead) (table : TableRead) where
   abbrev pub fault_at_number : FaultKind → ℕ → ℕ → List FaultRead
   fault_at_number kind id number =
-      map (λ o. fault_about kind (named_place_of web.file_names o.origin) (name_with_number table id)) (option_to_list (slice_get web.occurrences number))
+      map
+      (λ o. fault_about kind (named_place_of web.file_names o.origin) (name_with_number table id))
+      (option_to_list (slice_get web.occurrences number))
 
   abbrev pub fault_of : FaultKind → ℕ → Option ℕ → List FaultRead
   fault_of kind id None = []
@@ -44,48 +49,72 @@ module _ (web : WebRead) (table : TableRead) where
 
   -- A use in a dropped piece counts: what its author has to mend is the name of the definition.
   abbrev pub first_use : ℕ → Option ℕ
-  first_use id = position (λ o. is_use o.role && is_number id (resolve web.occurrences o)) web.occurrences
+  first_use id =
+      position (λ o. is_use o.role && is_number id (resolve web.occurrences o)) web.occurrences
 
 -- The node has a piece, reaches no name that contains itself, and is beyond a limit.
 -- `reaches_cycle` says of each number whether its node reaches such a name.
 abbrev pub is_too_large : WebRead → TableRead → (ℕ → Bool) → ℕ → Bool
-is_too_large web table reaches_cycle n = has_piece_by_number web table n && (not (reaches_cycle n) && not (is_expandable (shapes web table) (title_at table.names n)))
+is_too_large web table reaches_cycle n =
+    has_piece_by_number web table n
+    && (not (reaches_cycle n) && not (is_expandable (shapes web table) (title_at table.names n)))
 
 -- The faults: those of the names in their order, and then those of the program. The two functions
 -- say of each number whether its node contains itself, and whether it reaches a name that does.
 -- Both are passed in, since a definition cannot compute whether a path exists.
-module _ (web : WebRead) (table : TableRead) (out : List ℕ) (contains_itself reaches_cycle : ℕ → Bool) where
+module _ (web : WebRead) (table : TableRead) (out : List ℕ)
+    (contains_itself reaches_cycle : ℕ → Bool) where
   -- the occurrence at which the name has a fault of this kind, if it has one
   abbrev pub fault_occurrence : FaultKind → ℕ → Option ℕ
-  fault_occurrence kind.Undefined id = if has_piece_by_number web table id then None else first_use web table id
+  fault_occurrence kind.Undefined id =
+      if has_piece_by_number web table id then None else first_use web table id
   fault_occurrence kind.Unused id =
-      if has_piece_by_number web table id && (not (is_some (first_file_occurrence web table id)) && not (is_some (first_use web table id)))
+      if has_piece_by_number web table id
+      && (not (is_some (first_file_occurrence web table id))
+      && not (is_some (first_use web table id)))
       then first_occurrence_number web table id
       else None
-  fault_occurrence kind.SelfContaining id = if contains_itself id then first_occurrence_number web table id else None
-  fault_occurrence kind.TooLarge id = if is_too_large web table reaches_cycle id then first_occurrence_number web table id else None
-  fault_occurrence kind.FileClash id = if has_piece_by_number web table id && bytes_eq (name_with_number table id) out then first_file_occurrence web table id else None
+  fault_occurrence kind.SelfContaining id =
+      if contains_itself id then first_occurrence_number web table id else None
+  fault_occurrence kind.TooLarge id =
+      if is_too_large web table reaches_cycle id then first_occurrence_number web table id else None
+  fault_occurrence kind.FileClash id =
+      if has_piece_by_number web table id && bytes_eq (name_with_number table id) out
+      then first_file_occurrence web table id
+      else None
   fault_occurrence _ id = None
 
   -- the faults of this kind, in the order of the names
   abbrev pub faults_of_names : FaultKind → List FaultRead
-  faults_of_names kind = flat_map (λ id. fault_of web table kind id (fault_occurrence kind id)) (range_with_len 0 (length table.names))
+  faults_of_names kind = flat_map (λ id. fault_of web table kind id (fault_occurrence kind id))
+      (range_with_len 0 (length table.names))
 
   -- the program is too large; and below, that it has no piece
   abbrev pub large_program : List FaultRead
-  large_program = if is_too_large web table reaches_cycle (length table.names) then fault_unplaced kind.TooLarge ∷ [] else []
+  large_program =
+      if is_too_large web table reaches_cycle (length table.names)
+      then fault_unplaced kind.TooLarge ∷ []
+      else []
 
   abbrev pub no_program : List FaultRead
-  no_program = if has_piece_by_number web table (length table.names) then [] else fault_unplaced kind.NoProgram ∷ []
+  no_program =
+      if has_piece_by_number web table (length table.names) then []
+      else fault_unplaced kind.NoProgram ∷ []
 
   abbrev pub graph_faults : List FaultRead
-  graph_faults = faults_of_names kind.Undefined ++ (faults_of_names kind.Unused ++ (faults_of_names kind.SelfContaining
-      ++ (faults_of_names kind.TooLarge ++ (large_program ++ (faults_of_names kind.FileClash ++ no_program)))))
+  graph_faults =
+      faults_of_names kind.Undefined
+      ++ (faults_of_names kind.Unused ++ (faults_of_names kind.SelfContaining
+      ++ (faults_of_names kind.TooLarge
+      ++ (large_program ++ (faults_of_names kind.FileClash ++ no_program)))))
 
 -- the faults of the graph of names of a web, for a main file of this name
-pub record AreGraphFaults (web : WebRead) (table : TableRead) (out : List ℕ) (faults : List FaultRead) : Type 0 where
+pub record AreGraphFaults (web : WebRead) (table : TableRead)
+    (out : List ℕ) (faults : List FaultRead) : Type 0 where
   pub contains_itself : ℕ → Bool
   pub reaches_cycle : ℕ → Bool
-  pub self_containing : (n : ℕ) → n ≤ length table.names → (contains_itself n ≡ true) ↔ ContainsItself (shapes web table) (title_at table.names n)
-  pub reaching_cycles : (n : ℕ) → n ≤ length table.names → (reaches_cycle n ≡ true) ↔ ReachesCycle (shapes web table) (title_at table.names n)
+  pub self_containing : (n : ℕ) → n ≤ length table.names
+      → (contains_itself n ≡ true) ↔ ContainsItself (shapes web table) (title_at table.names n)
+  pub reaching_cycles : (n : ℕ) → n ≤ length table.names
+      → (reaches_cycle n ≡ true) ↔ ReachesCycle (shapes web table) (title_at table.names n)
   pub list : faults ≡ graph_faults web table out contains_itself reaches_cycle

@@ -1,6 +1,7 @@
 -- The pieces of each node, and the names that it uses, by number; the program has the number after
 -- all names.
-use Rattle.std.specs.Prelude.{ℕ, Bool, false, ◌==◌, List, [], length, filter, flat_map, Option, None, Some, option_to_list, slice_index_or, take}
+use Rattle.std.specs.Prelude.{ℕ, Bool, false, ◌==◌, List, [], length, filter, flat_map, Option}
+use Rattle.std.specs.Prelude.{None, Some, option_to_list, slice_index_or, take}
 use Rattle.tangle_scan.specs.declared.items.Item.{Item}
 use Rattle.tangle_scan.specs.declared.items.Item.TheVariants as item
 use Rattle.tangle_scan.specs.Web.{PieceRead}
@@ -37,7 +38,7 @@ abbrev pub has_number_in : ℕ → Option ℕ → Bool
 has_number_in n None = false
 has_number_in n (Some m) = m == n
 
--- the first numbers of a row, as many as `passed` says
+-- the first numbers of row `n`: their count is entry `n` of `passed`
 abbrev pub passed_of : List (List ℕ) → List ℕ → ℕ → List ℕ
 passed_of rows passed n = take (slice_index_or passed n 0) (row_at rows n)
 

@@ -14,7 +14,10 @@ use Rattle.std.specs.Prelude.{All}
 pub record IsGraphOf (web : WebRead) (table : TableRead) (rows uses : Graph) : Type 0 where
   pub rows_size : length rows ≡ length table.names + 1
   pub uses_size : length uses ≡ length table.names + 1
-  pub numbers : (n : ℕ) → n < length rows → All (λ i. i < length web.pieces) (row_at (rows_of rows) n)
-  pub pieces : (n : ℕ) → n < length rows → pieces_at web.pieces (row_at (rows_of rows) n) ≡ pieces_of web table (title_at table.names n)
+  pub numbers : (n : ℕ)
+      → n < length rows → All (λ i. i < length web.pieces) (row_at (rows_of rows) n)
+  pub pieces : (n : ℕ) → n < length rows
+      → pieces_at web.pieces (row_at (rows_of rows) n)
+      ≡ pieces_of web table (title_at table.names n)
   pub range : InRange uses
   pub titled : IsTitled uses (UsesTitle (shapes web table)) (title_at table.names)

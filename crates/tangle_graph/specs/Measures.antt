@@ -1,6 +1,7 @@
 -- The weight of pieces, by the weights of the used names, which have numbers; and the values of the
 -- nodes that an order has so far.
-use Rattle.std.specs.Prelude.{◌≡◌, ◌<◌, ℕ, ◌+◌, List, length, sum_by, slice_index, Option, None, Some, Contains}
+use Rattle.std.specs.Prelude.{◌≡◌, ◌<◌, ℕ, ◌+◌, List, length, sum_by, slice_index, Option, None}
+use Rattle.std.specs.Prelude.{Some, Contains}
 use Rattle.tangle_scan.specs.declared.items.Item.{Item}
 use Rattle.tangle_scan.specs.declared.items.Item.TheVariants as item
 use Rattle.tangle_scan.specs.Web.{PieceRead}
@@ -16,7 +17,8 @@ use_weight used (Some id) = 1 + used id
 
 module _ (texts : List (List ℕ)) (table : TableRead) (used : ℕ → ℕ) where
   abbrev pub weight_of_item : Item → ℕ
-  weight_of_item (item.UseOf occurrence) = use_weight used (resolved_number (resolved_at table occurrence))
+  weight_of_item (item.UseOf occurrence) =
+      use_weight used (resolved_number (resolved_at table occurrence))
   weight_of_item x = item_weight (λ name. 0) (shape_item texts table x)
 
   abbrev pub weight_of_piece : PieceRead → ℕ

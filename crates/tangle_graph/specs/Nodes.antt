@@ -1,5 +1,6 @@
 -- Nodes by name, by number and by title; the program has the number after all names.
-use Rattle.std.specs.Prelude.{◌<◌, ℕ, nat_lt, if◌then◌else◌, List, [], length, set, slice_get, slice_index_or, Option, None, Some}
+use Rattle.std.specs.Prelude.{◌<◌, ℕ, nat_lt, if◌then◌else◌, List, [], length, set, slice_get}
+use Rattle.std.specs.Prelude.{slice_index_or, Option, None, Some}
 use Rattle.tangle_plans.specs.Shapes.{Title, Named, Shape, Shapes, Uses}
 use Rattle.tangle_plans.specs.Shapes as title
 use Rattle.tangle_plans.specs.declared.nodes.Node.{Node}

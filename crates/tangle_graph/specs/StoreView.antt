@@ -34,5 +34,8 @@ pub record StoreInvariant (s : Inside) : Type 0 where
   pub sizes : length s.bodies.items ≡ length s.expandable.items
   pub name_graph : IsNameGraphOf (map body_uses (node_bodies s.bodies.items)) s.name_graph.value
   pub order : IsOrderIn (store_read s) s.name_graph.value.node_order.items
-  pub uses : All (λ (body : NodeBody). All (λ id. id < length s.name_graph.value.names) (body_uses body)) (node_bodies s.bodies.items)
-  pub planned : ArePlanned s.name_graph.value.names (λ id. slice_index_or s.has_piece.items id false) (node_bodies s.bodies.items)
+  pub uses : All
+      (λ (body : NodeBody). All (λ id. id < length s.name_graph.value.names) (body_uses body))
+      (node_bodies s.bodies.items)
+  pub planned : ArePlanned s.name_graph.value.names
+      (λ id. slice_index_or s.has_piece.items id false) (node_bodies s.bodies.items)

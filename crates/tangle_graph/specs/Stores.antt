@@ -1,19 +1,23 @@
 -- What a store records of a web: for each node its pieces, its uses and users, its weight and
 -- depth, and whether it contains itself.
-use Rattle.std.specs.Prelude.{◌≡◌, ◌≢◌, ◌<◌, ◌≤◌, ◌↔◌, ℕ, Bool, true, false, ◌&&◌, nat_lt, nat_le, slice_get, slice_index, slice_index_or, List, [], ◌∷◌, length, AllPairs, Contains, Option, Some}
+use Rattle.std.specs.Prelude.{◌≡◌, ◌≢◌, ◌<◌, ◌≤◌, ◌↔◌, ℕ, Bool, true, false, ◌&&◌, nat_lt, nat_le}
+use Rattle.std.specs.Prelude.{slice_get, slice_index, slice_index_or, List, [], ◌∷◌, length}
+use Rattle.std.specs.Prelude.{AllPairs, Contains, Option, Some}
 use Rattle.tangle_faults.specs.Faults.{FaultRead}
 use Rattle.tangle_plans.specs.Shapes.{Title, Named, Shape, Shapes, Uses, ContainsItself}
 use Rattle.tangle_plans.specs.Flat.{Symbol}
 use Rattle.tangle_expansion.specs.Kept.{kept_at}
 use Rattle.tangle_plans.specs.NodeBodies.{HoldsShape, body_uses, names_at}
 use Rattle.tangle_plans.specs.Slots.{Slot, filled}
-use Rattle.tangle_expansion.specs.Limits.{levels, heaviest, flat_of, weight_of, depth_of, IsExpandableNode}
+use Rattle.tangle_expansion.specs.Limits.{levels, heaviest, flat_of, weight_of, depth_of}
+use Rattle.tangle_expansion.specs.Limits.{IsExpandableNode}
 use Rattle.tangle_expansion.specs.Outputs.{OutputRead}
 use Rattle.tangle_plans.specs.declared.nodes.NodeBody.{NodeBody}
 use Rattle.tangle_expansion.specs.declared.kept.Kept.{Kept}
 use Rattle.tangle_plans.specs.declared.nodes.Node.{Node}
 use Rattle.tangle_plans.specs.declared.nodes.Node.TheVariants as node_kind
-use Rattle.tangle_graph.specs.Nodes.{title_at, title_of_node, IsNodeOf, number_in, entry, entry_if, with_entry, shape_of_node, UsesTitle}
+use Rattle.tangle_graph.specs.Nodes.{title_at, title_of_node, IsNodeOf, number_in, entry, entry_if}
+use Rattle.tangle_graph.specs.Nodes.{with_entry, shape_of_node, UsesTitle}
 
 -- the bytes of the names, and lists with an entry for each node: the names in their order, and then
 -- the program
@@ -32,7 +36,7 @@ pub record StoreRead : Type 0 where
   -- the node's own symbols and the uses between them, and the names with a piece that the plan uses
   pub slots : List (List Slot)
   pub plan_uses : List (List ℕ)
-  -- its body
+  -- the node's body
   pub bodies : List NodeBody
 
 -- the node with this row of pieces has a piece
@@ -101,38 +105,61 @@ pub record UsesPiece (shapes : Shapes) (store : StoreRead) (node : Node) (id : �
 -- for each name with a piece that the node uses, the kept expansion is the name's own
 abbrev pub KeepsUsed : Shapes → StoreRead → Kept → Node → Type 0
 KeepsUsed shapes store kept node =
-    (id : ℕ) → UsesPiece shapes store node id → kept_at kept (node_kind.Name id) ≡ Some (flat_of shapes (Named (slice_index_or store.names id [])))
+    (id : ℕ) → UsesPiece shapes store node id
+    → kept_at kept (node_kind.Name id)
+    ≡ Some (flat_of shapes (Named (slice_index_or store.names id [])))
 
 -- The store is that of the shapes: what it records of each node holds for the node's title. For a
 -- node that it does not have it gives what holds for a node without a piece.
 pub record IsStoreOf (shapes : Shapes) (store : StoreRead) : Type 0 where
   -- each title is that of one node, and each name that has a piece or is used has a node
-  pub once : (a b : Node) → IsNodeIn store a → IsNodeIn store b → title_in_store store a ≡ title_in_store store b → a ≡ b
-  pub known : (name : List ℕ) → shapes (Named name) ≢ [] → (a : Node) × IsNodeIn store a × (title_in_store store a ≡ Named name)
-  pub used : (a : Node) (name : List ℕ) → IsNodeIn store a → Uses shapes (title_in_store store a) name → (b : Node) × IsNodeIn store b × (title_in_store store b ≡ Named name)
-  pub has_piece : (a : Node) → IsNodeIn store a → ((has_piece_at store a ≡ true) ↔ (shapes (title_in_store store a) ≢ []))
-  pub uses : (a b : Node) → IsNodeIn store a → (Contains (uses_at store a) b ↔ (IsNodeIn store b × UsesTitle shapes (title_in_store store a) (title_in_store store b)))
-  pub users : (a b : Node) → IsNodeIn store a → (Contains (users_at store a) b ↔ (IsNodeIn store b × UsesTitle shapes (title_in_store store b) (title_in_store store a)))
+  pub once : (a b : Node) → IsNodeIn store a → IsNodeIn store b
+      → title_in_store store a ≡ title_in_store store b → a ≡ b
+  pub known : (name : List ℕ) → shapes (Named name) ≢ []
+      → (a : Node) × IsNodeIn store a × (title_in_store store a ≡ Named name)
+  pub used : (a : Node) (name : List ℕ)
+      → IsNodeIn store a → Uses shapes (title_in_store store a) name
+      → (b : Node) × IsNodeIn store b × (title_in_store store b ≡ Named name)
+  pub has_piece : (a : Node)
+      → IsNodeIn store a → ((has_piece_at store a ≡ true) ↔ (shapes (title_in_store store a) ≢ []))
+  pub uses : (a b : Node) → IsNodeIn store a
+      → (Contains (uses_at store a) b
+      ↔ (IsNodeIn store b × UsesTitle shapes (title_in_store store a) (title_in_store store b)))
+  pub users : (a b : Node) → IsNodeIn store a
+      → (Contains (users_at store a) b
+      ↔ (IsNodeIn store b × UsesTitle shapes (title_in_store store b) (title_in_store store a)))
   pub uses_once : (a : Node) → IsNodeIn store a → AllPairs (λ b c. b ≢ c) (uses_at store a)
   pub users_once : (a : Node) → IsNodeIn store a → AllPairs (λ b c. b ≢ c) (users_at store a)
-  pub contains_itself : (a : Node) → IsNodeIn store a → ((contains_itself_at store a ≡ true) ↔ ContainsItself shapes (title_in_store store a))
-  pub weights : (a : Node) → IsNodeIn store a → weight_at store a ≡ weight_of shapes (title_in_store store a)
-  pub depths : (a : Node) → IsNodeIn store a → depth_at store a ≡ depth_of shapes (title_in_store store a)
-  pub expandable : (a : Node) → IsNodeIn store a → ((is_expandable_at store a ≡ true) ↔ IsExpandableNode shapes (title_in_store store a))
+  pub contains_itself : (a : Node) → IsNodeIn store a
+      → ((contains_itself_at store a ≡ true) ↔ ContainsItself shapes (title_in_store store a))
+  pub weights : (a : Node)
+      → IsNodeIn store a → weight_at store a ≡ weight_of shapes (title_in_store store a)
+  pub depths : (a : Node)
+      → IsNodeIn store a → depth_at store a ≡ depth_of shapes (title_in_store store a)
+  pub expandable : (a : Node) → IsNodeIn store a
+      → ((is_expandable_at store a ≡ true) ↔ IsExpandableNode shapes (title_in_store store a))
   -- a plan uses only names with a piece; if each of them is replaced by its own expansion, the plan
   -- gives the expansion of the node
-  pub plan_uses : (a : Node) (id : ℕ) → IsNodeIn store a → Contains (plan_uses_at store a) id → UsesPiece shapes store a id
-  pub plans : (a : Node) (symbols : ℕ → List Symbol) → IsNodeIn store a → depth_of shapes (title_in_store store a) < levels
-      → ((id : ℕ) → UsesPiece shapes store a id → symbols id ≡ flat_of shapes (Named (slice_index_or store.names id [])))
+  pub plan_uses : (a : Node) (id : ℕ)
+      → IsNodeIn store a → Contains (plan_uses_at store a) id → UsesPiece shapes store a id
+  pub plans : (a : Node) (symbols : ℕ → List Symbol)
+      → IsNodeIn store a → depth_of shapes (title_in_store store a) < levels
+      → ((id : ℕ) → UsesPiece shapes store a id
+      → symbols id ≡ flat_of shapes (Named (slice_index_or store.names id [])))
       → filled symbols (slots_at store a) ≡ flat_of shapes (title_in_store store a)
   -- the body of a node determines its shape
-  pub shape_held : (a : Node) → IsNodeIn store a → (body : NodeBody) × (body_at store a ≡ Some body) × HoldsShape store.names (shapes (title_in_store store a)) body
+  pub shape_held : (a : Node) → IsNodeIn store a
+      → (body : NodeBody) × (body_at store a ≡ Some body)
+      × HoldsShape store.names (shapes (title_in_store store a)) body
 
 -- a flag for each node: whether it has a piece, and its weight and depth are within the limits
-pub record AreWithin (pieces : List (List ℕ)) (weights depths : List ℕ) (flags : List Bool) : Type 0 where
+pub record AreWithin (pieces : List (List ℕ))
+    (weights depths : List ℕ) (flags : List Bool) : Type 0 where
   pub size : length flags ≡ length pieces
   pub flag : (n : ℕ) → n < length pieces
-      → slice_index_or flags n false ≡ (row_has_piece (slice_index_or pieces n []) && (nat_lt (slice_index depths n) levels && nat_le (slice_index weights n) heaviest))
+      → slice_index_or flags n false
+      ≡ (row_has_piece (slice_index_or pieces n [])
+      && (nat_lt (slice_index depths n) levels && nat_le (slice_index weights n) heaviest))
 
 -- the node with this number keeps the body that the node with its title had, and the names that
 -- this body uses
@@ -145,6 +172,7 @@ pub record KeepsBody (old new : StoreRead) (n : ℕ) : Type 0 where
   pub has : slice_get new.bodies n ≡ Some body
   pub uses : names_at old.names (body_uses body) ≡ names_at new.names (body_uses body)
 
--- this holds for each flagged node
+-- each flagged node keeps the body that the old node with its title had, and the names that this
+-- body uses
 abbrev pub KeepsBodies : StoreRead → StoreRead → List Bool → Type 0
 KeepsBodies old new flags = (n : ℕ) → slice_index_or flags n false ≡ true → KeepsBody old new n

@@ -7,7 +7,7 @@ ghost use Rattle.tangle_plans.specs.Meaning.{title_of};
 ghost use Rattle.tangle_plans.specs.NodeBodies.{body_title, body_uses};
 ghost use Rattle.tangle_graph.specs.Nodes.{title_at};
 ghost use Rattle.tangle_graph.specs.Plans.{ArePlanned, ArePlans, ArePiecesInside, ArePieceFlags};
-ghost use Rattle.tangle_graph.specs.Plans.{AreAsBefore, AreBodies, AreBodiesBefore};
+ghost use Rattle.tangle_graph.specs.Plans.{AreKept, AreBodies, AreBodiesBefore};
 ghost use Rattle.tangle_graph.specs.Plans.{HaveSameNamesAndFlags};
 ghost use Rattle.tangle_graph.specs.Plans.{IsBodyAt, IsBodyOfBefore};
 ghost use Rattle.tangle_graph.specs.Plans.{node_bodies};
@@ -250,7 +250,7 @@ fn body_after(
 }
 
 /// Whether the names that a body uses did not change: no name did, or the body uses none.
-fn uses_as_before(same_names_and_flags: bool, body: &NodeBody) -> bool
+fn keeps_uses(same_names_and_flags: bool, body: &NodeBody) -> bool
     ensures { result ≡ true → (same_names_and_flags ≡ true) ⊎ (body_uses body.now ≡ []) }
 {
     same_names_and_flags || body.uses().is_empty()
@@ -261,7 +261,7 @@ fn uses_as_before(same_names_and_flags: bool, body: &NodeBody) -> bool
 #[derive(Drop)]
 pub(crate) struct Bodies {
     pub(crate) bodies: Vec<Rc<NodeBody>>,
-    pub(crate) are_as_before: Vec<bool>,
+    pub(crate) are_kept: Vec<bool>,
 }
 
 /// The body of each node, by the numbers of its pieces. An old body is shared if its items did not
@@ -289,23 +289,20 @@ pub(crate) fn bodies_by_node(
     ensures planned { IfOk result
         (λ made. ArePlanned table.now.names (λ id. slice_index_or has_piece.now id false)
         (node_bodies made.bodies.items)) }
-    ensures as_before { IfOk result
-        (λ made. AreAsBefore old.entry table.now.names (node_bodies made.bodies.items)
-        made.are_as_before.items) }
+    ensures are_kept { IfOk result
+        (λ made. AreKept old.entry table.now.names (node_bodies made.bodies.items)
+        made.are_kept.items) }
 {
     let mut planning = Planning::new(alloc);
     let mut bodies = Vec::with_capacity(alloc, pieces.len())?;
-    let mut are_as_before = Vec::with_capacity(alloc, pieces.len())?;
+    let mut are_kept = Vec::with_capacity(alloc, pieces.len())?;
     for (n, row) in pieces.iter().enumerate() {
         let before = body_before(old, same_names_and_flags, table, has_piece, n);
         let made = body_after(alloc, &mut planning, web, table, has_piece, n, row, before)?;
-        are_as_before.push(made.is_old && uses_as_before(same_names_and_flags, &made.body))?;
+        are_kept.push(made.is_old && keeps_uses(same_names_and_flags, &made.body))?;
         bodies.push(made.body)?;
     }
-    Ok(Bodies {
-        bodies,
-        are_as_before,
-    })
+    Ok(Bodies { bodies, are_kept })
 }
 
 /// For each node, the numbers of the names that its items use, each as often as it is used.

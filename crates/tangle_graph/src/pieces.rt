@@ -10,7 +10,7 @@ ghost use Rattle.tangle_graph.specs.Grouping.{passed_of, positions_of};
 use digraph::{empty_rows, push_to};
 use std::alloc::{AllocError, Global};
 use tangle_names::{NameTable, Resolved};
-use tangle_scan::Piece;
+use tangle_scan::{OccurrenceNumber, Piece};
 
 /// The number of the full name, if the occurrence resolves to one.
 pub(crate) fn resolved_number(resolved: Resolved) -> Option<usize>
@@ -24,7 +24,7 @@ pub(crate) fn resolved_number(resolved: Resolved) -> Option<usize>
 
 /// The number of the node that a piece belongs to, by the occurrence that defines the piece. A
 /// piece without an occurrence belongs to the program, which has the last number.
-fn number_of_piece(table: &NameTable, occurrence: Option<usize>) -> Option<usize>
+fn number_of_piece(table: &NameTable, occurrence: Option<OccurrenceNumber>) -> Option<usize>
     requires inside { ResolvesInside table.now }
     requires occurrence { IfSome occurrence (λ n. n < length table.now.resolved) }
     ensures number { result ≡ number_of_piece table.now occurrence }
@@ -32,7 +32,7 @@ fn number_of_piece(table: &NameTable, occurrence: Option<usize>) -> Option<usize
 {
     match occurrence {
         None => Some(table.count()),
-        Some(occurrence) => resolved_number(table.resolve(occurrence)),
+        Some(occurrence) => resolved_number(table.resolve(occurrence.number())),
     }
 }
 

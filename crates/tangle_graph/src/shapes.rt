@@ -27,12 +27,12 @@ pub fn same_shape(old: &Store, old_node: Node, new: &Store, new_node: Node) -> b
 
 /// Whether a node has a flag, and so keeps its old shape. The flags say which nodes keep their old
 /// body and the names that it uses.
-pub fn keeps_shape(old: &Store, new: &Store, are_as_before: &[bool], node: Node) -> bool
-    requires { KeepsBodies old.now new.now are_as_before.now }
-    ensures flag { result ≡ flag_at new.now are_as_before.now node }
+pub fn keeps_shape(old: &Store, new: &Store, are_kept: &[bool], node: Node) -> bool
+    requires { KeepsBodies old.now new.now are_kept.now }
+    ensures flag { result ≡ flag_at new.now are_kept.now node }
     ensures shape { (old_shapes new_shapes : Shapes) → IsStoreOf old_shapes old.now
         → IsStoreOf new_shapes new.now → IsNodeIn new.now node → result ≡ true
         → new_shapes (title_in_store new.now node) ≡ old_shapes (title_in_store new.now node) }
 {
-    new.is_flagged(are_as_before, node)
+    new.is_flagged(are_kept, node)
 }

@@ -77,12 +77,13 @@ impl Model for Store {
 #[derive(Drop)]
 pub struct Rebuilt {
     pub store: Store,
-    pub are_as_before: Vec<bool>,
+    pub are_kept: Vec<bool>,
 }
 
 impl Store {
     /// The store of a web with its table of names, for a main file of this name. The faults of the
-    /// table are not read, and may have been taken out.
+    /// table are not read, and may have been taken out: the store has only those of the graph. A
+    /// weight or depth beyond its limit is stored as one more than the limit. No node is expanded.
     ///
     /// # Errors
     ///
@@ -123,7 +124,7 @@ impl Store {
         requires { table.now ≡ record (table_of web.now) { faults = table.now.faults } }
         ensures store { IfOk result (λ made. IsStoreOfWeb web.now table.now out.now made.store) }
         ensures bodies { IfOk result
-            (λ made. KeepsBodies old.now made.store made.are_as_before.items) }
+            (λ made. KeepsBodies old.now made.store made.are_kept.items) }
     {
         names_resolve_inside();
         let pieces = old.pieces_for(alloc, web, table)?;
@@ -135,16 +136,13 @@ impl Store {
         let same_names = old.has_names_of(table);
         let same_names_and_flags = same_names && are_same_flags(before.has_piece, flags);
         let made = bodies_by_node(alloc, web, table, flags, rows, before, same_names_and_flags)?;
-        let are_as_before = made.are_as_before;
+        let are_kept = made.are_kept;
         let bodies = made.bodies;
         let name_graph = old.name_graph_for(alloc, table, same_names, &bodies)?;
         let store = Store::over(
             alloc, web, table, out, pieces, has_piece, bodies, name_graph,
         )?;
-        Ok(Rebuilt {
-            store,
-            are_as_before,
-        })
+        Ok(Rebuilt { store, are_kept })
     }
 
     fn has_names_of(&self, table: &NameTable) -> bool

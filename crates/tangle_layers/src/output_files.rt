@@ -8,7 +8,7 @@ use crate::text_lines::{Discarding, LineFeeds, TextLines};
 use tangle_expansion::{Kept, Numbers, Output, file_size, write_file};
 use tangle_lines::{Sink, WriteFault};
 
-// How many bytes writing the file says that it wrote.
+// The number of bytes that writing the file returns.
 fn written_size(output: &Output, kept: &Kept, numbers: &Numbers) -> u128
     requires { IsReady output.now kept.now }
 {

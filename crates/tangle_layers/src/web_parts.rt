@@ -65,7 +65,7 @@ fn list_piece<S: Sink>(out: &mut Listing<S>, web: &Web, number: usize, piece: &P
     match piece.occurrence() {
         Some(occurrence) => {
             out.word(b"occurrence");
-            out.number(occurrence);
+            out.number(occurrence.number());
         }
         None => out.word(b"program"),
     }

@@ -1,2 +1,3 @@
 pub mod lemmas
+mod WorkedNames
 pub mod laws

@@ -3,6 +3,7 @@ pub mod CutLemmas
 pub mod HeadLemmas
 pub mod LexemeLemmas
 pub mod NameLemmas
+pub mod NameWords
 pub mod OccurrencesCounted
 pub mod OrdinaryLemmas
 pub mod PlainTokens

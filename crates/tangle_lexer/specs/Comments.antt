@@ -47,7 +47,8 @@ abbrev pub comment_or_control_text : Region → FaultKind → LexerState → Lis
 comment_or_control_text r kind s text =
     let inside : ℕ = count_before r (drop 2 text) in
     let after : List Cell = drop inside (drop 2 text) in
-    white_lexeme (line_ends r (drop 2 text)) (fault_if (not (ends_region r after)) kind (front_line s.last_line after))
+    white_lexeme (line_ends r (drop 2 text))
+    (fault_if (not (ends_region r after)) kind (front_line s.last_line after))
     (1 + inside + two_if (ends_region r after)) s
 
 -- /* up to */; a section start or the end of the source before */ is a fault
@@ -64,4 +65,5 @@ abbrev pub line_comment : LexerState → List Cell → Lexeme
 line_comment s text =
     let inside : ℕ = count_before region.LineComment (drop 2 text) in
     let after : List Cell = drop inside (drop 2 text) in
-    white_lexeme [] (fault_if (starts_section after) fault.CommentEnd (front_line s.last_line after)) (1 + inside) s
+    white_lexeme []
+    (fault_if (starts_section after) fault.CommentEnd (front_line s.last_line after)) (1 + inside) s

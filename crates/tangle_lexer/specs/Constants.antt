@@ -1,5 +1,6 @@
--- ASCII constants: the value of a character, and how many cells it has.
-use Rattle.std.specs.Prelude.{ℕ, ◌+◌, ◌-◌, ◌*◌, ◌==◌, nat_le, not, ◌||◌, List, [], ◌∷◌, drop, if◌then◌else◌, Option, Some, None, unwrap_or}
+-- ASCII constants: the value of a character, and the number of its cells.
+use Rattle.std.specs.Prelude.{ℕ, ◌+◌, ◌-◌, ◌*◌, ◌==◌, nat_le, not, ◌||◌, List, [], ◌∷◌, drop}
+use Rattle.std.specs.Prelude.{if◌then◌else◌, Option, Some, None, unwrap_or}
 use Rattle.tangle_lexer.specs.declared.constants.AsciiConstant.{AsciiConstant}
 use Rattle.tangle_faults.specs.declared.faults.FaultKind.TheVariants as fault
 use Rattle.tangle_text.specs.declared.regions.Region.TheVariants as region
@@ -32,7 +33,8 @@ escape_value (Some b) = escape_of b
 abbrev pub if_closed : Option ℕ → ℕ → List Cell → Option AsciiConstant
 if_closed None count text = None
 if_closed (Some value) count text =
-    if holds apostrophe (byte_at count text) then Some (record { value = value; count = count }) else None
+    if holds apostrophe (byte_at count text) then Some (record { value = value; count = count })
+    else None
 
 -- the value of the octal digit at this distance from the front
 abbrev pub digit_at : ℕ → List Cell → ℕ
@@ -42,7 +44,7 @@ digit_at k text = unwrap_or (byte_at k text) 48 - 48
 abbrev pub if_byte : ℕ → ℕ → List Cell → Option AsciiConstant
 if_byte value count text = if_closed (if nat_le value 255 then Some value else None) count text
 
--- a backslash and one to three octal digits, as many as there are; their value is at most 255
+-- a backslash and all octal digits after it, up to three; their value is at most 255
 abbrev pub octal_constant : List Cell → Option AsciiConstant
 octal_constant text =
     if not (is_octal (byte_at 2 text)) then if_byte (digit_at 1 text) 2 text else
@@ -52,13 +54,15 @@ octal_constant text =
 -- the constant of a character that begins with a backslash
 abbrev pub escaped_constant : List Cell → Option AsciiConstant
 escaped_constant text =
-    if is_octal (byte_at 1 text) then octal_constant text else if_closed (escape_value (byte_at 1 text)) 2 text
+    if is_octal (byte_at 1 text) then octal_constant text
+    else if_closed (escape_value (byte_at 1 text)) 2 text
 
 -- the character is @@, a backslash with what it escapes, or any other byte but an apostrophe
 abbrev pub constant_by : Option ℕ → List Cell → Option AsciiConstant
 constant_by None text = None
 constant_by (Some b) text =
-    if b == at_sign then if_closed (if holds at_sign (byte_at 1 text) then Some at_sign else None) 2 text else
+    if b == at_sign
+    then if_closed (if holds at_sign (byte_at 1 text) then Some at_sign else None) 2 text else
     if b == backslash then escaped_constant text else
     if b == apostrophe then None else if_closed (Some b) 1 text
 
@@ -77,7 +81,8 @@ bad_constant s text =
 abbrev pub constant_lexeme : Option AsciiConstant → LexerState → List Cell → Lexeme
 constant_lexeme None s text = bad_constant s text
 constant_lexeme (Some constant) s text =
-    lexeme_of (token.AsciiConstant constant.value (front_line s.last_line text) ∷ []) (2 + constant.count) (elsewhere s)
+    lexeme_of (token.AsciiConstant constant.value (front_line s.last_line text) ∷ [])
+    (2 + constant.count) (elsewhere s)
 
 -- @' with the constant after it, or with the fault of a bad one
 abbrev pub ascii_constant : LexerState → List Cell → Lexeme

@@ -18,5 +18,6 @@ HasNoHead ts = list_any is_head ts ≡ false
 
 -- the last token is removed and returned if it is a head; otherwise nothing changes
 abbrev pub PopsHead : List Token → List Token → Option Token → Type 0
-PopsHead old new None = (new ≡ old) × ((ts : List Token) (head : Token) → old ≡ ts ++ head ∷ [] → is_head head ≡ false)
+PopsHead old new None =
+    (new ≡ old) × ((ts : List Token) (head : Token) → old ≡ ts ++ head ∷ [] → is_head head ≡ false)
 PopsHead old new (Some head) = (old ≡ new ++ head ∷ []) × (is_head head ≡ true)

@@ -28,7 +28,8 @@ pub record Lexeme : Type 0 where
 
 -- a lexeme without an occurrence
 abbrev pub lexeme_of : List Token → ℕ → LexerState → Lexeme
-lexeme_of tokens more after = record { tokens = tokens; occurrence = None; more = more; after = after }
+lexeme_of tokens more after =
+    record { tokens = tokens; occurrence = None; more = more; after = after }
 
 -- a part in this mode begins: #include may be the first thing in it
 abbrev pub in_mode : Mode → LexerState → LexerState
@@ -56,4 +57,5 @@ include_over (t ∷ ts) inc = include.AtStart
 -- white space, with its line ends and its faults
 abbrev pub white_lexeme : List Token → List Token → ℕ → LexerState → Lexeme
 white_lexeme line_ends faults more s =
-    lexeme_of (token.White ∷ line_ends ++ faults) more (with_include (include_over line_ends s.include) s)
+    lexeme_of (token.White ∷ line_ends ++ faults) more
+    (with_include (include_over line_ends s.include) s)

@@ -1,6 +1,9 @@
 -- Section names: @< or @( up to @>, perhaps on a later line.
-use Rattle.std.specs.Prelude.{ℕ, ◌+◌, ◌-◌, Bool, false, true, not, ◌&&◌, ◌||◌, List, [], ◌∷◌, ◌++◌, length, nat_lt, drop, if◌then◌else◌, Option, Some, None, codes}
+use Rattle.std.specs.Prelude.{◌≡◌, ℕ, ◌+◌, ◌-◌, Bool, false, true, not, List, [], ◌∷◌, ◌++◌, length}
+use Rattle.std.specs.Prelude.{filter, drop, if◌then◌else◌, Option, Some, None, codes}
+use Rattle.std.specs.List.{slice_split, join_with_byte, last_or}
 use Rattle.std.specs.Str.{bytes_eq}
+use Rattle.tangle_files.specs.Bytes.{space}
 use Rattle.tangle_lines.specs.Bytes.{is_white}
 use Rattle.tangle_faults.specs.declared.faults.FaultKind.TheVariants as fault
 use Rattle.tangle_lexer.specs.declared.occurrences.OccurrenceRole.{OccurrenceRole}
@@ -13,7 +16,7 @@ use Rattle.tangle_lexer.specs.declared.modes.Mode.TheVariants as mode
 use Rattle.tangle_lexer.specs.declared.modes.LexerState.{LexerState}
 use Rattle.tangle_lexer.specs.declared.tokens.Token.{Token}
 use Rattle.tangle_lexer.specs.declared.tokens.Token.TheVariants as token
-use Rattle.tangle_text.specs.Bytes.{left_parenthesis, plus_sign, equals_sign, holds}
+use Rattle.tangle_text.specs.Bytes.{left_parenthesis, plus_sign, equals_sign, holds, holds_white}
 use Rattle.tangle_text.specs.Text.{Cell, byte_at, front_line}
 use Rattle.tangle_text.specs.Regions.{count_before}
 use Rattle.tangle_lexer.specs.Lexemes.{OccurrenceOnLine, Lexeme, fault_if, in_mode, elsewhere}
@@ -22,20 +25,28 @@ use Rattle.tangle_text.specs.NameBytes.{name_bytes}
 
 -- the text of a name
 
--- The bytes that are not white space, with one space wherever white space is between two of them.
--- `begun`: a byte before this list is not white space. `white`: the last byte before it is.
-abbrev pub with_single_spaces : Bool → Bool → List ℕ → List ℕ
-with_single_spaces begun white [] = []
-with_single_spaces begun white (b ∷ bs) =
-    (if is_white b then [] else if begun && white then 32 ∷ b ∷ [] else b ∷ []) ++ with_single_spaces (begun || not (is_white b)) (is_white b) bs
+-- the part of a name is not empty
+abbrev pub has_bytes : List ℕ → Bool
+has_bytes [] = false
+has_bytes (b ∷ bs) = true
 
--- the name has a byte already
-abbrev pub has_begun : List ℕ → Bool
-has_begun name = nat_lt 0 (length name)
+-- the words of a name: its parts between white space, without the empty ones
+abbrev pub name_words : List ℕ → List (List ℕ)
+name_words bytes = filter has_bytes (slice_split is_white bytes)
 
--- White space at both ends is dropped, and each run of it inside becomes one space.
+-- the words of a name, with one space between each two
 abbrev pub normal_form : List ℕ → List ℕ
-normal_form bytes = with_single_spaces false false bytes
+normal_form bytes = join_with_byte space (name_words bytes)
+
+-- the last byte is white space
+abbrev pub ends_in_white : List ℕ → Bool
+ends_in_white bytes = holds_white (last_or None bytes)
+
+-- `name` is the normal form of the bytes that were read, and `white` is whether the last of these
+-- bytes is white space.
+pub record IsNameSoFar (read name : List ℕ) (white : Bool) : Type 0 where
+  pub form : name ≡ normal_form read
+  pub ends : white ≡ ends_in_white read
 
 -- the normal form of a name, where `text` begins after the opening of the name
 abbrev pub name_text : List Cell → List ℕ
@@ -70,7 +81,8 @@ abbrev pub after_name : List Cell → List Cell
 after_name text = drop (name_more text) (drop 1 text)
 
 abbrev pub name_faults : ℕ → List Cell → List Token
-name_faults last text = fault_if (not (is_ended text)) fault.NameEnd (front_line last (name_end text))
+name_faults last text =
+    fault_if (not (is_ended text)) fault.NameEnd (front_line last (name_end text))
 
 -- what makes a name a definition
 
@@ -78,14 +90,19 @@ name_faults last text = fault_if (not (is_ended text)) fault.NameEnd (front_line
 abbrev pub count_before_equals : List Cell → ℕ
 count_before_equals text =
     let first : ℕ = count_before region.White text in
-    if holds plus_sign (byte_at first text) then first + 1 + count_before region.White (drop (first + 1) text) else first
+    if holds plus_sign (byte_at first text)
+    then first + 1 + count_before region.White (drop (first + 1) text)
+    else first
 
 -- the equals sign that these two cells begin with: none, = or ==
 abbrev pub equals_by : Option ℕ → Option ℕ → Equals
-equals_by b next = if holds equals_sign b then (if holds equals_sign next then equals.Double else equals.Single) else equals.Absent
+equals_by b next =
+    if holds equals_sign b then (if holds equals_sign next then equals.Double else equals.Single)
+    else equals.Absent
 
 abbrev pub equals_in : List Cell → Equals
-equals_in text = equals_by (byte_at (count_before_equals text) text) (byte_at (count_before_equals text + 1) text)
+equals_in text = equals_by (byte_at (count_before_equals text) text)
+    (byte_at (count_before_equals text + 1) text)
 
 -- the number of cells through the equals sign, if there is one; `before` of them are before it
 abbrev pub count_through : Equals → ℕ → Option ℕ
@@ -113,7 +130,8 @@ definition_count text = if is_ended text then equals_count (after_name text) els
 
 -- the occurrence of this name in this role
 abbrev pub in_role : OccurrenceRole → Name → OccurrenceOnLine
-in_role role name = record { text = name.text.items; is_file = name.is_file; role = role; line = name.line }
+in_role role name =
+    record { text = name.text.items; is_file = name.is_file; role = role; line = name.line }
 
 abbrev pub occurrence_read : OccurrenceRole → ℕ → List Cell → OccurrenceOnLine
 occurrence_read role last text = record {
@@ -138,15 +156,20 @@ abbrev pub use_of_name : LexerState → List Cell → Lexeme
 use_of_name s text =
     name_lexeme role.Use
     (token.UseOf s.occurrences (front_line s.last_line (name_end text))
-    ∷ name_faults s.last_line text ++ fault_if (has_single_equals (after_name text)) fault.NameEquals (front_line s.last_line text))
+    ∷ name_faults s.last_line text
+    ++ fault_if (has_single_equals (after_name text))
+    fault.NameEquals (front_line s.last_line text))
     (name_more text) (elsewhere s) text
 
 -- A name of documentation is a definition if `count` cells after it end with an equals sign: a C
 -- part begins after them. Otherwise it is a mention.
 abbrev pub definition_or_mention : Option ℕ → LexerState → List Cell → Lexeme
-definition_or_mention None s text = name_lexeme role.Mention (name_faults s.last_line text) (name_more text) s text
+definition_or_mention None s text =
+    name_lexeme role.Mention (name_faults s.last_line text) (name_more text) s text
 definition_or_mention (Some count) s text =
-    name_lexeme role.Definition (token.NamedPart s.occurrences (front_line s.last_line (drop (name_more text + count) text)) ∷ [])
+    name_lexeme role.Definition
+    (token.NamedPart s.occurrences (front_line s.last_line (drop (name_more text + count) text))
+    ∷ [])
     (name_more text + count) (in_mode mode.CPart s) text
 
 abbrev pub name_in_documentation : LexerState → List Cell → Lexeme

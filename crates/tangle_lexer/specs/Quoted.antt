@@ -1,6 +1,7 @@
 -- Quoted and verbatim texts. They are cut after the first @ of each @@ and at a line end inside, so
 -- that the bytes of an item are always a range of a line.
-use Rattle.std.specs.Prelude.{Bool, ◌&&◌, ℕ, ◌+◌, zero, suc, ◌==◌, nat_lt, List, [], ◌∷◌, ◌++◌, drop, if◌then◌else◌, Option}
+use Rattle.std.specs.Prelude.{Bool, ◌&&◌, ℕ, ◌+◌, zero, suc, ◌==◌, nat_lt, List, [], ◌∷◌, ◌++◌}
+use Rattle.std.specs.Prelude.{drop, if◌then◌else◌, Option}
 use Rattle.tangle_faults.specs.declared.faults.FaultKind.TheVariants as fault
 use Rattle.tangle_text.specs.declared.spans.Span.{Span}
 use Rattle.tangle_text.specs.declared.regions.Region.{Region}
@@ -30,7 +31,9 @@ range_token r s = token.Span (kind_in r) s
 
 -- the range of a line from column `start` up to column `end`; an empty range is no token
 abbrev pub cut_range : Region → ℕ → ℕ → ℕ → List Token
-cut_range r line start end = if nat_lt start end then range_token r (record { line = line; start = start; end = end }) ∷ [] else []
+cut_range r line start end =
+    if nat_lt start end then range_token r (record { line = line; start = start; end = end }) ∷ []
+    else []
 
 -- The tokens of a unit inside a text. For @@: the range up to its first @. For a backslash and a
 -- line end: the range up to the backslash, and the break. For an @ alone: a fault, and the @ is
@@ -38,12 +41,17 @@ cut_range r line start end = if nat_lt start end then range_token r (record { li
 abbrev pub unit_tokens : Region → Unit-of → ℕ → Cell → Option ℕ → List Token
 unit_tokens r unit.Two start c next =
     if holds at_sign c.byte then cut_range r c.line start (c.column + 1) else
-    if holds backslash c.byte && is_line_end next then cut_range r c.line start (c.column + 1) ++ token.QuoteBreak ∷ [] else []
+    if holds backslash c.byte && is_line_end next
+    then cut_range r c.line start (c.column + 1) ++ token.QuoteBreak ∷ []
+    else []
 unit_tokens r _ start c next = fault_if (holds at_sign c.byte) fault.StringAt c.line
 
 -- the column where the range after a unit starts: after the second @ of @@, or 0 after a line end
 abbrev pub next_start : Unit-of → ℕ → Cell → Option ℕ → ℕ
-next_start unit.Two start c next = if holds at_sign c.byte then c.column + 2 else if holds backslash c.byte && is_line_end next then 0 else start
+next_start unit.Two start c next =
+    if holds at_sign c.byte then c.column + 2
+    else if holds backslash c.byte && is_line_end next then 0
+    else start
 next_start _ start c next = start
 
 -- the tokens `ending` if the unit ends the region, else `others`
@@ -60,7 +68,8 @@ cut_tokens ends r (suc k) start (c ∷ cs) = cut_tokens ends r k start cs
 cut_tokens ends r zero start (c ∷ cs) =
     at_stop (unit_at r (c ∷ cs)) (ends start (c ∷ cs))
     (unit_tokens r (unit_at r (c ∷ cs)) start c (byte_at 0 cs)
-    ++ cut_tokens ends r (more_by (unit_at r (c ∷ cs))) (next_start (unit_at r (c ∷ cs)) start c (byte_at 0 cs)) cs)
+    ++ cut_tokens ends r (more_by (unit_at r (c ∷ cs)))
+    (next_start (unit_at r (c ∷ cs)) start c (byte_at 0 cs)) cs)
 
 -- quoted texts
 
@@ -91,7 +100,9 @@ quoted_text r close s text =
 
 -- the last range of a verbatim text, and a fault if a line end ends the text
 abbrev pub verbatim_stop : ℕ → Cell → List Token
-verbatim_stop start c = cut_range region.Verbatim c.line start c.column ++ fault_if (is_line_end c.byte) fault.VerbatimEnd c.line
+verbatim_stop start c =
+    cut_range region.Verbatim c.line start c.column
+    ++ fault_if (is_line_end c.byte) fault.VerbatimEnd c.line
 
 -- no verbatim text reaches the end of the source: the line end before that ends the text
 abbrev pub verbatim_end : ℕ → List Cell → List Token
@@ -111,11 +122,13 @@ ends_at_once r text = count_before r text == 0
 -- of it.
 abbrev pub verbatim_tokens : List Cell → List Token
 verbatim_tokens text =
-    if ends_at_once region.Verbatim text then token.Span span_kind.Verbatim (span_at 0 text) ∷ empty_end text
+    if ends_at_once region.Verbatim text
+    then token.Span span_kind.Verbatim (span_at 0 text) ∷ empty_end text
     else cut_tokens verbatim_end region.Verbatim 0 (front_column text) text
 
 -- @= and the text up to @> on the same line
 abbrev pub verbatim_text : LexerState → List Cell → Lexeme
 verbatim_text s text =
     let inside : ℕ = count_before region.Verbatim (drop 2 text) in
-    lexeme_of (verbatim_tokens (drop 2 text)) (1 + inside + two_if (has_end_code (drop inside (drop 2 text)))) (elsewhere s)
+    lexeme_of (verbatim_tokens (drop 2 text))
+    (1 + inside + two_if (has_end_code (drop inside (drop 2 text)))) (elsewhere s)

@@ -12,7 +12,8 @@ use Rattle.tangle_lexer.specs.Occurrences.{OccurrenceRead, occurrence_of}
 
 -- A lexeme was read: its tokens were added, its cells were removed from the text ahead, and the
 -- state is the one after it.
-pub record IsRead (old new : List Token) (text rest : List Cell) (after : LexerState) (lexeme : Lexeme) : Type 0 where
+pub record IsRead (old new : List Token) (text rest : List Cell)
+    (after : LexerState) (lexeme : Lexeme) : Type 0 where
   pub tokens : new ≡ old ++ lexeme.tokens
   pub ahead : rest ≡ drop lexeme.more (drop 1 text)
   pub state : after ≡ lexeme.after
@@ -21,15 +22,20 @@ pub record IsRead (old new : List Token) (text rest : List Cell) (after : LexerS
 -- its last byte. If no equals sign follows, nothing was read.
 abbrev pub PassesEquals : Equals → ℕ → ℕ → List Cell → List Cell → Option ℕ → Type 0
 PassesEquals equals.Absent before last text rest line = (rest ≡ text) × (line ≡ None)
-PassesEquals equals.Single before last text rest line = (rest ≡ drop (before + 1) text) × (line ≡ Some (front_line last (drop before text)))
-PassesEquals equals.Double before last text rest line = (rest ≡ drop (before + 2) text) × (line ≡ Some (front_line last (drop (before + 1) text)))
+PassesEquals equals.Single before last text rest line =
+    (rest ≡ drop (before + 1) text) × (line ≡ Some (front_line last (drop before text)))
+PassesEquals equals.Double before last text rest line =
+    (rest ≡ drop (before + 2) text) × (line ≡ Some (front_line last (drop (before + 1) text)))
 
 -- the occurrence of a lexeme was added after the others, if the lexeme is a name
-abbrev pub AddsOccurrence : List SourceLine → List OccurrenceRead → List OccurrenceRead → Option OccurrenceOnLine → Type 0
+abbrev pub AddsOccurrence : List SourceLine → List OccurrenceRead
+    → List OccurrenceRead → Option OccurrenceOnLine → Type 0
 AddsOccurrence lines old new None = new ≡ old
 AddsOccurrence lines old new (Some occurrence) = new ≡ old ++ occurrence_of lines occurrence ∷ []
 
 -- A lexeme was read, with its tokens and its occurrence.
-pub record ReadsLexeme (lines : List SourceLine) (old new : LexerBuffers) (text rest : List Cell) (after : LexerState) (lexeme : Lexeme) : Type 0 where
+pub record ReadsLexeme (lines : List SourceLine) (old new : LexerBuffers)
+    (text rest : List Cell) (after : LexerState) (lexeme : Lexeme) : Type 0 where
   pub read : IsRead old.tokens.items new.tokens.items text rest after lexeme
-  pub occurrences : AddsOccurrence lines old.occurrences.items new.occurrences.items lexeme.occurrence
+  pub occurrences : AddsOccurrence lines old.occurrences.items
+      new.occurrences.items lexeme.occurrence

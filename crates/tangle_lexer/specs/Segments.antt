@@ -1,6 +1,8 @@
 -- What becomes of each byte of the C parts. Segments side by side fill the text; each is kept, in
 -- spans, or dropped, by its kind.
-use Rattle.std.specs.Prelude.{◌≡◌, ◌≤◌, ◌<◌, ◌⊎◌, ℕ, zero, suc, ◌+◌, ◌-◌, Bool, true, false, ◌&&◌, ◌||◌, not, List, [], ◌∷◌, ◌++◌, length, flat_map, take, drop, if◌then◌else◌, Option, None, Some}
+use Rattle.std.specs.Prelude.{◌≡◌, ◌≤◌, ◌<◌, ◌⊎◌, ℕ, zero, suc, ◌+◌, ◌-◌, Bool, true, false, ◌&&◌}
+use Rattle.std.specs.Prelude.{◌||◌, not, List, [], ◌∷◌, ◌++◌, length, flat_map, take, drop}
+use Rattle.std.specs.Prelude.{if◌then◌else◌, Option, None, Some}
 use Rattle.std.specs.List.{AllByRecursion}
 use Rattle.tangle_lines.specs.Reading.{SourceLine}
 use Rattle.tangle_text.specs.declared.spans.Span.{Span}
@@ -13,11 +15,13 @@ use Rattle.tangle_lexer.specs.declared.lexeme_kinds.ControlCode.TheVariants as c
 use Rattle.tangle_lexer.specs.declared.lexeme_kinds.LexemeKind.{LexemeKind}
 use Rattle.tangle_lexer.specs.declared.lexeme_kinds.LexemeKind.TheVariants as lexeme_kind
 use Rattle.tangle_lines.specs.Bytes.{at_sign}
-use Rattle.tangle_text.specs.Bytes.{asterisk, slash, apostrophe, backslash, holds, is_line_end, holds_white, are_bytes, is_name_start}
+use Rattle.tangle_text.specs.Bytes.{asterisk, slash, apostrophe, backslash, holds, is_line_end}
+use Rattle.tangle_text.specs.Bytes.{holds_white, are_bytes, is_name_start}
 use Rattle.tangle_text.specs.Text.{Cell, byte_at, text_from}
 use Rattle.tangle_text.specs.Regions.{count_before}
 use Rattle.tangle_lexer.specs.Comments.{has_end_code, starts_section}
-use Rattle.tangle_lexer.specs.Steps.{LexemeStart, lexeme_starts, code_at, kind_at, lexeme, first_state}
+use Rattle.tangle_lexer.specs.Steps.{LexemeStart, lexeme_starts, code_at, kind_at, lexeme}
+use Rattle.tangle_lexer.specs.Steps.{first_state}
 
 -- where bytes are: a point is a line and a column of it, both from 0
 
@@ -67,7 +71,8 @@ OpensWith kind cells = (holds at_sign (byte_at 0 cells) ≡ true) × (code_at (b
 abbrev pub control_codes : List Cell → List (List Cell)
 control_codes [] = []
 control_codes (c ∷ []) = if holds at_sign c.byte then (c ∷ []) ∷ [] else []
-control_codes (c ∷ d ∷ cs) = if holds at_sign c.byte then (c ∷ d ∷ cs) ∷ control_codes cs else control_codes (d ∷ cs)
+control_codes (c ∷ d ∷ cs) =
+    if holds at_sign c.byte then (c ∷ d ∷ cs) ∷ control_codes cs else control_codes (d ∷ cs)
 
 -- no section start is in a text
 abbrev pub HasNoSection : List Cell → Type 0
@@ -77,7 +82,8 @@ HasNoSection cells = AllByRecursion (λ text. starts_section text ≡ false) (co
 abbrev pub IsBlockComment : List Cell → Type 0
 IsBlockComment cells =
     (are_bytes slash asterisk (byte_at 0 cells) (byte_at 1 cells) ≡ true)
-    × ((k : ℕ) → 2 ≤ k → k + 2 < length cells → are_bytes asterisk slash (byte_at k cells) (byte_at (k + 1) cells) ≡ false)
+    × ((k : ℕ) → 2 ≤ k → k + 2 < length cells
+    → are_bytes asterisk slash (byte_at k cells) (byte_at (k + 1) cells) ≡ false)
     × HasNoSection (drop 2 cells)
 
 -- begins with //, and has no line end and no section start
@@ -96,17 +102,20 @@ IsEndCode text = (has_end_code text ≡ true) × (length text ≡ 2)
 abbrev pub IsControlText : List Cell → Type 0
 IsControlText cells =
     OpensWith code.ControlText cells
-    × AllByRecursion (λ text. IsEndCode text ⊎ (holds at_sign (byte_at 1 text) ≡ true)) (control_codes (drop 2 cells))
+    × AllByRecursion (λ text. IsEndCode text ⊎ (holds at_sign (byte_at 1 text) ≡ true))
+    (control_codes (drop 2 cells))
 
 -- what ends a section name: @>, a section start, or where another name starts
 abbrev pub ends_name : List Cell → Bool
-ends_name text = has_end_code text || starts_section text || is_name_start (byte_at 0 text) (byte_at 1 text)
+ends_name text =
+    has_end_code text || starts_section text || is_name_start (byte_at 0 text) (byte_at 1 text)
 
 -- begins with @< or @(, and nothing after that ends a section name but the @> at its end
 abbrev pub IsSectionName : List Cell → Type 0
 IsSectionName cells =
     OpensWith code.Name cells
-    × AllByRecursion (λ text. IsEndCode text ⊎ (ends_name text ≡ false)) (control_codes (drop 2 cells))
+    × AllByRecursion (λ text. IsEndCode text ⊎ (ends_name text ≡ false))
+    (control_codes (drop 2 cells))
 
 -- begins with @', and has no line end; before its last byte it has no apostrophe, except for one
 -- that a backslash directly after @' escapes
@@ -141,11 +150,16 @@ kept_points s = points_by s.kind s.cells
 -- Of a quoted or verbatim text all bytes are kept but the second @ of each @@. The flag says
 -- whether the cell before is an @ that is not the second one of an @@.
 abbrev pub cell_kind : Bool → Cell → SegmentKind
-cell_kind after_at_sign c = if is_line_end c.byte then LineEnd else if after_at_sign && holds at_sign c.byte then SecondAtSign else Kept
+cell_kind after_at_sign c =
+    if is_line_end c.byte then LineEnd
+    else if after_at_sign && holds at_sign c.byte then SecondAtSign
+    else Kept
 
 abbrev pub text_segments : Bool → List Cell → List Segment
 text_segments after_at_sign [] = []
-text_segments after_at_sign (c ∷ cs) = segment (cell_kind after_at_sign c) (c ∷ []) ∷ text_segments (holds at_sign c.byte && not after_at_sign) cs
+text_segments after_at_sign (c ∷ cs) =
+    segment (cell_kind after_at_sign c) (c ∷ [])
+    ∷ text_segments (holds at_sign c.byte && not after_at_sign) cs
 
 -- @= before a verbatim text, and @> after it, if it is there
 abbrev pub verbatim_segments : List Cell → List Segment
@@ -157,7 +171,8 @@ verbatim_segments text =
 
 -- The segments of the first `n` cells, by the control code that they begin with.
 abbrev pub code_segments : ControlCode → ℕ → List Cell → List Segment
-code_segments code.DoubleAt n text = segment Kept (take 1 text) ∷ segment SecondAtSign (take 1 (drop 1 text)) ∷ []
+code_segments code.DoubleAt n text =
+    segment Kept (take 1 text) ∷ segment SecondAtSign (take 1 (drop 1 text)) ∷ []
 code_segments code.Verbatim n text = verbatim_segments text
 code_segments code.ControlText n text = segment ControlText (take n text) ∷ []
 code_segments code.Name n text = segment SectionName (take n text) ∷ []

@@ -1,5 +1,6 @@
 -- Simple lexemes, which most of C text consists of: words, white space, signs and line ends.
-use Rattle.std.specs.Prelude.{◌≡◌, ◌<◌, ℕ, Bool, true, false, ◌==◌, ◌||◌, not, if◌then◌else◌, List, length, Option, None, Some, IsSome}
+use Rattle.std.specs.Prelude.{◌≡◌, ◌<◌, ℕ, Bool, true, false, ◌==◌, ◌||◌, not, if◌then◌else◌, List}
+use Rattle.std.specs.Prelude.{length, Option, None, Some, IsSome}
 use Rattle.tangle_lines.specs.Bytes.{at_sign, double_quote, is_white}
 use Rattle.tangle_lexer.specs.declared.modes.Mode.{Mode}
 use Rattle.tangle_lexer.specs.declared.modes.Mode.TheVariants as mode

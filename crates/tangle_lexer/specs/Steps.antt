@@ -1,5 +1,7 @@
 -- The four modes: what begins at a position, and what is read there.
-use Rattle.std.specs.Prelude.{ℕ, zero, suc, ◌+◌, ◌-◌, Bool, ◌==◌, ◌&&◌, ◌||◌, List, [], ◌∷◌, length, map, flat_map, take, drop, if◌then◌else◌, Option, Some, None, option_to_list}
+use Rattle.std.specs.Prelude.{ℕ, zero, suc, ◌+◌, ◌-◌, Bool, ◌==◌, ◌&&◌, ◌||◌, List, [], ◌∷◌, length}
+use Rattle.std.specs.Prelude.{map, flat_map, take, drop, if◌then◌else◌, Option, Some, None}
+use Rattle.std.specs.Prelude.{option_to_list}
 use Rattle.tangle_lines.specs.Bytes.{at_sign, double_quote, is_white}
 use Rattle.tangle_lines.specs.Reading.{SourceLine}
 use Rattle.tangle_faults.specs.declared.faults.FaultKind.{FaultKind}
@@ -17,10 +19,13 @@ use Rattle.tangle_lexer.specs.declared.lexeme_kinds.LexemeKind.TheVariants as le
 use Rattle.tangle_lexer.specs.declared.tokens.Token.{Token}
 use Rattle.tangle_lexer.specs.declared.tokens.SpanKind.TheVariants as span_kind
 use Rattle.tangle_lexer.specs.declared.tokens.Token.TheVariants as token
-use Rattle.tangle_text.specs.Bytes.{asterisk, slash, less_sign, left_parenthesis, equals_sign, greater_sign, number_sign, apostrophe, holds, is_word_byte, lower}
+use Rattle.tangle_text.specs.Bytes.{asterisk, slash, less_sign, left_parenthesis, equals_sign}
+use Rattle.tangle_text.specs.Bytes.{greater_sign, number_sign, apostrophe, holds, is_word_byte}
+use Rattle.tangle_text.specs.Bytes.{lower}
 use Rattle.tangle_text.specs.Text.{Cell, byte_at, bytes_of, front_line, span_at, text_from}
 use Rattle.tangle_text.specs.Regions.{count_before}
-use Rattle.tangle_lexer.specs.Lexemes.{OccurrenceOnLine, Lexeme, lexeme_of, in_mode, with_include, elsewhere, white_lexeme}
+use Rattle.tangle_lexer.specs.Lexemes.{OccurrenceOnLine, Lexeme, lexeme_of, in_mode, with_include}
+use Rattle.tangle_lexer.specs.Lexemes.{elsewhere, white_lexeme}
 use Rattle.tangle_lexer.specs.Comments.{block_comment, line_comment, control_text, starts_section}
 use Rattle.tangle_lexer.specs.Quoted.{quoted_text, verbatim_text}
 use Rattle.tangle_lexer.specs.Constants.{ascii_constant}
@@ -38,7 +43,8 @@ code_of b =
     if b == 102 || b == 115 then code.Format else  -- @f @s
     if b == 99 || b == 112 then code.UnnamedPart else  -- @c @p
     if b == less_sign || b == left_parenthesis then code.Name else  -- @< @(
-    if b == 94 || b == 46 || b == 58 || b == 116 || b == 113 then code.ControlText else  -- @^ @. @: @t @q
+    if b == 94 || b == 46 || b == 58 || b == 116 || b == 113
+    then code.ControlText else  -- @^ @. @: @t @q
     if b == equals_sign then code.Verbatim else  -- @=
     if b == 38 then code.Join else  -- @&
     if b == 104 then code.AllMacros else  -- @h
@@ -68,7 +74,8 @@ byte_kind inc b next =
 -- what begins in C text with these two cells
 abbrev pub kind_by : IncludeState → Option ℕ → Option ℕ → LexemeKind
 kind_by inc None next = lexeme_kind.LineEnd
-kind_by inc (Some b) next = if b == at_sign then lexeme_kind.Control (code_at next) else byte_kind inc b next
+kind_by inc (Some b) next =
+    if b == at_sign then lexeme_kind.Control (code_at next) else byte_kind inc b next
 
 abbrev pub kind_at : IncludeState → List Cell → LexemeKind
 kind_at inc text = kind_by inc (byte_at 0 text) (byte_at 1 text)
@@ -77,21 +84,24 @@ kind_at inc text = kind_by inc (byte_at 0 text) (byte_at 1 text)
 
 -- after a sign: # can only begin #include if nothing but white space is before it on the line
 abbrev pub include_after_sign : Option ℕ → IncludeState → IncludeState
-include_after_sign b include.AtStart = if holds number_sign b then include.AfterNumberSign else include.Elsewhere
+include_after_sign b include.AtStart =
+    if holds number_sign b then include.AfterNumberSign else include.Elsewhere
 include_after_sign b _ = include.Elsewhere
 
 -- after a word: include completes #include if only white space is between # and this word
 abbrev pub include_after_word : Bool → IncludeState → IncludeState
-include_after_word is_include include.AfterNumberSign = if is_include then include.AfterInclude else include.Elsewhere
+include_after_word is_include include.AfterNumberSign =
+    if is_include then include.AfterInclude else include.Elsewhere
 include_after_word is_include _ = include.Elsewhere
 
--- a word: word bytes, as many as there are
+-- a word: the cells up to the first without a word byte
 abbrev pub word : LexerState → List Cell → Lexeme
 word s text =
     lexeme_of (token.Span span_kind.Word (span_at (1 + word_more text) text) ∷ []) (word_more text)
-    (with_include (include_after_word (is_include_word (bytes_of (take (1 + word_more text) text))) s.include) s)
+    (with_include
+    (include_after_word (is_include_word (bytes_of (take (1 + word_more text) text))) s.include) s)
 
--- white space, as much as there is
+-- white space: the cells up to the first without white space
 abbrev pub white_space : LexerState → List Cell → Lexeme
 white_space s text = lexeme_of (token.White ∷ []) (count_before region.White (drop 1 text)) s
 
@@ -117,9 +127,11 @@ limbo_lexeme s text =
 abbrev pub documentation_code : ControlCode → LexerState → List Cell → Lexeme
 documentation_code code.SectionStart s text = section_start s
 -- @d begins a macro
-documentation_code code.Macro s text = lexeme_of (token.MacroStart (front_line s.last_line text) ∷ []) 1 (in_mode mode.Macro s)
+documentation_code code.Macro s text =
+    lexeme_of (token.MacroStart (front_line s.last_line text) ∷ []) 1 (in_mode mode.Macro s)
 -- @c and @p begin an unnamed C part
-documentation_code code.UnnamedPart s text = lexeme_of (token.UnnamedPart (front_line s.last_line text) ∷ []) 1 (in_mode mode.CPart s)
+documentation_code code.UnnamedPart s text =
+    lexeme_of (token.UnnamedPart (front_line s.last_line text) ∷ []) 1 (in_mode mode.CPart s)
 -- @< and @( begin a C part of that name if an equals sign follows, and otherwise mention the name
 documentation_code code.Name s text = name_in_documentation s text
 -- all other control codes are skipped
@@ -127,13 +139,15 @@ documentation_code _ s text = lexeme_of [] 1 s
 
 abbrev pub documentation_lexeme : LexerState → List Cell → Lexeme
 documentation_lexeme s text =
-    if holds at_sign (byte_at 0 text) then documentation_code (code_at (byte_at 1 text)) s text else prose s text
+    if holds at_sign (byte_at 0 text) then documentation_code (code_at (byte_at 1 text)) s text
+    else prose s text
 
 -- A control code in C text.
 abbrev pub c_code : ControlCode → LexerState → List Cell → Lexeme
 c_code code.SectionStart s text = section_start s
 -- @@ is the sign @
-c_code code.DoubleAt s text = lexeme_of (token.Span span_kind.Sign (span_at 1 text) ∷ []) 1 (elsewhere s)
+c_code code.DoubleAt s text =
+    lexeme_of (token.Span span_kind.Sign (span_at 1 text) ∷ []) 1 (elsewhere s)
 -- @d @f @s @c @p
 c_code code.Macro s text = code_fault fault.CodeInC s text
 c_code code.Format s text = code_fault fault.CodeInC s text
@@ -147,7 +161,8 @@ c_code code.Verbatim s text = verbatim_text s text
 -- @&
 c_code code.Join s text = lexeme_of (token.Join ∷ []) 1 (elsewhere s)
 -- @h
-c_code code.AllMacros s text = lexeme_of (token.AllMacros (front_line s.last_line text) ∷ []) 1 (elsewhere s)
+c_code code.AllMacros s text =
+    lexeme_of (token.AllMacros (front_line s.last_line text) ∷ []) 1 (elsewhere s)
 -- @'
 c_code code.AsciiConstant s text = ascii_constant s text
 -- other control codes are white space
@@ -161,12 +176,14 @@ c_lexeme lexeme_kind.LineComment s text = line_comment s text
 c_lexeme lexeme_kind.DoubleQuote s text = quoted_text region.DoubleQuote double_quote s text
 c_lexeme lexeme_kind.Apostrophe s text = quoted_text region.Apostrophe apostrophe s text
 c_lexeme lexeme_kind.HeaderName s text = quoted_text region.HeaderName greater_sign s text
-c_lexeme lexeme_kind.LineEnd s text = lexeme_of (token.LineEnd (front_line s.last_line text) ∷ []) 0 (with_include include.AtStart s)
+c_lexeme lexeme_kind.LineEnd s text =
+    lexeme_of (token.LineEnd (front_line s.last_line text) ∷ []) 0 (with_include include.AtStart s)
 c_lexeme lexeme_kind.White s text = white_space s text
 c_lexeme lexeme_kind.Word s text = word s text
 -- any other byte is a sign
 c_lexeme lexeme_kind.Other s text =
-    lexeme_of (token.Span span_kind.Sign (span_at 1 text) ∷ []) 0 (with_include (include_after_sign (byte_at 0 text) s.include) s)
+    lexeme_of (token.Span span_kind.Sign (span_at 1 text) ∷ []) 0
+    (with_include (include_after_sign (byte_at 0 text) s.include) s)
 
 -- A macro is read as C text, except for @h and for the control codes that end the macro and then
 -- act as in documentation.
@@ -222,7 +239,8 @@ occurrences_from s text = flat_map (λ l. option_to_list l.occurrence) (lexemes 
 
 -- the state before the first line of a source with this number of lines
 abbrev pub first_state : ℕ → LexerState
-first_state count = record { mode = mode.Limbo; include = include.AtStart; occurrences = 0; last_line = count - 1 }
+first_state count =
+    record { mode = mode.Limbo; include = include.AtStart; occurrences = 0; last_line = count - 1 }
 
 -- the tokens and the occurrences of a whole source
 abbrev pub all_tokens : List SourceLine → List Token

@@ -1,11 +1,12 @@
 //! Section names.
-ghost use Rattle.std.specs.Prelude.{◌≡◌, ◌+◌, ◌++◌, [], ◌∷◌, ℕ, List, length, drop, not};
-ghost use Rattle.std.specs.Prelude.{IfOk, OnOk};
+ghost use Rattle.std.specs.Prelude.{◌≡◌, ◌+◌, ◌++◌, [], ◌∷◌, ℕ, List, length, drop, not, true};
+ghost use Rattle.std.specs.Prelude.{Decides, IfOk, OnOk};
 ghost use Rattle.tangle_text.specs.Bytes as byte;
 ghost use Rattle.tangle_text.specs.Text.{byte_at, front_line};
-ghost use Rattle.tangle_text.specs.Regions.{region_end};
+ghost use Rattle.tangle_text.specs.Regions.{region_end, unit_at};
 ghost use Rattle.tangle_lexer.specs.Occurrences.{occurrence_of};
 ghost use Rattle.tangle_text.specs.declared.regions.Region.TheVariants as region;
+ghost use Rattle.tangle_text.specs.declared.regions.Unit.TheVariants as unit;
 ghost use Rattle.tangle_faults.specs.declared.faults.FaultKind.TheVariants as fault;
 ghost use Rattle.tangle_lexer.specs.declared.tokens.Token.TheVariants as token;
 ghost use Rattle.tangle_lexer.specs.Lexemes.{fault_if, in_mode};
@@ -13,6 +14,7 @@ ghost use Rattle.tangle_lexer.specs.declared.modes.Mode.TheVariants as mode;
 ghost use Rattle.tangle_lexer.specs.declared.occurrences.OccurrenceRole.TheVariants as role;
 ghost use Rattle.tangle_lexer.specs.Reads.{PassesEquals, ReadsLexeme};
 ghost use Rattle.tangle_lexer.specs.Names as spec;
+ghost use Rattle.tangle_lexer.specs.Names.{IsNameSoFar};
 ghost use Rattle.tangle_text.specs.NameBytes as name_bytes;
 
 use crate::comments::pass_end_code;
@@ -52,10 +54,8 @@ struct Name {
 /// result whether this byte is.
 #[inline(always)]
 fn push_byte(name: &mut Vec<u8>, white: bool, byte: u8) -> Result<bool, AllocError>
-    ensures { IfOk result (λ after. (bytes : List ℕ) →
-        name.new.items ++ spec.with_single_spaces (spec.has_begun name.new.items) after bytes
-        ≡ name.old.items ++ spec.with_single_spaces (spec.has_begun name.old.items) white
-        (byte ∷ bytes)) }
+    ensures { IfOk result (λ after. (read : List ℕ) → IsNameSoFar read name.old.items white
+        → IsNameSoFar (read ++ byte ∷ []) name.new.items after) }
 {
     if is_white(byte) {
         return Ok(true);
@@ -85,10 +85,9 @@ fn push_name_unit(
     unit: Unit,
     front: Front,
 ) -> Result<bool, AllocError>
-    ensures { IfOk result (λ after. (bytes : List ℕ) →
-        name.new.items ++ spec.with_single_spaces (spec.has_begun name.new.items) after bytes
-        ≡ name.old.items ++ spec.with_single_spaces (spec.has_begun name.old.items) white
-        (name_bytes.unit_name_bytes unit front.byte front.next ++ bytes)) }
+    ensures { IfOk result (λ after. (read : List ℕ) → IsNameSoFar read name.old.items white
+        → IsNameSoFar (read ++ name_bytes.unit_name_bytes unit front.byte front.next)
+        name.new.items after) }
 {
     match unit {
         Unit::Two => {
@@ -105,16 +104,42 @@ fn push_name_unit(
 
 /// Adds bytes other than `@` to a name. `white` and the result are those of `push_byte`.
 fn push_bytes(name: &mut Vec<u8>, white: bool, bytes: &[u8]) -> Result<bool, AllocError>
-    ensures { IfOk result (λ after. (more : List ℕ) →
-        name.new.items ++ spec.with_single_spaces (spec.has_begun name.new.items) after more
-        ≡ name.old.items ++ spec.with_single_spaces (spec.has_begun name.old.items) white
-        (bytes.now ++ more)) }
+    ensures { IfOk result (λ after. (read : List ℕ) → IsNameSoFar read name.old.items white
+        → IsNameSoFar (read ++ bytes.now) name.new.items after) }
 {
     let mut after = white;
     for byte in bytes {
         after = push_byte(name, after, *byte)?;
     }
     Ok(after)
+}
+
+/// Whether these bytes, as those of most names, are past the space but for single spaces between
+/// them. Then they are in normal form. `false` promises nothing: such a name is read byte by byte.
+fn has_single_spaces(bytes: &[u8]) -> bool
+    ensures { result ≡ true → spec.normal_form bytes.now ≡ bytes.now }
+{
+    let mut white = true;
+    for byte in bytes {
+        if *byte > b' ' {
+            white = false;
+        } else if white || *byte < b' ' {
+            return false;
+        } else {
+            white = true;
+        }
+    }
+    !white || bytes.is_empty()
+}
+
+/// Whether a name ends at the position.
+fn is_name_end(ahead: &Reader) -> bool
+    ensures { Decides result (unit_at region.Name ahead.now ≡ unit.Stop) }
+{
+    match ahead.front() {
+        Some(front) => matches!(unit_of(Region::Name, front.byte, front.next), Unit::Stop),
+        None => false,
+    }
 }
 
 /// The initial capacity of the text of a name, in bytes. Most names are not longer.
@@ -125,8 +150,13 @@ fn read_text(alloc: Global, ahead: &mut Reader) -> Result<Vec<u8>, AllocError>
     ensures text { IfOk result (λ name. name.items ≡ spec.name_text ahead.old) }
     ensures ahead { OnOk result (ahead.new ≡ region_end region.Name ahead.old) }
 {
+    let bytes = ahead.take_name_bytes();
+    // Most names end on their line and are written as they are stored.
+    if is_name_end(ahead) && has_single_spaces(bytes) {
+        return Vec::from_slice(alloc, bytes);
+    }
     let mut name = Vec::with_capacity(alloc, NAME_CAPACITY)?;
-    let mut white = push_bytes(&mut name, false, ahead.take_name_bytes())?;
+    let mut white = push_bytes(&mut name, false, bytes)?;
     while let Some(front) = ahead.front() {
         let unit = unit_of(Region::Name, front.byte, front.next);
         if let Unit::Stop = unit {

@@ -1,10 +1,12 @@
 -- Reading goes past lines that no change takes and that are no inclusions.
-use Rattle.std.proofs.Common.{◌≡◌, ℕ, ◌+◌, Bool, List, [], ◌∷◌, ◌++◌, drop, Option, None, Some, slice_get, true, false, not, ◌&&◌, cond, refl, sym, ap, ◌∙◌, append-nil, arith}
+use Rattle.std.proofs.Common.{◌≡◌, ℕ, ◌+◌, Bool, List, [], ◌∷◌, ◌++◌, drop, Option, None, Some, slice_get, true, false}
+use Rattle.std.proofs.Common.{not, ◌&&◌, cond, refl, sym, ap, ◌∙◌, append-nil, arith}
 use Rattle.tangle_files.specs.Lines.{FileTable}
 use Rattle.tangle_lines.specs.Change.{Change}
 use Rattle.tangle_faults.specs.Faults.{FaultRead}
 use Rattle.tangle_lines.specs.Inclusion.{included_name}
-use Rattle.tangle_lines.specs.Reading.{WaitingLine, SourceLine, Reads, plain_step, begins, change_here, waiting_lines, reads_from, before_reads}
+use Rattle.tangle_lines.specs.Reading.{WaitingLine, SourceLine, Reads, plain_step, begins, change_here, waiting_lines}
+use Rattle.tangle_lines.specs.Reading.{reads_from, before_reads}
 use Rattle.tangle_lines.specs.Waiting.{Makes, PassesOn, awaited, is_awaited}
 use Rattle.tangle_lines.proofs.ReadingLemmas.{at, so_far-plain}
 
@@ -22,7 +24,8 @@ module _ (cs : List Change) (lines : List SourceLine) (ws : List WaitingLine) wh
       let same : t + 0 ≡ t = omega arith in ap (λ k. all files change_file cs lines faults ws k) same
 
   pub passes-more : (n m : ℕ) (lines₁ lines₂ : List SourceLine) (ws₁ ws₂ : List WaitingLine)
-      → PassesOn cs lines ws n lines₁ ws₁ → PassesOn cs lines₁ ws₁ m lines₂ ws₂ → PassesOn cs lines ws (n + m) lines₂ ws₂
+      → PassesOn cs lines ws n lines₁ ws₁ → PassesOn cs lines₁ ws₁ m lines₂ ws₂
+      → PassesOn cs lines ws (n + m) lines₂ ws₂
   passes-more n m lines₁ lines₂ ws₁ ws₂ first second files change_file faults t h =
       let same : t + (n + m) ≡ (t + n) + m = omega arith in
       ap (λ k. all files change_file cs lines₂ faults ws₂ k) same
@@ -36,33 +39,41 @@ module _ (cs : List Change) (lines : List SourceLine) (ws : List WaitingLine) wh
   pub passes-line : (w : WaitingLine) → None ≡ change_here cs w → None ≡ included_name w.bytes
       → PassesOn cs lines (w ∷ ws) 1 (lines ++ line_of w ∷ []) ws
   passes-line w unchanged plain files change_file faults t h =
-      so_far-plain files change_file (all files change_file cs lines faults (w ∷ ws) t) lines faults (w ∷ ws) cs t refl w ws refl
-      ws (lines ++ line_of w ∷ []) faults (omega (arith, h)) unchanged (is_plain files faults w (included_name w.bytes) plain)
+      so_far-plain files change_file (all files change_file cs lines faults (w ∷ ws) t)
+      lines faults (w ∷ ws) cs t refl w ws refl
+      ws (lines ++ line_of w ∷ []) faults (omega (arith, h)) unchanged
+      (is_plain files faults w (included_name w.bytes) plain)
 
 -- the line after the first `number` lines of a file, where more lines wait after the file
-pub waiting-next : (file : ℕ) (changed : Bool) (depth number next : ℕ) (file_lines : List (List ℕ)) (line : List ℕ) (rest : List WaitingLine)
+pub waiting-next : (file : ℕ) (changed : Bool) (depth number next : ℕ)
+    (file_lines : List (List ℕ)) (line : List ℕ) (rest : List WaitingLine)
     → next ≡ number + 1 → drop number file_lines ≡ line ∷ drop (number + 1) file_lines
     → waiting_lines file changed depth (number + 1) (drop number file_lines) ++ rest
-    ≡ record { bytes = line; origin = record { file = file; line = next }; changed = changed; depth = depth } ∷ waiting_lines file changed depth (next + 1) (drop next file_lines) ++ rest
+    ≡ record { bytes = line; origin = record { file = file; line = next }; changed = changed; depth = depth }
+    ∷ waiting_lines file changed depth (next + 1) (drop next file_lines) ++ rest
 waiting-next file changed depth number next file_lines line rest is_next first =
     ap (λ ls. waiting_lines file changed depth (number + 1) ls ++ rest) first
-    ∙ ap (λ k. record { bytes = line; origin = record { file = file; line = k }; changed = changed; depth = depth } ∷ waiting_lines file changed depth (k + 1) (drop k file_lines) ++ rest) (sym is_next)
+    ∙ ap
+    (λ k. record { bytes = line; origin = record { file = file; line = k }; changed = changed; depth = depth }
+    ∷ waiting_lines file changed depth (k + 1) (drop k file_lines) ++ rest) (sym is_next)
 
 -- one more line was taken
-pub passes-next : (cs : List Change) (lines lines₁ lines₂ : List SourceLine) (ws ws₁ ws₂ : List WaitingLine) (n m : ℕ) (w : WaitingLine)
+pub passes-next : (cs : List Change) (lines lines₁ lines₂ : List SourceLine)
+    (ws ws₁ ws₂ : List WaitingLine) (n m : ℕ) (w : WaitingLine)
     → PassesOn cs lines ws n lines₁ ws₁ → m ≡ n + 1 → ws₁ ≡ w ∷ ws₂ → lines₂ ≡ lines₁ ++ line_of w ∷ []
     → None ≡ change_here cs w → None ≡ included_name w.bytes → PassesOn cs lines ws m lines₂ ws₂
 passes-next cs lines lines₁ lines₂ ws ws₁ ws₂ n m w before one first more unchanged plain =
     rw (one, more) (passes-more cs lines ws n 1 lines₁ (lines₁ ++ line_of w ∷ []) ws₁ ws₂ before
     (rw first (passes-line cs lines₁ ws₂ w unchanged plain)))
 
--- the same lines wait
+-- the waiting lines may be replaced by equal ones
 pub passes-same : (cs : List Change) (lines lines' : List SourceLine) (ws ws₁ ws' ws₁' : List WaitingLine) (n : ℕ)
     → ws ≡ ws₁ → ws' ≡ ws₁' → PassesOn cs lines ws₁ n lines' ws₁' → PassesOn cs lines ws n lines' ws'
 passes-same cs lines lines' ws ws₁ ws' ws₁' n before after passed = rw (before, after) passed
 
 -- no change is used at a line that is not the awaited one
-pub unawaited : (cs : List Change) (w : WaitingLine) → is_awaited (awaited cs w.changed) w.bytes ≡ false → None ≡ change_here cs w
+pub unawaited : (cs : List Change) (w : WaitingLine)
+    → is_awaited (awaited cs w.changed) w.bytes ≡ false → None ≡ change_here cs w
 unawaited [] w h = refl
 unawaited (c ∷ cs) w h = by w.changed c.old_lines h
   where

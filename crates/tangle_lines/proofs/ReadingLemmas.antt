@@ -1,5 +1,7 @@
 -- Each step of reading takes a line, so the bound allows all steps.
-use Rattle.std.proofs.Common.{◌≡◌, ℕ, zero, suc, ◌+◌, ◌-◌, ◌<◌, ◌≤◌, Bool, true, false, cond, not, ◌&&◌, List, [], ◌∷◌, ◌++◌, length, min, drop, Option, None, Some, refl, sym, ap, ◌∙◌, arith, true≢false, append_assoc, append-nil}
+use Rattle.std.proofs.Common.{◌≡◌, ℕ, zero, suc, ◌+◌, ◌-◌, ◌<◌, ◌≤◌, Bool, true, false, cond, not, ◌&&◌, List, [], ◌∷◌}
+use Rattle.std.proofs.Common.{◌++◌, length, min, drop, Option, None, Some, refl, sym, ap, ◌∙◌, arith, true≢false}
+use Rattle.std.proofs.Common.{append_assoc, append-nil}
 use Rattle.tangle_faults.specs.declared.faults.FaultKind.TheVariants.{SourceTooLong}
 use Rattle.tangle_faults.specs.Faults.{fault_at, FaultRead}
 use Rattle.std.proofs.lemmas.Bool.{ltb-true, lt-ltb, false_from_ne_true}
@@ -7,7 +9,9 @@ use Rattle.std.specs.Prelude.{nat_lt}
 use Rattle.tangle_files.specs.Lines.{FileTable}
 use Rattle.tangle_lines.specs.Change.{Change}
 use Rattle.tangle_lines.specs.Waiting.{IsPlain, IsUsed, Makes}
-use Rattle.tangle_lines.specs.Reading.{WaitingLine, SourceLine, Reads, place_of, State, ReadingStep, step_of, line_step, plain_step, change_here, unused_faults, begins, after, reads_in, reads_from, source_line_limit, before_reads}
+use Rattle.tangle_lines.specs.Reading.{WaitingLine, SourceLine, Reads, place_of, State, ReadingStep, step_of, line_step}
+use Rattle.tangle_lines.specs.Reading.{plain_step, change_here, unused_faults, begins, after, reads_in, reads_from}
+use Rattle.tangle_lines.specs.Reading.{source_line_limit, before_reads}
 use Rattle.tangle_lines.specs.Inclusion.{included_name}
 use Rattle.tangle_lines.specs.Reading.ReadingStep.{Ends, Goes}
 
@@ -21,91 +25,124 @@ begins-some [] line h = absurd (true≢false (sym h))
 begins-some (o ∷ os) line h = omega arith
 
 -- a used change is the first remaining one, and has an old line
-pub change_here-some : (cs : List Change) (w : WaitingLine) (c : Change) → Some c ≡ change_here cs w → (0 < length c.old_lines) × (cs ≡ c ∷ drop 1 cs)
+pub change_here-some : (cs : List Change) (w : WaitingLine) (c : Change)
+    → Some c ≡ change_here cs w → (0 < length c.old_lines) × (cs ≡ c ∷ drop 1 cs)
 change_here-some [] w c h = absurd (cc)
 change_here-some (d ∷ cs) w c h = by w.changed (begins d.old_lines w.bytes) refl h
   where
-    by : (changed b : Bool) → begins d.old_lines w.bytes ≡ b → Some c ≡ cond (not changed && b) (Some d) None → (0 < length c.old_lines) × (d ∷ cs ≡ c ∷ cs)
+    by : (changed b : Bool) → begins d.old_lines w.bytes ≡ b → Some c ≡ cond (not changed && b) (Some d) None
+        → (0 < length c.old_lines) × (d ∷ cs ≡ c ∷ cs)
     by true b e h = absurd (cc)
     by false false e h = absurd (cc)
-    by false true e h = let same : c ≡ d = cc in (rw same (begins-some d.old_lines w.bytes e), ap (λ x. x ∷ cs) (sym same))
+    by false true e h =
+        let same : c ≡ d = cc in (rw same (begins-some d.old_lines w.bytes e), ap (λ x. x ∷ cs) (sym same))
 
 module _ (files : FileTable) (change_file : ℕ) where
-  plain_step-advances : (w : WaitingLine) (ws : List WaitingLine) (cs : List Change) (t : ℕ) (name : Option (List ℕ)) → t < source_line_limit → Advances t (plain_step files w ws cs t name)
+  plain_step-advances : (w : WaitingLine) (ws : List WaitingLine) (cs : List Change) (t : ℕ) (name : Option (List ℕ))
+      → t < source_line_limit → Advances t (plain_step files w ws cs t name)
   plain_step-advances w ws cs t None h = (h, omega arith)
   plain_step-advances w ws cs t (Some name) h = (h, omega arith)
 
-  line_step-advances : (w : WaitingLine) (ws : List WaitingLine) (cs : List Change) (t : ℕ) (here : Option Change) → here ≡ change_here cs w → t < source_line_limit → Advances t (line_step files change_file w ws cs t here)
+  line_step-advances : (w : WaitingLine) (ws : List WaitingLine) (cs : List Change) (t : ℕ) (here : Option Change)
+      → here ≡ change_here cs w → t < source_line_limit → Advances t (line_step files change_file w ws cs t here)
   line_step-advances w ws cs t None e h = plain_step-advances w ws cs t (included_name w.bytes) h
-  line_step-advances w ws cs t (Some c) e h = let some : 0 < length c.old_lines = (change_here-some cs w c e).0 in (h, omega arith)
+  line_step-advances w ws cs t (Some c) e h =
+      let some : 0 < length c.old_lines = (change_here-some cs w c e).0 in (h, omega arith)
 
   step_of-advances : (ws : List WaitingLine) (cs : List Change) (t : ℕ) → Advances t (step_of files change_file ws cs t)
   step_of-advances [] cs t = tt
   step_of-advances (w ∷ ws) cs t = by (nat_lt t source_line_limit) refl
     where
-      by : (b : Bool) → nat_lt t source_line_limit ≡ b → Advances t (cond b (line_step files change_file w ws cs t (change_here cs w)) (Ends (fault_at SourceTooLong (place_of files w.origin) ∷ [])))
+      by : (b : Bool) → nat_lt t source_line_limit ≡ b
+          → Advances t
+          (cond b (line_step files change_file w ws cs t (change_here cs w))
+          (Ends (fault_at SourceTooLong (place_of files w.origin) ∷ [])))
       by true e = line_step-advances w ws cs t (change_here cs w) refl (ltb-true t source_line_limit e)
       by false e = tt
 
-  after-same : (n m t : ℕ) (st : ReadingStep) → Advances t st → source_line_limit - t < suc n → source_line_limit - t < suc m
-      → ((s : State) → source_line_limit - s.taken < n → source_line_limit - s.taken < m → reads_in files change_file n s ≡ reads_in files change_file m s)
-      → after files change_file st (λ s. reads_in files change_file n s) ≡ after files change_file st (λ s. reads_in files change_file m s)
+  after-same : (n m t : ℕ) (st : ReadingStep)
+      → Advances t st → source_line_limit - t < suc n → source_line_limit - t < suc m
+      → ((s : State) → source_line_limit - s.taken < n → source_line_limit - s.taken < m
+      → reads_in files change_file n s ≡ reads_in files change_file m s)
+      → after files change_file st (λ s. reads_in files change_file n s)
+      ≡ after files change_file st (λ s. reads_in files change_file m s)
   after-same n m t (Ends faults) a h k rest = refl
   after-same n m t (Goes out s) a h k rest = ap (before_reads out) (rest s (omega arith) (omega arith))
 
   -- as many steps as there are lines below the limit are enough
-  pub reads_in-enough : (n m : ℕ) (s : State) → source_line_limit - s.taken < n → source_line_limit - s.taken < m → reads_in files change_file n s ≡ reads_in files change_file m s
+  pub reads_in-enough : (n m : ℕ) (s : State) → source_line_limit - s.taken < n → source_line_limit - s.taken < m
+      → reads_in files change_file n s ≡ reads_in files change_file m s
   unfolding reads_in
   reads_in-enough zero m s h k = absurd (omega arith)
   reads_in-enough (suc n) zero s h k = absurd (omega arith)
   reads_in-enough (suc n) (suc m) s h k =
-      after-same n m s.taken (step_of files change_file s.waiting s.changes s.taken) (step_of-advances s.waiting s.changes s.taken) h k (reads_in-enough n m)
+      after-same n m s.taken (step_of files change_file s.waiting s.changes s.taken)
+      (step_of-advances s.waiting s.changes s.taken) h k (reads_in-enough n m)
 
   after-next : (n t : ℕ) (st : ReadingStep) → Advances t st → source_line_limit - t < suc n
-      → after files change_file st (λ s. reads_in files change_file n s) ≡ after files change_file st (λ s. reads_from files change_file s)
+      → after files change_file st (λ s. reads_in files change_file n s)
+      ≡ after files change_file st (λ s. reads_from files change_file s)
   after-next n t (Ends faults) a h = refl
-  after-next n t (Goes out s) a h = ap (before_reads out) (reads_in-enough n (suc (source_line_limit - s.taken)) s (omega arith) (omega arith))
+  after-next n t (Goes out s) a h =
+      ap (before_reads out) (reads_in-enough n (suc (source_line_limit - s.taken)) s (omega arith) (omega arith))
 
   -- reading makes one step, and then reads on
-  pub reads_from-step : (s : State) → reads_from files change_file s ≡ after files change_file (step_of files change_file s.waiting s.changes s.taken) (λ t. reads_from files change_file t)
+  pub reads_from-step : (s : State)
+      → reads_from files change_file s
+      ≡ after files change_file (step_of files change_file s.waiting s.changes s.taken)
+      (λ t. reads_from files change_file t)
   unfolding reads_in
   reads_from-step s =
-      after-next (source_line_limit - s.taken) s.taken (step_of files change_file s.waiting s.changes s.taken) (step_of-advances s.waiting s.changes s.taken) (omega arith)
+      after-next (source_line_limit - s.taken) s.taken (step_of files change_file s.waiting s.changes s.taken)
+      (step_of-advances s.waiting s.changes s.taken) (omega arith)
 
 pub before_reads-append : (a b c : Reads) → before_reads (before_reads a b) c ≡ before_reads a (before_reads b c)
-before_reads-append a b c = λ i. record { lines = append_assoc a.lines b.lines c.lines i; faults = append_assoc a.faults b.faults c.faults i }
+before_reads-append a b c =
+    λ i. record { lines = append_assoc a.lines b.lines c.lines i; faults = append_assoc a.faults b.faults c.faults i }
 
 abbrev pub at : List WaitingLine → List Change → ℕ → State
 at lines changes taken = record { waiting = lines; changes = changes; taken = taken }
 
--- reading, by the lines that wait
+-- a step of reading: no line waits; or the limit of lines is reached; or the first waiting line is read
 module _ (files : FileTable) (change_file : ℕ) (ws : List WaitingLine) (cs : List Change) (t : ℕ) where
-  reads_from-end : reads_from files change_file (at [] cs t) ≡ record { lines = []; faults = unused_faults files change_file cs }
+  reads_from-end : reads_from files change_file (at [] cs t)
+      ≡ record { lines = []; faults = unused_faults files change_file cs }
   reads_from-end = reads_from-step files change_file (at [] cs t)
 
   by_limit : WaitingLine → Bool → Reads
-  by_limit w b = after files change_file (cond b (line_step files change_file w ws cs t (change_here cs w)) (Ends (fault_at SourceTooLong (place_of files w.origin) ∷ []))) (λ s. reads_from files change_file s)
+  by_limit w b = after files change_file
+      (cond b (line_step files change_file w ws cs t (change_here cs w))
+      (Ends (fault_at SourceTooLong (place_of files w.origin) ∷ []))) (λ s. reads_from files change_file s)
 
-  reads_from-stop : (w : WaitingLine) → source_line_limit ≤ t → reads_from files change_file (at (w ∷ ws) cs t) ≡ record { lines = []; faults = fault_at SourceTooLong (place_of files w.origin) ∷ [] }
+  reads_from-stop : (w : WaitingLine) → source_line_limit ≤ t
+      → reads_from files change_file (at (w ∷ ws) cs t)
+      ≡ record { lines = []; faults = fault_at SourceTooLong (place_of files w.origin) ∷ [] }
   unfolding by_limit
   reads_from-stop w h = reads_from-step files change_file (at (w ∷ ws) cs t) ∙ ap (by_limit w) (not_below h)
     where
       not_below : source_line_limit ≤ t → nat_lt t source_line_limit ≡ false
-      not_below h = false_from_ne_true (nat_lt t source_line_limit) (λ e. let k : t < source_line_limit = ltb-true t source_line_limit e in absurd (omega arith))
+      not_below h = false_from_ne_true (nat_lt t source_line_limit)
+          (λ e. let k : t < source_line_limit = ltb-true t source_line_limit e in absurd (omega arith))
 
   reads_from-line : (w : WaitingLine) → t < source_line_limit
       → reads_from files change_file (at (w ∷ ws) cs t)
-      ≡ after files change_file (line_step files change_file w ws cs t (change_here cs w)) (λ s. reads_from files change_file s)
+      ≡ after files change_file (line_step files change_file w ws cs t (change_here cs w))
+      (λ s. reads_from files change_file s)
   unfolding by_limit
-  reads_from-line w h = reads_from-step files change_file (at (w ∷ ws) cs t) ∙ ap (by_limit w) (lt-ltb t source_line_limit h)
+  reads_from-line w h =
+      reads_from-step files change_file (at (w ∷ ws) cs t) ∙ ap (by_limit w) (lt-ltb t source_line_limit h)
 
 -- while reading goes on, the results so far and those of the lines that wait are the whole result
-module _ (files : FileTable) (change_file : ℕ) (start : Reads) (lines : List SourceLine) (faults : List FaultRead) (waiting : List WaitingLine) (changes : List Change) (t : ℕ)
-    (so_far : before_reads (record { lines = lines; faults = faults }) (reads_from files change_file (at waiting changes t)) ≡ start) where
+module _ (files : FileTable) (change_file : ℕ) (start : Reads) (lines : List SourceLine)
+    (faults : List FaultRead) (waiting : List WaitingLine) (changes : List Change) (t : ℕ)
+    (so_far : before_reads (record { lines = lines; faults = faults })
+    (reads_from files change_file (at waiting changes t))
+    ≡ start) where
   out : Reads
   out = record { lines = lines; faults = faults }
 
-  pub so_far-end : waiting ≡ [] → start ≡ record { lines = lines; faults = faults ++ unused_faults files change_file changes }
+  pub so_far-end : waiting ≡ []
+      → start ≡ record { lines = lines; faults = faults ++ unused_faults files change_file changes }
   unfolding out
   so_far-end none =
       sym so_far
@@ -114,43 +151,64 @@ module _ (files : FileTable) (change_file : ℕ) (start : Reads) (lines : List S
       ∙ (λ i. record { lines = append-nil lines i; faults = faults ++ unused_faults files change_file changes })
 
   module _ (w : WaitingLine) (ws : List WaitingLine) (first : waiting ≡ w ∷ ws) where
-    pub so_far-stop : source_line_limit ≤ t → start ≡ record { lines = lines; faults = faults ++ fault_at SourceTooLong (place_of files w.origin) ∷ [] }
+    pub so_far-stop : source_line_limit ≤ t
+        → start ≡ record { lines = lines; faults = faults ++ fault_at SourceTooLong (place_of files w.origin) ∷ [] }
     unfolding out
     so_far-stop h =
         sym so_far
         ∙ ap (λ ws. before_reads out (reads_from files change_file (at ws changes t))) first
         ∙ ap (before_reads out) (reads_from-stop files change_file ws changes t w h)
-        ∙ (λ i. record { lines = append-nil lines i; faults = faults ++ fault_at SourceTooLong (place_of files w.origin) ∷ [] })
+        ∙ (λ i.
+        record { lines = append-nil lines i; faults = faults ++ fault_at SourceTooLong (place_of files w.origin) ∷ [] })
 
     -- a step gives more, and reading goes on in the state after it
-    step_out : (more : Reads) (s : State) → line_step files change_file w ws changes t (change_here changes w) ≡ Goes more s
+    step_out : (more : Reads) (s : State)
+        → line_step files change_file w ws changes t (change_here changes w) ≡ Goes more s
         → t < source_line_limit → before_reads (before_reads out more) (reads_from files change_file s) ≡ start
     unfolding out
     step_out more s step h =
         before_reads-append out more (reads_from files change_file s)
-        ∙ ap (before_reads out) (sym (reads_from-line files change_file ws changes t w h ∙ ap (λ st. after files change_file st (λ s. reads_from files change_file s)) step))
+        ∙ ap (before_reads out)
+        (sym (reads_from-line files change_file ws changes t w h
+        ∙ ap (λ st. after files change_file st (λ s. reads_from files change_file s)) step))
         ∙ ap (λ ws. before_reads out (reads_from files change_file (at ws changes t))) (sym first)
         ∙ so_far
 
-    pub so_far-plain : (ws' : List WaitingLine) (lines' : List SourceLine) (faults' : List FaultRead) → t < source_line_limit → None ≡ change_here changes w
+    pub so_far-plain : (ws' : List WaitingLine) (lines' : List SourceLine) (faults' : List FaultRead)
+        → t < source_line_limit → None ≡ change_here changes w
         → IsPlain files w ws ws' lines lines' faults faults'
-        → before_reads (record { lines = lines'; faults = faults' }) (reads_from files change_file (at ws' changes (t + 1))) ≡ start
+        → before_reads (record { lines = lines'; faults = faults' })
+        (reads_from files change_file (at ws' changes (t + 1)))
+        ≡ start
     unfolding out
     so_far-plain ws' lines' faults' h none made = by (included_name w.bytes) refl made
       where
-        by : (name : Option (List ℕ)) → name ≡ included_name w.bytes → Makes (plain_step files w ws [] 0 name) ws' lines lines' faults faults'
-            → before_reads (record { lines = lines'; faults = faults' }) (reads_from files change_file (at ws' changes (t + 1))) ≡ start
+        by : (name : Option (List ℕ))
+            → name ≡ included_name w.bytes → Makes (plain_step files w ws [] 0 name) ws' lines lines' faults faults'
+            → before_reads (record { lines = lines'; faults = faults' })
+            (reads_from files change_file (at ws' changes (t + 1)))
+            ≡ start
         by None e made =
-            (λ i. before_reads (record { lines = made.1.0 i; faults = made.1.1 i }) (reads_from files change_file (at (made.0 i) changes (t + 1))))
-            ∙ step_out _ _ (ap (line_step files change_file w ws changes t) (sym none) ∙ ap (plain_step files w ws changes t) (sym e)) h
+            (λ i. before_reads (record { lines = made.1.0 i; faults = made.1.1 i })
+            (reads_from files change_file (at (made.0 i) changes (t + 1))))
+            ∙ step_out _ _
+            (ap (line_step files change_file w ws changes t) (sym none) ∙ ap (plain_step files w ws changes t) (sym e))
+            h
         by (Some name) e made =
-            (λ i. before_reads (record { lines = made.1.0 i; faults = made.1.1 i }) (reads_from files change_file (at (made.0 i) changes (t + 1))))
-            ∙ step_out _ _ (ap (line_step files change_file w ws changes t) (sym none) ∙ ap (plain_step files w ws changes t) (sym e)) h
+            (λ i. before_reads (record { lines = made.1.0 i; faults = made.1.1 i })
+            (reads_from files change_file (at (made.0 i) changes (t + 1))))
+            ∙ step_out _ _
+            (ap (line_step files change_file w ws changes t) (sym none) ∙ ap (plain_step files w ws changes t) (sym e))
+            h
 
-    pub so_far-used : (c : Change) (ws' : List WaitingLine) (faults' : List FaultRead) (n : ℕ) → t < source_line_limit → Some c ≡ change_here changes w
+    pub so_far-used : (c : Change) (ws' : List WaitingLine) (faults' : List FaultRead) (n : ℕ)
+        → t < source_line_limit → Some c ≡ change_here changes w
         → IsUsed files change_file c w ws ws' faults faults' → n ≡ min (length c.old_lines) (length (w ∷ ws))
-        → before_reads (record { lines = lines; faults = faults' }) (reads_from files change_file (at ws' (drop 1 changes) (t + n))) ≡ start
+        → before_reads (record { lines = lines; faults = faults' })
+        (reads_from files change_file (at ws' (drop 1 changes) (t + n)))
+        ≡ start
     unfolding out
     so_far-used c ws' faults' n h some made count =
-        (λ i. before_reads (record { lines = sym (append-nil lines) i; faults = made.1.1 i }) (reads_from files change_file (at (made.0 i) (drop 1 changes) (t + count i))))
+        (λ i. before_reads (record { lines = sym (append-nil lines) i; faults = made.1.1 i })
+        (reads_from files change_file (at (made.0 i) (drop 1 changes) (t + count i))))
         ∙ step_out _ _ (ap (line_step files change_file w ws changes t) (sym some)) h

@@ -2,13 +2,15 @@
 use Rattle.std.specs.Prelude.{ℕ, ◌+◌, ◌==◌, List, [], ◌∷◌, ◌++◌, if◌then◌else◌}
 use Rattle.std.specs.List.{list_all}
 use Rattle.tangle_faults.specs.declared.faults.FaultKind.{FaultKind}
-use Rattle.tangle_faults.specs.declared.faults.FaultKind.TheVariants.{StrayMark, MissingY, MissingZ, EmptyOld}
+use Rattle.tangle_faults.specs.declared.faults.FaultKind.TheVariants.{StrayMark, MissingY, MissingZ}
+use Rattle.tangle_faults.specs.declared.faults.FaultKind.TheVariants.{EmptyOld}
 use Rattle.tangle_lines.specs.Bytes.{at_sign, letter_x, letter_y, letter_z, is_white, is_letter}
 use Rattle.tangle_lines.specs.Change.{Change}
 use Rattle.tangle_lines.specs.declared.changes.ChangePhase.{ChangePhase}
 use Rattle.tangle_lines.specs.declared.changes.ChangePhase.TheVariants.{Outside, InOld, InNew}
 use Rattle.tangle_lines.specs.declared.changes.LineKind.{LineKind}
-use Rattle.tangle_lines.specs.declared.changes.LineKind.TheVariants.{BeginsChange, BeginsNew, EndsChange, IsText}
+use Rattle.tangle_lines.specs.declared.changes.LineKind.TheVariants.{BeginsChange, BeginsNew}
+use Rattle.tangle_lines.specs.declared.changes.LineKind.TheVariants.{EndsChange, IsText}
 use Rattle.tangle_faults.specs.Faults.{FaultRead, fault_at}
 
 -- the kind of a line of a change file
@@ -16,7 +18,11 @@ abbrev pub line_kind_of : List ℕ → LineKind
 line_kind_of [] = IsText
 line_kind_of (a ∷ []) = IsText
 line_kind_of (a ∷ b ∷ bs) =
-    if a == at_sign then (if is_letter letter_x b then BeginsChange else if is_letter letter_y b then BeginsNew else if is_letter letter_z b then EndsChange else IsText)
+    if a == at_sign
+    then (if is_letter letter_x b then BeginsChange
+    else if is_letter letter_y b then BeginsNew
+    else if is_letter letter_z b then EndsChange
+    else IsText)
     else IsText
 
 -- the changes and the faults that were found
@@ -28,7 +34,8 @@ abbrev pub nothing_found : Found
 nothing_found = record { changes = []; faults = [] }
 
 abbrev pub before : Found → Found → Found
-before first rest = record { changes = first.changes ++ rest.changes; faults = first.faults ++ rest.faults }
+before first rest =
+    record { changes = first.changes ++ rest.changes; faults = first.faults ++ rest.faults }
 
 -- a change whose `@x` line was just read
 abbrev pub begun : ℕ → Change
@@ -44,7 +51,8 @@ closed c = closed_by c.old_lines c
 
 module _ (file : List ℕ) where
   abbrev pub fault_found : FaultKind → ℕ → Found
-  fault_found kind n = record { changes = []; faults = fault_at kind (record { file = file; line = n }) ∷ [] }
+  fault_found kind n =
+      record { changes = []; faults = fault_at kind (record { file = file; line = n }) ∷ [] }
 
   -- the fault at the end of the old lines, if there are none
   abbrev pub old_ended : ℕ → List (List ℕ) → Found
@@ -59,7 +67,8 @@ module _ (file : List ℕ) where
 
   -- a fault, and the changes that end with it
   abbrev pub fault_with : FaultKind → ℕ → List Change → Found
-  fault_with kind n changes = record { changes = changes; faults = fault_at kind (record { file = file; line = n }) ∷ [] }
+  fault_with kind n changes =
+      record { changes = changes; faults = fault_at kind (record { file = file; line = n }) ∷ [] }
 
   -- the phase after the line with the number `n`, and the change and the fault that end with this
   -- line
@@ -71,11 +80,13 @@ module _ (file : List ℕ) where
   next_phase (InOld c) n line BeginsChange = (InOld (begun n), fault_found MissingY c.at)
   next_phase (InOld c) n line BeginsNew = (InNew c, old_ended c.at c.old_lines)
   next_phase (InOld c) n line EndsChange = (Outside, fault_found MissingY c.at)
-  next_phase (InOld c) n line IsText = (InOld (record c { old_lines = with_old c.old_lines line }), nothing_found)
+  next_phase (InOld c) n line IsText =
+      (InOld (record c { old_lines = with_old c.old_lines line }), nothing_found)
   next_phase (InNew c) n line BeginsChange = (InOld (begun n), fault_with MissingZ c.at (closed c))
   next_phase (InNew c) n line BeginsNew = (InNew c, fault_found StrayMark n)
   next_phase (InNew c) n line EndsChange = (Outside, record { changes = closed c; faults = [] })
-  next_phase (InNew c) n line IsText = (InNew (record c { new_lines = c.new_lines ++ (n, line) ∷ [] }), nothing_found)
+  next_phase (InNew c) n line IsText =
+      (InNew (record c { new_lines = c.new_lines ++ (n, line) ∷ [] }), nothing_found)
 
   -- the change and the fault at the end of the change file
   abbrev pub at_end : ChangePhase → Found
@@ -86,7 +97,8 @@ module _ (file : List ℕ) where
   abbrev pub changes_from : ChangePhase → ℕ → List (List ℕ) → Found
   changes_from phase n [] = at_end phase
   changes_from phase n (line ∷ lines) =
-      before (next_phase phase n line (line_kind_of line)).1 (changes_from (next_phase phase n line (line_kind_of line)).0 (n + 1) lines)
+      before (next_phase phase n line (line_kind_of line)).1
+      (changes_from (next_phase phase n line (line_kind_of line)).0 (n + 1) lines)
 
   -- the changes of the change file with these lines, and its faults in the order in which they are
   -- found

@@ -22,4 +22,5 @@ name_in (b ∷ bs) =
 abbrev pub included_name : List ℕ → Option (List ℕ)
 included_name [] = None
 included_name (a ∷ []) = None
-included_name (a ∷ b ∷ bs) = if (a == at_sign) && is_letter letter_i b then Some (name_in (after_white bs)) else None
+included_name (a ∷ b ∷ bs) =
+    if (a == at_sign) && is_letter letter_i b then Some (name_in (after_white bs)) else None

@@ -1,9 +1,15 @@
 -- Reading: the source lines and the faults of files, a web and a change file.
-use Rattle.std.specs.Prelude.{ℕ, ◌+◌, ◌-◌, Bool, true, false, ◌==◌, ◌&&◌, not, nat_lt, min, get_or, length, drop, List, [], ◌∷◌, ◌++◌, if◌then◌else◌, suc, zero, Option, None, Some}
+use Rattle.std.specs.Prelude.{ℕ, ◌+◌, ◌-◌, Bool, true, false, ◌==◌, ◌&&◌, not, nat_lt, min, get_or}
+use Rattle.std.specs.Prelude.{length, drop, List, [], ◌∷◌, ◌++◌, if◌then◌else◌, suc, zero, Option}
+use Rattle.std.specs.Prelude.{None, Some}
 use Rattle.std.specs.Str.{bytes_eq}
-use Rattle.tangle_faults.specs.declared.faults.FaultKind.TheVariants.{IncludeNoName, IncludeMissing, IncludeTooDeep, ChangeMismatch, SourceTooLong, ChangeUnused}
+use Rattle.tangle_faults.specs.declared.faults.FaultKind.TheVariants.{IncludeNoName, IncludeMissing}
+use Rattle.tangle_faults.specs.declared.faults.FaultKind.TheVariants.{IncludeTooDeep}
+use Rattle.tangle_faults.specs.declared.faults.FaultKind.TheVariants.{ChangeMismatch, SourceTooLong}
+use Rattle.tangle_faults.specs.declared.faults.FaultKind.TheVariants.{ChangeUnused}
 use Rattle.tangle_faults.specs.declared.faults.Origin.{Origin}
-use Rattle.tangle_files.specs.Lines.{FileTable, file_number, file_number_or_count, name_at, lines_at}
+use Rattle.tangle_files.specs.Lines.{FileTable, file_number, file_number_or_count, name_at}
+use Rattle.tangle_files.specs.Lines.{lines_at}
 use Rattle.tangle_files.specs.Roles.{RolesRead}
 use Rattle.tangle_faults.specs.Faults.{PlaceRead, FaultRead, fault_at, fault_about, fault_counting}
 use Rattle.tangle_lines.specs.Change.{Change}
@@ -43,19 +49,30 @@ pub record Reads : Type 0 where
   pub faults : List FaultRead
 
 abbrev pub before_reads : Reads → Reads → Reads
-before_reads first rest = record { lines = first.lines ++ rest.lines; faults = first.faults ++ rest.faults }
+before_reads first rest =
+    record { lines = first.lines ++ rest.lines; faults = first.faults ++ rest.faults }
 
 -- the lines of a file, the first of which has the number `n`
 abbrev pub waiting_lines : ℕ → Bool → ℕ → ℕ → List (List ℕ) → List WaitingLine
 waiting_lines file changed depth n [] = []
 waiting_lines file changed depth n (l ∷ ls) =
-    record { bytes = l; origin = record { file = file; line = n }; changed = changed; depth = depth } ∷ waiting_lines file changed depth (n + 1) ls
+    record {
+      bytes = l;
+      origin = record { file = file; line = n };
+      changed = changed;
+      depth = depth;
+    } ∷ waiting_lines file changed depth (n + 1) ls
 
 -- the new lines of a change
 abbrev pub change_lines : ℕ → ℕ → List (ℕ × List ℕ) → List WaitingLine
 change_lines file depth [] = []
 change_lines file depth (l ∷ ls) =
-    record { bytes = l.1; origin = record { file = file; line = l.0 }; changed = true; depth = depth } ∷ change_lines file depth ls
+    record {
+      bytes = l.1;
+      origin = record { file = file; line = l.0 };
+      changed = true;
+      depth = depth;
+    } ∷ change_lines file depth ls
 
 -- the line equals the first old line of a change
 abbrev pub begins : List (List ℕ) → List ℕ → Bool
@@ -99,7 +116,8 @@ module _ (files : FileTable) where
   abbrev pub included : WaitingLine → List ℕ → Option ℕ → (List WaitingLine × List FaultRead)
   included w name None = ([], fault_about IncludeMissing (place_of files w.origin) name ∷ [])
   included w name (Some n) =
-      if nat_lt w.depth depth_limit then (waiting_lines n w.changed (w.depth + 1) 1 (lines_at files n), [])
+      if nat_lt w.depth depth_limit
+      then (waiting_lines n w.changed (w.depth + 1) 1 (lines_at files n), [])
       else ([], fault_at IncludeTooDeep (place_of files w.origin) ∷ [])
 
   abbrev pub inclusion : WaitingLine → List ℕ → (List WaitingLine × List FaultRead)
@@ -107,9 +125,13 @@ module _ (files : FileTable) where
   inclusion w (b ∷ bs) = included w (b ∷ bs) (file_number files (b ∷ bs))
 
   -- a line that no change takes becomes a source line, or is replaced by the file that it includes
-  abbrev pub plain_step : WaitingLine → List WaitingLine → List Change → ℕ → Option (List ℕ) → ReadingStep
+  abbrev pub plain_step : WaitingLine → List WaitingLine → List Change → ℕ → Option (List ℕ)
+      → ReadingStep
   plain_step w ws changes taken None =
-      Goes (record { lines = record { bytes = w.bytes; origin = w.origin; changed = w.changed } ∷ []; faults = [] })
+      Goes (record {
+        lines = record { bytes = w.bytes; origin = w.origin; changed = w.changed } ∷ [];
+        faults = [];
+      })
       (record { waiting = ws; changes = changes; taken = taken + 1 })
   plain_step w ws changes taken (Some name) =
       Goes (record { lines = []; faults = (inclusion w name).1 })
@@ -129,11 +151,19 @@ module _ (files : FileTable) (change_file : ℕ) where
   abbrev pub change_step : Change → List Change → WaitingLine → List WaitingLine → ℕ → ReadingStep
   change_step c cs w ws taken =
       let lines = min (length c.old_lines) (length (w ∷ ws)) in
-      Goes (record { lines = []; faults = mismatch_faults (change_place c) (unequal_lines (drop 1 c.old_lines) ws) })
-      (record { waiting = change_lines change_file w.depth c.new_lines ++ drop lines (w ∷ ws); changes = cs; taken = taken + lines })
+      Goes (record {
+        lines = [];
+        faults = mismatch_faults (change_place c) (unequal_lines (drop 1 c.old_lines) ws);
+      })
+      (record {
+        waiting = change_lines change_file w.depth c.new_lines ++ drop lines (w ∷ ws);
+        changes = cs;
+        taken = taken + lines;
+      })
 
   -- a change that is used at a line comes before inclusion
-  abbrev pub line_step : WaitingLine → List WaitingLine → List Change → ℕ → Option Change → ReadingStep
+  abbrev pub line_step : WaitingLine → List WaitingLine → List Change → ℕ → Option Change
+      → ReadingStep
   line_step w ws changes taken None = plain_step files w ws changes taken (included_name w.bytes)
   line_step w ws changes taken (Some c) = change_step c (drop 1 changes) w ws taken
 
@@ -163,7 +193,11 @@ module _ (files : FileTable) (change_file : ℕ) where
 abbrev pub reads_web : FileTable → ℕ → ℕ → Found → Reads
 reads_web files web change found =
     before_reads (record { lines = []; faults = found.faults })
-    (reads_from files change (record { waiting = waiting_lines web false 1 1 (lines_at files web); changes = found.changes; taken = 0 }))
+    (reads_from files change (record {
+      waiting = waiting_lines web false 1 1 (lines_at files web);
+      changes = found.changes;
+      taken = 0;
+    }))
 
 -- the number of the change file, if there is one
 abbrev pub change_number : FileTable → Option (List ℕ) → ℕ
@@ -173,11 +207,13 @@ change_number files (Some name) = file_number_or_count files name
 -- the changes and the faults of the change file, if there is one
 abbrev pub changes_in : FileTable → Option (List ℕ) → Found
 changes_in files None = nothing_found
-changes_in files (Some name) = changes_of (name_at files (file_number_or_count files name)) (lines_at files (file_number_or_count files name))
+changes_in files (Some name) = changes_of (name_at files (file_number_or_count files name))
+    (lines_at files (file_number_or_count files name))
 
 -- the result of reading the files, by the names of the web and the change file
 abbrev pub reads : FileTable → List ℕ → Option (List ℕ) → Reads
-reads files web change = reads_web files (file_number_or_count files web) (change_number files change) (changes_in files change)
+reads files web change = reads_web files (file_number_or_count files web)
+    (change_number files change) (changes_in files change)
 
 -- a source: the files, its lines and its faults
 pub record SourceRead : Type 0 where
@@ -192,7 +228,7 @@ with_files files r = record { files = files; lines = r.lines; faults = r.faults 
 abbrev pub source_of : FileTable → RolesRead → SourceRead
 source_of files roles = with_files files (reads files roles.web roles.change)
 
--- what is read of a source where it has no such line
+-- the line that is read where a source has no line of this number
 abbrev pub no_line : SourceLine
 no_line = record { bytes = []; origin = record { file = 0; line = 0 }; changed = false }
 

@@ -6,4 +6,6 @@ use Rattle.tangle_lines.specs.Reading.{State, step_of, after, reads_from}
 -- reading makes its first step, and then reads on in the state after it
 abbrev pub ReadsByStep : FileTable → ℕ → State → Type 0
 ReadsByStep files change_file s =
-    reads_from files change_file s ≡ after files change_file (step_of files change_file s.waiting s.changes s.taken) (λ t. reads_from files change_file t)
+    reads_from files change_file s
+    ≡ after files change_file (step_of files change_file s.waiting s.changes s.taken)
+    (λ t. reads_from files change_file t)

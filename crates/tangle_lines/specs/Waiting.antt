@@ -1,5 +1,6 @@
 -- The open files as one list of the lines that wait, and how one step changes it.
-use Rattle.std.specs.Prelude.{◌≡◌, ℕ, ◌+◌, ◌≤◌, Bool, false, if◌then◌else◌, Option, None, Some, slice_get, List, [], ◌∷◌, ◌++◌, length, drop, map}
+use Rattle.std.specs.Prelude.{◌≡◌, ℕ, ◌+◌, ◌≤◌, Bool, false, if◌then◌else◌, Option, None, Some}
+use Rattle.std.specs.Prelude.{slice_get, List, [], ◌∷◌, ◌++◌, length, drop, map}
 use Rattle.std.specs.Str.{bytes_eq}
 use Rattle.tangle_lines.specs.declared.waiting.Rest.{Rest}
 use Rattle.tangle_lines.specs.declared.waiting.Rest.TheVariants.{OfFile, OfChange}
@@ -8,7 +9,9 @@ use Rattle.tangle_files.specs.Adding.{most_lines}
 use Rattle.tangle_faults.specs.Faults.{FaultRead}
 use Rattle.tangle_lines.specs.Change.{Change}
 use Rattle.tangle_lines.specs.Inclusion.{included_name}
-use Rattle.tangle_lines.specs.Reading.{WaitingLine, SourceLine, ReadingStep, waiting_lines, change_lines, plain_step, change_step, reads_from, before_reads, source_line_limit}
+use Rattle.tangle_lines.specs.Reading.{WaitingLine, SourceLine, ReadingStep, waiting_lines}
+use Rattle.tangle_lines.specs.Reading.{change_lines, plain_step, change_step, reads_from}
+use Rattle.tangle_lines.specs.Reading.{before_reads, source_line_limit}
 use Rattle.tangle_lines.specs.Reading.ReadingStep.{Ends, Goes}
 
 -- the lines of the open files, of which the last is read first
@@ -18,8 +21,10 @@ stacked (f ∷ fs) = stacked fs ++ f
 
 -- the lines of an open file that are not yet read
 abbrev pub rest_lines : ℕ → Bool → ℕ → Rest → List WaitingLine
-rest_lines file changed depth (OfFile lines read) = waiting_lines file changed depth (read + 1) (drop read lines.now)
-rest_lines file changed depth (OfChange lines) = change_lines file depth (map (λ l. (l.0, l.1.now)) lines.now)
+rest_lines file changed depth (OfFile lines read) =
+    waiting_lines file changed depth (read + 1) (drop read lines.now)
+rest_lines file changed depth (OfChange lines) =
+    change_lines file depth (map (λ l. (l.0, l.1.now)) lines.now)
 
 -- a file has no more lines than the limit
 abbrev pub IsWithinLimit : Rest → Type 0
@@ -27,17 +32,24 @@ IsWithinLimit (OfFile lines read) = length lines.now ≤ most_lines
 IsWithinLimit (OfChange lines) = Unit {0}
 
 -- the source lines and faults that a step adds, and the lines that wait after it
-abbrev pub Makes : ReadingStep → List WaitingLine → List SourceLine → List SourceLine → List FaultRead → List FaultRead → Type 0
-Makes (Ends more) waiting lines lines' faults faults' = (lines' ≡ lines) × (faults' ≡ faults ++ more)
-Makes (Goes out s) waiting lines lines' faults faults' = (waiting ≡ s.waiting) × ((lines' ≡ lines ++ out.lines) × (faults' ≡ faults ++ out.faults))
+abbrev pub Makes : ReadingStep → List WaitingLine → List SourceLine
+    → List SourceLine → List FaultRead → List FaultRead → Type 0
+Makes (Ends more) waiting lines lines' faults faults' =
+    (lines' ≡ lines) × (faults' ≡ faults ++ more)
+Makes (Goes out s) waiting lines lines' faults faults' =
+    (waiting ≡ s.waiting) × ((lines' ≡ lines ++ out.lines) × (faults' ≡ faults ++ out.faults))
 
 -- a line was read that no change takes
-abbrev pub IsPlain : FileTable → WaitingLine → List WaitingLine → List WaitingLine → List SourceLine → List SourceLine → List FaultRead → List FaultRead → Type 0
-IsPlain files w ws ws' lines lines' faults faults' = Makes (plain_step files w ws [] 0 (included_name w.bytes)) ws' lines lines' faults faults'
+abbrev pub IsPlain : FileTable → WaitingLine → List WaitingLine → List WaitingLine
+    → List SourceLine → List SourceLine → List FaultRead → List FaultRead → Type 0
+IsPlain files w ws ws' lines lines' faults faults' =
+    Makes (plain_step files w ws [] 0 (included_name w.bytes)) ws' lines lines' faults faults'
 
 -- a change was used at a line
-abbrev pub IsUsed : FileTable → ℕ → Change → WaitingLine → List WaitingLine → List WaitingLine → List FaultRead → List FaultRead → Type 0
-IsUsed files change_file c w ws ws' faults faults' = Makes (change_step files change_file c [] w ws 0) ws' [] [] faults faults'
+abbrev pub IsUsed : FileTable → ℕ → Change → WaitingLine → List WaitingLine
+    → List WaitingLine → List FaultRead → List FaultRead → Type 0
+IsUsed files change_file c w ws ws' faults faults' =
+    Makes (change_step files change_file c [] w ws 0) ws' [] [] faults faults'
 
 -- the first old line of the next change, if it may be used among these lines
 abbrev pub awaited : List Change → Bool → Option (List ℕ)
@@ -48,10 +60,14 @@ abbrev pub is_awaited : Option (List ℕ) → List ℕ → Bool
 is_awaited None line = false
 is_awaited (Some old) line = bytes_eq line old
 
--- `n` lines were taken, within the limit; reading on after them gives the same as reading on before
--- them
-abbrev pub PassesOn : List Change → List SourceLine → List WaitingLine → ℕ → List SourceLine → List WaitingLine → Type 0
+-- Reading takes `n` more lines, within the limit. The lines that were read, with those
+-- that the waiting lines give, are the same before and after.
+abbrev pub PassesOn : List Change → List SourceLine → List WaitingLine
+    → ℕ → List SourceLine → List WaitingLine → Type 0
 PassesOn changes lines ws n lines' ws' =
-    (files : FileTable) (change_file : ℕ) (faults : List FaultRead) (t : ℕ) → t + n ≤ source_line_limit
-    → before_reads (record { lines = lines'; faults = faults }) (reads_from files change_file (record { waiting = ws'; changes = changes; taken = t + n }))
-    ≡ before_reads (record { lines = lines; faults = faults }) (reads_from files change_file (record { waiting = ws; changes = changes; taken = t }))
+    (files : FileTable) (change_file : ℕ) (faults : List FaultRead) (t : ℕ)
+    → t + n ≤ source_line_limit
+    → before_reads (record { lines = lines'; faults = faults })
+    (reads_from files change_file (record { waiting = ws'; changes = changes; taken = t + n }))
+    ≡ before_reads (record { lines = lines; faults = faults })
+    (reads_from files change_file (record { waiting = ws; changes = changes; taken = t }))

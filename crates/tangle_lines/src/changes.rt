@@ -86,14 +86,14 @@ impl<'a> Change<'a> {
         self.at
     }
 
-    /// The old lines.
+    /// The lines that the change replaces.
     pub(crate) fn old_lines(&self) -> &[&'a Line]
         ensures { map (λ l. l.now) result.now ≡ self.now.old_lines }
     {
         self.old_lines.as_slice()
     }
 
-    /// The new lines, with their numbers.
+    /// The lines that replace the old ones, with their numbers in the change file.
     pub(crate) fn new_lines(&self) -> &[(u32, &'a Line)]
         ensures { map (λ l. (l.0, l.1.now)) result.now ≡ self.now.new_lines }
     {

@@ -1,8 +1,10 @@
 -- The resolution of the names depends only on how the occurrences are written.
-use Rattle.std.proofs.Common.{◌≡◌, ◌<◌, ◌+◌, ◌∙◌, ◌&&◌, ℕ, Bool, true, false, cond, not, List, [], ◌∷◌, length, map, filter, get_or, refl, ap, sym, subst, Some, None, position}
+use Rattle.std.proofs.Common.{◌≡◌, ◌<◌, ◌+◌, ◌∙◌, ◌&&◌, ℕ, Bool, true, false, cond, not, List, [], ◌∷◌, length, map}
+use Rattle.std.proofs.Common.{filter, get_or, refl, ap, sym, subst, Some, None, position}
 use Rattle.std.specs.Prelude.{nat_lt}
 use Rattle.std.specs.List.{position_or_len}
 use Rattle.std.proofs.lemmas.List.{get_or-map, length-map}
+use Rattle.std.proofs.lemmas.Simd.{map-map}
 use Rattle.tangle_faults.specs.Faults.{FaultRead}
 use Rattle.tangle_lexer.specs.declared.occurrences.OccurrenceRole.TheVariants.{Mention}
 use Rattle.tangle_lexer.specs.Occurrences.{OccurrenceRead}
@@ -10,22 +12,25 @@ use Rattle.tangle_names.specs.Names.{NameText, full_names, meaning, means}
 use Rattle.tangle_names.specs.NameTable.{AreWrittenAlike, TableRead, table_over, written_form}
 use Rattle.tangle_names.specs.declared.resolution.Resolution.{Resolution}
 use Rattle.tangle_names.specs.Resolution.{IsResolutionOf, ResolutionInvariant, table_read}
-use Rattle.tangle_names.specs.Resolving.{first_file_number, first_number, names_in_order, names_of, resolve, resolved_meaning}
-use Rattle.tangle_names.proofs.TableLemmas.{map-map}
+use Rattle.tangle_names.specs.Resolving.{first_file_number, first_number, names_in_order, names_of, resolve}
+use Rattle.tangle_names.specs.Resolving.{resolved_meaning}
 
 -- an occurrence that is written like this, without role and origin
 plain : NameText × Bool × Bool → OccurrenceRead
-plain w = record { text = w.0; is_abbreviation = w.1; is_file = w.2; role = Mention; origin = record { file = 0; line = 0 } }
+plain w =
+    record { text = w.0; is_abbreviation = w.1; is_file = w.2; role = Mention; origin = record { file = 0; line = 0 } }
 
 bare : OccurrenceRead → OccurrenceRead
 unfolding plain
 bare o = plain (written_form o)
 
-position_or_len-map : {X Y : Type 0} (q : Y → Bool) (f : X → Y) (xs : List X) → position_or_len q (map f xs) ≡ position_or_len (λ x. q (f x)) xs
+position_or_len-map : {X Y : Type 0} (q : Y → Bool) (f : X → Y) (xs : List X)
+    → position_or_len q (map f xs) ≡ position_or_len (λ x. q (f x)) xs
 position_or_len-map q f [] = refl
 position_or_len-map q f (x ∷ xs) = ap (λ n. cond (not (q (f x))) (1 + n) 0) (position_or_len-map q f xs)
 
-position-map : {X Y : Type 0} (q : Y → Bool) (f : X → Y) (xs : List X) → position q (map f xs) ≡ position (λ x. q (f x)) xs
+position-map : {X Y : Type 0} (q : Y → Bool) (f : X → Y) (xs : List X)
+    → position q (map f xs) ≡ position (λ x. q (f x)) xs
 position-map q f xs =
     let at = position_or_len-map q f xs in
     let size = length-map xs f in
@@ -41,20 +46,26 @@ module _ where
       passes o = not o.is_abbreviation
 
       by : (b : Bool) → full_names (map bare os) ≡ full_names os
-          → map (λ (o : OccurrenceRead). o.text) (cond b (bare o ∷ filter (λ (o : OccurrenceRead). not o.is_abbreviation) (map bare os)) (filter (λ (o : OccurrenceRead). not o.is_abbreviation) (map bare os)))
-          ≡ map (λ (o : OccurrenceRead). o.text) (cond b (o ∷ filter (λ (o : OccurrenceRead). not o.is_abbreviation) os) (filter (λ (o : OccurrenceRead). not o.is_abbreviation) os))
+          → map (λ (o : OccurrenceRead). o.text)
+          (cond b (bare o ∷ filter (λ (o : OccurrenceRead). not o.is_abbreviation) (map bare os))
+          (filter (λ (o : OccurrenceRead). not o.is_abbreviation) (map bare os)))
+          ≡ map (λ (o : OccurrenceRead). o.text)
+          (cond b (o ∷ filter (λ (o : OccurrenceRead). not o.is_abbreviation) os)
+          (filter (λ (o : OccurrenceRead). not o.is_abbreviation) os))
       by true e = ap (λ r. o.text ∷ r) e
       by false e = e
 
 module _ (os : List OccurrenceRead) where
   names-bare : names_in_order (map bare os) ≡ names_in_order os
   unfolding plain bare
-  names-bare = ap names_of ((λ i. map (meaning (full-bare os i)) (map bare os)) ∙ map-map (meaning (full_names os)) bare os)
+  names-bare =
+      ap names_of ((λ i. map (meaning (full-bare os i)) (map bare os)) ∙ map-map (meaning (full_names os)) bare os)
 
   resolved-bare : map (resolve (map bare os)) (map bare os) ≡ map (resolve os) os
   unfolding plain bare
   resolved-bare =
-      (λ i. map (λ (o : OccurrenceRead). resolved_meaning (names-bare i) (meaning (full-bare os i) o)) (map bare os)) ∙ map-map (resolve os) bare os
+      (λ i. map (λ (o : OccurrenceRead). resolved_meaning (names-bare i) (meaning (full-bare os i) o)) (map bare os))
+      ∙ map-map (resolve os) bare os
 
   first-bare : (name : NameText) → first_number (map bare os) name ≡ first_number os name
   unfolding plain bare
@@ -79,20 +90,25 @@ module _ (os : List OccurrenceRead) where
 
 bare-alike : (old new : List OccurrenceRead) → AreWrittenAlike old new → map bare old ≡ map bare new
 unfolding bare
-bare-alike old new alike = sym (map-map plain written_form old) ∙ (ap (map plain) alike ∙ map-map plain written_form new)
+bare-alike old new alike =
+    sym (map-map plain written_form old) ∙ (ap (map plain) alike ∙ map-map plain written_form new)
 
-pub table-alike : (old new : List OccurrenceRead) (faults : List FaultRead) → AreWrittenAlike old new → table_over old faults ≡ table_over new faults
+pub table-alike : (old new : List OccurrenceRead) (faults : List FaultRead)
+    → AreWrittenAlike old new → table_over old faults ≡ table_over new faults
 table-alike old new faults alike =
     sym (table-bare old faults) ∙ (ap (λ os. table_over os faults) (bare-alike old new alike) ∙ table-bare new faults)
 
-pub alike-at : (old new : List OccurrenceRead) (i : ℕ) (o n : OccurrenceRead) → AreWrittenAlike old new → i < length old → i < length new → o ≡ get_or old i o → n ≡ get_or new i n
+pub alike-at : (old new : List OccurrenceRead) (i : ℕ) (o n : OccurrenceRead)
+    → AreWrittenAlike old new → i < length old → i < length new → o ≡ get_or old i o → n ≡ get_or new i n
     → written_form o ≡ written_form n
 alike-at old new i o n alike h g at by =
-    ap written_form at ∙ (sym (get_or-map written_form old i o (written_form o) h) ∙ (ap (λ ws. get_or ws i (written_form o)) alike
+    ap written_form at
+    ∙ (sym (get_or-map written_form old i o (written_form o) h) ∙ (ap (λ ws. get_or ws i (written_form o)) alike
     ∙ (get_or-map written_form new i n (written_form o) g ∙ ap written_form (sym by))))
 
 -- the resolution of occurrences that are written the same
-pub kept-alike : (old new : List OccurrenceRead) (r s : Resolution) (faults others : List FaultRead) → table_read r faults ≡ table_over old others → ResolutionInvariant r → s ≡ r
+pub kept-alike : (old new : List OccurrenceRead) (r s : Resolution) (faults others : List FaultRead)
+    → table_read r faults ≡ table_over old others → ResolutionInvariant r → s ≡ r
     → AreWrittenAlike old new → IsResolutionOf new s
 kept-alike old new r s faults others table kept same alike =
     subst (IsResolutionOf new) (sym same) (record {

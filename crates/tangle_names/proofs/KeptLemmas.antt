@@ -1,10 +1,13 @@
 -- The numbers that a resolution has beside the names, and the faults that are found from them.
-use Rattle.std.proofs.Common.{◌≡◌, ◌<◌, ◌≤◌, ◌+◌, ◌∙◌, ℕ, zero, suc, Bool, true, false, cond, not, ◌&&◌, List, [], ◌∷◌, ◌++◌, length, map, filter, flat_map, take, get_or, refl, ap, sym, subst, arith, add-zero, zero-add, append-nil, Some, option_to_list}
+use Rattle.std.proofs.Common.{◌≡◌, ◌<◌, ◌+◌, ◌∙◌, ℕ, zero, suc, Bool, true, false, cond, not, ◌&&◌, List, [], ◌∷◌, ◌++◌}
+use Rattle.std.proofs.Common.{length, map, filter, flat_map, take, get_or, refl, ap, sym, subst, arith, add-zero}
+use Rattle.std.proofs.Common.{zero-add, append-nil, Some, option_to_list}
 use Rattle.std.specs.Prelude.{All, slice_get}
 use Rattle.std.specs.List.{enumerate_from}
 use Rattle.std.specs.Str.{bytes_eq}
-use Rattle.std.proofs.lemmas.List.{get_or-map, take_more}
+use Rattle.std.proofs.lemmas.List.{get_or-map, take_more, length-take-le}
 use Rattle.std.proofs.lemmas.List.Folds.{find_at}
+use Rattle.std.proofs.lemmas.Option.{slice_get_within, get_or_from_slice_get}
 use Rattle.tangle_faults.specs.declared.faults.FaultKind.TheVariants as kind
 use Rattle.tangle_faults.specs.Faults.{FaultRead, fault_about}
 use Rattle.tangle_lexer.specs.Occurrences.{OccurrenceRead}
@@ -13,7 +16,8 @@ use Rattle.tangle_names.specs.declared.Resolved.{Resolved}
 use Rattle.tangle_names.specs.declared.Resolved.TheVariants.{Name, NoFullName, Ambiguous}
 use Rattle.tangle_names.specs.Faults.{begins_another, prefix_fault, resolution_fault, resolution_faults, named_place_of}
 use Rattle.tangle_names.specs.Names.{NameText, begins_with, full_names}
-use Rattle.tangle_names.specs.Numbers.{begins_another_by_number, fault_of_number, is_unresolved, numbers_from, warning, warning_of_number}
+use Rattle.tangle_names.specs.Numbers.{begins_another_by_number, fault_of_number, is_unresolved, numbers_from, warning}
+use Rattle.tangle_names.specs.Numbers.{warning_of_number}
 use Rattle.tangle_names.specs.Resolving.{first_number, first_occurrence, names_in_order, resolve, resolves_to}
 use Rattle.tangle_names.specs.Sorted.{SameTexts}
 use Rattle.tangle_names.proofs.LawLemmas.{same}
@@ -27,7 +31,9 @@ numbers-cons {X} q k x xs = by (q x)
     rest : List (ℕ × X)
     rest = filter (λ (e : ℕ × X). q e.1) (enumerate_from (k + 1) xs)
 
-    by : (b : Bool) → map (λ (e : ℕ × X). e.0) (cond b ((k, x) ∷ rest) rest) ≡ cond b (k ∷ map (λ (e : ℕ × X). e.0) rest) (map (λ (e : ℕ × X). e.0) rest)
+    by : (b : Bool)
+        → map (λ (e : ℕ × X). e.0) (cond b ((k, x) ∷ rest) rest)
+        ≡ cond b (k ∷ map (λ (e : ℕ × X). e.0) rest) (map (λ (e : ℕ × X). e.0) rest)
     by true = refl
     by false = refl
 
@@ -38,33 +44,36 @@ numbers-push q k [] x = numbers-cons q k x [] ∙ ap {B = List ℕ} (λ n. cond 
 numbers-push q k (y ∷ ys) x =
     let moved : k + 1 + length ys ≡ k + suc (length ys) = omega arith in
     let rest = numbers-push q (k + 1) ys x ∙ ap (λ n. numbers_from q (k + 1) ys ++ cond (q x) (n ∷ []) []) moved in
-    numbers-cons q k y (ys ++ x ∷ []) ∙ (ap (λ r. cond (q y) (k ∷ r) r) rest ∙ (by (q y) ∙ ap (λ r. r ++ cond (q x) ((k + length (y ∷ ys)) ∷ []) []) (sym (numbers-cons q k y ys))))
+    numbers-cons q k y (ys ++ x ∷ [])
+    ∙ (ap (λ r. cond (q y) (k ∷ r) r) rest
+    ∙ (by (q y) ∙ ap (λ r. r ++ cond (q x) ((k + length (y ∷ ys)) ∷ []) []) (sym (numbers-cons q k y ys))))
   where
     by : (b : Bool)
-        → cond b (k ∷ (numbers_from q (k + 1) ys ++ cond (q x) ((k + suc (length ys)) ∷ []) [])) (numbers_from q (k + 1) ys ++ cond (q x) ((k + suc (length ys)) ∷ []) [])
-        ≡ cond b (k ∷ numbers_from q (k + 1) ys) (numbers_from q (k + 1) ys) ++ cond (q x) ((k + suc (length ys)) ∷ []) []
+        → cond b (k ∷ (numbers_from q (k + 1) ys ++ cond (q x) ((k + suc (length ys)) ∷ []) []))
+        (numbers_from q (k + 1) ys ++ cond (q x) ((k + suc (length ys)) ∷ []) [])
+        ≡ cond b (k ∷ numbers_from q (k + 1) ys) (numbers_from q (k + 1) ys)
+        ++ cond (q x) ((k + suc (length ys)) ∷ []) []
     by true = refl
     by false = refl
-
-length-take : {X : Type 0} (xs : List X) (i : ℕ) → i ≤ length xs → length (take i xs) ≡ i
-length-take xs zero h = refl
-length-take [] (suc i) h = absurd (omega (arith, h))
-length-take (x ∷ xs) (suc i) h = ap suc (length-take xs i (omega (arith, h)))
 
 -- one more item
 pub numbers-more : {X : Type 0} (q : X → Bool) (xs : List X) (i : ℕ) (d : X) → i < length xs
     → numbers_from q 0 (take (i + 1) xs) ≡ numbers_from q 0 (take i xs) ++ cond (q (get_or xs i d)) (i ∷ []) []
 numbers-more q xs i d h =
     ap (numbers_from q 0) (take_more xs i d h) ∙ (numbers-push q 0 (take i xs) (get_or xs i d)
-    ∙ ap (λ n. numbers_from q 0 (take i xs) ++ cond (q (get_or xs i d)) (n ∷ []) []) (zero-add (length (take i xs)) ∙ length-take xs i (omega (arith, h))))
+    ∙ ap (λ n. numbers_from q 0 (take i xs) ++ cond (q (get_or xs i d)) (n ∷ []) [])
+    (zero-add (length (take i xs)) ∙ length-take-le i xs (omega (arith, h))))
 
-pub listed-step : {X : Type 0} (q : X → Bool) (xs : List X) (i : ℕ) (d : X) (b : Bool) (before after : List ℕ) → i < length xs → b ≡ q (get_or xs i d)
-    → before ≡ numbers_from q 0 (take i xs) → after ≡ before ++ cond b (i ∷ []) [] → after ≡ numbers_from q 0 (take (i + 1) xs)
+pub listed-step : {X : Type 0} (q : X → Bool) (xs : List X) (i : ℕ) (d : X) (b : Bool) (before after : List ℕ)
+    → i < length xs → b ≡ q (get_or xs i d)
+    → before ≡ numbers_from q 0 (take i xs) → after ≡ before ++ cond b (i ∷ []) []
+    → after ≡ numbers_from q 0 (take (i + 1) xs)
 listed-step q xs i d b before after h tested sofar pushed =
     pushed ∙ ((λ j. sofar j ++ cond (tested j) (i ∷ []) []) ∙ sym (numbers-more q xs i d h))
 
 -- lists whose items pass at the same positions have the same numbers
-numbers-agree : {X Y : Type 0} (q : X → Bool) (p : Y → Bool) (k : ℕ) (xs : List X) (ys : List Y) (d : X) (e : Y) → length xs ≡ length ys
+numbers-agree : {X Y : Type 0} (q : X → Bool) (p : Y → Bool) (k : ℕ) (xs : List X) (ys : List Y) (d : X) (e : Y)
+    → length xs ≡ length ys
     → ((i : ℕ) → i < length ys → q (get_or xs i d) ≡ p (get_or ys i e)) → numbers_from q k xs ≡ numbers_from p k ys
 numbers-agree q p k [] [] d e long at = refl
 numbers-agree q p k [] (y ∷ ys) d e long at = absurd (omega (arith, long))
@@ -75,19 +84,23 @@ numbers-agree q p k (x ∷ xs) (y ∷ ys) d e long at =
     let rest = numbers-agree q p (k + 1) xs ys d e short (λ i h. at (suc i) (omega (arith, h))) in
     numbers-cons q k x xs ∙ ((λ i. cond (first i) (k ∷ rest i) (rest i)) ∙ sym (numbers-cons p k y ys))
 
-numbers-map : {X Y : Type 0} (q : Y → Bool) (f : X → Y) (k : ℕ) (xs : List X) → numbers_from q k (map f xs) ≡ numbers_from (λ x. q (f x)) k xs
+numbers-map : {X Y : Type 0} (q : Y → Bool) (f : X → Y) (k : ℕ) (xs : List X)
+    → numbers_from q k (map f xs) ≡ numbers_from (λ x. q (f x)) k xs
 numbers-map q f k [] = refl
 numbers-map q f k (x ∷ xs) =
-    numbers-cons q k (f x) (map f xs) ∙ (ap (λ r. cond (q (f x)) (k ∷ r) r) (numbers-map q f (k + 1) xs) ∙ sym (numbers-cons (λ x. q (f x)) k x xs))
+    numbers-cons q k (f x) (map f xs)
+    ∙ (ap (λ r. cond (q (f x)) (k ∷ r) r) (numbers-map q f (k + 1) xs) ∙ sym (numbers-cons (λ x. q (f x)) k x xs))
 
 -- each number is that of an item
-inside_or_later : {X : Type 0} (k : ℕ) (x : X) (xs : List X) (rest : List ℕ) (b : Bool) (n d : ℕ) → ((m : ℕ) → m < length rest → get_or rest m d < k + 1 + length xs)
+inside_or_later : {X : Type 0} (k : ℕ) (x : X) (xs : List X) (rest : List ℕ) (b : Bool) (n d : ℕ)
+    → ((m : ℕ) → m < length rest → get_or rest m d < k + 1 + length xs)
     → n < length (cond b (k ∷ rest) rest) → get_or (cond b (k ∷ rest) rest) n d < k + length (x ∷ xs)
 inside_or_later k x xs rest true zero d later h = omega arith
 inside_or_later k x xs rest true (suc n) d later h = omega (arith, later n (omega (arith, h)))
 inside_or_later k x xs rest false n d later h = omega (arith, later n h)
 
-numbers_inside-at : {X : Type 0} (q : X → Bool) (k : ℕ) (xs : List X) (n d : ℕ) → n < length (numbers_from q k xs) → get_or (numbers_from q k xs) n d < k + length xs
+numbers_inside-at : {X : Type 0} (q : X → Bool) (k : ℕ) (xs : List X) (n d : ℕ)
+    → n < length (numbers_from q k xs) → get_or (numbers_from q k xs) n d < k + length xs
 numbers_inside-at q k [] n d h = absurd (omega (arith, h))
 numbers_inside-at q k (x ∷ xs) n d h =
     subst (λ ns. n < length ns → get_or ns n d < k + length (x ∷ xs)) (sym (numbers-cons q k x xs))
@@ -98,7 +111,8 @@ numbers_inside q xs n d h = omega (arith, numbers_inside-at q 0 xs n d h)
 
 -- what is found from the numbers is found from the items
 by_number : {X : Type 0} (g : ℕ → List FaultRead) (f : X → List FaultRead) (q : X → Bool) (k : ℕ) (xs : List X)
-    → ((i : ℕ) (x : X) → slice_get xs i ≡ Some x → cond (q x) (g (k + i)) [] ≡ f x) → flat_map g (numbers_from q k xs) ≡ flat_map f xs
+    → ((i : ℕ) (x : X) → slice_get xs i ≡ Some x → cond (q x) (g (k + i)) [] ≡ f x)
+    → flat_map g (numbers_from q k xs) ≡ flat_map f xs
 by_number g f q k [] at = refl
 by_number g f q k (x ∷ xs) at =
     let first : cond (q x) (g k) [] ≡ f x = ap (λ n. cond (q x) (g n) []) (sym (add-zero k)) ∙ at 0 x refl in
@@ -107,31 +121,27 @@ by_number g f q k (x ∷ xs) at =
     ap (λ n. cond (q y) (g n) []) moved ∙ at (suc i) y found) in
     ap (flat_map g) (numbers-cons q k x xs) ∙ (by (q x) ∙ (λ i. first i ++ rest i))
   where
-    by : (b : Bool) → flat_map g (cond b (k ∷ numbers_from q (k + 1) xs) (numbers_from q (k + 1) xs)) ≡ cond b (g k) [] ++ flat_map g (numbers_from q (k + 1) xs)
+    by : (b : Bool)
+        → flat_map g (cond b (k ∷ numbers_from q (k + 1) xs) (numbers_from q (k + 1) xs))
+        ≡ cond b (g k) [] ++ flat_map g (numbers_from q (k + 1) xs)
     by true = refl
     by false = refl
 
-inside_list : {X : Type 0} (xs : List X) (i : ℕ) (x : X) → slice_get xs i ≡ Some x → i < length xs
-inside_list [] i x found = absurd (cc)
-inside_list (y ∷ ys) zero x found = omega arith
-inside_list (y ∷ ys) (suc i) x found = omega (arith, inside_list ys i x found)
-
-at_position : {X : Type 0} (xs : List X) (i : ℕ) (x d : X) → slice_get xs i ≡ Some x → get_or xs i d ≡ x
-at_position [] i x d found = absurd (cc)
-at_position (y ∷ ys) zero x d found = cc
-at_position (y ∷ ys) (suc i) x d found = at_position ys i x d found
-
 -- the faults of occurrences
-by_what : (files : List (List ℕ)) (r : Resolved) (o : OccurrenceRead) → cond (is_unresolved r) (resolution_fault files r o) [] ≡ resolution_fault files r o
+by_what : (files : List (List ℕ)) (r : Resolved) (o : OccurrenceRead)
+    → cond (is_unresolved r) (resolution_fault files r o) [] ≡ resolution_fault files r o
 by_what files (Name id) o = refl
 by_what files NoFullName o = refl
 by_what files Ambiguous o = refl
 
 pub faults_of_numbers : (web : WebRead) (rs : List Resolved) → rs ≡ map (resolve web.occurrences) web.occurrences
-    → flat_map (fault_of_number web rs) (numbers_from is_unresolved 0 rs) ≡ resolution_faults web.file_names (resolve web.occurrences) web.occurrences
+    → flat_map (fault_of_number web rs) (numbers_from is_unresolved 0 rs)
+    ≡ resolution_faults web.file_names (resolve web.occurrences) web.occurrences
 faults_of_numbers web rs all =
-    ap (λ ns. flat_map (fault_of_number web rs) ns) (ap (numbers_from is_unresolved 0) all ∙ numbers-map is_unresolved f 0 os)
-    ∙ by_number (fault_of_number web rs) (λ (o : OccurrenceRead). resolution_fault web.file_names (f o) o) (λ (o : OccurrenceRead). is_unresolved (f o)) 0 os at
+    ap (λ ns. flat_map (fault_of_number web rs) ns)
+    (ap (numbers_from is_unresolved 0) all ∙ numbers-map is_unresolved f 0 os)
+    ∙ by_number (fault_of_number web rs) (λ (o : OccurrenceRead). resolution_fault web.file_names (f o) o)
+    (λ (o : OccurrenceRead). is_unresolved (f o)) 0 os at
   where
     os : List OccurrenceRead
     os = web.occurrences
@@ -139,23 +149,32 @@ faults_of_numbers web rs all =
     f : OccurrenceRead → Resolved
     f = resolve web.occurrences
 
-    at : (i : ℕ) (o : OccurrenceRead) → slice_get os i ≡ Some o → cond (is_unresolved (f o)) (fault_of_number web rs (0 + i)) [] ≡ resolution_fault web.file_names (f o) o
+    at : (i : ℕ) (o : OccurrenceRead) → slice_get os i ≡ Some o
+        → cond (is_unresolved (f o)) (fault_of_number web rs (0 + i)) [] ≡ resolution_fault web.file_names (f o) o
     at i o found =
         let number : 0 + i ≡ i = zero-add i in
         let known : get_or rs i NoFullName ≡ f o =
-        ap (λ rs. get_or rs i NoFullName) all ∙ (get_or-map f os i o NoFullName (inside_list os i o found) ∙ ap f (at_position os i o o found)) in
+        ap (λ rs. get_or rs i NoFullName) all
+        ∙ (get_or-map f os i o NoFullName (slice_get_within os i o found)
+        ∙ ap f (get_or_from_slice_get os i o o found)) in
         let one : fault_of_number web rs i ≡ resolution_fault web.file_names (f o) o =
-        (λ j. flat_map (resolution_fault web.file_names (known j)) (option_to_list (found j))) ∙ append-nil (resolution_fault web.file_names (f o) o) in
-        ap (λ r. cond (is_unresolved (f o)) r []) (ap (fault_of_number web rs) number ∙ one) ∙ by_what web.file_names (f o) o
+        (λ j. flat_map (resolution_fault web.file_names (known j)) (option_to_list (found j)))
+        ∙ append-nil (resolution_fault web.file_names (f o) o) in
+        ap (λ r. cond (is_unresolved (f o)) r []) (ap (fault_of_number web rs) number ∙ one)
+        ∙ by_what web.file_names (f o) o
 
 -- the names that begin others
 same_names : (os : List OccurrenceRead) → SameTexts (names_in_order os) (full_names os)
 same_names os = record { over = λ t. (same os t).0; back = λ t. (same os t).1 }
 
-begins_same : (os : List OccurrenceRead) (name : NameText) → begins_another (full_names os) name ≡ begins_another (names_in_order os) name
-begins_same os name = any-same (λ (other : NameText). begins_with name other && not (bytes_eq name other)) (names_in_order os) (full_names os) (same_names os)
+begins_same : (os : List OccurrenceRead) (name : NameText)
+    → begins_another (full_names os) name ≡ begins_another (names_in_order os) name
+begins_same os name = any-same (λ (other : NameText). begins_with name other && not (bytes_eq name other))
+    (names_in_order os) (full_names os) (same_names os)
 
-pub beginning_numbers_are : (os : List OccurrenceRead) (texts names : List NameText) (flags : List Bool) (numbers : List ℕ) → SameTexts (full_names os) texts → names ≡ names_in_order os → length flags ≡ length names
+pub beginning_numbers_are : (os : List OccurrenceRead)
+    (texts names : List NameText) (flags : List Bool) (numbers : List ℕ)
+    → SameTexts (full_names os) texts → names ≡ names_in_order os → length flags ≡ length names
     → ((id : ℕ) → id < length names → get_or flags id false ≡ begins_another_by_number names texts id)
     → numbers ≡ numbers_from (λ b. b) 0 flags → numbers ≡ numbers_from (begins_another names) 0 names
 beginning_numbers_are os texts names flags numbers same named long known are =
@@ -167,26 +186,40 @@ beginning_numbers_are os texts names flags numbers same named long known are =
 
 warning-is : (web : WebRead) (name : NameText)
     → warning web (first_number web.occurrences name) name
-    ≡ map (λ (o : OccurrenceRead). fault_about kind.PrefixName (named_place_of web.file_names o.origin) name) (option_to_list (first_occurrence web.occurrences name))
+    ≡ map (λ (o : OccurrenceRead). fault_about kind.PrefixName (named_place_of web.file_names o.origin) name)
+    (option_to_list (first_occurrence web.occurrences name))
 warning-is web name =
-    ap (λ found. map (λ (o : OccurrenceRead). fault_about kind.PrefixName (named_place_of web.file_names o.origin) name) (option_to_list found)) (sym (find_at (resolves_to web.occurrences name) web.occurrences))
+    ap
+    (λ found. map (λ (o : OccurrenceRead). fault_about kind.PrefixName (named_place_of web.file_names o.origin) name)
+    (option_to_list found)) (sym (find_at (resolves_to web.occurrences name) web.occurrences))
 
-pub warnings_of_numbers : (web : WebRead) (names : List NameText) (first_occurrences : List ℕ) → names ≡ names_in_order web.occurrences
+pub warnings_of_numbers : (web : WebRead) (names : List NameText) (first_occurrences : List ℕ)
+    → names ≡ names_in_order web.occurrences
     → first_occurrences ≡ map (first_number web.occurrences) (names_in_order web.occurrences)
-    → flat_map (warning_of_number web names first_occurrences) (numbers_from (begins_another names) 0 names) ≡ flat_map (prefix_fault web) (names_in_order web.occurrences)
+    → flat_map (warning_of_number web names first_occurrences) (numbers_from (begins_another names) 0 names)
+    ≡ flat_map (prefix_fault web) (names_in_order web.occurrences)
 warnings_of_numbers web names first_occurrences named positions =
-    by_number (warning_of_number web names first_occurrences) (prefix_fault web) (begins_another names) 0 names at ∙ ap (flat_map (prefix_fault web)) named
+    by_number (warning_of_number web names first_occurrences) (prefix_fault web) (begins_another names) 0 names at
+    ∙ ap (flat_map (prefix_fault web)) named
   where
     os : List OccurrenceRead
     os = web.occurrences
 
-    at : (i : ℕ) (name : NameText) → slice_get names i ≡ Some name → cond (begins_another names name) (warning_of_number web names first_occurrences (0 + i)) [] ≡ prefix_fault web name
+    at : (i : ℕ) (name : NameText) → slice_get names i ≡ Some name
+        → cond (begins_another names name) (warning_of_number web names first_occurrences (0 + i)) []
+        ≡ prefix_fault web name
     at i name found =
         let number : 0 + i ≡ i = zero-add i in
-        let read : get_or names i [] ≡ name = at_position names i name [] found in
-        let inside : i < length (names_in_order os) = omega (arith, inside_list names i name found, ap length named) in
+        let read : get_or names i [] ≡ name = get_or_from_slice_get names i name [] found in
+        let inside : i < length (names_in_order os) =
+        omega (arith, slice_get_within names i name found, ap length named) in
         let position : get_or first_occurrences i 0 ≡ first_number os name =
-        ap (λ ns. get_or ns i 0) positions ∙ (get_or-map (first_number os) (names_in_order os) i [] 0 inside ∙ ap (first_number os) (ap (λ ns. get_or ns i []) (sym named) ∙ read)) in
-        let marked : begins_another names name ≡ begins_another (full_names os) name = ap (λ ns. begins_another ns name) named ∙ sym (begins_same os name) in
-        let one : warning_of_number web names first_occurrences i ≡ warning web (first_number os name) name = λ j. warning web (position j) (read j) in
-        λ j. cond (marked j) ((ap (warning_of_number web names first_occurrences) number ∙ (one ∙ warning-is web name)) j) []
+        ap (λ ns. get_or ns i 0) positions
+        ∙ (get_or-map (first_number os) (names_in_order os) i [] 0 inside
+        ∙ ap (first_number os) (ap (λ ns. get_or ns i []) (sym named) ∙ read)) in
+        let marked : begins_another names name ≡ begins_another (full_names os) name =
+        ap (λ ns. begins_another ns name) named ∙ sym (begins_same os name) in
+        let one : warning_of_number web names first_occurrences i ≡ warning web (first_number os name) name =
+        λ j. warning web (position j) (read j) in
+        λ j.
+        cond (marked j) ((ap (warning_of_number web names first_occurrences) number ∙ (one ∙ warning-is web name)) j) []

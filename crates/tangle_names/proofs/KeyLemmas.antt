@@ -1,5 +1,6 @@
 -- The keys of the set of names, as texts.
-use Rattle.std.proofs.Common.{◌≡◌, ◌<◌, ◌≤◌, ◌+◌, ◌∙◌, ◌||◌, ℕ, Bool, true, false, cond, not, ltb, List, [], ◌∷◌, ◌++◌, length, get_or, refl, ap, sym, subst, arith, Vec, position, Option, Some, None}
+use Rattle.std.proofs.Common.{◌≡◌, ◌<◌, ◌≤◌, ◌+◌, ◌∙◌, ◌||◌, ℕ, Bool, true, false, cond, not, ltb, List, [], ◌∷◌, ◌++◌}
+use Rattle.std.proofs.Common.{length, get_or, refl, ap, sym, subst, arith, Vec, position, Option, Some, None}
 use Rattle.std.specs.Prelude.{unwrap_or, IfSome}
 use Rattle.std.specs.List.{list_any, position_or_len}
 use Rattle.std.specs.Str.{bytes_eq}
@@ -13,12 +14,16 @@ use Rattle.tangle_names.specs.Names.{NameText, One}
 use Rattle.tangle_names.specs.Resolving.{with_name}
 use Rattle.tangle_names.specs.Numbers.{key_texts}
 
-same_test : (keys : List (Vec ℕ Global)) (text : NameText) → list_any (bytes_eq text) (key_texts keys) ≡ list_any (λ (v : Vec ℕ Global). bytes_eq text v.items) keys
+same_test : (keys : List (Vec ℕ Global)) (text : NameText)
+    → list_any (bytes_eq text) (key_texts keys) ≡ list_any (λ (v : Vec ℕ Global). bytes_eq text v.items) keys
 same_test [] text = refl
 same_test (k ∷ keys) text = ap (λ b. bytes_eq text k.items || b) (same_test keys text)
 
-pub key_texts-present : (keys : List (Vec ℕ Global)) (text : NameText) → list_any (λ (v : Vec ℕ Global). bytes_eq text v.items) keys ≡ true → key_texts keys ≡ with_name (key_texts keys) (One text)
-key_texts-present keys text is = sym (ap (λ b. cond b (key_texts keys) (key_texts keys ++ text ∷ [])) (same_test keys text ∙ is))
+pub key_texts-present : (keys : List (Vec ℕ Global)) (text : NameText)
+    → list_any (λ (v : Vec ℕ Global). bytes_eq text v.items) keys ≡ true
+    → key_texts keys ≡ with_name (key_texts keys) (One text)
+key_texts-present keys text is =
+    sym (ap (λ b. cond b (key_texts keys) (key_texts keys ++ text ∷ [])) (same_test keys text ∙ is))
 
 pub key_texts-insert : (keys next : List (Vec ℕ Global)) (v : Vec ℕ Global) (text : NameText) → v.items ≡ text
     → next ≡ cond (list_any (λ (k : Vec ℕ Global). bytes_eq v.items k.items) keys) keys (keys ++ v ∷ [])
@@ -26,13 +31,18 @@ pub key_texts-insert : (keys next : List (Vec ℕ Global)) (v : Vec ℕ Global) 
 key_texts-insert keys next v text e is =
     ap key_texts is ∙ by (list_any (λ (k : Vec ℕ Global). bytes_eq v.items k.items) keys) refl
   where
-    by : (b : Bool) → list_any (λ (k : Vec ℕ Global). bytes_eq v.items k.items) keys ≡ b → key_texts (cond b keys (keys ++ v ∷ [])) ≡ with_name (key_texts keys) (One text)
-    by true found = key_texts-present keys text (subst (λ t. list_any (λ (k : Vec ℕ Global). bytes_eq t k.items) keys ≡ true) e found)
+    by : (b : Bool) → list_any (λ (k : Vec ℕ Global). bytes_eq v.items k.items) keys ≡ b
+        → key_texts (cond b keys (keys ++ v ∷ [])) ≡ with_name (key_texts keys) (One text)
+    by true found = key_texts-present keys text
+        (subst (λ t. list_any (λ (k : Vec ℕ Global). bytes_eq t k.items) keys ≡ true) e found)
     by false found =
         map_push (λ (k : Vec ℕ Global). k.items) keys v ∙ (ap (λ t. key_texts keys ++ t ∷ []) e
-        ∙ sym (ap (λ b. cond b (key_texts keys) (key_texts keys ++ text ∷ [])) (same_test keys text ∙ subst (λ t. list_any (λ (k : Vec ℕ Global). bytes_eq t k.items) keys ≡ false) e found)))
+        ∙ sym (ap (λ b. cond b (key_texts keys) (key_texts keys ++ text ∷ []))
+        (same_test keys text ∙ subst (λ t. list_any (λ (k : Vec ℕ Global). bytes_eq t k.items) keys ≡ false) e found)))
 
-position-map : (keys : List (Vec ℕ Global)) (text : NameText) → position_or_len (bytes_eq text) (key_texts keys) ≡ position_or_len (λ (v : Vec ℕ Global). bytes_eq text v.items) keys
+position-map : (keys : List (Vec ℕ Global)) (text : NameText)
+    → position_or_len (bytes_eq text) (key_texts keys)
+    ≡ position_or_len (λ (v : Vec ℕ Global). bytes_eq text v.items) keys
 position-map [] text = refl
 position-map (k ∷ keys) text = ap (λ n. cond (not (bytes_eq text k.items)) (1 + n) 0) (position-map keys text)
 
@@ -43,20 +53,24 @@ chosen n size most = by (ltb n size) refl
     by true is = refl
     by false is = grind (arith, nat_tests)
 
-pub number_is : (keys : List (Vec ℕ Global)) (text : NameText) (found : Option ℕ) (len : ℕ) → found ≡ position (λ (v : Vec ℕ Global). bytes_eq text v.items) keys → len ≡ length keys
+pub number_is : (keys : List (Vec ℕ Global)) (text : NameText) (found : Option ℕ) (len : ℕ)
+    → found ≡ position (λ (v : Vec ℕ Global). bytes_eq text v.items) keys → len ≡ length keys
     → unwrap_or found len ≡ position_or_len (bytes_eq text) (key_texts keys)
 number_is keys text found len e l =
-    (λ i. unwrap_or (e i) (l i)) ∙ (chosen (position_or_len (λ (v : Vec ℕ Global). bytes_eq text v.items) keys) (length keys) (prefix_len-le-length (λ (v : Vec ℕ Global). not (bytes_eq text v.items)) keys)
+    (λ i. unwrap_or (e i) (l i)) ∙ (chosen (position_or_len (λ (v : Vec ℕ Global). bytes_eq text v.items) keys)
+    (length keys) (prefix_len-le-length (λ (v : Vec ℕ Global). not (bytes_eq text v.items)) keys)
     ∙ sym (position-map keys text))
 
-pub position-keys : (keys : List (Vec ℕ Global)) (text : NameText) → position (λ (v : Vec ℕ Global). bytes_eq text v.items) keys ≡ position (bytes_eq text) (key_texts keys)
+pub position-keys : (keys : List (Vec ℕ Global)) (text : NameText)
+    → position (λ (v : Vec ℕ Global). bytes_eq text v.items) keys ≡ position (bytes_eq text) (key_texts keys)
 position-keys keys text =
     let at = sym (position-map keys text) in
     let size = sym (length-map keys (λ (v : Vec ℕ Global). v.items)) in
     λ i. cond (ltb (at i) (size i)) (Some (at i)) None
 
 -- the name that was found has this text
-pub found_has_text : (names : List NameText) (text : NameText) (found : Option ℕ) → found ≡ position (bytes_eq text) names
+pub found_has_text : (names : List NameText) (text : NameText) (found : Option ℕ)
+    → found ≡ position (bytes_eq text) names
     → IfSome found (λ n. (n < length names) × (get_or names n [] ≡ text))
 found_has_text names text None e = tt
 found_has_text names text (Some n) e =

@@ -1,24 +1,31 @@
 -- The laws of names.
-use Rattle.std.proofs.Common.{◌≡◌, ◌≢◌, ◌+◌, ◌∙◌, suc, Bool, true, false, cond, not, ◌||◌, ◌&&◌, List, [], ◌∷◌, filter, get_or, refl, ap, sym, subst, arith, inl, inr, Contains, find, Some}
+use Rattle.std.proofs.Common.{◌≡◌, ◌≢◌, ◌+◌, ◌∙◌, suc, Bool, true, false, cond, not, ◌||◌, ◌&&◌, List, [], ◌∷◌, filter}
+use Rattle.std.proofs.Common.{get_or, refl, ap, sym, subst, arith, inl, inr, Contains, find, Some}
 use Rattle.std.specs.List.{AllByRecursion, IsDistinct, list_all, list_any, position_or_len}
 use Rattle.std.specs.Prelude.{IsSome}
 use Rattle.std.specs.Str.{bytes_eq}
 use Rattle.std.proofs.lemmas.Cmp.{nat_list_eq_equiv}
 use Rattle.std.proofs.lemmas.List.Folds.{Any-from_list_any}
 use Rattle.std.proofs.lemmas.Slice.Eq.{bytes_eq-Decides}
+use Rattle.std.proofs.lemmas.Bool.{not-true, false_from_ne_true, or_parts}
 use Rattle.tangle_lexer.specs.Occurrences.{OccurrenceRead}
-use Rattle.tangle_names.specs.Names.{NameText, Meaning, Nothing, One, Several, begins_with, full_names, meaning, means, only, only_with, prefix}
-use Rattle.tangle_names.specs.Resolving.{first_occurrence, meanings, names_in_order, resolve, resolved_meaning, resolves_to}
+use Rattle.tangle_names.specs.Names.{NameText, Meaning, Nothing, One, Several, begins_with, full_names, meaning, means}
+use Rattle.tangle_names.specs.Names.{only, only_with, prefix}
+use Rattle.tangle_names.specs.Resolving.{first_occurrence, meanings, names_in_order, resolve, resolved_meaning}
+use Rattle.tangle_names.specs.Resolving.{resolves_to}
 use Rattle.tangle_names.specs.Laws.{IsNumberOf, ResolvesFull, ResolvesPrefix}
-use Rattle.tangle_names.proofs.MeaningLemmas.{cons_cases, from-one, here, into_filter, out_of_filter, there}
+use Rattle.tangle_names.proofs.ContainsLemmas.{here, there, cons_cases, into_filter, out_of_filter, into_map}
+use Rattle.tangle_names.proofs.ContainsLemmas.{out_of_map}
+use Rattle.tangle_names.proofs.MeaningLemmas.{from-one}
 use Rattle.tangle_names.proofs.ResolvingLemmas.{meant-fold}
-use Rattle.tangle_names.proofs.TableLemmas.{Distinct, distinct_names, from_fold, into_map, names_are_full, neither, out_of_map}
+use Rattle.tangle_names.proofs.TableLemmas.{Distinct, distinct_names, from_fold, names_are_full}
 
 -- each name once
-each_other : (t : NameText) (ts : List NameText) → list_any (bytes_eq t) ts ≡ false → AllByRecursion (λ u. bytes_eq t u ≡ false) ts
+each_other : (t : NameText) (ts : List NameText)
+    → list_any (bytes_eq t) ts ≡ false → AllByRecursion (λ u. bytes_eq t u ≡ false) ts
 each_other t [] h = tt
 each_other t (u ∷ us) h =
-    let both = neither (bytes_eq t u) (list_any (bytes_eq t) us) h in
+    let both = or_parts (bytes_eq t u) (list_any (bytes_eq t) us) h in
     (both.0, each_other t us both.1)
 
 is_distinct : (ts : List NameText) → Distinct ts → IsDistinct bytes_eq ts
@@ -29,8 +36,10 @@ is_distinct (t ∷ ts) d = (each_other t ts d.0, is_distinct ts d.1)
 pub once : (os : List OccurrenceRead) → IsDistinct bytes_eq (names_in_order os)
 once os = is_distinct (names_in_order os) (distinct_names (meanings os))
 
-among : (os : List OccurrenceRead) (o : OccurrenceRead) (t : NameText) → Contains os o → meaning (full_names os) o ≡ One t → list_any (bytes_eq t) (names_in_order os) ≡ true
-among os o t c is = meant-fold t (meanings os) [] (subst (Contains (meanings os)) is (into_map (meaning (full_names os)) os o c))
+among : (os : List OccurrenceRead) (o : OccurrenceRead) (t : NameText)
+    → Contains os o → meaning (full_names os) o ≡ One t → list_any (bytes_eq t) (names_in_order os) ≡ true
+among os o t c is =
+    meant-fold t (meanings os) [] (subst (Contains (meanings os)) is (into_map (meaning (full_names os)) os o c))
 
 contains-any : (t : NameText) (ts : List NameText) → list_any (bytes_eq t) ts ≡ true → Contains ts t
 contains-any t ts h =
@@ -40,43 +49,49 @@ contains-any t ts h =
 means_itself : (full : List NameText) (o : OccurrenceRead) → o.is_abbreviation ≡ false → meaning full o ≡ One o.text
 means_itself full o is = ap (λ b. cond b (only_with full (prefix o.text)) (One o.text)) is
 
-turned : (b : Bool) → not b ≡ true → b ≡ false
-turned true h = absurd (cc)
-turned false h = refl
-
-pub same : (os : List OccurrenceRead) (t : NameText) → (Contains (names_in_order os) t → Contains (full_names os) t) × (Contains (full_names os) t → Contains (names_in_order os) t)
+pub same : (os : List OccurrenceRead) (t : NameText)
+    → (Contains (names_in_order os) t → Contains (full_names os) t)
+    × (Contains (full_names os) t → Contains (names_in_order os) t)
 same os t = (
   names_are_full os t,
   λ c.
-      let found = out_of_map (λ (o : OccurrenceRead). o.text) (filter (λ (o : OccurrenceRead). not o.is_abbreviation) os) t c in
+      let found =
+      out_of_map (λ (o : OccurrenceRead). o.text) (filter (λ (o : OccurrenceRead). not o.is_abbreviation) os) t c in
       let member = out_of_filter (λ (o : OccurrenceRead). not o.is_abbreviation) os found.0 found.1 in
-      contains-any t (names_in_order os) (among os found.0 t member.0 (means_itself (full_names os) found.0 (turned _ member.1) ∙ ap One found.2)),
+      contains-any t (names_in_order os)
+      (among os found.0 t member.0 (means_itself (full_names os) found.0 (not-true _ member.1) ∙ ap One found.2)),
 )
 
 -- the number of a name
-number-later : (t u : NameText) (us : List NameText) → IsNumberOf us (position_or_len (bytes_eq t) us) t → IsNumberOf (u ∷ us) (1 + position_or_len (bytes_eq t) us) t
+number-later : (t u : NameText) (us : List NameText)
+    → IsNumberOf us (position_or_len (bytes_eq t) us) t → IsNumberOf (u ∷ us) (1 + position_or_len (bytes_eq t) us) t
 number-later t u us n =
     let moved : 1 + position_or_len (bytes_eq t) us ≡ suc (position_or_len (bytes_eq t) us) = omega arith in
     record { inside = omega (arith, n.inside); at = ap (λ k. get_or (u ∷ us) k []) moved ∙ n.at }
 
 number-either : (t u : NameText) (us : List NameText) → list_any (bytes_eq t) (u ∷ us) ≡ true
-    → (list_any (bytes_eq t) us ≡ true → IsNumberOf us (position_or_len (bytes_eq t) us) t) → IsNumberOf (u ∷ us) (position_or_len (bytes_eq t) (u ∷ us)) t
+    → (list_any (bytes_eq t) us ≡ true → IsNumberOf us (position_or_len (bytes_eq t) us) t)
+    → IsNumberOf (u ∷ us) (position_or_len (bytes_eq t) (u ∷ us)) t
 number-either t u us h rest = by (bytes_eq t u) refl
   where
-    by : (b : Bool) → bytes_eq t u ≡ b → IsNumberOf (u ∷ us) (cond (not (bytes_eq t u)) (1 + position_or_len (bytes_eq t) us) 0) t
+    by : (b : Bool)
+        → bytes_eq t u ≡ b → IsNumberOf (u ∷ us) (cond (not (bytes_eq t u)) (1 + position_or_len (bytes_eq t) us) 0) t
     by true is = subst (λ b. IsNumberOf (u ∷ us) (cond (not b) (1 + position_or_len (bytes_eq t) us) 0) t) (sym is)
         (record { inside = omega arith; at = sym ((bytes_eq-Decides t u).0 is) })
     by false is = subst (λ b. IsNumberOf (u ∷ us) (cond (not b) (1 + position_or_len (bytes_eq t) us) 0) t) (sym is)
         (number-later t u us (rest (ap (λ b. b || list_any (bytes_eq t) us) (sym is) ∙ h)))
 
-number-at : (t : NameText) (ts : List NameText) → list_any (bytes_eq t) ts ≡ true → IsNumberOf ts (position_or_len (bytes_eq t) ts) t
+number-at : (t : NameText) (ts : List NameText)
+    → list_any (bytes_eq t) ts ≡ true → IsNumberOf ts (position_or_len (bytes_eq t) ts) t
 number-at t [] h = absurd (cc)
 number-at t (u ∷ us) h = number-either t u us h (number-at t us)
 
-pub full_law : (os : List OccurrenceRead) (o : OccurrenceRead) → Contains os o → o.is_abbreviation ≡ false → ResolvesFull (names_in_order os) o.text (resolve os o)
+pub full_law : (os : List OccurrenceRead) (o : OccurrenceRead)
+    → Contains os o → o.is_abbreviation ≡ false → ResolvesFull (names_in_order os) o.text (resolve os o)
 full_law os o c is =
     let itself = means_itself (full_names os) o is in
-    subst (λ m. ResolvesFull (names_in_order os) o.text (resolved_meaning (names_in_order os) m)) (sym itself) (number-at o.text (names_in_order os) (among os o o.text c itself))
+    subst (λ m. ResolvesFull (names_in_order os) o.text (resolved_meaning (names_in_order os) m))
+    (sym itself) (number-at o.text (names_in_order os) (among os o o.text c itself))
 
 from-nothing : (xs : List NameText) → Nothing ≡ only xs → (t : NameText) → Contains xs t → ⊥
 from-nothing [] e t c = omega (arith, c.1)
@@ -86,7 +101,8 @@ from-nothing (x ∷ xs) e t c = by (list_all (bytes_eq x) xs) e
     by true f = cc
     by false f = cc
 
-fails-either : (q : NameText → Bool) (x : NameText) (xs : List NameText) → list_all q (x ∷ xs) ≡ false → (list_all q xs ≡ false → (v : NameText) × Contains xs v × (q v ≡ false))
+fails-either : (q : NameText → Bool) (x : NameText) (xs : List NameText)
+    → list_all q (x ∷ xs) ≡ false → (list_all q xs ≡ false → (v : NameText) × Contains xs v × (q v ≡ false))
     → (v : NameText) × Contains (x ∷ xs) v × (q v ≡ false)
 fails-either q x xs h rest = by (q x) refl
   where
@@ -96,27 +112,33 @@ fails-either q x xs h rest = by (q x) refl
         (found.0, there x xs found.0 found.1, found.2)
     by false is = (x, here x xs, is)
 
-fails : (q : NameText → Bool) (xs : List NameText) → list_all q xs ≡ false → (v : NameText) × Contains xs v × (q v ≡ false)
+fails : (q : NameText → Bool) (xs : List NameText)
+    → list_all q xs ≡ false → (v : NameText) × Contains xs v × (q v ≡ false)
 fails q [] h = absurd (cc)
 fails q (x ∷ xs) h = fails-either q x xs h (fails q xs)
 
-from-several : (xs : List NameText) → Several ≡ only xs → (t : NameText) × (u : NameText) × Contains xs t × Contains xs u × (t ≢ u)
+from-several : (xs : List NameText)
+    → Several ≡ only xs → (t : NameText) × (u : NameText) × Contains xs t × Contains xs u × (t ≢ u)
 from-several [] e = absurd (cc)
 from-several (x ∷ xs) e = by (list_all (bytes_eq x) xs) refl
   where
-    by : (b : Bool) → list_all (bytes_eq x) xs ≡ b → (t : NameText) × (u : NameText) × Contains (x ∷ xs) t × Contains (x ∷ xs) u × (t ≢ u)
+    by : (b : Bool) → list_all (bytes_eq x) xs ≡ b
+        → (t : NameText) × (u : NameText) × Contains (x ∷ xs) t × Contains (x ∷ xs) u × (t ≢ u)
     by true is = absurd (let clash : Several ≡ One x = e ∙ ap (λ b. cond b (One x) Several) is in cc)
     by false is =
-        let found = fails (bytes_eq x) xs is in
-        (x, found.0, here x xs, there x xs found.0 found.1, λ equal. (let clash : true ≡ false = sym ((bytes_eq-Decides x found.0).1 equal) ∙ found.2 in cc))
+        let found = fails (bytes_eq x) xs is in (
+          x,
+          found.0,
+          here x xs,
+          there x xs found.0 found.1,
+          λ equal. (let clash : true ≡ false = sym ((bytes_eq-Decides x found.0).1 equal) ∙ found.2 in cc),
+        )
 
-is_not : (b : Bool) → (b ≡ true → ⊥) → b ≡ false
-is_not true h = absurd (h refl)
-is_not false h = refl
-
-prefix_law-by : (os : List OccurrenceRead) (p : NameText) (m : Meaning) → m ≡ only_with (full_names os) p → ((t : NameText) → m ≡ One t → list_any (bytes_eq t) (names_in_order os) ≡ true)
+prefix_law-by : (os : List OccurrenceRead) (p : NameText) (m : Meaning)
+    → m ≡ only_with (full_names os) p → ((t : NameText) → m ≡ One t → list_any (bytes_eq t) (names_in_order os) ≡ true)
     → ResolvesPrefix (names_in_order os) (full_names os) p (resolved_meaning (names_in_order os) m)
-prefix_law-by os p Nothing e named = λ t c. is_not _ (λ begun. from-nothing (filter (begins_with p) (full_names os)) e t (into_filter (begins_with p) (full_names os) t c begun))
+prefix_law-by os p Nothing e named = λ t c. false_from_ne_true _ (λ begun.
+    from-nothing (filter (begins_with p) (full_names os)) e t (into_filter (begins_with p) (full_names os) t c begun))
 prefix_law-by os p (One t) e named =
     let found = from-one (filter (begins_with p) (full_names os)) t e in
     let member = out_of_filter (begins_with p) (full_names os) t found.0 in (
@@ -131,16 +153,27 @@ prefix_law-by os p (One t) e named =
 prefix_law-by os p Several e named =
     let found = from-several (filter (begins_with p) (full_names os)) e in
     let first = out_of_filter (begins_with p) (full_names os) found.0 found.2 in
-    let second = out_of_filter (begins_with p) (full_names os) found.1 found.3 in
-    (found.0, found.1, record { first_is_full = first.0; second_is_full = second.0; first_begins = first.1; second_begins = second.1; differ = found.4 })
+    let second = out_of_filter (begins_with p) (full_names os) found.1 found.3 in (
+      found.0,
+      found.1,
+      record {
+        first_is_full = first.0;
+        second_is_full = second.0;
+        first_begins = first.1;
+        second_begins = second.1;
+        differ = found.4;
+      },
+    )
 
 pub prefix_law : (os : List OccurrenceRead) (o : OccurrenceRead) → Contains os o → o.is_abbreviation ≡ true
     → ResolvesPrefix (names_in_order os) (full_names os) (prefix o.text) (resolve os o)
 prefix_law os o c is =
-    prefix_law-by os (prefix o.text) (meaning (full_names os) o) (ap (λ b. cond b (only_with (full_names os) (prefix o.text)) (One o.text)) is) (λ t e. among os o t c e)
+    prefix_law-by os (prefix o.text) (meaning (full_names os) o)
+    (ap (λ b. cond b (only_with (full_names os) (prefix o.text)) (One o.text)) is) (λ t e. among os o t c e)
 
 -- an occurrence resolves to each name
-found_first : (q : OccurrenceRead → Bool) (os : List OccurrenceRead) (o : OccurrenceRead) → Contains os o → q o ≡ true → IsSome (find q os)
+found_first : (q : OccurrenceRead → Bool) (os : List OccurrenceRead) (o : OccurrenceRead)
+    → Contains os o → q o ≡ true → IsSome (find q os)
 found_first q [] o c h = absurd (omega (arith, c.1))
 found_first q (p ∷ os) o c h = by (q p) refl (elim (cons_cases p os o c) as (λ _. q p ≡ false → IsSome (find q os)) [
   | inl e ↦ (λ is. absurd (let clash : true ≡ false = sym h ∙ (ap q (sym e) ∙ is) in cc))
@@ -152,6 +185,7 @@ found_first q (p ∷ os) o c h = by (q p) refl (elim (cons_cases p os o c) as (�
     by false is rest = subst (λ b. IsSome (cond b (Some p) (find q os))) (sym is) (rest is)
 
 pub occur : (os : List OccurrenceRead) (t : NameText) → Contains (names_in_order os) t → IsSome (first_occurrence os t)
-occur os = from_fold (λ t. IsSome (first_occurrence os t)) (meanings os) [] (λ t c. absurd (omega (arith, c.1))) (λ m t c e.
+occur os =
+    from_fold (λ t. IsSome (first_occurrence os t)) (meanings os) [] (λ t c. absurd (omega (arith, c.1))) (λ m t c e.
     let o = out_of_map (meaning (full_names os)) os m c in
     found_first (resolves_to os t) os o.0 o.1 (ap (means t) (o.2 ∙ e) ∙ nat_list_eq_equiv.refl t))

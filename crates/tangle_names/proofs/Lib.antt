@@ -1,5 +1,6 @@
 mod AlikeLemmas
-mod FirstLemmas
+pub mod ContainsLemmas
+pub mod FirstLemmas
 mod KeptLemmas
 mod KeyLemmas
 mod LawLemmas

@@ -1,33 +1,34 @@
 -- The name that is meant is among the names, and keeps its number.
-use Rattle.std.proofs.Common.{◌≡◌, ◌+◌, ◌∙◌, ◌||◌, ℕ, Bool, true, false, cond, not, List, [], ◌∷◌, ◌++◌, length, map, take, fold, get_or, refl, ap, sym, arith, inl, inr, ◌<◌, Contains}
+use Rattle.std.proofs.Common.{◌≡◌, ◌+◌, ◌∙◌, ◌||◌, ℕ, Bool, true, false, cond, not, List, [], ◌∷◌, ◌++◌, length, map}
+use Rattle.std.proofs.Common.{take, fold, get_or, refl, ap, sym, arith, inl, inr, ◌<◌, Contains}
 use Rattle.std.specs.List.{list_any, position_or_len}
 use Rattle.std.specs.Str.{bytes_eq}
 use Rattle.std.proofs.lemmas.Cmp.{nat_list_eq_equiv}
 use Rattle.std.proofs.lemmas.List.{map_push, take_more}
 use Rattle.std.proofs.lemmas.List.Folds.{list_any-append}
+use Rattle.std.proofs.lemmas.Bool.{or_left, or_parts}
 use Rattle.tangle_names.specs.declared.Resolved.{Resolved}
 use Rattle.tangle_names.specs.declared.Resolved.TheVariants.{Name}
 use Rattle.tangle_names.specs.Names.{NameText, Meaning, Nothing, One, Several}
 use Rattle.tangle_names.specs.Resolving.{names_of, resolved_meaning, with_name}
 use Rattle.tangle_names.specs.Sorted.{meaning_of}
 use Rattle.tangle_names.specs.declared.sorted.Meaning.{Meaning as Found}
-use Rattle.tangle_names.proofs.MeaningLemmas.{cons_cases, here, there}
+use Rattle.tangle_names.proofs.ContainsLemmas.{here, there, cons_cases}
 
 -- the name that is meant is among the names
-either : (a b : Bool) → a ≡ true → (a || b) ≡ true
-either true b h = refl
-either false b h = absurd (cc)
 
-kept-with : (q : NameText → Bool) (ts : List NameText) (m : Meaning) → list_any q ts ≡ true → list_any q (with_name ts m) ≡ true
+kept-with : (q : NameText → Bool) (ts : List NameText) (m : Meaning)
+    → list_any q ts ≡ true → list_any q (with_name ts m) ≡ true
 kept-with q ts Nothing h = h
 kept-with q ts (One t) h = by (list_any (bytes_eq t) ts)
   where
     by : (b : Bool) → list_any q (cond b ts (ts ++ t ∷ [])) ≡ true
     by true = h
-    by false = list_any-append q ts (t ∷ []) ∙ either (list_any q ts) (list_any q (t ∷ [])) h
+    by false = list_any-append q ts (t ∷ []) ∙ or_left (list_any q ts) (list_any q (t ∷ [])) h
 kept-with q ts Several h = h
 
-kept-fold : (q : NameText → Bool) (ms : List Meaning) (ts : List NameText) → list_any q ts ≡ true → list_any q (fold with_name ts ms) ≡ true
+kept-fold : (q : NameText → Bool) (ms : List Meaning) (ts : List NameText)
+    → list_any q ts ≡ true → list_any q (fold with_name ts ms) ≡ true
 kept-fold q [] ts h = h
 kept-fold q (m ∷ ms) ts h = kept-fold q ms (with_name ts m) (kept-with q ts m h)
 
@@ -39,11 +40,16 @@ last_or false false h = absurd (cc)
 added : (ts : List NameText) (t : NameText) → list_any (bytes_eq t) (with_name ts (One t)) ≡ true
 added ts t = by (list_any (bytes_eq t) ts) refl
   where
-    by : (b : Bool) → list_any (bytes_eq t) ts ≡ b → list_any (bytes_eq t) (cond (list_any (bytes_eq t) ts) ts (ts ++ t ∷ [])) ≡ true
+    by : (b : Bool) → list_any (bytes_eq t) ts ≡ b
+        → list_any (bytes_eq t) (cond (list_any (bytes_eq t) ts) ts (ts ++ t ∷ [])) ≡ true
     by true is = ap (λ b. list_any (bytes_eq t) (cond b ts (ts ++ t ∷ []))) is ∙ is
-    by false is = ap (λ b. list_any (bytes_eq t) (cond b ts (ts ++ t ∷ []))) is ∙ (list_any-append (bytes_eq t) ts (t ∷ []) ∙ last_or (list_any (bytes_eq t) ts) (bytes_eq t t) (nat_list_eq_equiv.refl t))
+    by false is =
+        ap (λ b. list_any (bytes_eq t) (cond b ts (ts ++ t ∷ []))) is
+        ∙ (list_any-append (bytes_eq t) ts (t ∷ [])
+        ∙ last_or (list_any (bytes_eq t) ts) (bytes_eq t t) (nat_list_eq_equiv.refl t))
 
-pub meant-fold : (t : NameText) (ms : List Meaning) (ts : List NameText) → Contains ms (One t) → list_any (bytes_eq t) (fold with_name ts ms) ≡ true
+pub meant-fold : (t : NameText) (ms : List Meaning) (ts : List NameText)
+    → Contains ms (One t) → list_any (bytes_eq t) (fold with_name ts ms) ≡ true
 meant-fold t [] ts c = absurd (omega (arith, c.1))
 meant-fold t (m ∷ ms) ts c = elim (cons_cases m ms (One t) c) [
   | inl e ↦ kept-fold (bytes_eq t) ms (with_name ts m) (ap (λ n. list_any (bytes_eq t) (with_name ts n)) e ∙ added ts t)
@@ -51,26 +57,27 @@ meant-fold t (m ∷ ms) ts c = elim (cons_cases m ms (One t) c) [
 ]
 
 -- a name keeps its number when another name is added
-found-append : (q : NameText → Bool) (xs ys : List NameText) → list_any q xs ≡ true → position_or_len q (xs ++ ys) ≡ position_or_len q xs
+found-append : (q : NameText → Bool) (xs ys : List NameText)
+    → list_any q xs ≡ true → position_or_len q (xs ++ ys) ≡ position_or_len q xs
 found-append q [] ys h = absurd (cc)
 found-append q (x ∷ xs) ys h = by (q x) refl (found-append q xs ys)
   where
     by : (b : Bool) → q x ≡ b → (list_any q xs ≡ true → position_or_len q (xs ++ ys) ≡ position_or_len q xs)
         → cond (not (q x)) (1 + position_or_len q (xs ++ ys)) 0 ≡ cond (not (q x)) (1 + position_or_len q xs) 0
-    by true is rest = ap (λ b. cond (not b) (1 + position_or_len q (xs ++ ys)) 0) is ∙ sym (ap (λ b. cond (not b) (1 + position_or_len q xs) 0) is)
+    by true is rest =
+        ap (λ b. cond (not b) (1 + position_or_len q (xs ++ ys)) 0) is
+        ∙ sym (ap (λ b. cond (not b) (1 + position_or_len q xs) 0) is)
     by false is rest = ap (λ n. cond (not (q x)) (1 + n) 0) (rest (ap (λ b. b || list_any q xs) (sym is) ∙ h))
 
-neither : (a b : Bool) → (a || b) ≡ false → (a ≡ false) × (b ≡ false)
-neither true b h = absurd (cc)
-neither false b h = (refl, h)
-
-last-append : (q : NameText → Bool) (xs : List NameText) (y : NameText) → q y ≡ true → list_any q xs ≡ false → position_or_len q (xs ++ y ∷ []) ≡ position_or_len q xs
+last-append : (q : NameText → Bool) (xs : List NameText) (y : NameText)
+    → q y ≡ true → list_any q xs ≡ false → position_or_len q (xs ++ y ∷ []) ≡ position_or_len q xs
 last-append q [] y is h = ap (λ b. cond (not b) (1 + 0) 0) is
 last-append q (x ∷ xs) y is h =
-    let both = neither (q x) (list_any q xs) h in
+    let both = or_parts (q x) (list_any q xs) h in
     ap (λ n. cond (not (q x)) (1 + n) 0) (last-append q xs y is both.1)
 
-number-with : (ts : List NameText) (m : Meaning) (t : NameText) → list_any (bytes_eq t) ts ≡ true → position_or_len (bytes_eq t) (with_name ts m) ≡ position_or_len (bytes_eq t) ts
+number-with : (ts : List NameText) (m : Meaning) (t : NameText)
+    → list_any (bytes_eq t) ts ≡ true → position_or_len (bytes_eq t) (with_name ts m) ≡ position_or_len (bytes_eq t) ts
 number-with ts Nothing t h = refl
 number-with ts (One u) t h = by (list_any (bytes_eq u) ts)
   where
@@ -79,59 +86,80 @@ number-with ts (One u) t h = by (list_any (bytes_eq u) ts)
     by false = found-append (bytes_eq t) ts (u ∷ []) h
 number-with ts Several t h = refl
 
-number-own : (ts : List NameText) (t : NameText) → position_or_len (bytes_eq t) (with_name ts (One t)) ≡ position_or_len (bytes_eq t) ts
+number-own : (ts : List NameText) (t : NameText)
+    → position_or_len (bytes_eq t) (with_name ts (One t)) ≡ position_or_len (bytes_eq t) ts
 number-own ts t = by (list_any (bytes_eq t) ts) refl
   where
-    by : (b : Bool) → list_any (bytes_eq t) ts ≡ b → position_or_len (bytes_eq t) (cond (list_any (bytes_eq t) ts) ts (ts ++ t ∷ [])) ≡ position_or_len (bytes_eq t) ts
+    by : (b : Bool) → list_any (bytes_eq t) ts ≡ b
+        → position_or_len (bytes_eq t) (cond (list_any (bytes_eq t) ts) ts (ts ++ t ∷ []))
+        ≡ position_or_len (bytes_eq t) ts
     by true is = ap (λ b. position_or_len (bytes_eq t) (cond b ts (ts ++ t ∷ []))) is
-    by false is = ap (λ b. position_or_len (bytes_eq t) (cond b ts (ts ++ t ∷ []))) is ∙ last-append (bytes_eq t) ts t (nat_list_eq_equiv.refl t) is
+    by false is =
+        ap (λ b. position_or_len (bytes_eq t) (cond b ts (ts ++ t ∷ []))) is
+        ∙ last-append (bytes_eq t) ts t (nat_list_eq_equiv.refl t) is
 
 resolved_meaning-own : (ts : List NameText) (m : Meaning) → resolved_meaning (with_name ts m) m ≡ resolved_meaning ts m
 resolved_meaning-own ts Nothing = refl
 resolved_meaning-own ts (One t) = ap Name (number-own ts t)
 resolved_meaning-own ts Several = refl
 
-resolved_meaning-kept : (ms : List Meaning) (m n : Meaning) → Contains ms n → resolved_meaning (with_name (names_of ms) m) n ≡ resolved_meaning (names_of ms) n
+resolved_meaning-kept : (ms : List Meaning) (m n : Meaning)
+    → Contains ms n → resolved_meaning (with_name (names_of ms) m) n ≡ resolved_meaning (names_of ms) n
 resolved_meaning-kept ms m Nothing c = refl
 resolved_meaning-kept ms m (One t) c = ap Name (number-with (names_of ms) m t (meant-fold t ms [] c))
 resolved_meaning-kept ms m Several c = refl
 
-map-agree : (f g : Meaning → Resolved) (ms : List Meaning) → ((m : Meaning) → Contains ms m → f m ≡ g m) → map f ms ≡ map g ms
+map-agree : (f g : Meaning → Resolved) (ms : List Meaning)
+    → ((m : Meaning) → Contains ms m → f m ≡ g m) → map f ms ≡ map g ms
 map-agree f g [] same = refl
 map-agree f g (m ∷ ms) same =
     let first = same m (here m ms) in
     let rest = map-agree f g ms (λ n c. same n (there m ms n c)) in
     λ i. first i ∷ rest i
 
-fold-push : (ts : List NameText) (ms : List Meaning) (m : Meaning) → fold with_name ts (ms ++ m ∷ []) ≡ with_name (fold with_name ts ms) m
+fold-push : (ts : List NameText) (ms : List Meaning) (m : Meaning)
+    → fold with_name ts (ms ++ m ∷ []) ≡ with_name (fold with_name ts ms) m
 fold-push ts [] m = refl
 fold-push ts (n ∷ ms) m = fold-push (with_name ts n) ms m
 
 -- one more meaning
 pub names-more : (ms : List Found) (i : ℕ) (d : Found) → i < length ms
-    → names_of (map meaning_of (take (i + 1) ms)) ≡ with_name (names_of (map meaning_of (take i ms))) (meaning_of (get_or ms i d))
+    → names_of (map meaning_of (take (i + 1) ms))
+    ≡ with_name (names_of (map meaning_of (take i ms))) (meaning_of (get_or ms i d))
 names-more ms i d h =
-    ap (λ xs. names_of (map meaning_of xs)) (take_more ms i d h) ∙ ap names_of (map_push meaning_of (take i ms) (get_or ms i d))
+    ap (λ xs. names_of (map meaning_of xs)) (take_more ms i d h)
+    ∙ ap names_of (map_push meaning_of (take i ms) (get_or ms i d))
     ∙ fold-push [] (map meaning_of (take i ms)) (meaning_of (get_or ms i d))
 
 pub resolved_meaning-more : (ms : List Found) (i : ℕ) (d : Found) → i < length ms
     → map (resolved_meaning (names_of (map meaning_of (take (i + 1) ms)))) (map meaning_of (take (i + 1) ms))
-    ≡ map (resolved_meaning (names_of (map meaning_of (take i ms)))) (map meaning_of (take i ms)) ++ resolved_meaning (names_of (map meaning_of (take i ms))) (meaning_of (get_or ms i d)) ∷ []
+    ≡ map (resolved_meaning (names_of (map meaning_of (take i ms)))) (map meaning_of (take i ms))
+    ++ resolved_meaning (names_of (map meaning_of (take i ms))) (meaning_of (get_or ms i d)) ∷ []
 resolved_meaning-more ms i d h =
     let before = map meaning_of (take i ms) in
     let last = meaning_of (get_or ms i d) in
-    let all : map meaning_of (take (i + 1) ms) ≡ before ++ last ∷ [] = ap (map meaning_of) (take_more ms i d h) ∙ map_push meaning_of (take i ms) (get_or ms i d) in
+    let all : map meaning_of (take (i + 1) ms) ≡ before ++ last ∷ [] =
+    ap (map meaning_of) (take_more ms i d h) ∙ map_push meaning_of (take i ms) (get_or ms i d) in
     let named = names-more ms i d h in
-    (λ j. map (resolved_meaning (named j)) (all j)) ∙ map_push (resolved_meaning (with_name (names_of before) last)) before last
-    ∙ (λ j. map-agree (resolved_meaning (with_name (names_of before) last)) (resolved_meaning (names_of before)) before (λ n c. resolved_meaning-kept before last n c) j
+    (λ j. map (resolved_meaning (named j)) (all j))
+    ∙ map_push (resolved_meaning (with_name (names_of before) last)) before last
+    ∙ (λ j. map-agree (resolved_meaning (with_name (names_of before) last))
+    (resolved_meaning (names_of before)) before (λ n c. resolved_meaning-kept before last n c) j
     ++ resolved_meaning-own (names_of before) last j ∷ [])
 
-pub names-step : (ms : List Found) (i : ℕ) (d : Found) (old new : List NameText) → i < length ms → old ≡ names_of (map meaning_of (take i ms))
+pub names-step : (ms : List Found) (i : ℕ) (d : Found) (old new : List NameText)
+    → i < length ms → old ≡ names_of (map meaning_of (take i ms))
     → new ≡ with_name old (meaning_of (get_or ms i d)) → new ≡ names_of (map meaning_of (take (i + 1) ms))
-names-step ms i d old new h sofar is = is ∙ (ap (λ ts. with_name ts (meaning_of (get_or ms i d))) sofar ∙ sym (names-more ms i d h))
+names-step ms i d old new h sofar is =
+    is ∙ (ap (λ ts. with_name ts (meaning_of (get_or ms i d))) sofar ∙ sym (names-more ms i d h))
 
-pub numbers-step : (ms : List Found) (i : ℕ) (d : Found) (names : List NameText) (old new : List Resolved) (r : Resolved) → i < length ms → names ≡ names_of (map meaning_of (take i ms))
-    → old ≡ map (resolved_meaning (names_of (map meaning_of (take i ms)))) (map meaning_of (take i ms)) → r ≡ resolved_meaning names (meaning_of (get_or ms i d)) → new ≡ old ++ r ∷ []
+pub numbers-step : (ms : List Found) (i : ℕ) (d : Found)
+    (names : List NameText) (old new : List Resolved) (r : Resolved)
+    → i < length ms → names ≡ names_of (map meaning_of (take i ms))
+    → old ≡ map (resolved_meaning (names_of (map meaning_of (take i ms)))) (map meaning_of (take i ms))
+    → r ≡ resolved_meaning names (meaning_of (get_or ms i d)) → new ≡ old ++ r ∷ []
     → new ≡ map (resolved_meaning (names_of (map meaning_of (take (i + 1) ms)))) (map meaning_of (take (i + 1) ms))
 numbers-step ms i d names old new r h named sofar number is =
-    is ∙ ((λ j. sofar j ++ (number ∙ ap (λ ts. resolved_meaning ts (meaning_of (get_or ms i d))) named) j ∷ []) ∙ sym (resolved_meaning-more ms i d h))
+    is
+    ∙ ((λ j. sofar j ++ (number ∙ ap (λ ts. resolved_meaning ts (meaning_of (get_or ms i d))) named) j ∷ [])
+    ∙ sym (resolved_meaning-more ms i d h))

@@ -1,5 +1,6 @@
 -- The sorted full names: how a sort gives them, and where those are that begin with a prefix.
-use Rattle.std.proofs.Common.{◌≡◌, ◌≢◌, ◌≤◌, ◌<◌, ◌+◌, ◌∙◌, ℕ, zero, suc, Bool, true, false, cond, not, ◌&&◌, List, [], ◌∷◌, length, get_or, filter, refl, ap, sym, subst, inl, inr, arith, Contains}
+use Rattle.std.proofs.Common.{◌≡◌, ◌≢◌, ◌≤◌, ◌<◌, ◌+◌, ◌∙◌, ℕ, zero, suc, Bool, true, false, cond, not, ◌&&◌, List, []}
+use Rattle.std.proofs.Common.{◌∷◌, length, get_or, filter, refl, ap, sym, subst, inl, inr, arith, Contains}
 use Rattle.std.specs.Borrow.{Bor}
 use Rattle.std.specs.BTreeMap.Comparable.{le_lt_trans}
 use Rattle.std.specs.List.{dedup, dedup_from}
@@ -9,7 +10,7 @@ use Rattle.std.specs.declared.cmp.Ordering.TheVariants.{Less, Equal, Greater}
 use Rattle.std.specs.Cmp.Lexicographic.{slice_cmp, texts_ties}
 use Rattle.std.specs.List.Sorted.{IsPartitionedBy, IsPartitionPoint, IsSorted, IsPermutation}
 use Rattle.std.specs.Str.{bytes_eq}
-use Rattle.std.proofs.lemmas.Bool.{cases_lt}
+use Rattle.std.proofs.lemmas.Bool.{cases_lt, false_from_ne_true, and_parts}
 use Rattle.std.proofs.lemmas.Cmp.{nat_list_cmp_total, nat_list_eq_equiv}
 use Rattle.std.proofs.lemmas.List.{get_or-map, length-map, get_or_default}
 use Rattle.std.proofs.lemmas.List.Elements.{All-contains, Contains-get_or}
@@ -21,22 +22,26 @@ use Rattle.std.proofs.lemmas.Slice.Eq.{bytes_eq-Decides}
 use Rattle.tangle_names.specs.Names.{NameText, Nothing, One, Several, only_with, begins_with}
 use Rattle.tangle_names.specs.Faults.{begins_another}
 use Rattle.tangle_names.specs.Sorted.{BeginsAt, IsInOrder, SameTexts, borrowed_names}
-use Rattle.tangle_names.proofs.MeaningLemmas.{into_filter, list_any-none, list_any-some, only-nothing, only-one, only-several, out_of_filter}
+use Rattle.tangle_names.proofs.ContainsLemmas.{into_filter, out_of_filter}
+use Rattle.tangle_names.proofs.MeaningLemmas.{list_any-none, list_any-some, only-nothing, only-one, only-several}
 use Rattle.tangle_names.proofs.OrderLemmas.{begins-above, begins-between}
 
 size : (sorted : List (Bor NameText)) → length (borrowed_names sorted) ≡ length sorted
 size sorted = length-map sorted (λ (b : Bor NameText). b.now)
 
-pub at_text : (sorted : List (Bor NameText)) (k : ℕ) (d : Bor NameText) → k < length sorted → get_or (borrowed_names sorted) k [] ≡ (get_or sorted k d).now
+pub at_text : (sorted : List (Bor NameText)) (k : ℕ) (d : Bor NameText)
+    → k < length sorted → get_or (borrowed_names sorted) k [] ≡ (get_or sorted k d).now
 at_text sorted k d h = get_or-map (λ (b : Bor NameText). b.now) sorted k d [] h
 
 -- of two names the first is below the second
-pub rising : (texts : List NameText) → IsInOrder texts → (i j : ℕ) → i < j → j < length texts → slice_cmp nat_cmp (get_or texts i []) (get_or texts j []) ≡ Less
+pub rising : (texts : List NameText) → IsInOrder texts → (i j : ℕ)
+    → i < j → j < length texts → slice_cmp nat_cmp (get_or texts i []) (get_or texts j []) ≡ Less
 rising [] up i j low high = absurd (omega arith)
 rising (t ∷ ts) up zero zero low high = absurd (omega arith)
 rising (t ∷ ts) up zero (suc j) low high =
     let inside : j < length ts = omega arith in
-    All-contains (λ u. slice_cmp nat_cmp t u ≡ Less) ts (get_or ts j []) (All-after_first (slice_cmp nat_cmp) t ts up) (Contains-get_or ts j [] inside)
+    All-contains (λ u. slice_cmp nat_cmp t u ≡ Less) ts (get_or ts j [])
+    (All-after_first (slice_cmp nat_cmp) t ts up) (Contains-get_or ts j [] inside)
 rising (t ∷ ts) up (suc i) zero low high = absurd (omega arith)
 rising (t ∷ ts) up (suc i) (suc j) low high =
     let before : i < j = omega arith in
@@ -47,40 +52,44 @@ alike : (t : NameText) → slice_cmp nat_cmp t t ≡ Equal
 alike t = by (slice_cmp nat_cmp t t) refl
   where
     by : (r : Ordering) → slice_cmp nat_cmp t t ≡ r → slice_cmp nat_cmp t t ≡ Equal
-    by Less is = absurd (let clash : Less ≡ Greater = sym is ∙ (nat_list_cmp_total.antisymm t t ∙ ap ordering_reverse is) in cc)
+    by Less is =
+        absurd (let clash : Less ≡ Greater = sym is ∙ (nat_list_cmp_total.antisymm t t ∙ ap ordering_reverse is) in cc)
     by Equal is = is
-    by Greater is = absurd (let clash : Greater ≡ Less = sym is ∙ (nat_list_cmp_total.antisymm t t ∙ ap ordering_reverse is) in cc)
+    by Greater is =
+        absurd (let clash : Greater ≡ Less = sym is ∙ (nat_list_cmp_total.antisymm t t ∙ ap ordering_reverse is) in cc)
 
--- and it is not above it
-pub no_higher : (texts : List NameText) → IsInOrder texts → (i j : ℕ) → i ≤ j → j < length texts → is_gt (slice_cmp nat_cmp (get_or texts i []) (get_or texts j [])) ≡ false
+-- in an ordered list no text is above a later one, nor above itself
+pub no_higher : (texts : List NameText) → IsInOrder texts → (i j : ℕ)
+    → i ≤ j → j < length texts → is_gt (slice_cmp nat_cmp (get_or texts i []) (get_or texts j [])) ≡ false
 no_higher texts up i j low high = elim (cases_lt i j) [
   | inl before ↦ ap is_gt (rising texts up i j before high)
   | inr after ↦ (let same : i ≡ j = omega arith in
-      ap (λ k. is_gt (slice_cmp nat_cmp (get_or texts i []) (get_or texts k []))) (sym same) ∙ ap is_gt (alike (get_or texts i [])))
+      ap (λ k. is_gt (slice_cmp nat_cmp (get_or texts i []) (get_or texts k []))) (sym same)
+      ∙ ap is_gt (alike (get_or texts i [])))
 ]
 
 -- the names that begin with a prefix are next to each other, from one position on
 pub record Gathers (texts : List NameText) (p : NameText) (first : ℕ) : Type 0 where
   pub below : (k : ℕ) → k < first → k < length texts → begins_with p (get_or texts k []) ≡ false
-  pub together : (j k : ℕ) → first ≤ j → j ≤ k → k < length texts → begins_with p (get_or texts k []) ≡ true → begins_with p (get_or texts j []) ≡ true
-
-is_not : (b : Bool) → (b ≡ true → ⊥) → b ≡ false
-is_not true h = absurd (h refl)
-is_not false h = refl
+  pub together : (j k : ℕ) → first ≤ j → j ≤ k → k < length texts → begins_with p (get_or texts k []) ≡ true
+      → begins_with p (get_or texts j []) ≡ true
 
 pub gathers : (texts : List NameText) (p : NameText) (first : ℕ) → IsInOrder texts
     → ((k : ℕ) → k < first → k < length texts → is_lt (slice_cmp nat_cmp (get_or texts k []) p) ≡ true)
     → ((k : ℕ) → first ≤ k → k < length texts → is_lt (slice_cmp nat_cmp (get_or texts k []) p) ≡ false)
     → Gathers texts p first
 gathers texts p first up lower upper = record {
-  below = λ k h inside. is_not _ (λ begun. let clash : true ≡ false = sym (lower k h inside) ∙ begins-above p (get_or texts k []) begun in cc);
+  below = λ k h inside. false_from_ne_true _
+      (λ begun. let clash : true ≡ false = sym (lower k h inside) ∙ begins-above p (get_or texts k []) begun in cc);
   together = λ j k low high inside begun.
       let within : j < length texts = omega (arith, high, inside) in
-      begins-between p (get_or texts j []) (get_or texts k []) (upper j low within) (no_higher texts up j k high inside) begun;
+      begins-between p (get_or texts j []) (get_or texts k [])
+      (upper j low within) (no_higher texts up j k high inside) begun;
 }
 
 -- a name of the table that begins with the prefix is at this position or later
-found_at : (texts : List NameText) (p : NameText) (first : ℕ) → Gathers texts p first → (t : NameText) → Contains texts t → begins_with p t ≡ true
+found_at : (texts : List NameText) (p : NameText) (first : ℕ)
+    → Gathers texts p first → (t : NameText) → Contains texts t → begins_with p t ≡ true
     → (k : ℕ) × (first ≤ k) × (k < length texts) × (get_or texts k [] ≡ t)
 found_at texts p first g t c begun =
     let at : get_or texts c.0 [] ≡ t = get_or_default texts c.0 [] t c.1 ∙ c.2 in
@@ -89,7 +98,8 @@ found_at texts p first g t c begun =
       | inr more ↦ (c.0, more, c.1, at)
     ]
 
-pub nothing_found : (full texts : List NameText) (p : NameText) (first : ℕ) → SameTexts full texts → Gathers texts p first
+pub nothing_found : (full texts : List NameText) (p : NameText) (first : ℕ)
+    → SameTexts full texts → Gathers texts p first
     → (BeginsAt texts p first → ⊥) → Nothing ≡ only_with full p
 nothing_found full texts p first same g missing = only-nothing (filter (begins_with p) full) (λ t c.
     let member = out_of_filter (begins_with p) full t c in
@@ -97,8 +107,10 @@ nothing_found full texts p first same g missing = only-nothing (filter (begins_w
     let inside : first < length texts = omega (arith, at.1, at.2) in
     missing (inside, g.together first at.0 (omega arith) at.1 at.2 (ap (begins_with p) at.3 ∙ member.1)))
 
-inside_full : (full texts : List NameText) (p : NameText) (k : ℕ) → SameTexts full texts → BeginsAt texts p k → Contains (filter (begins_with p) full) (get_or texts k [])
-inside_full full texts p k same begun = into_filter (begins_with p) full (get_or texts k []) (same.back (get_or texts k []) (Contains-get_or texts k [] begun.0)) begun.1
+inside_full : (full texts : List NameText) (p : NameText) (k : ℕ)
+    → SameTexts full texts → BeginsAt texts p k → Contains (filter (begins_with p) full) (get_or texts k [])
+inside_full full texts p k same begun = into_filter (begins_with p) full (get_or texts k [])
+    (same.back (get_or texts k []) (Contains-get_or texts k [] begun.0)) begun.1
 
 pub one_found : (full texts : List NameText) (p : NameText) (first : ℕ) → SameTexts full texts → Gathers texts p first
     → BeginsAt texts p first → (BeginsAt texts p (first + 1) → ⊥) → One (get_or texts first []) ≡ only_with full p
@@ -109,116 +121,146 @@ one_found full texts p first same g begun alone =
     elim (cases_lt first at.0) [
       | inl after ↦ absurd (
           let inside : first + 1 < length texts = omega (arith, after, at.2) in
-          alone (inside, g.together (first + 1) at.0 (omega arith) (omega (arith, after)) at.2 (ap (begins_with p) at.3 ∙ member.1)))
-      | inr here ↦ (let same_position : at.0 ≡ first = omega (arith, here, at.1) in sym at.3 ∙ ap (λ k. get_or texts k []) same_position)
+          alone (
+            inside,
+            g.together (first + 1) at.0 (omega arith) (omega (arith, after)) at.2 (ap (begins_with p) at.3 ∙ member.1),
+          ))
+      | inr here ↦ (let same_position : at.0 ≡ first = omega (arith, here, at.1) in
+          sym at.3 ∙ ap (λ k. get_or texts k []) same_position)
     ])
 
 -- names at different positions differ
-pub apart : (texts : List NameText) → IsInOrder texts → (i j : ℕ) → i < j → j < length texts → get_or texts i [] ≢ get_or texts j []
+pub apart : (texts : List NameText) → IsInOrder texts → (i j : ℕ)
+    → i < j → j < length texts → get_or texts i [] ≢ get_or texts j []
 apart texts up i j low high same =
-    let clash : Less ≡ Equal = sym (rising texts up i j low high) ∙ (ap (slice_cmp nat_cmp (get_or texts i [])) (sym same) ∙ alike (get_or texts i [])) in
+    let clash : Less ≡ Equal =
+    sym (rising texts up i j low high)
+    ∙ (ap (slice_cmp nat_cmp (get_or texts i [])) (sym same) ∙ alike (get_or texts i [])) in
     cc
 
 pub several_found : (full texts : List NameText) (p : NameText) (first : ℕ) → SameTexts full texts → IsInOrder texts
     → BeginsAt texts p first → BeginsAt texts p (first + 1) → Several ≡ only_with full p
 several_found full texts p first same up begun more =
     only-several (filter (begins_with p) full) (get_or texts first []) (get_or texts (first + 1) [])
-    (inside_full full texts p first same begun) (inside_full full texts p (first + 1) same more) (apart texts up first (first + 1) (omega arith) more.0)
+    (inside_full full texts p first same begun) (inside_full full texts p (first + 1) same more)
+    (apart texts up first (first + 1) (omega arith) more.0)
 
 -- a name begins another if it begins the next one
 gathers_at : (texts : List NameText) (i : ℕ) → IsInOrder texts → i < length texts → Gathers texts (get_or texts i []) i
 gathers_at texts i up inside = gathers texts (get_or texts i []) i up
     (λ k low h. ap is_lt (rising texts up k i low inside))
-    (λ k low h. turned (slice_cmp nat_cmp (get_or texts i []) (get_or texts k [])) _ (nat_list_cmp_total.antisymm (get_or texts k []) (get_or texts i [])) (no_higher texts up i k low h))
+    (λ k low h. turned (slice_cmp nat_cmp (get_or texts i []) (get_or texts k [])) _
+    (nat_list_cmp_total.antisymm (get_or texts k []) (get_or texts i [])) (no_higher texts up i k low h))
   where
     turned : (r s : Ordering) → s ≡ ordering_reverse r → is_gt r ≡ false → is_lt s ≡ false
     turned Less s e h = ap is_lt e
     turned Equal s e h = ap is_lt e
     turned Greater s e h = absurd (cc)
 
-pub begins-next : (texts : List NameText) (i : ℕ) → IsInOrder texts → i < length texts → BeginsAt texts (get_or texts i []) (i + 1)
+pub begins-next : (texts : List NameText) (i : ℕ)
+    → IsInOrder texts → i < length texts → BeginsAt texts (get_or texts i []) (i + 1)
     → begins_another texts (get_or texts i []) ≡ true
 begins-next texts i up inside next =
-    list_any-some (λ other. begins_with (get_or texts i []) other && not (bytes_eq (get_or texts i []) other)) texts (get_or texts (i + 1) []) (Contains-get_or texts (i + 1) [] next.0)
+    list_any-some (λ other. begins_with (get_or texts i []) other && not (bytes_eq (get_or texts i []) other))
+    texts (get_or texts (i + 1) []) (Contains-get_or texts (i + 1) [] next.0)
     (λ j. next.1 j && not (differ j))
   where
     differ : bytes_eq (get_or texts i []) (get_or texts (i + 1) []) ≡ false
-    differ = is_not _ (λ same. apart texts up i (i + 1) (omega arith) next.0 ((bytes_eq-Decides (get_or texts i []) (get_or texts (i + 1) [])).0 same))
+    differ = false_from_ne_true _ (λ same. apart texts up i (i + 1) (omega arith) next.0
+        ((bytes_eq-Decides (get_or texts i []) (get_or texts (i + 1) [])).0 same))
 
-pub begins-none : (texts : List NameText) (i : ℕ) → IsInOrder texts → i < length texts → (BeginsAt texts (get_or texts i []) (i + 1) → ⊥)
+pub begins-none : (texts : List NameText) (i : ℕ)
+    → IsInOrder texts → i < length texts → (BeginsAt texts (get_or texts i []) (i + 1) → ⊥)
     → begins_another texts (get_or texts i []) ≡ false
 begins-none texts i up inside alone =
-    list_any-none (λ other. begins_with (get_or texts i []) other && not (bytes_eq (get_or texts i []) other)) texts (λ v c. is_not _ (λ passes.
-    let begun = left _ _ passes in
+    list_any-none (λ other. begins_with (get_or texts i []) other && not (bytes_eq (get_or texts i []) other))
+    texts (λ v c. false_from_ne_true _ (λ passes.
+    let both = and_parts (begins_with (get_or texts i []) v) (not (bytes_eq (get_or texts i []) v)) passes in
+    let begun = both.0 in
     let at = found_at texts (get_or texts i []) i (gathers_at texts i up inside) v c begun in
     elim (cases_lt i at.0) [
       | inl after ↦ (
           let within : i + 1 < length texts = omega (arith, after, at.2) in
-          alone (within, (gathers_at texts i up inside).together (i + 1) at.0 (omega arith) (omega (arith, after)) at.2 (ap (begins_with (get_or texts i [])) at.3 ∙ begun)))
+          alone (
+            within,
+            (gathers_at texts i up inside).together (i + 1) at.0 (omega arith)
+                (omega (arith, after)) at.2 (ap (begins_with (get_or texts i [])) at.3 ∙ begun),
+          ))
       | inr here ↦ (
           let same_position : i ≡ at.0 = omega (arith, here, at.1) in
           let same : get_or texts i [] ≡ v = ap (λ k. get_or texts k []) same_position ∙ at.3 in
-          let clash : true ≡ false = sym (right _ _ passes) ∙ ap not ((bytes_eq-Decides (get_or texts i []) v).1 same) in
+          let clash : true ≡ false = sym both.1 ∙ ap not ((bytes_eq-Decides (get_or texts i []) v).1 same) in
           cc)
     ]))
-  where
-    left : (a b : Bool) → (a && b) ≡ true → a ≡ true
-    left true b h = refl
-    left false b h = h
-
-    right : (a b : Bool) → (a && b) ≡ true → b ≡ true
-    right true b h = h
-    right false b h = absurd (cc)
 
 -- the texts after a sort and a `dedup`
-sorted_texts : (sorted : List (Bor NameText)) → IsSorted (λ (x y : Bor NameText). slice_cmp nat_cmp x.now y.now) sorted → IsSorted (slice_cmp nat_cmp) (borrowed_names sorted)
+sorted_texts : (sorted : List (Bor NameText)) → IsSorted (λ (x y : Bor NameText). slice_cmp nat_cmp x.now y.now) sorted
+    → IsSorted (slice_cmp nat_cmp) (borrowed_names sorted)
 sorted_texts [] up k d low high = absurd (omega arith)
 sorted_texts (b ∷ bs) up k d low high =
     let count : k + 1 < length (b ∷ bs) = omega (arith, size (b ∷ bs)) in
     let lower : k < length (b ∷ bs) = omega arith in
     let is = up k b low count in
-    rw (get_or-map (λ (b : Bor NameText). b.now) (b ∷ bs) (k + 1) b d count, get_or-map (λ (b : Bor NameText). b.now) (b ∷ bs) k b d lower) is
+    rw (
+      get_or-map (λ (b : Bor NameText). b.now) (b ∷ bs) (k + 1) b d count,
+      get_or-map (λ (b : Bor NameText). b.now) (b ∷ bs) k b d lower,
+    ) is
 
-borrowed_names-cond : (test : Bool) (xs ys : List (Bor NameText)) (us vs : List NameText) → borrowed_names xs ≡ us → borrowed_names ys ≡ vs → borrowed_names (cond test xs ys) ≡ cond test us vs
+borrowed_names-cond : (test : Bool) (xs ys : List (Bor NameText)) (us vs : List NameText)
+    → borrowed_names xs ≡ us → borrowed_names ys ≡ vs → borrowed_names (cond test xs ys) ≡ cond test us vs
 borrowed_names-cond true xs ys us vs e f = e
 borrowed_names-cond false xs ys us vs e f = f
 
-borrowed_names-dedup_from : (b : Bor NameText) (bs : List (Bor NameText)) → borrowed_names (dedup_from (λ (x y : Bor NameText). bytes_eq x.now y.now) b bs) ≡ dedup_from bytes_eq b.now (borrowed_names bs)
+borrowed_names-dedup_from : (b : Bor NameText) (bs : List (Bor NameText))
+    → borrowed_names (dedup_from (λ (x y : Bor NameText). bytes_eq x.now y.now) b bs)
+    ≡ dedup_from bytes_eq b.now (borrowed_names bs)
 borrowed_names-dedup_from b [] = refl
-borrowed_names-dedup_from b (c ∷ cs) = borrowed_names-cond (bytes_eq c.now b.now) _ _ _ _ (borrowed_names-dedup_from b cs) (ap (λ (ts : List NameText). b.now ∷ ts) (borrowed_names-dedup_from c cs))
+borrowed_names-dedup_from b (c ∷ cs) = borrowed_names-cond (bytes_eq c.now b.now) _ _ _ _
+    (borrowed_names-dedup_from b cs) (ap (λ (ts : List NameText). b.now ∷ ts) (borrowed_names-dedup_from c cs))
 
-pub borrowed_names-dedup : (bs : List (Bor NameText)) → borrowed_names (dedup (λ (x y : Bor NameText). bytes_eq x.now y.now) bs) ≡ dedup bytes_eq (borrowed_names bs)
+pub borrowed_names-dedup : (bs : List (Bor NameText))
+    → borrowed_names (dedup (λ (x y : Bor NameText). bytes_eq x.now y.now) bs) ≡ dedup bytes_eq (borrowed_names bs)
 borrowed_names-dedup [] = refl
 borrowed_names-dedup (b ∷ bs) = borrowed_names-dedup_from b bs
 
-pub order_of : (sorted left : List (Bor NameText)) → IsSorted (λ (x y : Bor NameText). slice_cmp nat_cmp x.now y.now) sorted
+pub order_of : (sorted left : List (Bor NameText))
+    → IsSorted (λ (x y : Bor NameText). slice_cmp nat_cmp x.now y.now) sorted
     → left ≡ dedup (λ (x y : Bor NameText). bytes_eq x.now y.now) sorted → IsInOrder (borrowed_names left)
 order_of sorted left up is =
-    rw (ap borrowed_names is ∙ borrowed_names-dedup sorted) (IsStrictlySortedBy-dedup nat_list_cmp_total texts_ties (borrowed_names sorted) (sorted_texts sorted up))
+    rw (ap borrowed_names is ∙ borrowed_names-dedup sorted)
+    (IsStrictlySortedBy-dedup nat_list_cmp_total texts_ties (borrowed_names sorted) (sorted_texts sorted up))
 
-pub same_of : (full : List NameText) (names sorted left : List (Bor NameText)) → borrowed_names names ≡ full → IsPermutation names sorted
+pub same_of : (full : List NameText) (names sorted left : List (Bor NameText))
+    → borrowed_names names ≡ full → IsPermutation names sorted
     → left ≡ dedup (λ (x y : Bor NameText). bytes_eq x.now y.now) sorted → SameTexts full (borrowed_names left)
 same_of full names sorted left e moved is =
-    let texts : IsPermutation (borrowed_names names) (borrowed_names sorted) = IsPermutation-map (λ (b : Bor NameText). b.now) names sorted moved in
-    let once : borrowed_names left ≡ dedup bytes_eq (borrowed_names sorted) = ap borrowed_names is ∙ borrowed_names-dedup sorted in
+    let texts : IsPermutation (borrowed_names names) (borrowed_names sorted) =
+    IsPermutation-map (λ (b : Bor NameText). b.now) names sorted moved in
+    let once : borrowed_names left ≡ dedup bytes_eq (borrowed_names sorted) =
+    ap borrowed_names is ∙ borrowed_names-dedup sorted in
     record {
       over = λ t c. subst (λ xs. Contains xs t) (sym once)
-          (Contains-dedup nat_list_eq_equiv (λ x y h. (bytes_eq-Decides x y).0 h) (borrowed_names sorted) t (Contains-permutation (borrowed_names names) (borrowed_names sorted) t texts (rw e c)));
-      back = λ t c. subst (λ xs. Contains xs t) e (Contains-permutation (borrowed_names sorted) (borrowed_names names) t (IsPermutation-sym (borrowed_names names) (borrowed_names sorted) texts)
+          (Contains-dedup nat_list_eq_equiv (λ x y h. (bytes_eq-Decides x y).0 h) (borrowed_names sorted)
+          t (Contains-permutation (borrowed_names names) (borrowed_names sorted) t texts (rw e c)));
+      back = λ t c. subst (λ xs. Contains xs t) e (Contains-permutation (borrowed_names sorted)
+          (borrowed_names names) t (IsPermutation-sym (borrowed_names names) (borrowed_names sorted) texts)
           (Contains-from_dedup bytes_eq (borrowed_names sorted) t (subst (λ xs. Contains xs t) once c)));
     }
 
 -- the first position of a name that isn't below a prefix
-pub is_parted : (sorted : List (Bor NameText)) (p : NameText) → IsInOrder (borrowed_names sorted) → IsPartitionedBy (λ (b : Bor NameText). is_lt (slice_cmp nat_cmp b.now p)) sorted
+pub is_parted : (sorted : List (Bor NameText)) (p : NameText) → IsInOrder (borrowed_names sorted)
+    → IsPartitionedBy (λ (b : Bor NameText). is_lt (slice_cmp nat_cmp b.now p)) sorted
 is_parted sorted p up i j d low high is =
     let before : i < length sorted = omega (arith, low, high) in
     let within : j < length (borrowed_names sorted) = omega (arith, high, size sorted) in
     let first = at_text sorted i d before in
     let second = at_text sorted j d high in
-    let no_more : is_le (slice_cmp nat_cmp (get_or (borrowed_names sorted) i []) (get_or (borrowed_names sorted) j [])) ≡ true =
+    let no_more : is_le (slice_cmp nat_cmp (get_or (borrowed_names sorted) i []) (get_or (borrowed_names sorted) j []))
+    ≡ true =
     at_most _ (no_higher (borrowed_names sorted) up i j low within) in
     ap (λ t. is_lt (slice_cmp nat_cmp t p)) (sym first)
-    ∙ ap is_lt (le_lt_trans nat_list_cmp_total (get_or (borrowed_names sorted) i []) (get_or (borrowed_names sorted) j []) p no_more
+    ∙ ap is_lt (le_lt_trans nat_list_cmp_total (get_or (borrowed_names sorted) i [])
+    (get_or (borrowed_names sorted) j []) p no_more
     (less _ (ap (λ t. is_lt (slice_cmp nat_cmp t p)) second ∙ is)))
   where
     at_most : (r : Ordering) → is_gt r ≡ false → is_le r ≡ true
@@ -231,31 +273,42 @@ is_parted sorted p up i j d low high is =
     less Equal h = absurd (cc)
     less Greater h = absurd (cc)
 
-pub gathers_from : (sorted : List (Bor NameText)) (p : NameText) (first : ℕ) (d : Bor NameText) → IsInOrder (borrowed_names sorted)
-    → IsPartitionPoint (λ (b : Bor NameText). is_lt (slice_cmp nat_cmp b.now p) ≡ true) (λ (b : Bor NameText). is_lt (slice_cmp nat_cmp b.now p) ≡ false) sorted first
+pub gathers_from : (sorted : List (Bor NameText)) (p : NameText) (first : ℕ) (d : Bor NameText)
+    → IsInOrder (borrowed_names sorted)
+    → IsPartitionPoint (λ (b : Bor NameText). is_lt (slice_cmp nat_cmp b.now p) ≡ true)
+    (λ (b : Bor NameText). is_lt (slice_cmp nat_cmp b.now p) ≡ false) sorted first
     → Gathers (borrowed_names sorted) p first
 gathers_from sorted p first d up point = gathers (borrowed_names sorted) p first up
-    (λ k low h. let inside : k < length sorted = omega (arith, h, size sorted) in rw (at_text sorted k d inside) (point.0 k d (omega arith) low))
-    (λ k low h. let inside : k < length sorted = omega (arith, h, size sorted) in rw (at_text sorted k d inside) (point.1 k d low inside))
+    (λ k low h. let inside : k < length sorted = omega (arith, h, size sorted) in
+    rw (at_text sorted k d inside) (point.0 k d (omega arith) low))
+    (λ k low h. let inside : k < length sorted = omega (arith, h, size sorted) in
+    rw (at_text sorted k d inside) (point.1 k d low inside))
 
 -- the name that begins with the prefix, as the code reads it
-pub at_begun : (sorted : List (Bor NameText)) (p : NameText) (k : ℕ) (d : Bor NameText) → BeginsAt (borrowed_names sorted) p k → (get_or sorted k d).now ≡ get_or (borrowed_names sorted) k []
+pub at_begun : (sorted : List (Bor NameText)) (p : NameText) (k : ℕ) (d : Bor NameText)
+    → BeginsAt (borrowed_names sorted) p k → (get_or sorted k d).now ≡ get_or (borrowed_names sorted) k []
 at_begun sorted p k d begun =
     let inside : k < length sorted = omega (arith, begun.0, size sorted) in
     sym (at_text sorted k d inside)
 
 -- whether a name begins another, by the names that the code reads
-pub begins_another-read : (sorted : List (Bor NameText)) (i : ℕ) (d : Bor NameText) → IsInOrder (borrowed_names sorted) → i < length sorted
-    → BeginsAt (borrowed_names sorted) (get_or sorted i d).now (i + 1) → begins_another (borrowed_names sorted) (get_or (borrowed_names sorted) i []) ≡ true
+pub begins_another-read : (sorted : List (Bor NameText)) (i : ℕ) (d : Bor NameText)
+    → IsInOrder (borrowed_names sorted) → i < length sorted
+    → BeginsAt (borrowed_names sorted) (get_or sorted i d).now (i + 1)
+    → begins_another (borrowed_names sorted) (get_or (borrowed_names sorted) i []) ≡ true
 begins_another-read sorted i d up inside next =
     let within : i < length (borrowed_names sorted) = omega (arith, inside, size sorted) in
-    begins-next (borrowed_names sorted) i up within (subst (λ p. BeginsAt (borrowed_names sorted) p (i + 1)) (sym (at_text sorted i d inside)) next)
+    begins-next (borrowed_names sorted) i up within
+    (subst (λ p. BeginsAt (borrowed_names sorted) p (i + 1)) (sym (at_text sorted i d inside)) next)
 
-pub begins_none-read : (sorted : List (Bor NameText)) (i : ℕ) (d : Bor NameText) → IsInOrder (borrowed_names sorted) → i < length sorted
-    → (BeginsAt (borrowed_names sorted) (get_or sorted i d).now (i + 1) → ⊥) → begins_another (borrowed_names sorted) (get_or (borrowed_names sorted) i []) ≡ false
+pub begins_none-read : (sorted : List (Bor NameText)) (i : ℕ) (d : Bor NameText)
+    → IsInOrder (borrowed_names sorted) → i < length sorted
+    → (BeginsAt (borrowed_names sorted) (get_or sorted i d).now (i + 1) → ⊥)
+    → begins_another (borrowed_names sorted) (get_or (borrowed_names sorted) i []) ≡ false
 begins_none-read sorted i d up inside alone =
     let within : i < length (borrowed_names sorted) = omega (arith, inside, size sorted) in
-    begins-none (borrowed_names sorted) i up within (λ next. alone (subst (λ p. BeginsAt (borrowed_names sorted) p (i + 1)) (at_text sorted i d inside) next))
+    begins-none (borrowed_names sorted) i up within
+    (λ next. alone (subst (λ p. BeginsAt (borrowed_names sorted) p (i + 1)) (at_text sorted i d inside) next))
 
 pub inside_texts : (sorted : List (Bor NameText)) (i : ℕ) → i < length sorted → i < length (borrowed_names sorted)
 inside_texts sorted i h = omega (arith, h, size sorted)

@@ -1,5 +1,6 @@
 -- The faults of names.
-use Rattle.std.specs.Prelude.{ℕ, Bool, not, List, [], ◌∷◌, ◌++◌, option_to_list, flat_map, map, ◌&&◌, slice_index_or, if◌then◌else◌}
+use Rattle.std.specs.Prelude.{ℕ, Bool, not, List, [], ◌∷◌, ◌++◌, option_to_list, flat_map, map}
+use Rattle.std.specs.Prelude.{◌&&◌, slice_index_or, if◌then◌else◌}
 use Rattle.std.specs.List.{list_any}
 use Rattle.std.specs.Str.{bytes_eq}
 use Rattle.tangle_names.specs.declared.Resolved.{Resolved}
@@ -14,21 +15,26 @@ use Rattle.tangle_names.specs.Resolving.{names_in_order, resolve, first_occurren
 
 -- the line of an origin, with the name of its file
 abbrev pub named_place_of : List (List ℕ) → Origin → PlaceRead
-named_place_of files origin = record { file = slice_index_or files origin.file []; line = origin.line }
+named_place_of files origin =
+    record { file = slice_index_or files origin.file []; line = origin.line }
 
 -- the fault of an occurrence that resolves to no name
 abbrev pub resolution_fault : List (List ℕ) → Resolved → OccurrenceRead → List FaultRead
 resolution_fault files (Name id) o = []
-resolution_fault files NoFullName o = fault_about kind.NoFullName (named_place_of files o.origin) o.text ∷ []
-resolution_fault files Ambiguous o = fault_about kind.Ambiguous (named_place_of files o.origin) o.text ∷ []
+resolution_fault files NoFullName o =
+    fault_about kind.NoFullName (named_place_of files o.origin) o.text ∷ []
+resolution_fault files Ambiguous o =
+    fault_about kind.Ambiguous (named_place_of files o.origin) o.text ∷ []
 
 -- the faults of the occurrences, each by its resolution
-abbrev pub resolution_faults : List (List ℕ) → (OccurrenceRead → Resolved) → List OccurrenceRead → List FaultRead
+abbrev pub resolution_faults : List (List ℕ) → (OccurrenceRead → Resolved) → List OccurrenceRead
+    → List FaultRead
 resolution_faults files f os = flat_map (λ o. resolution_fault files (f o) o) os
 
 -- another of the names begins with this name
 abbrev pub begins_another : List NameText → NameText → Bool
-begins_another full name = list_any (λ other. begins_with name other && not (bytes_eq name other)) full
+begins_another full name =
+    list_any (λ other. begins_with name other && not (bytes_eq name other)) full
 
 -- the warning for a name that begins another, at its first occurrence
 abbrev pub prefix_fault : WebRead → NameText → List FaultRead

@@ -17,16 +17,6 @@ pub record TableRead : Type 0 where
   pub first_file_occurrences : List (Option ℕ)
   pub faults : List FaultRead
 
--- the table of a web
-abbrev pub table_of : WebRead → TableRead
-table_of web = record {
-  names = names_in_order web.occurrences;
-  resolved = map (resolve web.occurrences) web.occurrences;
-  first_occurrences = map (first_number web.occurrences) (names_in_order web.occurrences);
-  first_file_occurrences = map (first_file_number web.occurrences) (names_in_order web.occurrences);
-  faults = faults web;
-}
-
 -- the table of these occurrences, with these faults
 abbrev pub table_over : List OccurrenceRead → List FaultRead → TableRead
 table_over os faults = record {
@@ -36,6 +26,10 @@ table_over os faults = record {
   first_file_occurrences = map (first_file_number os) (names_in_order os);
   faults = faults;
 }
+
+-- the table of a web
+abbrev pub table_of : WebRead → TableRead
+table_of web = table_over web.occurrences (faults web)
 
 -- how an occurrence is written: its text, whether it is an abbreviation, and whether it has `@(`
 abbrev pub written_form : OccurrenceRead → NameText × Bool × Bool

@@ -1,10 +1,13 @@
 -- Names by their numbers, from which the table is built. Most of these definitions are cited only
 -- by private contracts.
-use Rattle.std.specs.Prelude.{◌≡◌, ◌<◌, ℕ, Bool, true, false, nat_lt, ◌==◌, ◌&&◌, ◌||◌, List, [], length, filter, flat_map, map, slice_get, slice_index_or, Option, Some, None, option_to_list, Vec, if◌then◌else◌}
+use Rattle.std.specs.Prelude.{◌≡◌, ◌<◌, ℕ, Bool, true, false, nat_lt, ◌==◌, ◌&&◌, ◌||◌, List, []}
+use Rattle.std.specs.Prelude.{length, filter, flat_map, map, slice_get, slice_index_or, Option}
+use Rattle.std.specs.Prelude.{Some, None, option_to_list, Vec, if◌then◌else◌}
 use Rattle.std.specs.List.{enumerate_from, list_any, position_or_len}
 use Rattle.std.specs.Global.{Global}
 use Rattle.tangle_lexer.specs.declared.occurrences.OccurrenceRole.{OccurrenceRole}
-use Rattle.tangle_lexer.specs.declared.occurrences.OccurrenceRole.TheVariants.{Definition, Use, Mention}
+use Rattle.tangle_lexer.specs.declared.occurrences.OccurrenceRole.TheVariants.{Definition, Use}
+use Rattle.tangle_lexer.specs.declared.occurrences.OccurrenceRole.TheVariants.{Mention}
 use Rattle.tangle_names.specs.declared.first_numbers.Counted.{Counted}
 use Rattle.tangle_names.specs.declared.first_numbers.Counted.TheVariants.{All, Files, Uses}
 use Rattle.tangle_names.specs.declared.Resolved.{Resolved}
@@ -42,10 +45,12 @@ is_counted Uses o = is_use o.role
 -- the number of the first counted occurrence that resolves to the name with this number, or the
 -- number of occurrences where there is none
 abbrev pub first_by_number : (OccurrenceRead → Resolved) → Counted → List OccurrenceRead → ℕ → ℕ
-first_by_number f counted os id = position_or_len (λ o. is_counted counted o && is_number id (f o)) os
+first_by_number f counted os id =
+    position_or_len (λ o. is_counted counted o && is_number id (f o)) os
 
 -- if the occurrence is counted, this number replaces that of the name to which it resolves
-pub record SetsNumber (old new : List ℕ) (is_included : Bool) (number : ℕ) (resolved : Resolved) : Type 0 where
+pub record SetsNumber (old new : List ℕ) (is_included : Bool)
+    (number : ℕ) (resolved : Resolved) : Type 0 where
   pub size : length new ≡ length old
   pub numbers : (id : ℕ) → id < length old → slice_index_or new id 0
       ≡ (if is_included && is_number id resolved then number else slice_index_or old id 0)
@@ -89,4 +94,5 @@ warning_of_number web names first_occurrences id =
 
 -- the name with this number begins another of the texts
 abbrev pub begins_another_by_number : List NameText → List NameText → ℕ → Bool
-begins_another_by_number names texts id = list_any (λ t. begins_another texts t && is_number id (resolved_meaning names (One t))) texts
+begins_another_by_number names texts id =
+    list_any (λ t. begins_another texts t && is_number id (resolved_meaning names (One t))) texts

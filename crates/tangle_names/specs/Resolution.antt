@@ -14,7 +14,8 @@ table_read r faults = record {
   names = key_texts r.names.keys;
   resolved = r.resolved.items;
   first_occurrences = r.first_occurrences.items;
-  first_file_occurrences = map (number_below (length r.resolved.items)) r.first_file_occurrences.items;
+  first_file_occurrences =
+      map (number_below (length r.resolved.items)) r.first_file_occurrences.items;
   faults = faults;
 }
 

@@ -1,11 +1,13 @@
 -- The full names in order, and the resolution of each occurrence.
-use Rattle.std.specs.Prelude.{ℕ, Bool, ◌&&◌, List, [], ◌∷◌, ◌++◌, Option, map, fold, find, position, if◌then◌else◌}
+use Rattle.std.specs.Prelude.{ℕ, Bool, ◌&&◌, List, [], ◌∷◌, ◌++◌, Option, map, fold, find, position}
+use Rattle.std.specs.Prelude.{if◌then◌else◌}
 use Rattle.std.specs.List.{list_any, position_or_len}
 use Rattle.std.specs.Str.{bytes_eq}
 use Rattle.tangle_names.specs.declared.Resolved.{Resolved}
 use Rattle.tangle_names.specs.declared.Resolved.TheVariants.{Name, NoFullName, Ambiguous}
 use Rattle.tangle_lexer.specs.Occurrences.{OccurrenceRead}
-use Rattle.tangle_names.specs.Names.{NameText, Meaning, Nothing, One, Several, full_names, meaning, means}
+use Rattle.tangle_names.specs.Names.{NameText, Meaning, Nothing, One, Several, full_names, meaning}
+use Rattle.tangle_names.specs.Names.{means}
 
 -- the meaning of each occurrence
 abbrev pub meanings : List OccurrenceRead → List Meaning

@@ -30,4 +30,5 @@ pub record SameTexts (xs ys : List NameText) : Type 0 where
 
 -- the text at this position begins with the prefix
 abbrev pub BeginsAt : List NameText → NameText → ℕ → Type 0
-BeginsAt texts p position = (position < length texts) × (begins_with p (slice_index_or texts position []) ≡ true)
+BeginsAt texts p position =
+    (position < length texts) × (begins_with p (slice_index_or texts position []) ≡ true)

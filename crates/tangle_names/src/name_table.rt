@@ -12,7 +12,7 @@ use crate::faults::faults;
 use crate::first_numbers::{Counted, first_numbers};
 use crate::names::Names;
 use crate::resolution::{Resolution, are_written_alike};
-use std::alloc::{AllocError, Global};
+use std::alloc::Global;
 use std::marker::Model;
 use std::mem::replace;
 use std::rc::Rc;
@@ -112,10 +112,7 @@ impl NameTable {
     pub fn names(&self) -> Result<Names, NoMemory>
         ensures { IfOk result (λ names. names ≡ self.now.names) }
     {
-        match self.resolution.clone() {
-            Ok(resolution) => Ok(Names::new(resolution)),
-            Err(_) => Err(NoMemory),
-        }
+        Ok(Names::new(self.resolution.clone()?))
     }
 
     /// The number of full names.
@@ -169,13 +166,13 @@ impl NameTable {
     ///
     /// # Errors
     ///
-    /// `AllocError` where an allocation failed.
+    /// `NoMemory` where an allocation failed.
     pub fn first_numbers(
         &self,
         alloc: Global,
         occurrences: &[Occurrence],
         counted: Counted,
-    ) -> Result<Vec<usize>, AllocError>
+    ) -> Result<Vec<usize>, NoMemory>
         requires { length self.now.resolved ≡ length occurrences.now }
         ensures size { IfOk result (λ v. length v.items ≡ length self.now.names) }
         ensures numbers { IfOk result (λ v. (resolve : OccurrenceRead → Resolved)
@@ -184,7 +181,7 @@ impl NameTable {
             → slice_index_or v.items id 0 ≡ first_by_number resolve counted occurrences.now id) }
     {
         let resolved = self.resolution.resolved.as_slice();
-        first_numbers(alloc, occurrences, resolved, self.count(), counted)
+        Ok(first_numbers(alloc, occurrences, resolved, self.count(), counted)?)
     }
 
     /// The faults of names: first those of occurrences that resolve to no full name or to several,

@@ -10,27 +10,34 @@ use Rattle.tangle_names.specs.Resolving.{names_in_order, resolve}
 use Rattle.tangle_names.specs.Laws.{ResolvesFull, ResolvesPrefix}
 use Rattle.tangle_plans.specs.WebShapes.{IsNameBelow}
 
-full_inside : (names : List (List ℕ)) (name : List ℕ) (r : Resolved) → ResolvesFull names name r → IsNameBelow (length names) r
+full_inside : (names : List (List ℕ)) (name : List ℕ) (r : Resolved)
+    → ResolvesFull names name r → IsNameBelow (length names) r
 full_inside names name (Name id) h = h.inside
 full_inside names name NoFullName h = tt
 full_inside names name Ambiguous h = tt
 
-prefix_inside : (names full : List (List ℕ)) (p : List ℕ) (r : Resolved) → ResolvesPrefix names full p r → IsNameBelow (length names) r
+prefix_inside : (names full : List (List ℕ)) (p : List ℕ) (r : Resolved)
+    → ResolvesPrefix names full p r → IsNameBelow (length names) r
 prefix_inside names full p (Name id) h = h.1.inside
 prefix_inside names full p NoFullName h = tt
 prefix_inside names full p Ambiguous h = tt
 
 pub all_inside : (os : List OccurrenceRead)
-    → ((o : OccurrenceRead) → Contains os o → o.is_abbreviation ≡ false → ResolvesFull (names_in_order os) o.text (resolve os o))
-    → ((o : OccurrenceRead) → Contains os o → o.is_abbreviation ≡ true → ResolvesPrefix (names_in_order os) (full_names os) (prefix o.text) (resolve os o))
-    → (occurrence : ℕ) → IsNameBelow (length (names_in_order os)) (slice_index_or (map (resolve os) os) occurrence NoFullName)
+    → ((o : OccurrenceRead)
+    → Contains os o → o.is_abbreviation ≡ false → ResolvesFull (names_in_order os) o.text (resolve os o))
+    → ((o : OccurrenceRead) → Contains os o → o.is_abbreviation ≡ true
+    → ResolvesPrefix (names_in_order os) (full_names os) (prefix o.text) (resolve os o))
+    → (occurrence : ℕ)
+    → IsNameBelow (length (names_in_order os)) (slice_index_or (map (resolve os) os) occurrence NoFullName)
 all_inside os full abbreviated occurrence = at os occurrence (λ o h. by o h o.is_abbreviation refl)
   where
-    by : (o : OccurrenceRead) → Contains os o → (t : Bool) → o.is_abbreviation ≡ t → IsNameBelow (length (names_in_order os)) (resolve os o)
+    by : (o : OccurrenceRead) → Contains os o → (t : Bool)
+        → o.is_abbreviation ≡ t → IsNameBelow (length (names_in_order os)) (resolve os o)
     by o h true e = prefix_inside (names_in_order os) (full_names os) (prefix o.text) (resolve os o) (abbreviated o h e)
     by o h false e = full_inside (names_in_order os) o.text (resolve os o) (full o h e)
 
-    at : (xs : List OccurrenceRead) (i : ℕ) → ((o : OccurrenceRead) → Contains xs o → IsNameBelow (length (names_in_order os)) (resolve os o))
+    at : (xs : List OccurrenceRead) (i : ℕ)
+        → ((o : OccurrenceRead) → Contains xs o → IsNameBelow (length (names_in_order os)) (resolve os o))
         → IsNameBelow (length (names_in_order os)) (slice_index_or (map (resolve os) xs) i NoFullName)
     at [] i h = tt
     at (x ∷ xs) zero h = h x (0, omega arith, refl)

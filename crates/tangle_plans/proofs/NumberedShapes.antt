@@ -53,7 +53,7 @@ module _ (texts : List (List ℕ)) (table : TableRead) where
   abbrev shape_numbered : List PieceRead → Shape
   shape_numbered pieces = map (λ (p : PieceRead). map numbered p.items) pieces
 
-  -- its tags and bytes are those of the first shape
+  -- the tags and bytes of the numbered shape are those of the shape with names
 
   use_tag_numbered : (r : Resolved) → item_tag (use_numbered r) ≡ item_tag (use_of table r)
   use_tag_numbered (Name id) = refl
@@ -73,13 +73,15 @@ module _ (texts : List (List ℕ)) (table : TableRead) where
   tag_numbered (item.UseOf occurrence) = use_tag_numbered (resolved_at table occurrence)
   tag_numbered item.Defs = refl
 
-  item_tags_numbered : (items : List Item) → map item_tag (map numbered items) ≡ map item_tag (map (shape_item texts table) items)
+  item_tags_numbered : (items : List Item)
+      → map item_tag (map numbered items) ≡ map item_tag (map (shape_item texts table) items)
   item_tags_numbered [] = refl
   item_tags_numbered (x ∷ items) =
       ap (λ c. c ∷ map item_tag (map numbered items)) (tag_numbered x)
       ∙ ap (λ l. item_tag (shape_item texts table x) ∷ l) (item_tags_numbered items)
 
-  tags_numbered : (pieces : List PieceRead) → shape_tags (shape_numbered pieces) ≡ shape_tags (shape_of texts table pieces)
+  tags_numbered : (pieces : List PieceRead)
+      → shape_tags (shape_numbered pieces) ≡ shape_tags (shape_of texts table pieces)
   tags_numbered [] = refl
   tags_numbered (p ∷ pieces) =
       ap (λ l. (l ++ piece_end ∷ []) ++ shape_tags (shape_numbered pieces)) (item_tags_numbered p.items)
@@ -103,19 +105,21 @@ module _ (texts : List (List ℕ)) (table : TableRead) where
   byte_numbered (item.UseOf occurrence) = use_bytes_numbered (resolved_at table occurrence)
   byte_numbered item.Defs = refl
 
-  item_bytes_numbered : (items : List Item) → flat_map item_bytes (map numbered items) ≡ flat_map item_bytes (map (shape_item texts table) items)
+  item_bytes_numbered : (items : List Item)
+      → flat_map item_bytes (map numbered items) ≡ flat_map item_bytes (map (shape_item texts table) items)
   item_bytes_numbered [] = refl
   item_bytes_numbered (x ∷ items) =
       ap (λ l. l ++ flat_map item_bytes (map numbered items)) (byte_numbered x)
       ∙ ap (λ l. item_bytes (shape_item texts table x) ++ l) (item_bytes_numbered items)
 
-  bytes_numbered : (pieces : List PieceRead) → shape_bytes (shape_numbered pieces) ≡ shape_bytes (shape_of texts table pieces)
+  bytes_numbered : (pieces : List PieceRead)
+      → shape_bytes (shape_numbered pieces) ≡ shape_bytes (shape_of texts table pieces)
   bytes_numbered [] = refl
   bytes_numbered (p ∷ pieces) =
       ap (λ l. l ++ shape_bytes (shape_numbered pieces)) (item_bytes_numbered p.items)
       ∙ ap (λ l. flat_map item_bytes (map (shape_item texts table) p.items) ++ l) (bytes_numbered pieces)
 
-  -- its names are the numbers
+  -- the names of the numbered shape are the numbers
 
   use_names_numbered : (r : Resolved) → item_names (use_numbered r) ≡ map as_name (uses_resolved r)
   use_names_numbered (Name id) = refl
@@ -135,14 +139,16 @@ module _ (texts : List (List ℕ)) (table : TableRead) where
   name_numbered (item.UseOf occurrence) = use_names_numbered (resolved_at table occurrence)
   name_numbered item.Defs = refl
 
-  item_names_numbered : (items : List Item) → flat_map item_names (map numbered items) ≡ map as_name (flat_map (uses_in table) items)
+  item_names_numbered : (items : List Item)
+      → flat_map item_names (map numbered items) ≡ map as_name (flat_map (uses_in table) items)
   item_names_numbered [] = refl
   item_names_numbered (x ∷ items) =
       ap (λ l. l ++ flat_map item_names (map numbered items)) (name_numbered x)
       ∙ ap (λ l. map as_name (uses_in table x) ++ l) (item_names_numbered items)
       ∙ sym (map-append as_name (uses_in table x) (flat_map (uses_in table) items))
 
-  names_numbered : (pieces : List PieceRead) → shape_names (shape_numbered pieces) ≡ map as_name (pieces_uses table pieces)
+  names_numbered : (pieces : List PieceRead)
+      → shape_names (shape_numbered pieces) ≡ map as_name (pieces_uses table pieces)
   names_numbered [] = refl
   names_numbered (p ∷ pieces) =
       ap (λ l. l ++ shape_names (shape_numbered pieces)) (item_names_numbered p.items)
@@ -156,24 +162,30 @@ module _ (has_piece : ℕ → Bool) (node : Title) where
   shape_item_slots piece marks (Written kind bytes) = byte_slots bytes
   shape_item_slots piece marks Mark = Own (MarkOf node piece (marks + 1)) ∷ []
   shape_item_slots piece marks shape.AllMacros = Own AllMacros ∷ []
-  shape_item_slots piece marks (Use name) = if has_piece (number_of name) then Used (number_of name) ∷ [] else Own (Byte space) ∷ []
+  shape_item_slots piece marks (Use name) =
+      if has_piece (number_of name) then Used (number_of name) ∷ [] else Own (Byte space) ∷ []
   shape_item_slots piece marks NoUse = Own (Byte space) ∷ []
 
   abbrev shape_items_slots : ℕ → ℕ → List ShapeItem → List Slot
   shape_items_slots piece marks [] = Own (Closing node piece) ∷ []
-  shape_items_slots piece marks (x ∷ items) = shape_item_slots piece marks x ++ shape_items_slots piece (marks_after_shape_item marks x) items
+  shape_items_slots piece marks (x ∷ items) =
+      shape_item_slots piece marks x ++ shape_items_slots piece (marks_after_shape_item marks x) items
 
   abbrev shape_slots : ℕ → Shape → List Slot
   shape_slots piece [] = []
-  shape_slots piece (items ∷ pieces) = (Own (Opening node piece) ∷ Own (MarkOf node piece 0) ∷ shape_items_slots piece 0 items) ++ shape_slots (piece + 1) pieces
+  shape_slots piece (items ∷ pieces) =
+      (Own (Opening node piece) ∷ Own (MarkOf node piece 0) ∷ shape_items_slots piece 0 items)
+      ++ shape_slots (piece + 1) pieces
 
   module _ (texts : List (List ℕ)) (table : TableRead) where
-    name_slots_numbered : (piece marks : ℕ) (r : Resolved) → name_slots has_piece r ≡ shape_item_slots piece marks (use_numbered r)
+    name_slots_numbered : (piece marks : ℕ) (r : Resolved)
+        → name_slots has_piece r ≡ shape_item_slots piece marks (use_numbered r)
     name_slots_numbered piece marks (Name id) = refl
     name_slots_numbered piece marks NoFullName = refl
     name_slots_numbered piece marks Ambiguous = refl
 
-    slot_numbered : (piece marks : ℕ) (x : Item) → item_slots texts table has_piece node piece marks x ≡ shape_item_slots piece marks (numbered texts table x)
+    slot_numbered : (piece marks : ℕ) (x : Item)
+        → item_slots texts table has_piece node piece marks x ≡ shape_item_slots piece marks (numbered texts table x)
     slot_numbered piece marks (item.Word span) = refl
     slot_numbered piece marks (item.Sign span) = refl
     slot_numbered piece marks (item.Quoted span) = refl
@@ -191,7 +203,8 @@ module _ (has_piece : ℕ → Bool) (node : Title) where
     use_marks_numbered marks NoFullName = refl
     use_marks_numbered marks Ambiguous = refl
 
-    marks_numbered : (marks : ℕ) (x : Item) → marks_after_item marks x ≡ marks_after_shape_item marks (numbered texts table x)
+    marks_numbered : (marks : ℕ) (x : Item)
+        → marks_after_item marks x ≡ marks_after_shape_item marks (numbered texts table x)
     marks_numbered marks (item.Word span) = refl
     marks_numbered marks (item.Sign span) = refl
     marks_numbered marks (item.Quoted span) = refl
@@ -205,19 +218,28 @@ module _ (has_piece : ℕ → Bool) (node : Title) where
     marks_numbered marks item.Defs = refl
 
     items_slots_numbered : (piece marks : ℕ) (items : List Item)
-        → items_slots texts table has_piece node piece marks items ≡ shape_items_slots piece marks (map (numbered texts table) items)
+        → items_slots texts table has_piece node piece marks items
+        ≡ shape_items_slots piece marks (map (numbered texts table) items)
     items_slots_numbered piece marks [] = refl
     items_slots_numbered piece marks (x ∷ items) =
-        ap (λ l. l ++ items_slots texts table has_piece node piece (marks_after_item marks x) items) (slot_numbered piece marks x)
-        ∙ ap (λ l. shape_item_slots piece marks (numbered texts table x) ++ l) (items_slots_numbered piece (marks_after_item marks x) items)
-        ∙ ap (λ m. shape_item_slots piece marks (numbered texts table x) ++ shape_items_slots piece m (map (numbered texts table) items)) (marks_numbered marks x)
+        ap (λ l. l ++ items_slots texts table has_piece node piece (marks_after_item marks x) items)
+        (slot_numbered piece marks x)
+        ∙ ap (λ l. shape_item_slots piece marks (numbered texts table x) ++ l)
+        (items_slots_numbered piece (marks_after_item marks x) items)
+        ∙ ap
+        (λ m. shape_item_slots piece marks (numbered texts table x)
+        ++ shape_items_slots piece m (map (numbered texts table) items)) (marks_numbered marks x)
 
     slots_numbered : (piece : ℕ) (pieces : List PieceRead)
         → pieces_slots texts table has_piece node piece pieces ≡ shape_slots piece (shape_numbered texts table pieces)
     slots_numbered piece [] = refl
     slots_numbered piece (p ∷ pieces) =
-        ap (λ l. (Own (Opening node piece) ∷ Own (MarkOf node piece 0) ∷ l) ++ pieces_slots texts table has_piece node (piece + 1) pieces) (items_slots_numbered piece 0 p.items)
-        ∙ ap (λ l. (Own (Opening node piece) ∷ Own (MarkOf node piece 0) ∷ shape_items_slots piece 0 (map (numbered texts table) p.items)) ++ l) (slots_numbered (piece + 1) pieces)
+        ap
+        (λ l. (Own (Opening node piece) ∷ Own (MarkOf node piece 0) ∷ l)
+        ++ pieces_slots texts table has_piece node (piece + 1) pieces) (items_slots_numbered piece 0 p.items)
+        ∙ ap
+        (λ l. (Own (Opening node piece) ∷ Own (MarkOf node piece 0)
+        ∷ shape_items_slots piece 0 (map (numbered texts table) p.items)) ++ l) (slots_numbered (piece + 1) pieces)
 
 -- two lists of pieces with the same tags, bytes and uses
 module _ (texts texts' : List (List ℕ)) (table table' : TableRead) (pieces pieces' : List PieceRead) (body : NodeBody)
@@ -227,7 +249,8 @@ module _ (texts texts' : List (List ℕ)) (table table' : TableRead) (pieces pie
       same_by_tags (shape_numbered texts table pieces) (shape_numbered texts' table' pieces')
       (tags_numbered texts table pieces ∙ sym h.tags ∙ k.tags ∙ sym (tags_numbered texts' table' pieces'))
       (bytes_numbered texts table pieces ∙ sym h.bytes ∙ k.bytes ∙ sym (bytes_numbered texts' table' pieces'))
-      (names_numbered texts table pieces ∙ ap (map as_name) (sym h.uses ∙ k.uses) ∙ sym (names_numbered texts' table' pieces'))
+      (names_numbered texts table pieces ∙ ap (map as_name) (sym h.uses ∙ k.uses)
+      ∙ sym (names_numbered texts' table' pieces'))
 
   pub slots_same : (has_piece : ℕ → Bool) (title : Title) (piece : ℕ)
       → pieces_slots texts table has_piece title piece pieces ≡ pieces_slots texts' table' has_piece title piece pieces'

@@ -16,10 +16,12 @@ module _ (names names' : List (List ℕ)) (body other : NodeBody) where
   )
 
   pub names_decide : (t : Bool) → (body_tags body ≡ body_tags other) × (body_bytes body ≡ body_bytes other)
-      → (t ≡ true → names_at names (body_uses body) ≡ names_at names' (body_uses other)) × (names_at names (body_uses body) ≡ names_at names' (body_uses other) → t ≡ true)
+      → (t ≡ true → names_at names (body_uses body) ≡ names_at names' (body_uses other))
+      × (names_at names (body_uses body) ≡ names_at names' (body_uses other) → t ≡ true)
       → (shape other_shape : Shape) → HoldsShape names shape body → HoldsShape names' other_shape other
       → (t ≡ true → shape ≡ other_shape) × (shape ≡ other_shape → t ≡ true)
   names_decide t items decide shape other_shape h k = (
-    (λ e. same_by_tags shape other_shape (sym h.tags ∙ items.0 ∙ k.tags) (sym h.bytes ∙ items.1 ∙ k.bytes) (sym h.names_used ∙ decide.0 e ∙ k.names_used)),
+    (λ e. same_by_tags shape other_shape (sym h.tags ∙ items.0 ∙ k.tags)
+        (sym h.bytes ∙ items.1 ∙ k.bytes) (sym h.names_used ∙ decide.0 e ∙ k.names_used)),
     λ same. decide.1 (h.names_used ∙ ap shape_names same ∙ sym k.names_used),
   )

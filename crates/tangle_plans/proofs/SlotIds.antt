@@ -2,6 +2,7 @@
 use Rattle.std.proofs.Common.{◌≡◌, ◌∙◌, ℕ, ◌+◌, Bool, true, false, List, [], ◌∷◌, ◌++◌, refl, ap, sym}
 use Rattle.std.specs.Prelude.{flat_map, filter, decimal, if◌then◌else◌}
 use Rattle.std.proofs.lemmas.Grind.{flat_map-append}
+use Rattle.std.proofs.lemmas.List.Elements.{filter-append}
 use Rattle.tangle_files.specs.Bytes.{space}
 use Rattle.tangle_scan.specs.declared.items.Item.{Item}
 use Rattle.tangle_scan.specs.declared.items.Item.TheVariants as item
@@ -29,7 +30,8 @@ unfolding slot_ids
 bytes_ids [] = refl
 bytes_ids (b ∷ bytes) = bytes_ids bytes
 
-step_ids : (node : Title) (bytes : List ℕ) (piece marks start : ℕ) (s : Step) → flat_map slot_ids (step_slots node bytes piece marks start s) ≡ step_uses s
+step_ids : (node : Title) (bytes : List ℕ) (piece marks start : ℕ) (s : Step)
+    → flat_map slot_ids (step_slots node bytes piece marks start s) ≡ step_uses s
 unfolding slot_ids
 step_ids node bytes piece marks start step.Open = refl
 step_ids node bytes piece marks start (step.Run end) = bytes_ids (bytes_between bytes start end)
@@ -39,34 +41,34 @@ step_ids node bytes piece marks start step.Space = refl
 step_ids node bytes piece marks start (step.Use id) = refl
 step_ids node bytes piece marks start step.Close = refl
 
-pub plan_ids : (node : Title) (bytes : List ℕ) (piece marks start : ℕ) (plan : List Step) → flat_map slot_ids (slots node bytes piece marks start plan) ≡ uses_of plan
+pub plan_ids : (node : Title) (bytes : List ℕ) (piece marks start : ℕ) (plan : List Step)
+    → flat_map slot_ids (slots node bytes piece marks start plan) ≡ uses_of plan
 plan_ids node bytes piece marks start [] = refl
 plan_ids node bytes piece marks start (s ∷ plan) =
-    flat_map-append slot_ids (step_slots node bytes piece marks start s) (slots node bytes (pieces_after_step piece s) (marks_after_step marks s) (bytes_after_step start s) plan)
-    ∙ ap (λ l. l ++ flat_map slot_ids (slots node bytes (pieces_after_step piece s) (marks_after_step marks s) (bytes_after_step start s) plan)) (step_ids node bytes piece marks start s)
-    ∙ ap (λ l. step_uses s ++ l) (plan_ids node bytes (pieces_after_step piece s) (marks_after_step marks s) (bytes_after_step start s) plan)
-
-filtered : (test : ℕ → Bool) (xs ys : List ℕ) → filter test (xs ++ ys) ≡ filter test xs ++ filter test ys
-filtered test [] ys = refl
-filtered test (x ∷ xs) ys = by (test x) (filtered test xs ys)
-  where
-    by : (t : Bool) → filter test (xs ++ ys) ≡ filter test xs ++ filter test ys
-        → (if t then x ∷ filter test (xs ++ ys) else filter test (xs ++ ys)) ≡ (if t then x ∷ filter test xs else filter test xs) ++ filter test ys
-    by true e = ap (λ l. x ∷ l) e
-    by false e = e
+    flat_map-append slot_ids (step_slots node bytes piece marks start s)
+    (slots node bytes (pieces_after_step piece s) (marks_after_step marks s) (bytes_after_step start s) plan)
+    ∙ ap
+    (λ l. l
+    ++ flat_map slot_ids
+    (slots node bytes (pieces_after_step piece s) (marks_after_step marks s) (bytes_after_step start s) plan))
+    (step_ids node bytes piece marks start s)
+    ∙ ap (λ l. step_uses s ++ l)
+    (plan_ids node bytes (pieces_after_step piece s) (marks_after_step marks s) (bytes_after_step start s) plan)
 
 module _ (texts : List (List ℕ)) (table : TableRead) (has_piece : ℕ → Bool) (node : Title) where
   name_ids : (r : Resolved) → flat_map slot_ids (name_slots has_piece r) ≡ filter has_piece (uses_resolved r)
   unfolding slot_ids
   name_ids (Name id) = by (has_piece id)
     where
-      by : (t : Bool) → flat_map slot_ids (if t then Used id ∷ [] else Own (Byte space) ∷ []) ≡ (if t then id ∷ [] else [])
+      by : (t : Bool)
+          → flat_map slot_ids (if t then Used id ∷ [] else Own (Byte space) ∷ []) ≡ (if t then id ∷ [] else [])
       by true = refl
       by false = refl
   name_ids NoFullName = refl
   name_ids Ambiguous = refl
 
-  item_ids : (piece marks : ℕ) (x : Item) → flat_map slot_ids (item_slots texts table has_piece node piece marks x) ≡ filter has_piece (uses_in table x)
+  item_ids : (piece marks : ℕ) (x : Item)
+      → flat_map slot_ids (item_slots texts table has_piece node piece marks x) ≡ filter has_piece (uses_in table x)
   unfolding slot_ids
   item_ids piece marks (item.Word span) = bytes_ids (span_text texts span)
   item_ids piece marks (item.Sign span) = bytes_ids (span_text texts span)
@@ -80,7 +82,9 @@ module _ (texts : List (List ℕ)) (table : TableRead) (has_piece : ℕ → Bool
   item_ids piece marks (item.UseOf occurrence) = name_ids (resolved_at table occurrence)
   item_ids piece marks item.Defs = refl
 
-  items_ids : (piece marks : ℕ) (items : List Item) → flat_map slot_ids (items_slots texts table has_piece node piece marks items) ≡ filter has_piece (flat_map (uses_in table) items)
+  items_ids : (piece marks : ℕ) (items : List Item)
+      → flat_map slot_ids (items_slots texts table has_piece node piece marks items)
+      ≡ filter has_piece (flat_map (uses_in table) items)
   unfolding slot_ids
   items_ids piece marks [] = refl
   items_ids piece marks (x ∷ items) =
@@ -88,9 +92,11 @@ module _ (texts : List (List ℕ)) (table : TableRead) (has_piece : ℕ → Bool
       flat_map-append slot_ids (item_slots texts table has_piece node piece marks x) rest
       ∙ ap (λ l. l ++ flat_map slot_ids rest) (item_ids piece marks x)
       ∙ ap (λ l. filter has_piece (uses_in table x) ++ l) (items_ids piece (marks_after_item marks x) items)
-      ∙ sym (filtered has_piece (uses_in table x) (flat_map (uses_in table) items))
+      ∙ sym (filter-append has_piece (uses_in table x) (flat_map (uses_in table) items))
 
-  pub pieces_ids : (piece : ℕ) (pieces : List PieceRead) → flat_map slot_ids (pieces_slots texts table has_piece node piece pieces) ≡ filter has_piece (pieces_uses table pieces)
+  pub pieces_ids : (piece : ℕ) (pieces : List PieceRead)
+      → flat_map slot_ids (pieces_slots texts table has_piece node piece pieces)
+      ≡ filter has_piece (pieces_uses table pieces)
   unfolding slot_ids
   pieces_ids piece [] = refl
   pieces_ids piece (p ∷ pieces) =
@@ -98,4 +104,4 @@ module _ (texts : List (List ℕ)) (table : TableRead) (has_piece : ℕ → Bool
       flat_map-append slot_ids (items_slots texts table has_piece node piece 0 p.items) rest
       ∙ ap (λ l. l ++ flat_map slot_ids rest) (items_ids piece 0 p.items)
       ∙ ap (λ l. filter has_piece (flat_map (uses_in table) p.items) ++ l) (pieces_ids (piece + 1) pieces)
-      ∙ sym (filtered has_piece (flat_map (uses_in table) p.items) (pieces_uses table pieces))
+      ∙ sym (filter-append has_piece (flat_map (uses_in table) p.items) (pieces_uses table pieces))

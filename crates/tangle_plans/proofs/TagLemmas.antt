@@ -4,7 +4,8 @@ use Rattle.std.specs.Prelude.{flat_map}
 use Rattle.std.proofs.Math.Seq.{take-append_seam, drop-append_seam}
 use Rattle.tangle_plans.specs.Shapes.{Kind, ShapeItem, Written, Mark, AllMacros, Use, NoUse, Shape}
 use Rattle.tangle_plans.specs.Shapes as kind
-use Rattle.tangle_plans.specs.Tags.{written_kind, item_tag, piece_end, item_bytes, item_names, shape_tags, shape_bytes, shape_names}
+use Rattle.tangle_plans.specs.Tags.{written_kind, item_tag, piece_end, item_bytes, item_names, shape_tags, shape_bytes}
+use Rattle.tangle_plans.specs.Tags.{shape_names}
 use Rattle.tangle_plans.specs.declared.tags.ItemKind.{ItemKind}
 use Rattle.tangle_plans.specs.declared.tags.ItemKind.TheVariants as tag
 use Rattle.tangle_plans.specs.declared.tags.ItemTag.{ItemTag}
@@ -23,9 +24,11 @@ item_from_tag : ItemKind → ℕ → List ℕ → List (List ℕ) → (List ℕ 
 item_from_tag tag.Word n bytes names rest = onto (Written kind.Word (take n bytes)) (rest (drop n bytes) names)
 item_from_tag tag.Sign n bytes names rest = onto (Written kind.Sign (take n bytes)) (rest (drop n bytes) names)
 item_from_tag tag.Quoted n bytes names rest = onto (Written kind.Quoted (take n bytes)) (rest (drop n bytes) names)
-item_from_tag tag.QuoteBreak n bytes names rest = onto (Written kind.QuoteBreak (take n bytes)) (rest (drop n bytes) names)
+item_from_tag tag.QuoteBreak n bytes names rest =
+    onto (Written kind.QuoteBreak (take n bytes)) (rest (drop n bytes) names)
 item_from_tag tag.Verbatim n bytes names rest = onto (Written kind.Verbatim (take n bytes)) (rest (drop n bytes) names)
-item_from_tag tag.AsciiConstant n bytes names rest = onto (Written kind.AsciiConstant (take n bytes)) (rest (drop n bytes) names)
+item_from_tag tag.AsciiConstant n bytes names rest =
+    onto (Written kind.AsciiConstant (take n bytes)) (rest (drop n bytes) names)
 item_from_tag tag.Blank n bytes names rest = onto (Written kind.Blank (take n bytes)) (rest (drop n bytes) names)
 item_from_tag tag.LineEnd n bytes names rest = onto (Written kind.LineEnd (take n bytes)) (rest (drop n bytes) names)
 item_from_tag tag.Mark n bytes names rest = onto Mark (rest bytes names)
@@ -51,17 +54,21 @@ written_from_tag kind.Blank n bytes names rest = refl
 written_from_tag kind.LineEnd n bytes names rest = refl
 
 piece_from_tags : (items : List ShapeItem) (tags : List ItemTag) (bytes : List ℕ) (names : List (List ℕ))
-    → shape_from_tags (map item_tag items ++ piece_end ∷ tags) (flat_map item_bytes items ++ bytes) (flat_map item_names items ++ names) ≡ items ∷ shape_from_tags tags bytes names
+    → shape_from_tags (map item_tag items ++ piece_end ∷ tags)
+    (flat_map item_bytes items ++ bytes) (flat_map item_names items ++ names)
+    ≡ items ∷ shape_from_tags tags bytes names
 unfolding shape_from_tags item_from_tag onto first_name
 piece_from_tags [] tags bytes names = refl
 piece_from_tags (Written k written ∷ items) tags bytes names =
     let rest = flat_map item_bytes items ++ bytes in
     let after = shape_from_tags (map item_tag items ++ piece_end ∷ tags) in
     let left = flat_map item_names items ++ names in
-    let seam : (written ++ flat_map item_bytes items) ++ bytes ≡ written ++ rest = append_assoc written (flat_map item_bytes items) bytes in
+    let seam : (written ++ flat_map item_bytes items) ++ bytes ≡ written ++ rest =
+    append_assoc written (flat_map item_bytes items) bytes in
     written_from_tag k (length written) ((written ++ flat_map item_bytes items) ++ bytes) left after
     ∙ ap (λ l. onto (Written k (take (length written) l)) (after (drop (length written) l) left)) seam
-    ∙ ap (λ l. onto (Written k l) (after (drop (length written) (written ++ rest)) left)) (take-append_seam written rest)
+    ∙ ap (λ l. onto (Written k l) (after (drop (length written) (written ++ rest)) left))
+    (take-append_seam written rest)
     ∙ ap (λ l. onto (Written k written) (after l left)) (drop-append_seam written rest)
     ∙ ap (onto (Written k written)) (piece_from_tags items tags bytes names)
 piece_from_tags (Mark ∷ items) tags bytes names = ap (onto Mark) (piece_from_tags items tags bytes names)
@@ -69,15 +76,18 @@ piece_from_tags (AllMacros ∷ items) tags bytes names = ap (onto AllMacros) (pi
 piece_from_tags (Use name ∷ items) tags bytes names = ap (onto (Use name)) (piece_from_tags items tags bytes names)
 piece_from_tags (NoUse ∷ items) tags bytes names = ap (onto NoUse) (piece_from_tags items tags bytes names)
 
-shape_from_its_tags : (shape : Shape) → shape_from_tags (shape_tags shape) (shape_bytes shape) (shape_names shape) ≡ shape
+shape_from_its_tags : (shape : Shape)
+    → shape_from_tags (shape_tags shape) (shape_bytes shape) (shape_names shape) ≡ shape
 unfolding shape_from_tags
 shape_from_its_tags [] = refl
 shape_from_its_tags (items ∷ pieces) =
-    ap (λ l. shape_from_tags l (shape_bytes (items ∷ pieces)) (shape_names (items ∷ pieces))) (append_assoc (map item_tag items) (piece_end ∷ []) (shape_tags pieces))
+    ap (λ l. shape_from_tags l (shape_bytes (items ∷ pieces)) (shape_names (items ∷ pieces)))
+    (append_assoc (map item_tag items) (piece_end ∷ []) (shape_tags pieces))
     ∙ piece_from_tags items (shape_tags pieces) (shape_bytes pieces) (shape_names pieces)
     ∙ ap (λ l. items ∷ l) (shape_from_its_tags pieces)
 
-pub same_by_tags : (s t : Shape) → shape_tags s ≡ shape_tags t → shape_bytes s ≡ shape_bytes t → shape_names s ≡ shape_names t → s ≡ t
+pub same_by_tags : (s t : Shape)
+    → shape_tags s ≡ shape_tags t → shape_bytes s ≡ shape_bytes t → shape_names s ≡ shape_names t → s ≡ t
 same_by_tags s t tags bytes names =
     sym (shape_from_its_tags s)
     ∙ ap (λ l. shape_from_tags l (shape_bytes s) (shape_names s)) tags

@@ -1,7 +1,8 @@
 -- The expansion of a node, its weight, and the depth of its uses.
 use Rattle.std.specs.Prelude.{ℕ, ◌+◌, zero, suc, max, List, [], ◌∷◌, ◌++◌, length, map}
 use Rattle.tangle_files.specs.Bytes.{space}
-use Rattle.tangle_plans.specs.Shapes.{Title, Named, ShapeItem, Written, Mark, Use, NoUse, Shape, Shapes}
+use Rattle.tangle_plans.specs.Shapes.{Title, Named, ShapeItem, Written, Mark, Use, NoUse, Shape}
+use Rattle.tangle_plans.specs.Shapes.{Shapes}
 use Rattle.tangle_plans.specs.Shapes as shape
 
 -- A symbol of an expansion: one byte; an opening, a mark or a closing, with its node and the number
@@ -35,18 +36,21 @@ item_flat used node piece marks NoUse = Byte space ∷ []
 abbrev pub items_flat : (List ℕ → List Symbol) → Title → ℕ → ℕ → List ShapeItem → List Symbol
 items_flat used node piece marks [] = Closing node piece ∷ []
 items_flat used node piece marks (item ∷ items) =
-    item_flat used node piece marks item ++ items_flat used node piece (marks_after_shape_item marks item) items
+    item_flat used node piece marks item
+    ++ items_flat used node piece (marks_after_shape_item marks item) items
 
 -- the symbols of these pieces, the first of which has this number
 abbrev pub pieces_flat : (List ℕ → List Symbol) → Title → ℕ → Shape → List Symbol
 pieces_flat used node piece [] = []
 pieces_flat used node piece (items ∷ pieces) =
-    Opening node piece ∷ MarkOf node piece 0 ∷ items_flat used node piece 0 items ++ pieces_flat used node (piece + 1) pieces
+    Opening node piece ∷ MarkOf node piece 0 ∷ items_flat used node piece 0 items
+    ++ pieces_flat used node (piece + 1) pieces
 
 -- the symbols of a node, where uses are followed to less than this depth
 abbrev pub flat : ℕ → Shapes → Title → List Symbol
 flat zero shapes node = []
-flat (suc fuel) shapes node = pieces_flat (λ name. flat fuel shapes (Named name)) node 0 (shapes node)
+flat (suc fuel) shapes node =
+    pieces_flat (λ name. flat fuel shapes (Named name)) node 0 (shapes node)
 
 -- The weight: each byte counts 1, and so do an opening, a mark, a closing and the macros; a use
 -- counts 1 plus the weight of its name.
@@ -68,7 +72,8 @@ pieces_weight used (items ∷ pieces) = 3 + items_weight used items + pieces_wei
 
 abbrev pub weight : ℕ → Shapes → Title → ℕ
 weight zero shapes node = 0
-weight (suc fuel) shapes node = pieces_weight (λ name. weight fuel shapes (Named name)) (shapes node)
+weight (suc fuel) shapes node =
+    pieces_weight (λ name. weight fuel shapes (Named name)) (shapes node)
 
 -- The depth: 0 without a piece, else one more than the greatest depth among the used names.
 

@@ -1,5 +1,6 @@
 -- The slots that the pieces of a web give a plan.
-use Rattle.std.specs.Prelude.{ℕ, ◌+◌, Bool, if◌then◌else◌, List, [], ◌∷◌, ◌++◌, decimal, map, slice_index_or, None}
+use Rattle.std.specs.Prelude.{ℕ, ◌+◌, Bool, if◌then◌else◌, List, [], ◌∷◌, ◌++◌, decimal, map}
+use Rattle.std.specs.Prelude.{slice_index_or, None}
 use Rattle.tangle_files.specs.Bytes.{space, line_feed}
 use Rattle.tangle_scan.specs.declared.items.Item.{Item}
 use Rattle.tangle_scan.specs.declared.items.Item.TheVariants as item
@@ -44,23 +45,27 @@ module _ (texts : List (List ℕ)) (table : TableRead) (has_piece : ℕ → Bool
   item_slots piece marks item.Blank = byte_slots (space ∷ [])
   item_slots piece marks item.LineEnd = byte_slots (line_feed ∷ [])
   item_slots piece marks (item.LineMark origin) = Own (MarkOf node piece (marks + 1)) ∷ []
-  item_slots piece marks (item.UseOf occurrence) = name_slots has_piece (resolved_at table occurrence)
+  item_slots piece marks (item.UseOf occurrence) =
+      name_slots has_piece (resolved_at table occurrence)
   item_slots piece marks item.Defs = Own AllMacros ∷ []
 
   -- the slots of these items, and then the closing of the piece
   abbrev pub items_slots : ℕ → ℕ → List Item → List Slot
   items_slots piece marks [] = Own (Closing node piece) ∷ []
-  items_slots piece marks (x ∷ items) = item_slots piece marks x ++ items_slots piece (marks_after_item marks x) items
+  items_slots piece marks (x ∷ items) =
+      item_slots piece marks x ++ items_slots piece (marks_after_item marks x) items
 
   abbrev pub piece_slots : ℕ → List Item → List Slot
-  piece_slots piece items = Own (Opening node piece) ∷ Own (MarkOf node piece 0) ∷ items_slots piece 0 items
+  piece_slots piece items =
+      Own (Opening node piece) ∷ Own (MarkOf node piece 0) ∷ items_slots piece 0 items
 
   abbrev pub pieces_slots : ℕ → List PieceRead → List Slot
   pieces_slots piece [] = []
   pieces_slots piece (p ∷ pieces) = piece_slots piece p.items ++ pieces_slots (piece + 1) pieces
 
 abbrev pub no_piece : PieceRead
-no_piece = record { section = 0; origin = record { file = 0; line = 0 }; occurrence = None; items = [] }
+no_piece =
+    record { section = 0; origin = record { file = 0; line = 0 }; occurrence = None; items = [] }
 
 -- the pieces with these numbers
 abbrev pub pieces_at : List PieceRead → List ℕ → List PieceRead

@@ -22,7 +22,9 @@ making p = record {
   node = title_of p.name;
   piece = p.piece;
   marks = p.marks;
-  made = slots (title_of p.name) p.bytes.items 0 0 0 p.plan.items ++ byte_slots (drop p.start p.bytes.items);
+  made =
+      slots (title_of p.name) p.bytes.items 0 0 0 p.plan.items
+      ++ byte_slots (drop p.start p.bytes.items);
   bytes = p.bytes.items;
   tags = p.tags.items;
   uses = p.uses.items;
@@ -30,4 +32,5 @@ making p = record {
 
 -- nothing was made yet
 abbrev pub nothing_made : Title → Making
-nothing_made node = record { node = node; piece = 0; marks = 0; made = []; bytes = []; tags = []; uses = [] }
+nothing_made node =
+    record { node = node; piece = 0; marks = 0; made = []; bytes = []; tags = []; uses = [] }

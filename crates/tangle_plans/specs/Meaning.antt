@@ -1,6 +1,7 @@
 -- The meaning of an expansion: the symbols of its plan and its bytes, with the symbols of the
 -- shared expansions at the uses.
-use Rattle.std.specs.Prelude.{ℕ, ◌+◌, ◌-◌, Bool, true, false, if◌then◌else◌, List, [], ◌∷◌, ◌++◌, map, take, drop, Option, None, Some, Vec}
+use Rattle.std.specs.Prelude.{ℕ, ◌+◌, ◌-◌, Bool, true, false, if◌then◌else◌, List, [], ◌∷◌, ◌++◌}
+use Rattle.std.specs.Prelude.{map, take, drop, Option, None, Some, Vec}
 use Rattle.std.specs.Global.{Global}
 use Rattle.tangle_files.specs.Bytes.{space}
 use Rattle.tangle_plans.specs.Shapes.{Title, Program, Named}
@@ -30,14 +31,21 @@ module _ (node : Title) (bytes : List ℕ) where
   -- has one for each use.
   abbrev pub plan_flat : ℕ → ℕ → ℕ → List Step → List (List Symbol) → List Symbol
   plan_flat piece marks start [] used = left_over used
-  plan_flat piece marks start (step.Open ∷ plan) used = Opening node piece ∷ MarkOf node piece 0 ∷ plan_flat piece 0 start plan used
-  plan_flat piece marks start (step.Run end ∷ plan) used = map Byte (bytes_between bytes start end) ++ plan_flat piece marks end plan used
-  plan_flat piece marks start (step.Mark ∷ plan) used = MarkOf node piece (marks + 1) ∷ plan_flat piece (marks + 1) start plan used
-  plan_flat piece marks start (step.AllMacros ∷ plan) used = AllMacros ∷ plan_flat piece marks start plan used
-  plan_flat piece marks start (step.Space ∷ plan) used = Byte space ∷ plan_flat piece marks start plan used
+  plan_flat piece marks start (step.Open ∷ plan) used =
+      Opening node piece ∷ MarkOf node piece 0 ∷ plan_flat piece 0 start plan used
+  plan_flat piece marks start (step.Run end ∷ plan) used =
+      map Byte (bytes_between bytes start end) ++ plan_flat piece marks end plan used
+  plan_flat piece marks start (step.Mark ∷ plan) used =
+      MarkOf node piece (marks + 1) ∷ plan_flat piece (marks + 1) start plan used
+  plan_flat piece marks start (step.AllMacros ∷ plan) used =
+      AllMacros ∷ plan_flat piece marks start plan used
+  plan_flat piece marks start (step.Space ∷ plan) used =
+      Byte space ∷ plan_flat piece marks start plan used
   plan_flat piece marks start (step.Use id ∷ plan) [] = []
-  plan_flat piece marks start (step.Use id ∷ plan) (symbols ∷ used) = Byte space ∷ symbols ++ plan_flat piece marks start plan used
-  plan_flat piece marks start (step.Close ∷ plan) used = Closing node piece ∷ plan_flat (piece + 1) 0 start plan used
+  plan_flat piece marks start (step.Use id ∷ plan) (symbols ∷ used) =
+      Byte space ∷ symbols ++ plan_flat piece marks start plan used
+  plan_flat piece marks start (step.Close ∷ plan) used =
+      Closing node piece ∷ plan_flat (piece + 1) 0 start plan used
 
 -- the numbers of pieces, marks and bytes after a step
 
@@ -89,7 +97,8 @@ abbrev pub after_use : ℕ → ℕ → ℕ → List Step → PlanCursor
 after_use piece marks start [] = record { piece = piece; marks = marks; start = start; plan = [] }
 after_use piece marks start (s ∷ plan) =
     if is_use_step s then record { piece = piece; marks = marks; start = start; plan = plan }
-    else after_use (pieces_after_step piece s) (marks_after_step marks s) (bytes_after_step start s) plan
+    else after_use (pieces_after_step piece s)
+    (marks_after_step marks s) (bytes_after_step start s) plan
 
 module _ (node : Title) (bytes : List ℕ) where
   -- the symbols of a step that is no use
@@ -107,4 +116,6 @@ module _ (node : Title) (bytes : List ℕ) where
   before_use piece marks start [] = []
   before_use piece marks start (s ∷ plan) =
       if is_use_step s then []
-      else own_symbols piece marks start s ++ before_use (pieces_after_step piece s) (marks_after_step marks s) (bytes_after_step start s) plan
+      else own_symbols piece marks start s
+      ++ before_use (pieces_after_step piece s)
+      (marks_after_step marks s) (bytes_after_step start s) plan

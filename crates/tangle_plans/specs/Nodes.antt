@@ -21,7 +21,10 @@ title_in names Program = title.Program
 title_in names (Name id) = Named (slice_index_or names id [])
 
 -- The names are those of the table, and for each node the numbers are those of its pieces.
-pub record IsGroupedBy (web : WebRead) (table : TableRead) (names : List (List ℕ)) (pieces : Node → List ℕ) : Type 0 where
+pub record IsGroupedBy (web : WebRead) (table : TableRead)
+    (names : List (List ℕ)) (pieces : Node → List ℕ) : Type 0 where
   pub same_names : names ≡ table.names
-  pub inside : (node : Node) → IsNodeBelow (length names) node → All (λ n. n < length web.pieces) (pieces node)
-  pub right : (node : Node) → IsNodeBelow (length names) node → pieces_at web.pieces (pieces node) ≡ pieces_of web table (title_in names node)
+  pub inside : (node : Node)
+      → IsNodeBelow (length names) node → All (λ n. n < length web.pieces) (pieces node)
+  pub right : (node : Node) → IsNodeBelow (length names) node
+      → pieces_at web.pieces (pieces node) ≡ pieces_of web table (title_in names node)

@@ -69,8 +69,10 @@ Uses shapes node name = UsesInShape (shapes node) name
 -- the first node reaches the second in any number of steps: each node reaches itself in none
 pub data Reaches (shapes : Shapes) : Title → Title → Type 0 where
   here : {node : Title} → Reaches shapes node node
-  on : {node other : Title} {name : List ℕ} → Uses shapes node name → Reaches shapes (Named name) other → Reaches shapes node other
+  on : {node other : Title} {name : List ℕ}
+      → Uses shapes node name → Reaches shapes (Named name) other → Reaches shapes node other
 
 -- the node reaches itself in one step or more
 abbrev pub ContainsItself : Shapes → Title → Type 0
-ContainsItself shapes node = (name : List ℕ) × (Uses shapes node name) × Reaches shapes (Named name) node
+ContainsItself shapes node =
+    (name : List ℕ) × (Uses shapes node name) × Reaches shapes (Named name) node

@@ -1,10 +1,12 @@
 -- The slots of a plan: the node's own symbols, and the uses between them.
-use Rattle.std.specs.Prelude.{◌≡◌, ◌≤◌, ℕ, ◌+◌, Bool, true, false, nat_lt, if◌then◌else◌, List, [], ◌∷◌, ◌++◌, length, map, flat_map}
+use Rattle.std.specs.Prelude.{◌≡◌, ◌≤◌, ℕ, ◌+◌, Bool, true, false, nat_lt, if◌then◌else◌, List, []}
+use Rattle.std.specs.Prelude.{◌∷◌, ◌++◌, length, map, flat_map}
 use Rattle.std.specs.List.{AllByRecursion}
 use Rattle.tangle_files.specs.Bytes.{space}
 use Rattle.tangle_plans.specs.Shapes.{Title}
 use Rattle.tangle_plans.specs.Flat.{Symbol, Byte, Opening, MarkOf, Closing, AllMacros}
-use Rattle.tangle_plans.specs.Meaning.{bytes_between, pieces_after_step, marks_after_step, bytes_after_step}
+use Rattle.tangle_plans.specs.Meaning.{bytes_between, pieces_after_step, marks_after_step}
+use Rattle.tangle_plans.specs.Meaning.{bytes_after_step}
 use Rattle.tangle_plans.specs.declared.steps.Step.{Step}
 use Rattle.tangle_plans.specs.declared.steps.Step.TheVariants as step
 
@@ -16,7 +18,8 @@ pub data Slot : Type 0 where
 module _ (node : Title) (bytes : List ℕ) where
   abbrev pub step_slots : ℕ → ℕ → ℕ → Step → List Slot
   step_slots piece marks start step.Open = Own (Opening node piece) ∷ Own (MarkOf node piece 0) ∷ []
-  step_slots piece marks start (step.Run end) = map (λ b. Own (Byte b)) (bytes_between bytes start end)
+  step_slots piece marks start (step.Run end) =
+      map (λ b. Own (Byte b)) (bytes_between bytes start end)
   step_slots piece marks start step.Mark = Own (MarkOf node piece (marks + 1)) ∷ []
   step_slots piece marks start step.AllMacros = Own AllMacros ∷ []
   step_slots piece marks start step.Space = Own (Byte space) ∷ []
@@ -26,7 +29,9 @@ module _ (node : Title) (bytes : List ℕ) where
   abbrev pub slots : ℕ → ℕ → ℕ → List Step → List Slot
   slots piece marks start [] = []
   slots piece marks start (s ∷ plan) =
-      step_slots piece marks start s ++ slots (pieces_after_step piece s) (marks_after_step marks s) (bytes_after_step start s) plan
+      step_slots piece marks start s
+      ++ slots (pieces_after_step piece s)
+      (marks_after_step marks s) (bytes_after_step start s) plan
 
 -- a slot in which a use is replaced by a space and the name's symbols
 abbrev pub filled_slot : (ℕ → List Symbol) → Slot → List Symbol

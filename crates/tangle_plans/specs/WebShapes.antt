@@ -1,5 +1,6 @@
 -- The shapes of a web with its table of names.
-use Rattle.std.specs.Prelude.{ℕ, ◌<◌, length, Bool, false, List, [], ◌∷◌, map, filter, slice_index_or, decimal, Option, Some, None}
+use Rattle.std.specs.Prelude.{ℕ, ◌<◌, length, Bool, false, List, [], ◌∷◌, map, filter}
+use Rattle.std.specs.Prelude.{slice_index_or, decimal, Option, Some, None}
 use Rattle.tangle_files.specs.Bytes.{space, line_feed}
 use Rattle.tangle_scan.specs.declared.items.Item.{Item}
 use Rattle.tangle_scan.specs.declared.items.Item.TheVariants as item
@@ -8,7 +9,8 @@ use Rattle.tangle_scan.specs.Web.{WebRead, PieceRead}
 use Rattle.tangle_names.specs.declared.Resolved.{Resolved}
 use Rattle.tangle_names.specs.declared.Resolved.TheVariants.{Name, NoFullName, Ambiguous}
 use Rattle.tangle_names.specs.NameTable.{TableRead}
-use Rattle.tangle_plans.specs.Shapes.{Title, Program, Named, title_eq, Kind, ShapeItem, Written, Mark, AllMacros, Use, NoUse, Shape, Shapes}
+use Rattle.tangle_plans.specs.Shapes.{Title, Program, Named, title_eq, Kind, ShapeItem, Written}
+use Rattle.tangle_plans.specs.Shapes.{Mark, AllMacros, Use, NoUse, Shape, Shapes}
 use Rattle.tangle_plans.specs.Shapes as kind
 
 module _ (table : TableRead) where
@@ -49,7 +51,8 @@ IsNameBelow count Ambiguous = Unit {0}
 
 -- each occurrence that resolves to a name resolves to one of the table
 abbrev pub ResolvesInside : TableRead → Type 0
-ResolvesInside table = (occurrence : ℕ) → IsNameBelow (length table.names) (resolved_at table occurrence)
+ResolvesInside table =
+    (occurrence : ℕ) → IsNameBelow (length table.names) (resolved_at table occurrence)
 
 module _ (texts : List (List ℕ)) (table : TableRead) where
   -- an item of a shape, with the kind and the bytes that the scanner cut, and without an origin

@@ -1,6 +1,7 @@
 pub mod TextLemmas
 pub mod Gaps
 pub mod GatheringLemmas
+pub mod ItemsByOrigin
 pub mod MacroItemLemmas
 pub mod PartLemmas
 pub mod PlainPartLemmas

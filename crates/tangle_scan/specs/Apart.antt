@@ -14,7 +14,8 @@ use Rattle.tangle_lexer.specs.declared.tokens.SpanKind.TheVariants as span_kind
 use Rattle.tangle_lexer.specs.Steps.{all_tokens}
 use Rattle.tangle_scan.specs.declared.items.Item.{Item}
 use Rattle.tangle_scan.specs.declared.items.Item.TheVariants as item
-use Rattle.tangle_scan.specs.Rules.{texts_of, span_text, ends_in_backslash, may_touch, is_name_part, part_tokens, macro_tokens, is_macro, macro_items}
+use Rattle.tangle_scan.specs.Rules.{texts_of, span_text, ends_in_backslash, may_touch, is_name_part}
+use Rattle.tangle_scan.specs.Rules.{part_tokens, macro_tokens, is_macro, macro_items}
 use Rattle.tangle_scan.specs.ItemBytes.{bytes_in}
 use Rattle.tangle_scan.specs.MacroBytes.{macro_bytes}
 use Rattle.tangle_scan.specs.Web.{WebRead, BlockKind, blocks}
@@ -59,8 +60,10 @@ module _ (texts : List (List ℕ)) where
   -- The flag says whether such a backslash is before these tokens.
   abbrev pub read_tokens : Bool → List Token → List Token
   read_tokens continued [] = []
-  read_tokens continued (token.White ∷ es) = (if continued then [] else token.White ∷ []) ++ read_tokens continued es
-  read_tokens continued (token.LineEnd line ∷ es) = (if continued then [] else token.LineEnd line ∷ []) ++ read_tokens false es
+  read_tokens continued (token.White ∷ es) =
+      (if continued then [] else token.White ∷ []) ++ read_tokens continued es
+  read_tokens continued (token.LineEnd line ∷ es) =
+      (if continued then [] else token.LineEnd line ∷ []) ++ read_tokens false es
   read_tokens continued (e ∷ es) =
       let continues : Bool = ends_in_backslash texts e && ends_line es in
       (if continues && is_backslash e then [] else e ∷ []) ++ read_tokens continues es
@@ -69,7 +72,8 @@ module _ (texts : List (List ℕ)) where
   -- tokens that are not items at the end of the macro.
 
   abbrev pub is_dropped_token : Token → Bool
-  is_dropped_token (token.Span span_kind.Sign s) = ends_in_backslash texts (token.Span span_kind.Sign s)
+  is_dropped_token (token.Span span_kind.Sign s) =
+      ends_in_backslash texts (token.Span span_kind.Sign s)
   is_dropped_token (token.Span kind s) = false
   is_dropped_token (token.AsciiConstant value line) = false
   is_dropped_token token.QuoteBreak = false
@@ -115,13 +119,18 @@ module _ (texts : List (List ℕ)) where
     -- compiler reads white space first, or, if no white space is needed there, perhaps nothing.
     -- `in_name`: all items so far are the name of a macro. `apart`: the source keeps the next item
     -- apart from the one before. `AtEnd` is true of the bytes after the last item.
-    abbrev pub AreReadApart : (Option Token → List ℕ → Type 0) → Bool → Bool → Option Token → List Token → List ℕ → Type 0
+    abbrev pub AreReadApart : (Option Token → List ℕ → Type 0)
+        → Bool → Bool → Option Token → List Token → List ℕ → Type 0
     AreReadApart AtEnd in_name apart before [] bytes = AtEnd before bytes
-    AreReadApart AtEnd in_name apart before (token.White ∷ es) bytes = AreReadApart AtEnd in_name true before es bytes
-    AreReadApart AtEnd in_name apart before (token.LineEnd line ∷ es) bytes = AreReadApart AtEnd in_name true before es bytes
+    AreReadApart AtEnd in_name apart before (token.White ∷ es) bytes =
+        AreReadApart AtEnd in_name true before es bytes
+    AreReadApart AtEnd in_name apart before (token.LineEnd line ∷ es) bytes =
+        AreReadApart AtEnd in_name true before es bytes
     AreReadApart AtEnd in_name apart before (e ∷ es) bytes =
         (between : List ℕ) × (rest : List ℕ) × (bytes ≡ between ++ (token_bytes e ++ rest))
-        × (is_gap_read (needs_white in_name apart before e) (read_after (after_backslash before) between) ≡ true)
+        × (is_gap_read (needs_white in_name apart before e)
+        (read_after (after_backslash before) between)
+        ≡ true)
         × AreReadApart AtEnd (in_name && not apart && is_name_part e) false (Some e) es rest
 
   -- A line feed after the last item ends a macro. The compiler takes it out only after a verbatim
@@ -149,11 +158,13 @@ module _ (texts : List (List ℕ)) where
   piece_item_bytes used mark macros item.Defs = line_feed ∷ macros
   piece_item_bytes used mark macros x = bytes_in texts x
 
-  -- the bytes of a piece that has these tokens, whatever is written for its uses and marks and for all macros
+  -- the bytes of a piece that has these tokens, whatever
+  -- is written for its uses and marks and for all macros
   abbrev pub IsPieceReadApart : List Token → List Item → Type 0
   IsPieceReadApart tokens items =
       (used : ℕ → List ℕ) (mark : Origin → List ℕ) (macros : List ℕ)
-      → AreReadApart (λ occurrence. space ∷ used occurrence) (line_feed ∷ macros) EndsPiece false false None
+      → AreReadApart (λ occurrence. space ∷ used occurrence)
+      (line_feed ∷ macros) EndsPiece false false None
       (read_tokens false tokens) (flat_map (piece_item_bytes used mark macros) items)
 
 -- the tokens of the pieces and of the macros of a source after rules 1 and 2, in order
@@ -165,7 +176,9 @@ module _ (lines : List SourceLine) where
 
   abbrev pub kind_macro_tokens : BlockKind → List Token → List (List Token)
   kind_macro_tokens (OfMacro line) tokens =
-      if is_macro (texts_of lines) (macro_items (texts_of lines) tokens) then macro_tokens (texts_of lines) tokens ∷ [] else []
+      if is_macro (texts_of lines) (macro_items (texts_of lines) tokens)
+      then macro_tokens (texts_of lines) tokens ∷ []
+      else []
   kind_macro_tokens (OfPiece occurrence line) tokens = []
 
   abbrev pub all_piece_tokens : List (List Token)
@@ -177,5 +190,8 @@ module _ (lines : List SourceLine) where
 -- a C compiler reads two items of a macro or a piece as the tokens of both, if the source keeps
 -- them apart
 pub record StaysApart (source : SourceRead) (web : WebRead) : Type 0 where
-  pub macros : AllZip (λ items tokens. IsMacroReadApart web.texts tokens (macro_bytes web.texts items)) web.macros (all_macro_tokens source.lines)
-  pub pieces : AllZip (λ p tokens. IsPieceReadApart web.texts tokens p.items) web.pieces (all_piece_tokens source.lines)
+  pub macros : AllZip
+      (λ items tokens. IsMacroReadApart web.texts tokens (macro_bytes web.texts items))
+      web.macros (all_macro_tokens source.lines)
+  pub pieces : AllZip (λ p tokens. IsPieceReadApart web.texts tokens p.items)
+      web.pieces (all_piece_tokens source.lines)

@@ -8,7 +8,9 @@ use Rattle.tangle_scan.specs.declared.items.Item.{Item}
 use Rattle.tangle_lexer.specs.declared.tokens.Token.{Token}
 use Rattle.tangle_lexer.specs.declared.tokens.Token.TheVariants as token
 use Rattle.tangle_scan.specs.Rules.{texts_of}
-use Rattle.tangle_scan.specs.Web.{PieceRead, WebRead, blocks, block_at, section_after, section_count, piece_of, macro_of, block_has_all_macros, scan_faults, faults_at, fault_on}
+use Rattle.tangle_scan.specs.Web.{PieceRead, WebRead, blocks, block_at, section_after}
+use Rattle.tangle_scan.specs.Web.{section_count, piece_of, macro_of, block_has_all_macros}
+use Rattle.tangle_scan.specs.Web.{scan_faults, faults_at, fault_on}
 use Rattle.tangle_lexer.specs.Occurrences.{OccurrenceRead}
 
 -- what was gathered so far
@@ -28,7 +30,8 @@ gathering_with source before tokens = record {
   sections = section_count before.sections tokens;
   pieces = before.pieces ++ flat_map (piece_of source.lines) (blocks before.sections tokens);
   macros = before.macros ++ flat_map (macro_of source.lines) (blocks before.sections tokens);
-  has_all_macros = before.has_all_macros || list_any block_has_all_macros (blocks before.sections tokens);
+  has_all_macros =
+      before.has_all_macros || list_any block_has_all_macros (blocks before.sections tokens);
   faults = before.faults ++ scan_faults source.files source.lines tokens;
 }
 
@@ -43,7 +46,8 @@ with_head source before head tokens = record {
   sections = section_after before.sections head;
   pieces = before.pieces ++ flat_map (piece_of source.lines) (block_at before.sections head tokens);
   macros = before.macros ++ flat_map (macro_of source.lines) (block_at before.sections head tokens);
-  has_all_macros = before.has_all_macros || list_any block_has_all_macros (block_at before.sections head tokens);
+  has_all_macros =
+      before.has_all_macros || list_any block_has_all_macros (block_at before.sections head tokens);
   faults = before.faults ++ faults_at source.files source.lines head tokens;
 }
 

@@ -17,5 +17,7 @@ IsEarlier p q = (p.0 ≤ q.0) × (p.0 ≡ q.0 → p.1 < q.1)
 pub record KeepsEachByte (source : SourceRead) (web : WebRead) : Type 0 where
   pub filled : flat_map (λ s. s.cells) (all_segments source.lines) ≡ text_from 0 source.lines
   pub kinds : AllByRecursion (λ s. ShowsKind s.kind s.cells) (all_segments source.lines)
-  pub kept : flat_map span_points (flat_map (λ p. item_spans p.items) web.pieces) ≡ flat_map kept_points (all_segments source.lines)
-  pub once : AllPairs IsEarlier (flat_map span_points (flat_map (λ p. item_spans p.items) web.pieces))
+  pub kept : flat_map span_points (flat_map (λ p. item_spans p.items) web.pieces)
+      ≡ flat_map kept_points (all_segments source.lines)
+  pub once : AllPairs IsEarlier
+      (flat_map span_points (flat_map (λ p. item_spans p.items) web.pieces))

@@ -1,5 +1,6 @@
 -- By the counted origin of a piece, its source items are on their own lines.
-use Rattle.std.specs.Prelude.{◌≡◌, ◌<◌, ℕ, length, Bool, true, false, ◌&&◌, not, if◌then◌else◌}
+use Rattle.std.specs.Prelude.{◌≡◌, ◌<◌, ℕ, ◌+◌, nat_le, length}
+use Rattle.std.specs.Prelude.{Bool, true, false, ◌&&◌, ◌||◌, not, if◌then◌else◌}
 use Rattle.std.specs.Prelude.{List, [], ◌∷◌, flat_map, Option, Some, None}
 use Rattle.std.specs.List.{AllZip}
 use Rattle.tangle_faults.specs.declared.faults.Origin.{Origin}
@@ -11,8 +12,9 @@ use Rattle.tangle_lines.specs.Reading.{SourceLine, SourceRead, origin_at}
 use Rattle.tangle_lexer.specs.Steps.{all_tokens}
 use Rattle.tangle_scan.specs.Web.{WebRead, BlockKind, blocks}
 use Rattle.tangle_scan.specs.Web.BlockKind.{OfMacro, OfPiece}
-use Rattle.tangle_scan.specs.Rules.{texts_of, without_faults, with_spaces, has_join, map_runs, is_continued, at_line_front}
-use Rattle.tangle_scan.specs.Rules.{next_line, is_expected, counted_after_line_end, span_item}
+use Rattle.tangle_scan.specs.Rules.{texts_of, without_faults, with_spaces, has_join, map_runs}
+use Rattle.tangle_scan.specs.Rules.{is_continued, at_line_front}
+use Rattle.tangle_scan.specs.Rules.{next_line, same_origin, span_item}
 
 -- A source item is a word, a sign, a quoted or verbatim text, or an ASCII constant.
 
@@ -30,11 +32,16 @@ with_line_end (Some p) = Some (next_line p)
 -- next mark.
 abbrev pub counted_items : Option Origin → List Item → List CountedItem
 counted_items origin [] = []
-counted_items origin (item.Word s ∷ items) = record { item = item.Word s; origin = origin } ∷ counted_items origin items
-counted_items origin (item.Sign s ∷ items) = record { item = item.Sign s; origin = origin } ∷ counted_items origin items
-counted_items origin (item.Quoted s ∷ items) = record { item = item.Quoted s; origin = origin } ∷ counted_items origin items
-counted_items origin (item.Verbatim s ∷ items) = record { item = item.Verbatim s; origin = origin } ∷ counted_items origin items
-counted_items origin (item.Code b ∷ items) = record { item = item.Code b; origin = origin } ∷ counted_items origin items
+counted_items origin (item.Word s ∷ items) =
+    record { item = item.Word s; origin = origin } ∷ counted_items origin items
+counted_items origin (item.Sign s ∷ items) =
+    record { item = item.Sign s; origin = origin } ∷ counted_items origin items
+counted_items origin (item.Quoted s ∷ items) =
+    record { item = item.Quoted s; origin = origin } ∷ counted_items origin items
+counted_items origin (item.Verbatim s ∷ items) =
+    record { item = item.Verbatim s; origin = origin } ∷ counted_items origin items
+counted_items origin (item.Code b ∷ items) =
+    record { item = item.Code b; origin = origin } ∷ counted_items origin items
 counted_items origin (item.LineMark p ∷ items) = counted_items (Some p) items
 counted_items origin (item.LineEnd ∷ items) = counted_items (with_line_end origin) items
 counted_items origin (item.QuoteBreak ∷ items) = counted_items (with_line_end origin) items
@@ -63,6 +70,17 @@ left_or_join run = if has_join run then (if has_line_end run then token.Join ∷
 abbrev pub tokens_and_joins : List Token → List Token
 tokens_and_joins tokens = map_runs left_or_join [] (with_spaces (without_faults tokens))
 
+-- the next source line is the one that the count expects, or there is none
+abbrev pub is_expected : List SourceLine → Origin → ℕ → Bool
+is_expected lines counted line =
+    nat_le (length lines) (line + 1) || same_origin (origin_at lines (line + 1)) (next_line counted)
+
+-- the counted origin after the end of a line; `continued`: the next line continues this one
+abbrev pub counted_after_line_end : List SourceLine → Bool → Origin → ℕ → Origin
+counted_after_line_end lines continued counted line =
+    if continued || is_expected lines counted line then next_line counted
+    else origin_at lines (line + 1)
+
 -- The locations of the source items of these tokens. `before` is the token before them on the line,
 -- `counted` the counted origin, and `stretch` whether they are in a stretch. A stretch begins where
 -- line ends were removed, at a line end inside a quoted text, and at the end of a continued line if
@@ -74,17 +92,21 @@ module _ (lines : List SourceLine) where
   locations before counted stretch (token.White ∷ es) = locations before counted stretch es
   locations before counted stretch (token.LineEnd line ∷ es) =
       let continued : Bool = is_continued (texts_of lines) before in
-      locations (at_line_front (texts_of lines) before line) (counted_after_line_end lines continued counted line)
+      locations (at_line_front (texts_of lines) before line)
+      (counted_after_line_end lines continued counted line)
       (continued && not (is_expected lines counted line)) es
-  locations before counted stretch (token.QuoteBreak ∷ es) = locations (Some token.QuoteBreak) (next_line counted) true es
+  locations before counted stretch (token.QuoteBreak ∷ es) =
+      locations (Some token.QuoteBreak) (next_line counted) true es
   locations before counted stretch (token.UseOf occurrence line ∷ es) =
       locations (Some (token.UseOf occurrence line)) (origin_at lines line) false es
   locations before counted stretch (token.AllMacros line ∷ es) =
       locations (Some (token.AllMacros line)) (origin_at lines line) false es
   locations before counted stretch (token.Span kind s ∷ es) =
-      record { item = span_item kind s; line = s.line; in_stretch = stretch } ∷ locations (Some (token.Span kind s)) counted stretch es
+      record { item = span_item kind s; line = s.line; in_stretch = stretch }
+      ∷ locations (Some (token.Span kind s)) counted stretch es
   locations before counted stretch (token.AsciiConstant b line ∷ es) =
-      record { item = item.Code b; line = line; in_stretch = stretch } ∷ locations (Some (token.AsciiConstant b line)) counted stretch es
+      record { item = item.Code b; line = line; in_stretch = stretch }
+      ∷ locations (Some (token.AsciiConstant b line)) counted stretch es
   locations before counted stretch (e ∷ es) = locations (Some e) counted stretch es
 
   -- the locations of the source items of a C part whose head ends on this line
@@ -109,9 +131,11 @@ pub record IsOwn (lines : List SourceLine) (p : CountedItem) (s : Location) : Ty
 -- The source items of a piece whose opening mark has the origin `mark` are at these locations:
 -- outside stretches the counted origin of each is that of its line.
 abbrev pub IsAtItsLine : List SourceLine → Origin → List Item → List Location → Type 0
-IsAtItsLine lines mark items locations = AllZip (IsOwn lines) (counted_items (Some mark) items) locations
+IsAtItsLine lines mark items locations =
+    AllZip (IsOwn lines) (counted_items (Some mark) items) locations
 
 -- the source items of each piece are at their own lines
 abbrev pub PiecesAreAtTheirLines : SourceRead → WebRead → Type 0
 PiecesAreAtTheirLines source web =
-    AllZip (λ p locations. IsAtItsLine source.lines p.origin p.items locations) web.pieces (piece_locations source.lines)
+    AllZip (λ p locations. IsAtItsLine source.lines p.origin p.items locations)
+    web.pieces (piece_locations source.lines)

@@ -1,5 +1,6 @@
 -- The bytes of a macro.
-use Rattle.std.specs.Prelude.{ℕ, Bool, true, false, ◌==◌, List, [], ◌∷◌, ◌++◌, flat_map, codes, if◌then◌else◌}
+use Rattle.std.specs.Prelude.{ℕ, Bool, true, false, ◌==◌, List, [], ◌∷◌, ◌++◌, flat_map, codes}
+use Rattle.std.specs.Prelude.{if◌then◌else◌}
 use Rattle.tangle_text.specs.Bytes.{backslash}
 use Rattle.tangle_scan.specs.declared.items.Item.{Item}
 use Rattle.tangle_scan.specs.declared.items.Item.TheVariants as item
@@ -32,4 +33,5 @@ module _ (texts : List (List ℕ)) where
   macro_item_bytes x = bytes_in texts x
 
   abbrev pub macro_bytes : List Item → List ℕ
-  macro_bytes items = codes "#define " ++ flat_map macro_item_bytes (without_end items) ++ codes "\n"
+  macro_bytes items =
+      codes "#define " ++ flat_map macro_item_bytes (without_end items) ++ codes "\n"

@@ -1,5 +1,6 @@
 -- What the rules for items give for the tokens that a pass has not read yet.
-use Rattle.std.specs.Prelude.{◌≡◌, ◌≤◌, ℕ, max, Bool, true, false, ◌==◌, ◌&&◌, ◌||◌, not, if◌then◌else◌}
+use Rattle.std.specs.Prelude.{◌≡◌, ◌≤◌, ℕ, ◌+◌, max, Bool, true, false, ◌==◌, ◌&&◌, ◌||◌, not}
+use Rattle.std.specs.Prelude.{if◌then◌else◌}
 use Rattle.std.specs.Prelude.{List, [], ◌∷◌, ◌++◌, length, take, drop}
 use Rattle.std.specs.Prelude.{Option, Some, None, option_to_list}
 use Rattle.tangle_faults.specs.declared.faults.Origin.{Origin}
@@ -21,9 +22,11 @@ use Rattle.tangle_scan.specs.declared.spacing.Stage.TheVariants as stage
 use Rattle.tangle_text.specs.Bytes.{backslash}
 use Rattle.tangle_lines.specs.Reading.{SourceLine, origin_at}
 use Rattle.tangle_scan.specs.Rules.{without_faults, without_front_gaps, may_follow_name, is_gap}
-use Rattle.tangle_scan.specs.Rules.{would_merge, is_constant, is_word_token, has_join, without_joins}
+use Rattle.tangle_scan.specs.Rules.{would_merge, is_constant, is_word_token, has_join}
+use Rattle.tangle_scan.specs.Rules.{without_joins}
 use Rattle.tangle_scan.specs.Rules.{texts_of, first_byte, last_byte, ends_in_backslash, span_item}
-use Rattle.tangle_scan.specs.Rules.{next_line, line_item, counted_after_line_end}
+use Rattle.tangle_scan.specs.Rules.{next_line}
+use Rattle.tangle_scan.specs.LineTruth.{is_expected, counted_after_line_end}
 use Rattle.tangle_scan.specs.Rules.{macro_blanks, unmarked_items}
 
 -- `run` is a run at the end of a list: it begins inside the list, and its flag says whether it has
@@ -32,8 +35,8 @@ pub record IsRun (spaced : List Token) (run : Run) : Type 0 where
   pub start : run.start ≤ length spaced
   pub has : run.has_join ≡ has_join (drop run.start spaced)
 
--- rule 2, where a run that began at position `start` of the tokens so far goes on in the tokens
--- `es`
+-- what rule 2 leaves of the tokens `spaced` and then `es`, if a run that begins at position `start`
+-- of `spaced` goes on in `es`
 unfoldable pub without_joins_from : List Token → ℕ → List Token → List Token
 without_joins_from spaced start es = take start spaced ++ without_joins (drop start spaced) es
 
@@ -51,7 +54,8 @@ stage_after _ e = if is_gap e then stage.BeforeName else stage.AfterName
 abbrev pub with_white_space : List (List ℕ) → Stage → Token → List Token → List Token
 with_white_space texts at before [] = []
 with_white_space texts at before (e ∷ es) =
-    (if needs_space texts at before e then token.White ∷ [] else []) ++ e ∷ with_white_space texts (stage_after at e) e es
+    (if needs_space texts at before e then token.White ∷ [] else [])
+    ++ e ∷ with_white_space texts (stage_after at e) e es
 
 -- the tokens without what is removed first: faults, and the white space and line ends at the front
 -- of a macro
@@ -60,7 +64,8 @@ without_skipped stage.Front es = without_front_gaps (without_faults es)
 without_skipped _ es = without_faults es
 
 unfoldable pub spacing_from : List (List ℕ) → List Token → Spacing → List Token → List Token
-spacing_from texts spaced at es = without_joins_from spaced at.run.start (with_white_space texts at.stage at.before (without_skipped at.stage es))
+spacing_from texts spaced at es = without_joins_from spaced at.run.start
+    (with_white_space texts at.stage at.before (without_skipped at.stage es))
 
 abbrev pub is_skipped : Stage → Token → Bool
 is_skipped at (token.Fault kind line) = true
@@ -109,9 +114,17 @@ item_of token.QuoteBreak = Some item.QuoteBreak
 item_of (token.AsciiConstant b line) = Some (item.Code b)
 item_of _ = None
 
+-- the item that rules 4 and 5 leave for the end of a line; `continued`: the next line continues
+-- this one
+abbrev pub line_item : List SourceLine → Bool → Origin → ℕ → Item
+line_item lines continued counted line =
+    if continued || is_expected lines counted line then item.LineEnd
+    else item.LineMark (origin_at lines (line + 1))
+
 -- the items that rules 4 and 5 give for a token other than white space and line ends
 abbrev pub items_at : List SourceLine → Token → List Item
-items_at lines (token.UseOf occurrence line) = item.UseOf occurrence ∷ item.LineMark (origin_at lines line) ∷ []
+items_at lines (token.UseOf occurrence line) =
+    item.UseOf occurrence ∷ item.LineMark (origin_at lines line) ∷ []
 items_at lines (token.AllMacros line) = item.Defs ∷ item.LineMark (origin_at lines line) ∷ []
 items_at lines e = option_to_list (item_of e)
 
@@ -138,20 +151,26 @@ items_continue texts (x ∷ y ∷ items) = items_continue texts (y ∷ items)
 -- The items for tokens that were not read yet. `keeps`: white space before an item is a blank.
 -- `continues`: the next line continues this one if it ends here. `white`: white space is directly
 -- before. `counted`: the counted origin.
-abbrev pub plain_items_ahead : List SourceLine → Bool → Bool → Bool → Origin → List Token → List Item
+abbrev pub plain_items_ahead : List SourceLine → Bool → Bool → Bool → Origin → List Token
+    → List Item
 plain_items_ahead lines keeps continues white counted [] = []
-plain_items_ahead lines keeps continues white counted (token.White ∷ es) = plain_items_ahead lines keeps continues true counted es
+plain_items_ahead lines keeps continues white counted (token.White ∷ es) =
+    plain_items_ahead lines keeps continues true counted es
 plain_items_ahead lines keeps continues white counted (token.LineEnd line ∷ es) =
     line_item lines continues counted line
-    ∷ plain_items_ahead lines continues false false (counted_after_line_end lines continues counted line) es
+    ∷ plain_items_ahead lines continues false false
+    (counted_after_line_end lines continues counted line) es
 plain_items_ahead lines keeps continues white counted (e ∷ es) =
     (if keeps && white then item.Blank ∷ [] else [])
-    ++ (items_at lines e ++ plain_items_ahead lines true (ends_in_backslash (texts_of lines) e) false (counted_after_token lines counted e) es)
+    ++ (items_at lines e
+    ++ plain_items_ahead lines true (ends_in_backslash (texts_of lines) e)
+    false (counted_after_token lines counted e) es)
 
 -- the items for tokens that were not read yet, after these items
 unfoldable pub items_ahead : List SourceLine → PartState → List Item → List Token → List Item
 items_ahead lines at items es =
-    plain_items_ahead lines at.keeps_white (items_continue (texts_of lines) items) at.has_white (origin_of at.counted) es
+    plain_items_ahead lines at.keeps_white
+    (items_continue (texts_of lines) items) at.has_white (origin_of at.counted) es
 
 -- all rules in one pass over a C part that has rare tokens
 
@@ -221,17 +240,22 @@ continues_after texts at e = is_after_item at && ends_in_backslash texts e
 -- them, `before` the token of the last item, and `counted` the counted origin.
 abbrev pub rare_items_ahead : List SourceLine → Last → Token → Origin → List Token → List Item
 rare_items_ahead lines at before counted [] = []
-rare_items_ahead lines at before counted (token.Fault kind line ∷ es) = rare_items_ahead lines at before counted es
-rare_items_ahead lines at before counted (token.Join ∷ es) = rare_items_ahead lines last.Joined before counted es
-rare_items_ahead lines at before counted (token.White ∷ es) = rare_items_ahead lines (last_after_white at) before counted es
+rare_items_ahead lines at before counted (token.Fault kind line ∷ es) =
+    rare_items_ahead lines at before counted es
+rare_items_ahead lines at before counted (token.Join ∷ es) =
+    rare_items_ahead lines last.Joined before counted es
+rare_items_ahead lines at before counted (token.White ∷ es) =
+    rare_items_ahead lines (last_after_white at) before counted es
 rare_items_ahead lines at before counted (token.LineEnd line ∷ es) =
     if is_joined at || joins_ahead es then rare_items_ahead lines last.Joined before counted es
     else (let continued : Bool = continues_after (texts_of lines) at before in
     line_item lines continued counted line
-    ∷ rare_items_ahead lines (last_after_line_end continued) before (counted_after_line_end lines continued counted line) es)
+    ∷ rare_items_ahead lines (last_after_line_end continued) before
+    (counted_after_line_end lines continued counted line) es)
 rare_items_ahead lines at before counted (e ∷ es) =
     (if needs_blank at e then item.Blank ∷ [] else [])
-    ++ (items_at lines e ++ rare_items_ahead lines (last_of e) e (counted_after_token lines counted e) es)
+    ++ (items_at lines e
+    ++ rare_items_ahead lines (last_of e) e (counted_after_token lines counted e) es)
 
 -- line ends were added that a later join of the same run removes
 abbrev pub takes_back : Last → List Token → Bool
@@ -242,7 +266,8 @@ takes_back at es = is_after_line_end at && joins_ahead es
 unfoldable pub all_items : List SourceLine → List Item → RarePartState → List Token → List Item
 all_items lines items at es =
     if takes_back at.last es
-    then take at.start.items items ++ rare_items_ahead lines last.Joined at.item.now (origin_of at.start.counted) es
+    then take at.start.items items
+    ++ rare_items_ahead lines last.Joined at.item.now (origin_of at.start.counted) es
     else items ++ rare_items_ahead lines at.last at.item.now (origin_of at.counted) es
 
 -- the higher of the two counted lines of the state, for which a limit is proved
@@ -255,4 +280,5 @@ item_before at = if at.has_item then Some at.item.now else None
 
 -- the items of a macro for tokens that were not read yet
 unfoldable pub unmarked_from : List (List ℕ) → MacroState → List Token → List Item
-unmarked_from texts at es = unmarked_items (macro_blanks texts at.in_name (item_before at) at.has_white es)
+unmarked_from texts at es =
+    unmarked_items (macro_blanks texts at.in_name (item_before at) at.has_white es)

@@ -1,6 +1,7 @@
 -- Five rules make items of the tokens of a C part or a macro. Each is applied to the whole list in
 -- turn, so that it can be read, and proved, alone.
-use Rattle.std.specs.Prelude.{ℕ, ◌+◌, Bool, true, false, ◌==◌, nat_le, ◌&&◌, ◌||◌, not, ◌-◌, if◌then◌else◌, codes, Option, None, Some, is_some}
+use Rattle.std.specs.Prelude.{ℕ, ◌+◌, Bool, true, false, ◌==◌, nat_le, ◌&&◌, ◌||◌, not, ◌-◌}
+use Rattle.std.specs.Prelude.{if◌then◌else◌, codes, Option, None, Some, is_some}
 use Rattle.std.specs.Prelude.{List, [], ◌∷◌, ◌++◌, length, take, drop, get_or, map}
 use Rattle.std.specs.List.{list_any}
 use Rattle.tangle_faults.specs.declared.faults.Origin.{Origin}
@@ -9,7 +10,8 @@ use Rattle.tangle_text.specs.declared.spans.Span.{Span}
 use Rattle.tangle_scan.specs.declared.items.Item.{Item}
 use Rattle.tangle_scan.specs.declared.items.Item.TheVariants as item
 use Rattle.tangle_scan.specs.declared.touching.TouchKind.{TouchKind}
-use Rattle.tangle_scan.specs.declared.touching.TouchKind.TheVariants.{Separator, Operator, Plain, Other}
+use Rattle.tangle_scan.specs.declared.touching.TouchKind.TheVariants.{Separator, Operator, Plain}
+use Rattle.tangle_scan.specs.declared.touching.TouchKind.TheVariants.{Other}
 use Rattle.tangle_lexer.specs.declared.tokens.Token.{Token}
 use Rattle.tangle_lexer.specs.declared.tokens.SpanKind.{SpanKind}
 use Rattle.tangle_lexer.specs.declared.tokens.SpanKind.TheVariants as span_kind
@@ -30,7 +32,8 @@ first_byte texts s = get_or (get_or texts s.line []) s.start 0
 
 -- the last byte of a span, or 0 if the span is empty
 abbrev pub last_byte : List (List ℕ) → Span → ℕ
-last_byte texts s = if nat_le s.end s.start then 0 else get_or (get_or texts s.line []) (s.end - 1) 0
+last_byte texts s =
+    if nat_le s.end s.start then 0 else get_or (get_or texts s.line []) (s.end - 1) 0
 
 -- the tokens without faults, which are not items
 abbrev pub without_faults : List Token → List Token
@@ -38,7 +41,8 @@ without_faults [] = []
 without_faults (token.Fault kind line ∷ es) = without_faults es
 without_faults (e ∷ es) = e ∷ without_faults es
 
--- Rule 1: white space is put between a word and an ASCII constant that touch, in either order, and between two constants.
+-- Rule 1: white space is put between a word and an ASCII constant
+-- that touch, in either order, and between two constants.
 
 abbrev pub is_constant : Token → Bool
 is_constant (token.AsciiConstant value line) = true
@@ -49,12 +53,14 @@ is_word_token (token.Span span_kind.Word s) = true
 is_word_token _ = false
 
 abbrev pub would_merge : Token → Token → Bool
-would_merge e f = is_constant e && (is_constant f || is_word_token f) || is_word_token e && is_constant f
+would_merge e f =
+    is_constant e && (is_constant f || is_word_token f) || is_word_token e && is_constant f
 
 abbrev pub with_spaces : List Token → List Token
 with_spaces [] = []
 with_spaces (e ∷ []) = e ∷ []
-with_spaces (e ∷ f ∷ es) = e ∷ (if would_merge e f then token.White ∷ [] else []) ++ with_spaces (f ∷ es)
+with_spaces (e ∷ f ∷ es) =
+    e ∷ (if would_merge e f then token.White ∷ [] else []) ++ with_spaces (f ∷ es)
 
 -- In a macro, white space is also put after the name, which is the first item, unless an opening
 -- parenthesis, white space, a line end or a join follows.
@@ -68,7 +74,8 @@ may_follow_name texts _ = false
 
 abbrev pub with_space_after : List (List ℕ) → Token → List Token → List Token
 with_space_after texts first [] = first ∷ []
-with_space_after texts first (e ∷ es) = first ∷ (if may_follow_name texts e then [] else token.White ∷ []) ++ e ∷ es
+with_space_after texts first (e ∷ es) =
+    first ∷ (if may_follow_name texts e then [] else token.White ∷ []) ++ e ∷ es
 
 abbrev pub with_name_space : List (List ℕ) → List Token → List Token
 with_name_space texts [] = []
@@ -98,10 +105,8 @@ has_join (e ∷ es) = has_join es
 -- part of the first run that is before this list.
 abbrev pub map_runs : (List Token → List Token) → List Token → List Token → List Token
 map_runs f run [] = f run
-map_runs f run (token.Join ∷ es) = map_runs f (run ++ token.Join ∷ []) es
-map_runs f run (token.White ∷ es) = map_runs f (run ++ token.White ∷ []) es
-map_runs f run (token.LineEnd line ∷ es) = map_runs f (run ++ token.LineEnd line ∷ []) es
-map_runs f run (e ∷ es) = f run ++ e ∷ map_runs f [] es
+map_runs f run (e ∷ es) =
+    if is_gap e then map_runs f (run ++ e ∷ []) es else f run ++ e ∷ map_runs f [] es
 
 abbrev pub left_of_run : List Token → List Token
 left_of_run run = if has_join run then [] else run
@@ -130,15 +135,18 @@ is_continued texts (Some e) = ends_in_backslash texts e
 -- the token before the first item of the next line: the end of this line, if the next line
 -- continues it, else none
 abbrev pub at_line_front : List (List ℕ) → Option Token → ℕ → Option Token
-at_line_front texts before line = if is_continued texts before then Some (token.LineEnd line) else None
+at_line_front texts before line =
+    if is_continued texts before then Some (token.LineEnd line) else None
 
 -- White space is a blank if it is after a token `before`: an item on the same line, or the end of
 -- the line that this line continues. `white`: white space is directly before these tokens.
 abbrev pub blanks : List (List ℕ) → Option Token → Bool → List Token → List Token
 blanks texts before white [] = []
 blanks texts before white (token.White ∷ es) = blanks texts before true es
-blanks texts before white (token.LineEnd line ∷ es) = token.LineEnd line ∷ blanks texts (at_line_front texts before line) false es
-blanks texts before white (e ∷ es) = (if is_some before && white then token.White ∷ [] else []) ++ e ∷ blanks texts (Some e) false es
+blanks texts before white (token.LineEnd line ∷ es) =
+    token.LineEnd line ∷ blanks texts (at_line_front texts before line) false es
+blanks texts before white (e ∷ es) =
+    (if is_some before && white then token.White ∷ [] else []) ++ e ∷ blanks texts (Some e) false es
 
 -- Rule 3 in a macro. A backslash is written before each line end of a macro, so a C compiler takes
 -- all of them out. If only line ends keep two items apart, a blank goes before the line ends,
@@ -159,7 +167,8 @@ sign_kind b =
 
 abbrev pub touch_kind : List (List ℕ) → Token → TouchKind
 touch_kind texts (token.Span span_kind.Sign s) = sign_kind (first_byte texts s)
-touch_kind texts (token.Span span_kind.Word s) = if is_digit (first_byte texts s) then Other else Plain
+touch_kind texts (token.Span span_kind.Word s) =
+    if is_digit (first_byte texts s) then Other else Plain
 touch_kind texts (token.Span span_kind.Quoted s) = Plain
 touch_kind texts _ = Other
 
@@ -199,7 +208,8 @@ has_blank_at_line_end texts in_name before next = false
 -- it has one. `white`: white space is directly before these tokens.
 abbrev pub macro_blanks : List (List ℕ) → Bool → Option Token → Bool → List Token → List Token
 macro_blanks texts in_name before white [] = []
-macro_blanks texts in_name before white (token.White ∷ es) = macro_blanks texts in_name before true es
+macro_blanks texts in_name before white (token.White ∷ es) =
+    macro_blanks texts in_name before true es
 macro_blanks texts in_name before white (token.LineEnd line ∷ es) =
     (if has_blank_at_line_end texts in_name before (next_item es) then token.White ∷ [] else [])
     ++ token.LineEnd line ∷ macro_blanks texts false None false es
@@ -207,31 +217,10 @@ macro_blanks texts in_name before white (e ∷ es) =
     (if is_some before && white then token.White ∷ [] else [])
     ++ e ∷ macro_blanks texts (in_name && not white && is_name_part e) (Some e) false es
 
--- Rules 4 and 5: the origin that the compiler counts. A line end adds one line to it. Instead of a
--- line end there is a mark if the next source line has another origin than the compiler would
--- count, except at the end of a continued line, where the compiler would read the mark as a part of
--- that line. A mark is also after each use and each @h, with the line on which that ends.
-
-abbrev pub next_line : Origin → Origin
-next_line p = record { file = p.file; line = p.line + 1 }
-
-abbrev pub same_origin : Origin → Origin → Bool
-same_origin p q = p.file == q.file && p.line == q.line
-
--- the next source line is the one that the count expects, or there is none
-abbrev pub is_expected : List SourceLine → Origin → ℕ → Bool
-is_expected lines counted line =
-    nat_le (length lines) (line + 1) || same_origin (origin_at lines (line + 1)) (next_line counted)
-
--- the counted origin after the end of a line, and the item for it; `continued`: the next line
--- continues this one
-abbrev pub counted_after_line_end : List SourceLine → Bool → Origin → ℕ → Origin
-counted_after_line_end lines continued counted line =
-    if continued || is_expected lines counted line then next_line counted else origin_at lines (line + 1)
-
-abbrev pub line_item : List SourceLine → Bool → Origin → ℕ → Item
-line_item lines continued counted line =
-    if continued || is_expected lines counted line then item.LineEnd else item.LineMark (origin_at lines (line + 1))
+-- Rule 4: in a C part a line mark follows each use and each @h, with the origin of the line on
+-- which that ends. A mark also follows each line end, with the origin of the next source line, if
+-- there is one. No mark follows the end of a continued line, where the compiler would read the mark
+-- as a part of that line.
 
 -- the item for a span of this kind
 abbrev pub span_item : SpanKind → Span → Item
@@ -240,37 +229,66 @@ span_item span_kind.Sign s = item.Sign s
 span_item span_kind.Quoted s = item.Quoted s
 span_item span_kind.Verbatim s = item.Verbatim s
 
--- the items of a C part, by the token before them on the line and by the counted origin
-abbrev pub items_by_origin : List SourceLine → Option Token → Origin → List Token → List Item
-items_by_origin lines before counted [] = []
-items_by_origin lines before counted (token.LineEnd line ∷ es) =
-    let continued : Bool = is_continued (texts_of lines) before in
-    line_item lines continued counted line
-    ∷ items_by_origin lines (at_line_front (texts_of lines) before line) (counted_after_line_end lines continued counted line) es
-items_by_origin lines before counted (token.White ∷ es) = item.Blank ∷ items_by_origin lines before counted es
-items_by_origin lines before counted (token.QuoteBreak ∷ es) =
-    item.QuoteBreak ∷ items_by_origin lines (Some token.QuoteBreak) (next_line counted) es
-items_by_origin lines before counted (token.Span kind s ∷ es) =
-    span_item kind s ∷ items_by_origin lines (Some (token.Span kind s)) counted es
-items_by_origin lines before counted (token.AsciiConstant value line ∷ es) =
-    item.Code value ∷ items_by_origin lines (Some (token.AsciiConstant value line)) counted es
-items_by_origin lines before counted (token.UseOf occurrence line ∷ es) =
-    item.UseOf occurrence ∷ item.LineMark (origin_at lines line)
-    ∷ items_by_origin lines (Some (token.UseOf occurrence line)) (origin_at lines line) es
-items_by_origin lines before counted (token.AllMacros line ∷ es) =
-    item.Defs ∷ item.LineMark (origin_at lines line)
-    ∷ items_by_origin lines (Some (token.AllMacros line)) (origin_at lines line) es
--- heads, joins and faults are not items
-items_by_origin lines before counted (e ∷ es) = items_by_origin lines (Some e) counted es
+-- the item of a token, as a list: heads, joins and faults are not items
+abbrev pub token_items : Token → List Item
+token_items token.White = item.Blank ∷ []
+token_items (token.LineEnd line) = item.LineEnd ∷ []
+token_items token.QuoteBreak = item.QuoteBreak ∷ []
+token_items (token.Span kind s) = span_item kind s ∷ []
+token_items (token.AsciiConstant value line) = item.Code value ∷ []
+token_items (token.UseOf occurrence line) = item.UseOf occurrence ∷ []
+token_items (token.AllMacros line) = item.Defs ∷ []
+token_items _ = []
+
+-- The mark after a token, as a list. `before` is the token before that token. Rule 3 leaves no
+-- white space directly before a line end, so there `before` is the last item of the line, if the
+-- line has one.
+abbrev pub marks_after : List SourceLine → Option Token → Token → List Item
+marks_after lines before (token.UseOf occurrence line) = item.LineMark (origin_at lines line) ∷ []
+marks_after lines before (token.AllMacros line) = item.LineMark (origin_at lines line) ∷ []
+marks_after lines before (token.LineEnd line) =
+    if is_continued (texts_of lines) before || nat_le (length lines) (line + 1)
+    then [] else item.LineMark (origin_at lines (line + 1)) ∷ []
+marks_after lines before _ = []
+
+-- the items of these tokens, with all marks; `before`: the token before these tokens
+abbrev pub with_all_marks : List SourceLine → Option Token → List Token → List Item
+with_all_marks lines before [] = []
+with_all_marks lines before (e ∷ es) =
+    token_items e ++ (marks_after lines before e ++ with_all_marks lines (Some e) es)
+
+-- Rule 5: of a line end and the mark after it only one is left. A compiler counts an origin: a mark
+-- sets it, and a line end, also one in a quoted text, adds one line to it. The line end is left if
+-- the compiler counts the mark's origin after it, else the mark is left.
+
+abbrev pub next_line : Origin → Origin
+next_line p = record { file = p.file; line = p.line + 1 }
+
+abbrev pub same_origin : Origin → Origin → Bool
+same_origin p q = p.file == q.file && p.line == q.line
+
+-- the items with the marks that are needed; `counted`: the origin that is counted before them
+abbrev pub with_needed_marks : Origin → List Item → List Item
+with_needed_marks counted [] = []
+with_needed_marks counted (item.LineEnd ∷ item.LineMark p ∷ items) =
+    (if same_origin p (next_line counted) then item.LineEnd else item.LineMark p)
+    ∷ with_needed_marks p items
+with_needed_marks counted (item.LineEnd ∷ items) =
+    item.LineEnd ∷ with_needed_marks (next_line counted) items
+with_needed_marks counted (item.QuoteBreak ∷ items) =
+    item.QuoteBreak ∷ with_needed_marks (next_line counted) items
+with_needed_marks counted (item.LineMark p ∷ items) = item.LineMark p ∷ with_needed_marks p items
+with_needed_marks counted (x ∷ items) = x ∷ with_needed_marks counted items
 
 -- the tokens of a C part after rules 1 and 2
 abbrev pub part_tokens : List Token → List Token
 part_tokens tokens = without_joins [] (with_spaces (without_faults tokens))
 
--- the items of a C part whose head ends on this line
+-- The items of a C part whose head ends on this line. The origin of that line is counted first.
 abbrev pub part_items : List SourceLine → ℕ → List Token → List Item
 part_items lines line tokens =
-    items_by_origin lines None (origin_at lines line) (blanks (texts_of lines) None false (part_tokens tokens))
+    with_needed_marks (origin_at lines line)
+    (with_all_marks lines None (blanks (texts_of lines) None false (part_tokens tokens)))
 
 -- Macros have no marks, and white space and line ends after @d are skipped.
 
@@ -282,20 +300,19 @@ without_front_gaps (e ∷ es) = e ∷ es
 
 abbrev pub unmarked_items : List Token → List Item
 unmarked_items [] = []
-unmarked_items (token.LineEnd line ∷ es) = item.LineEnd ∷ unmarked_items es
-unmarked_items (token.QuoteBreak ∷ es) = item.QuoteBreak ∷ unmarked_items es
-unmarked_items (token.Span kind s ∷ es) = span_item kind s ∷ unmarked_items es
-unmarked_items (token.AsciiConstant value line ∷ es) = item.Code value ∷ unmarked_items es
-unmarked_items (token.White ∷ es) = item.Blank ∷ unmarked_items es
--- uses and @h are not in macros; heads, joins and faults are not items
-unmarked_items (_ ∷ es) = unmarked_items es
+-- uses and @h are not in macros
+unmarked_items (token.UseOf occurrence line ∷ es) = unmarked_items es
+unmarked_items (token.AllMacros line ∷ es) = unmarked_items es
+unmarked_items (e ∷ es) = token_items e ++ unmarked_items es
 
 -- the tokens of a macro after rules 1 and 2
 abbrev pub macro_tokens : List (List ℕ) → List Token → List Token
-macro_tokens texts tokens = without_joins [] (with_name_space texts (with_spaces (without_front_gaps (without_faults tokens))))
+macro_tokens texts tokens = without_joins []
+    (with_name_space texts (with_spaces (without_front_gaps (without_faults tokens))))
 
 abbrev pub macro_items : List (List ℕ) → List Token → List Item
-macro_items texts tokens = unmarked_items (macro_blanks texts true None false (macro_tokens texts tokens))
+macro_items texts tokens =
+    unmarked_items (macro_blanks texts true None false (macro_tokens texts tokens))
 
 -- A macro is kept if its first item is a word that begins with a word byte other than a digit.
 abbrev pub is_macro : List (List ℕ) → List Item → Bool

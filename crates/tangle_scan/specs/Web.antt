@@ -1,5 +1,6 @@
 -- The web: the pieces, macros, occurrences and faults that the tokens of the whole text make.
-use Rattle.std.specs.Prelude.{ℕ, ◌+◌, Bool, true, false, List, [], ◌∷◌, ◌++◌, map, flat_map, if◌then◌else◌, Option, Some, None}
+use Rattle.std.specs.Prelude.{ℕ, ◌+◌, Bool, true, false, List, [], ◌∷◌, ◌++◌, map, flat_map}
+use Rattle.std.specs.Prelude.{if◌then◌else◌, Option, Some, None}
 use Rattle.std.specs.List.{list_any}
 use Rattle.tangle_faults.specs.declared.faults.Origin.{Origin}
 use Rattle.tangle_faults.specs.declared.faults.FaultKind.{FaultKind}
@@ -17,8 +18,8 @@ use Rattle.tangle_lexer.specs.Occurrences.{OccurrenceRead, occurrence_of}
 use Rattle.tangle_lexer.specs.Steps.{all_tokens, all_occurrences}
 use Rattle.tangle_scan.specs.Rules.{texts_of, part_items, macro_items, is_macro}
 
--- a piece: a C part, with the number of its section, the origin of its opening mark, the number of its name's occurrence if it has a name,
--- and its items
+-- a piece: a C part, with the number of its section, the origin of its opening mark, the number of
+-- its name's occurrence if it has a name, and its items
 pub record PieceRead : Type 0 where
   pub section : ℕ
   pub origin : Origin
@@ -48,7 +49,8 @@ abbrev pub body : List Token → List Token
 body [] = []
 body (e ∷ es) = if is_head e then [] else e ∷ body es
 
--- a macro, or a C part with this occurrence of its name, whose head ends on this line
+-- a macro, or a C part with the number of the occurrence that names it, if one does; and the line
+-- on which its head ends
 pub data BlockKind : Type 0 where
   OfMacro : ℕ → BlockKind
   OfPiece : Option ℕ → ℕ → BlockKind
@@ -61,9 +63,12 @@ pub record Block : Type 0 where
 
 -- the macro or the C part that a head begins, if it begins one
 abbrev pub block_at : ℕ → Token → List Token → List Block
-block_at section (token.MacroStart line) es = record { section = section; kind = OfMacro line; tokens = body es } ∷ []
-block_at section (token.UnnamedPart line) es = record { section = section; kind = OfPiece None line; tokens = body es } ∷ []
-block_at section (token.NamedPart occurrence line) es = record { section = section; kind = OfPiece (Some occurrence) line; tokens = body es } ∷ []
+block_at section (token.MacroStart line) es =
+    record { section = section; kind = OfMacro line; tokens = body es } ∷ []
+block_at section (token.UnnamedPart line) es =
+    record { section = section; kind = OfPiece None line; tokens = body es } ∷ []
+block_at section (token.NamedPart occurrence line) es =
+    record { section = section; kind = OfPiece (Some occurrence) line; tokens = body es } ∷ []
 block_at section _ es = []
 
 -- the number of the section that the text after a token is in
@@ -99,7 +104,12 @@ module _ (lines : List SourceLine) where
   abbrev pub kind_piece : BlockKind → Block → List PieceRead
   kind_piece (OfMacro line) b = []
   kind_piece (OfPiece occurrence line) b =
-      record { section = b.section; origin = origin_at lines line; occurrence = occurrence; items = part_items lines line b.tokens } ∷ []
+      record {
+        section = b.section;
+        origin = origin_at lines line;
+        occurrence = occurrence;
+        items = part_items lines line b.tokens;
+      } ∷ []
 
   -- the piece of a block, if the block is a C part
   abbrev pub piece_of : Block → List PieceRead
@@ -123,7 +133,8 @@ module _ (files : FileTable) (lines : List SourceLine) where
   -- the fault of a macro that is dropped
   abbrev pub macro_fault : ℕ → List Token → List FaultRead
   macro_fault line es =
-      if is_macro (texts_of lines) (macro_items (texts_of lines) (body es)) then [] else fault_on fault.MacroName line ∷ []
+      if is_macro (texts_of lines) (macro_items (texts_of lines) (body es)) then []
+      else fault_on fault.MacroName line ∷ []
 
   -- the fault of a token; the fault of a macro that is dropped is on the line of its @d
   abbrev pub faults_at : Token → List Token → List FaultRead

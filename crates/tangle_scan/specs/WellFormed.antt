@@ -16,7 +16,8 @@ IsUseBelow count _ = Unit {0}
 -- the occurrences of uses and of pieces are below their count; macros have no uses
 pub record OccurrencesAreInRange (web : WebRead) : Type 0 where
   pub uses : All (λ p. All (IsUseBelow (length web.occurrences)) p.items) web.pieces
-  pub definitions : All (λ p. IfSome p.occurrence (λ occurrence. occurrence < length web.occurrences)) web.pieces
+  pub definitions : All
+      (λ p. IfSome p.occurrence (λ occurrence. occurrence < length web.occurrences)) web.pieces
   pub macros : All (All (IsUseBelow 0)) web.macros
 
 pub record IsWellFormed (web : WebRead) : Type 0 where

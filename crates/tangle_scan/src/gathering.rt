@@ -12,7 +12,7 @@ ghost use Rattle.tangle_scan.specs.Rules.{texts_of};
 ghost use Rattle.tangle_scan.specs.Web.{is_line_mark};
 ghost use Rattle.tangle_scan.specs.Gathering.{own_fault, nothing, gathering_with, with_head};
 
-use crate::items::Item;
+use crate::items::{Item, OccurrenceNumber};
 use crate::macro_items::fill_macro;
 use crate::pieces::{Macro, Piece};
 use crate::plain_parts::{PartFlags, fill_plain_part};
@@ -135,7 +135,7 @@ fn part_items(
     Ok((items, flags))
 }
 
-/// A buffer for the tokens of one macro after the other.
+/// A buffer that holds the tokens of one macro at a time.
 #[derive(Drop)]
 pub(crate) struct MacroBuffer {
     tokens: Vec<Token>,
@@ -237,7 +237,7 @@ impl Gathering {
         &mut self,
         alloc: Global,
         source: &Source,
-        occurrence: Option<usize>,
+        occurrence: Option<OccurrenceNumber>,
         line: u32,
         tokens: &[Token],
     ) -> Result<bool, NoMemory>
@@ -320,6 +320,7 @@ impl Gathering {
             Token::MacroStart(line) => self.add_macro(alloc, source, macro_buffer, line, tokens),
             Token::UnnamedPart(line) => self.add_piece(alloc, source, None, line, tokens),
             Token::NamedPart(occurrence, line) => {
+                let occurrence = OccurrenceNumber::new(occurrence);
                 self.add_piece(alloc, source, Some(occurrence), line, tokens)
             }
             _ => Ok(has_rare(tokens)),

@@ -3,7 +3,7 @@ ghost use Rattle.std.specs.Prelude.{◌≡◌, List, false};
 ghost use Rattle.std.specs.List.{list_any};
 ghost use Rattle.tangle_scan.specs.Web.{is_line_mark};
 
-use crate::items::Item;
+use crate::items::{Item, OccurrenceNumber};
 use std::marker::Model;
 use tangle_lines::Origin;
 
@@ -12,7 +12,7 @@ use tangle_lines::Origin;
 pub struct Piece {
     section: usize,
     origin: Origin,
-    occurrence: Option<usize>,
+    occurrence: Option<OccurrenceNumber>,
     items: Vec<Item>,
     /// Whether some item may be a line mark. If `false`, none is.
     may_have_mark: bool,
@@ -42,7 +42,7 @@ impl Piece {
     pub(crate) fn new(
         section: usize,
         origin: Origin,
-        occurrence: Option<usize>,
+        occurrence: Option<OccurrenceNumber>,
         items: Vec<Item>,
         may_have_mark: bool,
     ) -> Self
@@ -80,7 +80,7 @@ impl Piece {
 
     /// The number of the occurrence that names the piece, from 0 among all occurrences of the web;
     /// `None` for a piece of the unnamed program.
-    pub fn occurrence(&self) -> Option<usize>
+    pub fn occurrence(&self) -> Option<OccurrenceNumber>
         ensures { result ≡ self.now.occurrence }
     {
         self.occurrence

@@ -10,6 +10,7 @@ ghost use Rattle.tangle_scan.specs.Rules as rules;
 ghost use Rattle.tangle_lines.specs.Reading.{origin_at};
 ghost use Rattle.tangle_scan.specs.Passes as passes;
 ghost use Rattle.tangle_scan.specs.Rules.{texts_of};
+ghost use Rattle.tangle_scan.specs.LineTruth.{is_expected, counted_after_line_end};
 ghost use Rattle.tangle_scan.specs.Web.{is_line_mark};
 ghost use Rattle.tangle_scan.specs.Passes.{origin_of, items_ahead};
 ghost use Rattle.tangle_lexer.specs.declared.tokens.Token.{Token};
@@ -70,7 +71,7 @@ fn next_line(counted: CountedOrigin) -> CountedOrigin
 /// The origin of the next source line, if there is one and the count does not expect that origin.
 fn unexpected_origin(source: &Source, counted: CountedOrigin, line: u32) -> Option<Origin>
     requires { counted.line < 2 ^ 63 }
-    ensures { result ≡ (if rules.is_expected source.now.lines (origin_of counted) line then None
+    ensures { result ≡ (if is_expected source.now.lines (origin_of counted) line then None
         else Some (origin_at source.now.lines (line + 1))) }
 {
     let next = line as usize + 1;
@@ -113,12 +114,12 @@ pub(crate) fn push_line_end(
 ) -> Result<CountedOrigin, NoMemory>
     requires { counted.line < 2 ^ 63 }
     ensures items { OnOk result (items.new.items ≡ items.old.items
-        ++ rules.line_item source.now.lines is_continued (origin_of counted) line ∷ []) }
+        ++ passes.line_item source.now.lines is_continued (origin_of counted) line ∷ []) }
     ensures counted { IfOk result (λ next. origin_of next
-        ≡ rules.counted_after_line_end source.now.lines is_continued (origin_of counted) line) }
+        ≡ counted_after_line_end source.now.lines is_continued (origin_of counted) line) }
     ensures limit { IfOk result (λ next. next.line ≤ max (2 ^ 32) (counted.line + 1)) }
     ensures mark { IfOk result (λ next. next.has_mark
-        ≡ (is_line_mark (rules.line_item source.now.lines is_continued (origin_of counted) line)
+        ≡ (is_line_mark (passes.line_item source.now.lines is_continued (origin_of counted) line)
         || counted.has_mark)) }
 {
     let unexpected = unexpected_origin(source, counted, line);

@@ -35,7 +35,7 @@ fn gather(alloc: Global, source: &Source) -> Result<(Gathering, Vec<Occurrence>)
     let first = first_state(source);
     let (mut state, mut next_head) = next_block(source, &mut buffers, &mut ahead, first)?;
     gathering.add_front(alloc, source, &buffers.tokens)?;
-    // One block of tokens is held at a time, in buffers that all blocks use in turn.
+    // One block of tokens is held at a time, in buffers that each block uses again.
     while let Some(head) = next_head {
         (state, next_head) = next_block(source, &mut buffers, &mut ahead, state)?;
         gathering.add_block(alloc, source, &mut macro_buffer, head, &buffers.tokens)?;
@@ -57,7 +57,8 @@ fn text_is_short(source: &Source)
 /// of `docs/scanning.md`. No source is refused: what breaks a rule is a fault of the web.
 ///
 /// The web borrows the source. The text of an item is a range of a source line. The ranges of all
-/// pieces are in the order of the source, and so are those of all macros.
+/// pieces are in the order of the source, and so are those of all macros. No order is promised
+/// between a range of a piece and one of a macro.
 ///
 /// A C compiler that counts by the marks and line ends of a piece counts for each text the line
 /// that the text is on, except in stretches. A stretch begins at a line end inside a quoted text,

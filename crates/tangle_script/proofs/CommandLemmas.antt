@@ -1,10 +1,14 @@
 -- Laws of reading: the lines and commands of a script that is read in pieces.
-use Rattle.std.proofs.Common.{◌≡◌, ◌∙◌, inl, inr, ℕ, ◌<◌, ◌==◌, Bool, true, false, cond, zero, suc, length, take, drop, take-append-drop, get_or, List, [], ◌∷◌, ◌++◌, Option, Some, None, ap, subst, sym, refl, append_assoc, append-nil, arith, length-append}
+use Rattle.std.proofs.Common.{◌≡◌, ◌∙◌, inl, inr, ℕ, ◌<◌, ◌==◌, Bool, true, false, cond, zero, suc, length, take, drop}
+use Rattle.std.proofs.Common.{take-append-drop, get_or, List, [], ◌∷◌, ◌++◌, Option, Some, None, ap, subst, sym, refl}
+use Rattle.std.proofs.Common.{append_assoc, append-nil, arith, length-append}
 use Rattle.std.specs.Prelude.{⊤, nat_lt}
 use borrow.Author.Tests.{ltb-false}
 use Rattle.std.proofs.lemmas.Bool.{eq-eqb, eqb-true}
 use Rattle.tangle_script.specs.Requests.{takes_text}
-use Rattle.tangle_script.specs.Commands.{OnlyWaits, all_commands, alone, commands_at_end, ended, ended_commands, found_commands, pending, last_line, commands_of, textless, unended, waiting, after_waiting_line}
+use Rattle.tangle_script.specs.Commands.{OnlyWaits, all_commands, alone, commands_at_end, ended, ended_commands}
+use Rattle.tangle_script.specs.Commands.{found_commands, pending, last_line, commands_of, textless, unended, waiting}
+use Rattle.tangle_script.specs.Commands.{after_waiting_line}
 
 -- more bytes
 
@@ -34,7 +38,7 @@ unended-append u (x ∷ xs) ys =
     unended_by (x == 10) (u ++ x ∷ []) xs ys (unended-append [] xs ys)
     (unended-append (u ++ x ∷ []) xs ys)
 
--- more lines
+-- the commands of lines, and of more lines after them
 
 pub commands_of-append : (w : Option (List ℕ)) (ls ms : List (List ℕ))
     → commands_of w (ls ++ ms) ≡ commands_of w ls ++ commands_of (waiting w ls) ms
@@ -351,10 +355,6 @@ module _ (bytes line text : List ℕ) (waits : OnlyWaits bytes)
       by [] some = absurd (omega arith)
       by (b ∷ bs) some = refl
 
-pub no_bytes : (xs : List ℕ) → length xs ≡ 0 → xs ≡ []
-no_bytes [] e = refl
-no_bytes (x ∷ xs) e = absurd (omega arith)
-
 -- a chunk without a line feed, after bytes in which no command has ended
 
 no_feed_any : (u v xs : List ℕ) → ended v xs ≡ [] → ended u xs ≡ []
@@ -420,7 +420,7 @@ pub waits_on : (p xs : List ℕ) → OnlyWaits p → nat_lt 0 (length (ended [] 
     → (ended_commands (p ++ xs) ≡ []) × (pending (p ++ xs) ≡ p ++ xs)
 waits_on p xs waits none = waits_more p xs waits (no_lines (ended [] xs) none)
 
--- the same, where some bytes at the front wait, and those after them have no line feed
+-- all bytes wait if some at the front wait, and those after them have no line feed
 pub waits_in : (n : ℕ) (xs : List ℕ) → OnlyWaits (take n xs)
     → nat_lt 0 (length (ended [] (drop n xs))) ≡ false
     → (ended_commands xs ≡ []) × (pending xs ≡ xs)

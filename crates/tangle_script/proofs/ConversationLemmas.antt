@@ -1,16 +1,15 @@
 -- Dialogues that follow each other.
-use Rattle.std.proofs.Common.{◌≡◌, ◌∙◌, ℕ, ◌<◌, ◌≤◌, ◌-◌, drop, length-append, Bool, true, false, length, take, List, [], ◌∷◌, ◌++◌, Option, Some, None, ap, subst, sym, refl, append_assoc, append-nil, arith}
+use Rattle.std.proofs.Common.{◌≡◌, ◌∙◌, ℕ, ◌<◌, ◌≤◌, ◌-◌, drop, length-append, Bool, true, false, length, take, List}
+use Rattle.std.proofs.Common.{[], ◌∷◌, ◌++◌, Option, Some, None, ap, subst, sym, refl, append_assoc, append-nil, arith}
 use Rattle.std.specs.Io.KnownBytes.{Appends}
 use Rattle.std.specs.Prelude.{◌||◌}
+use Rattle.std.proofs.Math.Seq.{drop-append_seam}
+use Rattle.std.proofs.Math.Bool.{or-false}
 use Rattle.tangle_streams.specs.Streams.{Failed}
 use Rattle.tangle_streams.proofs.StreamLemmas.{Appends-append, Appends-none}
 use Rattle.tangle_script.specs.Requests.{Command, Request, is_quit, request_of}
 use Rattle.tangle_script.specs.Commands.{ended_commands, found_commands, is_no_command, pending}
 use Rattle.tangle_script.specs.Script.{Dialogue, IsCut, IsQuit, AreAnswered, Replies, Exchange, has_quit}
-
-drop-length-append : (xs ys : List ℕ) → drop (length xs) (xs ++ ys) ≡ ys
-drop-length-append [] ys = refl
-drop-length-append (x ∷ xs) ys = drop-length-append xs ys
 
 pub no_quit-append : (cs ds : List Command) → has_quit cs ≡ false → has_quit (cs ++ ds) ≡ has_quit ds
 no_quit-append [] ds h = refl
@@ -42,11 +41,7 @@ pub found_has : (line : List ℕ) (text : Option (List ℕ)) (r : Request)
     → is_no_command line text ≡ false → r ≡ request_of (record { line = line; text = text })
     → has_quit (found_commands line text) ≡ is_quit r
 found_has line text r some e = ap has_quit (found_one line text some)
-    ∙ (by (is_quit (request_of (record { line = line; text = text }))) ∙ ap is_quit (sym e))
-  where
-    by : (t : Bool) → (t || false) ≡ t
-    by true = refl
-    by false = refl
+    ∙ (or-false (is_quit (request_of (record { line = line; text = text }))) ∙ ap is_quit (sym e))
 
 module _ {State : Type 0} (answers : State → Request → List ℕ → State → Type 0) where
   pub dialogue-append : (s t v : State) (cs ds : List Command) (a b : List ℕ)
@@ -291,6 +286,6 @@ module _ {State : Type 0} (answers : State → Request → List ℕ → State �
       omega (arith, ap length h.bytes_are, length-append h.front rest) in (
         h.pending_is ∙ (none.1 ∙ sym
             (ap (λ n. drop n bytes) size
-            ∙ (ap (drop (length h.front)) h.bytes_are ∙ drop-length-append h.front rest))),
+            ∙ (ap (drop (length h.front)) h.bytes_are ∙ drop-append_seam h.front rest))),
         omega arith,
       )

@@ -1,11 +1,13 @@
 -- No run in which no byte was read and nothing failed ends with status 3.
-use Rattle.std.proofs.Common.{◌≡◌, inl, inr, ℕ, ◌<◌, Bool, true, false, List, [], ◌∷◌, ◌++◌, Option, Some, subst, ap, length, length-append, arith}
+use Rattle.std.proofs.Common.{◌≡◌, inl, inr, ℕ, ◌<◌, Bool, true, false, List, [], ◌∷◌, ◌++◌, Option, Some, subst, ap}
+use Rattle.std.proofs.Common.{length, length-append, arith}
 use Rattle.std.specs.Io.KnownBytes.{Consumes}
 use Rattle.tangle_script.specs.Requests.{Request}
 use Rattle.tangle_script.specs.Commands.{pending}
 use Rattle.tangle_script.specs.Script.{Conversation}
 use Rattle.tangle_script.specs.Endings.{ConversationEnds, short_command, status_by}
-use Rattle.tangle_script.specs.Endings.ConversationEnds.{IsAtQuit, IsAtInputEnd, IsUnread, IsTooLong, IsUnwritten, IsOutOfMemory}
+use Rattle.tangle_script.specs.Endings.ConversationEnds.{IsAtQuit, IsAtInputEnd, IsUnread, IsTooLong, IsUnwritten}
+use Rattle.tangle_script.specs.Endings.ConversationEnds.{IsOutOfMemory}
 use Rattle.tangle_script.specs.NothingRead.{NothingIsReadAndNothingFails}
 
 pub small : (b : Bool) → status_by b < 3
@@ -21,7 +23,8 @@ no_pending [] none some = omega arith
 no_pending (b ∷ bs) none some = omega arith
 
 module _ {State : Type 0} (answers : State → Request → List ℕ → State → Type 0)
-    (has_error : State → Bool → Type 0) (old new : Conversation State) (nothing : NothingIsReadAndNothingFails old new) where
+    (has_error : State → Bool → Type 0) (old new : Conversation State)
+    (nothing : NothingIsReadAndNothingFails old new) where
   nothing_read : (read : List ℕ) → Consumes old.remaining new.remaining read → length read ≡ 0
   nothing_read read given =
       none_read nothing.script read

@@ -1,5 +1,7 @@
 -- A run while it goes on, and the ways in which it ends.
-use Rattle.std.proofs.Common.{◌≡◌, ◌∙◌, inl, inr, ℕ, ◌<◌, ◌≤◌, ◌+◌, Bool, true, false, length, List, [], ◌∷◌, ◌++◌, Option, Some, None, Result, Ok, Err, ap, subst, sym, refl, append_assoc, append-nil, length-append, arith}
+use Rattle.std.proofs.Common.{◌≡◌, ◌∙◌, inl, inr, ℕ, ◌<◌, ◌≤◌, ◌+◌, Bool, true, false, length, List, [], ◌∷◌, ◌++◌}
+use Rattle.std.proofs.Common.{Option, Some, None, Result, Ok, Err, ap, subst, sym, refl, append_assoc, append-nil}
+use Rattle.std.proofs.Common.{length-append, arith}
 use Rattle.std.specs.Prelude.{IfOk, IfErr, MatchResult}
 use Rattle.std.specs.Io.KnownBytes.{Consumes, IsAtEnd, Keeps}
 use Rattle.tangle_streams.specs.Streams.{Failed, one_more_failure}
@@ -10,10 +12,12 @@ use Rattle.tangle_script.specs.declared.answering.End.{End}
 use Rattle.tangle_script.specs.declared.answering.End.TheVariants.{Done, Failed as IsFailed}
 use Rattle.tangle_script.specs.Script.{IsCut, IsQuit, AreAnswered, Conversation, Exchange, has_quit}
 use Rattle.tangle_script.specs.Endings.{ConversationEnds, short_command, script_limit}
-use Rattle.tangle_script.specs.Endings.ConversationEnds.{IsAtQuit, IsAtInputEnd, IsUnread, IsTooLong, IsUnwritten, IsOutOfMemory}
+use Rattle.tangle_script.specs.Endings.ConversationEnds.{IsAtQuit, IsAtInputEnd, IsUnread, IsTooLong, IsUnwritten}
+use Rattle.tangle_script.specs.Endings.ConversationEnds.{IsOutOfMemory}
 use Rattle.tangle_script.specs.Turns.{Breaks, EndsAnswered, EndsBy, IsMidway, Probes}
 use Rattle.tangle_script.proofs.CommandLemmas.{all_commands-pending, commands-append, pending-append, pending_waits}
-use Rattle.tangle_script.proofs.ConversationLemmas.{answered_none, answered_then_cut, answered_then_quit, answered_then_answered, no_quit-append}
+use Rattle.tangle_script.proofs.ConversationLemmas.{answered_none, answered_then_cut, answered_then_quit}
+use Rattle.tangle_script.proofs.ConversationLemmas.{answered_then_answered, no_quit-append}
 
 pub Consumes-trans : (a b c : Option (List ℕ)) (xs ys : List ℕ) → Consumes a b xs → Consumes b c ys
     → Consumes a c (xs ++ ys)
@@ -196,7 +200,7 @@ module _ {State : Type 0} (answers : State → Request → List ℕ → State �
   pub waits_now : OnlyWaits p
   waits_now = subst OnlyWaits (sym h.buffered_is) (pending_waits h.read)
 
--- the same, by the result of probing for another byte
+-- how a run ends, by the result of probing for another byte
 module _ {State : Type 0} (answers : State → Request → List ℕ → State → Type 0)
     (has_error : State → Bool → Type 0) (old : Conversation State) (a : Exchange State)
     (remaining : Option (List ℕ)) (failures : ℕ) (p : List ℕ) (n : ℕ)

@@ -1,14 +1,19 @@
 -- The pending bytes of a script are no longer than one of its commands.
-use Rattle.std.proofs.Common.{◌≡◌, ◌∙◌, inl, inr, ℕ, ◌<◌, ◌≤◌, ◌==◌, Bool, true, false, cond, length, List, [], ◌∷◌, ◌++◌, Option, Some, None, ap, subst, sym, refl, append_assoc, length-append, arith}
+use Rattle.std.proofs.Common.{◌≡◌, ◌∙◌, inl, inr, ℕ, ◌<◌, ◌≤◌, ◌==◌, Bool, true, false, cond, length, List, [], ◌∷◌}
+use Rattle.std.proofs.Common.{◌++◌, Option, Some, None, ap, subst, sym, refl, append_assoc, length-append, arith}
 use Rattle.std.specs.Prelude.{All, slice_index_or}
 use Rattle.std.specs.Io.KnownBytes.{Consumes}
 use Rattle.tangle_script.specs.Requests.{Command, Request, takes_text}
-use Rattle.tangle_script.specs.Commands.{all_commands, alone, commands_at_end, ended, ended_commands, pending, last_line, commands_of, textless, unended, waiting, after_waiting_line}
+use Rattle.tangle_script.specs.Commands.{all_commands, alone, commands_at_end, ended, ended_commands, pending}
+use Rattle.tangle_script.specs.Commands.{last_line, commands_of, textless, unended, waiting, after_waiting_line}
 use Rattle.tangle_script.specs.Script.{Conversation}
 use Rattle.tangle_script.specs.Endings.{ConversationEnds, short_command}
-use Rattle.tangle_script.specs.Endings.ConversationEnds.{IsAtQuit, IsAtInputEnd, IsUnread, IsTooLong, IsUnwritten, IsOutOfMemory}
+use Rattle.tangle_script.specs.Endings.ConversationEnds.{IsAtQuit, IsAtInputEnd, IsUnread, IsTooLong, IsUnwritten}
+use Rattle.tangle_script.specs.Endings.ConversationEnds.{IsOutOfMemory}
 use Rattle.tangle_script.specs.Short.{HasFailed, HasShortCommands, command_size}
-use Rattle.tangle_script.proofs.CommandLemmas.{Waits, again_lines, again_rest, all_commands-pending, commands-append, ended_after, pending-append, read_waits, commands_of_head, unended_after, unended_no_feed, waiting_head}
+use Rattle.tangle_script.proofs.CommandLemmas.{Waits, again_lines, again_rest, all_commands-pending, commands-append}
+use Rattle.tangle_script.proofs.CommandLemmas.{ended_after, pending-append, read_waits, commands_of_head, unended_after}
+use Rattle.tangle_script.proofs.CommandLemmas.{unended_no_feed, waiting_head}
 use Rattle.tangle_script.proofs.NothingReadLemmas.{small}
 
 -- the lines of some bytes after an unended line, where the script ends after these bytes

@@ -1,12 +1,16 @@
 -- The request of a command is that of its row of the table.
-use Rattle.std.proofs.Common.{◌≡◌, ◌∙◌, ◌⊎◌, inl, inr, ℕ, ◌<◌, ◌≤◌, ◌+◌, ◌-◌, ◌*◌, ◌==◌, Bool, true, false, cond, length, take, drop, List, [], ◌∷◌, ◌++◌, Option, Some, None, ap, subst, sym, refl, arith, take-append-drop, bytes_eq}
+use Rattle.std.proofs.Common.{◌≡◌, ◌∙◌, ◌⊎◌, inl, inr, ℕ, ◌<◌, ◌≤◌, ◌+◌, ◌-◌, ◌*◌, ◌==◌, Bool, true, false, cond}
+use Rattle.std.proofs.Common.{length, take, drop, List, [], ◌∷◌, ◌++◌, Option, Some, None, ap, subst, sym, refl, arith}
+use Rattle.std.proofs.Common.{take-append-drop, bytes_eq}
 use Rattle.std.specs.Prelude.{◌&&◌, codes, nat_lt}
 use Rattle.std.specs.List.{list_all}
 use Rattle.std.proofs.lemmas.Bool.{eqb-true, lt-ltb}
 use Rattle.std.proofs.lemmas.Slice.Eq.{bytes_eq-Decides}
 use borrow.Author.Tests.{ltb-true}
-use Rattle.tangle_script.specs.Requests.{Command, Request, after_word, file_request, number_and_file, numbered, request_of, request_with, row, text_request}
-use Rattle.tangle_script.specs.Requests.Request.{Insert, Replace, Remove, Create, Discard, Show, MarksFull, MarksNone, Begin, Commit, Cancel, Faults, Work, Quit, BadCommand}
+use Rattle.tangle_script.specs.Requests.{Command, Request, after_word, file_request, number_and_file, numbered}
+use Rattle.tangle_script.specs.Requests.{request_of, request_with, row, text_request}
+use Rattle.tangle_script.specs.Requests.Request.{Insert, Replace, Remove, Create, Discard, Show, MarksFull, MarksNone}
+use Rattle.tangle_script.specs.Requests.Request.{Begin, Commit, Cancel, Faults, Work, Quit, BadCommand}
 use Rattle.tangle_script.specs.Table.{CommandAsks, AsksForItsRow, IsNumbered, IsRow, is_digit, value_after}
 
 -- digits, one space and a file are read as the number and the file
@@ -31,7 +35,7 @@ read_number count n (d ∷ ds) file all few some =
     by true all false e h = absurd (cc)
     by false all t e h = absurd (cc)
 
--- and what is read like this is digits, one space and a file
+-- what is read as a number and a file is digits, one space and the file
 
 pub record IsRead (count n : ℕ) (rest : List ℕ) (number : ℕ) (file : List ℕ) : Type 0 where
   pub digits : List ℕ

@@ -1,5 +1,6 @@
 -- The bytes of a script: its lines, and the commands that have ended.
-use Rattle.std.specs.Prelude.{◌≡◌, ◌⊎◌, ℕ, ◌==◌, Bool, true, false, List, [], ◌∷◌, ◌++◌, Option, None, Some, if◌then◌else◌}
+use Rattle.std.specs.Prelude.{◌≡◌, ◌⊎◌, ℕ, ◌==◌, Bool, true, false, List, [], ◌∷◌, ◌++◌, Option}
+use Rattle.std.specs.Prelude.{None, Some, if◌then◌else◌}
 use Rattle.tangle_script.specs.Requests.{Command, takes_text}
 
 -- the lines that end in these bytes; `before` is the beginning of the first line
@@ -27,7 +28,8 @@ abbrev pub commands_of : Option (List ℕ) → List (List ℕ) → List Command
 commands_of head [] = []
 commands_of None (line ∷ lines) =
     if takes_text line then commands_of (Some line) lines else alone line ++ commands_of None lines
-commands_of (Some head) (line ∷ lines) = record { line = head; text = Some line } ∷ commands_of None lines
+commands_of (Some head) (line ∷ lines) =
+    record { line = head; text = Some line } ∷ commands_of None lines
 
 -- the line that still waits for its text after these lines, if there is one
 abbrev pub waiting : Option (List ℕ) → List (List ℕ) → Option (List ℕ)

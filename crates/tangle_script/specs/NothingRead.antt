@@ -6,7 +6,8 @@ use Rattle.tangle_script.specs.Script.{Conversation}
 use Rattle.tangle_script.specs.Endings.{ConversationEnds}
 
 -- the reader still has the same bytes, which are known, and neither it nor the writer failed
-pub record NothingIsReadAndNothingFails {State : Type 0} (old new : Conversation State) : Type 0 where
+pub record NothingIsReadAndNothingFails {State : Type 0}
+    (old new : Conversation State) : Type 0 where
   pub script : List ℕ
   pub remaining : old.remaining ≡ Some script
   pub unread : new.remaining ≡ Some script
@@ -17,4 +18,5 @@ pub record NothingIsReadAndNothingFails {State : Type 0} (old new : Conversation
 abbrev pub Status3NeedsFailure : {State : Type 0} → (State → Request → List ℕ → State → Type 0)
     → (State → Bool → Type 0) → Type 0
 Status3NeedsFailure {State} answers has_error =
-    (old new : Conversation State) → NothingIsReadAndNothingFails old new → ConversationEnds answers has_error old new 3 → ⊥
+    (old new : Conversation State)
+    → NothingIsReadAndNothingFails old new → ConversationEnds answers has_error old new 3 → ⊥

@@ -1,5 +1,7 @@
 -- The table of script lines: the request of each command.
-use Rattle.std.specs.Prelude.{ℕ, ◌+◌, ◌-◌, ◌*◌, ◌==◌, ◌&&◌, ◌||◌, Bool, true, false, nat_lt, nat_le, List, [], ◌∷◌, codes, length, take, drop, Option, None, Some, is_some, if◌then◌else◌}
+use Rattle.std.specs.Prelude.{ℕ, ◌+◌, ◌-◌, ◌*◌, ◌==◌, ◌&&◌, ◌||◌, Bool, true, false, nat_lt, nat_le}
+use Rattle.std.specs.Prelude.{List, [], ◌∷◌, codes, length, take, drop, Option, None, Some, is_some}
+use Rattle.std.specs.Prelude.{if◌then◌else◌}
 use Rattle.std.specs.Str.{bytes_eq}
 use Rattle.tangle_script.specs.declared.request.Request.{Request as Asked}
 use Rattle.tangle_script.specs.declared.request.Request.TheVariants as variant

@@ -1,5 +1,6 @@
 -- How the commands of a script are answered.
-use Rattle.std.specs.Prelude.{◌≡◌, ◌<◌, ◌⊎◌, ℕ, Bool, true, false, List, [], ◌∷◌, ◌++◌, codes, length, take, Option, Result, Ok, Err}
+use Rattle.std.specs.Prelude.{◌≡◌, ◌<◌, ◌⊎◌, ℕ, Bool, true, false, List, [], ◌∷◌, ◌++◌, codes}
+use Rattle.std.specs.Prelude.{length, take, Option, Result, Ok, Err}
 use Rattle.std.specs.List.{list_any}
 use Rattle.std.specs.Io.KnownBytes.{Appends}
 use Rattle.tangle_streams.specs.Streams.{Failed, Stream, TakesAll, TakesPrefix}
@@ -13,13 +14,14 @@ pub record Exchange (State : Type 0) : Type 0 where
 abbrev pub exchange : {State : Type 0} → State → Stream → Exchange State
 exchange state stream = record { state = state; stream = stream }
 
--- the same, with the state of a reader
+-- the states of a project, a writer and a reader at a moment
 pub record Conversation (State : Type 0) : Type 0 where
   pub exchange : Exchange State
   pub remaining : Option (List ℕ)
   pub reader_failures : ℕ
 
-abbrev pub conversation : {State : Type 0} → State → Stream → Option (List ℕ) → ℕ → Conversation State
+abbrev pub conversation : {State : Type 0}
+    → State → Stream → Option (List ℕ) → ℕ → Conversation State
 conversation state stream remaining reader_failures = record {
   exchange = exchange state stream;
   remaining = remaining;

@@ -1,5 +1,6 @@
 -- A run over a script of short commands.
-use Rattle.std.specs.Prelude.{◌≡◌, ◌<◌, ◌≤◌, ◌⊎◌, ℕ, ◌+◌, Bool, List, length, All, Option, None, Some}
+use Rattle.std.specs.Prelude.{◌≡◌, ◌<◌, ◌≤◌, ◌⊎◌, ℕ, ◌+◌, Bool, List, length, All, Option, None}
+use Rattle.std.specs.Prelude.{Some}
 use Rattle.tangle_streams.specs.Streams.{Failed}
 use Rattle.tangle_script.specs.Requests.{Command, Request}
 use Rattle.tangle_script.specs.Commands.{all_commands}
@@ -30,5 +31,6 @@ HasFailed old new script =
 abbrev pub ShortNeedsNoMemory : {State : Type 0} → (State → Request → List ℕ → State → Type 0)
     → (State → Bool → Type 0) → Type 0
 ShortNeedsNoMemory {State} answers has_error =
-    (old new : Conversation State) (script : List ℕ) → old.remaining ≡ Some script → HasShortCommands script
+    (old new : Conversation State) (script : List ℕ)
+    → old.remaining ≡ Some script → HasShortCommands script
     → ConversationEnds answers has_error old new 3 → HasFailed old new script

@@ -1,8 +1,11 @@
 -- The table of script lines, row by row.
-use Rattle.std.specs.Prelude.{◌≡◌, ◌<◌, ◌≤◌, ℕ, ◌+◌, ◌-◌, ◌*◌, ◌&&◌, Bool, true, nat_le, List, [], ◌∷◌, ◌++◌, codes, length, None, Some}
+use Rattle.std.specs.Prelude.{◌≡◌, ◌<◌, ◌≤◌, ℕ, ◌+◌, ◌-◌, ◌*◌, ◌&&◌, Bool, true, nat_le, List, []}
+use Rattle.std.specs.Prelude.{◌∷◌, ◌++◌, codes, length, None, Some}
 use Rattle.std.specs.List.{list_all}
 use Rattle.tangle_script.specs.Requests.{Command, Request, request_of}
-use Rattle.tangle_script.specs.Requests.Request.{Insert, Replace, Remove, Create, Discard, Show, MarksFull, MarksNone, Begin, Commit, Cancel, Faults, Work, Quit, BadCommand}
+use Rattle.tangle_script.specs.Requests.Request.{Insert, Replace, Remove, Create, Discard, Show}
+use Rattle.tangle_script.specs.Requests.Request.{MarksFull, MarksNone, Begin, Commit, Cancel}
+use Rattle.tangle_script.specs.Requests.Request.{Faults, Work, Quit, BadCommand}
 
 abbrev pub is_digit : ℕ → Bool
 is_digit b = nat_le 48 b && nat_le b 57
@@ -50,4 +53,5 @@ CommandAsks c r = IsRow c r
 
 -- a command has exactly one request, which `request_of` gives
 abbrev pub AsksForItsRow : Command → Type 0
-AsksForItsRow c = CommandAsks c (request_of c) × ((r : Request) → CommandAsks c r → r ≡ request_of c)
+AsksForItsRow c =
+    CommandAsks c (request_of c) × ((r : Request) → CommandAsks c r → r ≡ request_of c)

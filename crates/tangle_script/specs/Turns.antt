@@ -27,13 +27,15 @@ module _ {State : Type 0} (answers : State → Request → List ℕ → State �
     pub buffered_is : buffered ≡ pending read
 
   -- a run came to its end, and its status is that of its faults
-  abbrev pub EndsAnswered : (State → Bool → Type 0) → Conversation State → Conversation State → Type 0
+  abbrev pub EndsAnswered : (State → Bool → Type 0) → Conversation State → Conversation State
+      → Type 0
   EndsAnswered has_error old new =
       (status : ℕ) → IsStatus has_error new.exchange.state status
       → ConversationEnds answers has_error old new status
 
   -- how a run ends for this reason
-  abbrev pub EndsBy : (State → Bool → Type 0) → End → Conversation State → Conversation State → Type 0
+  abbrev pub EndsBy : (State → Bool → Type 0) → End → Conversation State → Conversation State
+      → Type 0
   EndsBy has_error Done old new = EndsAnswered has_error old new
   EndsBy has_error IsFailed old new = ConversationEnds answers has_error old new 3
 

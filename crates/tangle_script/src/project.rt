@@ -37,7 +37,7 @@ pub trait Project {
     ///
     /// # Errors
     ///
-    /// `SinkFailed` where the sink failed. The request is carried out all the same.
+    /// `SinkFailed` where the sink failed. The request is carried out even then.
     fn answer<S: Sink>(
         alloc: Global,
         session: &mut Self::Session,

@@ -20,7 +20,7 @@ use crate::project::Project;
 use std::alloc::Global;
 use tangle_streams::{Feed, Sink};
 
-/// The most bytes of a script.
+/// The most bytes that a script may have.
 pub const SCRIPT_LIMIT: usize = 67_108_864;
 
 // Answers the commands that have ended in the buffer, and drops their bytes. None of them ends in

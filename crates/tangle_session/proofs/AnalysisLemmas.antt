@@ -18,7 +18,8 @@ use Rattle.tangle_session.specs.Sessions.{IsAnalysis, IsAnalysisOf, IsAnalysisAt
 use Rattle.tangle_session.specs.declared.analysis.Analysis.{Analysis}
 
 -- the bodies that a store keeps do not depend on its faults
-pub kept_apart : (old store : StoreRead) (faults : List FaultRead) (flags : List Bool) → KeepsBodies old store flags → KeepsBodies old (record store { faults = faults }) flags
+pub kept_apart : (old store : StoreRead) (faults : List FaultRead) (flags : List Bool)
+    → KeepsBodies old store flags → KeepsBodies old (record store { faults = faults }) flags
 kept_apart old store faults flags keeps = λ n e.
     let kept = keeps n e in
     record {
@@ -32,7 +33,8 @@ kept_apart old store faults flags keeps = λ n e.
     }
 
 -- whether a store is that of the shapes does not depend on its faults
-pub faults_apart : (p : Shapes) (store : StoreRead) (faults : List FaultRead) → IsStoreOf p store → IsStoreOf p (record store { faults = faults })
+pub faults_apart : (p : Shapes) (store : StoreRead) (faults : List FaultRead)
+    → IsStoreOf p store → IsStoreOf p (record store { faults = faults })
 faults_apart p store faults is = record {
   once = is.once;
   known = is.known;
@@ -46,8 +48,10 @@ faults_apart p store faults is = record {
   weights = is.weights;
   depths = is.depths;
   expandable = is.expandable;
-  plan_uses = λ a id inside c. (let u = is.plan_uses a id inside c in record { inside = u.inside; uses = u.uses; has_piece = u.has_piece });
-  plans = λ a symbols inside low right. is.plans a symbols inside low (λ id u. right id (record { inside = u.inside; uses = u.uses; has_piece = u.has_piece }));
+  plan_uses = λ a id inside c.
+      (let u = is.plan_uses a id inside c in record { inside = u.inside; uses = u.uses; has_piece = u.has_piece });
+  plans = λ a symbols inside low right. is.plans a symbols inside low
+      (λ id u. right id (record { inside = u.inside; uses = u.uses; has_piece = u.has_piece }));
   shape_held = is.shape_held;
 }
 
@@ -55,22 +59,30 @@ pub faults_joined : (s w t g a b c : List FaultRead) → a ≡ s ++ w → b ≡ 
 faults_joined s w t g a b c first second third =
     third ∙ ap (λ l. l ++ g) (second ∙ ap (λ l. l ++ t) first) ∙ append_assoc (s ++ w) t g ∙ append_assoc s w (t ++ g)
 
-pub at_source : (files : FileTable) (roles : RolesRead) (source : SourceRead) → source ≡ source_of files roles → source ≡ source_at files roles
+pub at_source : (files : FileTable) (roles : RolesRead) (source : SourceRead)
+    → source ≡ source_of files roles → source ≡ source_at files roles
 unfolding source_at
 at_source files roles source e = e
 
-pub at_web : (files : FileTable) (roles : RolesRead) (source : SourceRead) (web : WebRead) → source ≡ source_of files roles → web ≡ web_of source → web ≡ web_at files roles
+pub at_web : (files : FileTable) (roles : RolesRead) (source : SourceRead) (web : WebRead)
+    → source ≡ source_of files roles → web ≡ web_of source → web ≡ web_at files roles
 unfolding web_at
 at_web files roles source web e is = is ∙ ap web_of (at_source files roles source e)
 
-module _ (files : FileTable) (roles : RolesRead) (source : SourceRead) (web : WebRead) (out : List ℕ) (marks : MarkMode) (before after : Analysis)
+module _ (files : FileTable) (roles : RolesRead) (source : SourceRead)
+    (web : WebRead) (out : List ℕ) (marks : MarkMode) (before after : Analysis)
     (source_is : source ≡ source_of files roles) (web_is : web ≡ web_of source) (out_is : out ≡ roles.out)
-    (occurrences : before.occurrences.items ≡ web.occurrences) (table : before.table ≡ table_over web.occurrences []) (store : IsStoreOf (shapes_of web) before.store) (store_names : before.store.names ≡ (table_of web).names)
-    (files_are : before.store.outputs ≡ outputs web (table_of web) out) (numbers : before.numbers ≡ numbers_of web (table_of web) marks)
-    (of_names : before.faults.items ≡ (table_of web).faults) (of_graph : AreGraphFaults web (table_of web) out before.store.faults)
-    (truth : PiecesAreAtTheirLines source web) (others : after ≡ record before { faults = after.faults; store = record before.store { faults = [] } })
+    (occurrences : before.occurrences.items ≡ web.occurrences) (table : before.table ≡ table_over web.occurrences [])
+    (store : IsStoreOf (shapes_of web) before.store) (store_names : before.store.names ≡ (table_of web).names)
+    (files_are : before.store.outputs ≡ outputs web (table_of web) out)
+    (numbers : before.numbers ≡ numbers_of web (table_of web) marks)
+    (of_names : before.faults.items ≡ (table_of web).faults)
+    (of_graph : AreGraphFaults web (table_of web) out before.store.faults)
+    (truth : PiecesAreAtTheirLines source web)
+    (others : after ≡ record before { faults = after.faults; store = record before.store { faults = [] } })
     (list : after.faults.items ≡ source.faults ++ (web.faults ++ (before.faults.items ++ before.store.faults))) where
-  made : IsAnalysisOf source web out marks (record before { faults = after.faults; store = record before.store { faults = [] } })
+  made : IsAnalysisOf source web out marks
+      (record before { faults = after.faults; store = record before.store { faults = [] } })
   made = record {
     occurrences = occurrences;
     table = table;
@@ -98,10 +110,12 @@ module _ (files : FileTable) (roles : RolesRead) (source : SourceRead) (web : We
 -- an analysis whose line marks are written as the roles say is that of the roles
 pub analysis_of : (files : FileTable) (roles : RolesRead) (marks : MarkMode) (analysis : Analysis) → marks ≡ roles.marks
     → IsAnalysisAt files (record roles { marks = marks }) analysis → IsAnalysisAt files roles analysis
-analysis_of files roles marks analysis same is = subst (λ m. IsAnalysisAt files (record roles { marks = m }) analysis) same is
+analysis_of files roles marks analysis same is =
+    subst (λ m. IsAnalysisAt files (record roles { marks = m }) analysis) same is
 
 -- the table of an analysis is that of the analysis's occurrences
-pub table_before : (analysis : Analysis) → IsAnalysis analysis → analysis.table ≡ table_over analysis.occurrences.items analysis.table.faults
+pub table_before : (analysis : Analysis)
+    → IsAnalysis analysis → analysis.table ≡ table_over analysis.occurrences.items analysis.table.faults
 table_before analysis is =
     let made = is.made in
     made.table ∙ (λ i. table_over (sym made.occurrences i) (sym (ap (λ (t : TableRead). t.faults) made.table) i))

@@ -1,10 +1,11 @@
 -- The web and the change file are there after an edit that is not refused.
-use Rattle.std.proofs.Common.{◌+◌, ◌≡◌, ◌∙◌, ◌||◌, inl, inr, ℕ, Bool, true, false, cond, List, [], ◌∷◌, ◌++◌, Option, None, Some, Result, Err, refl, ap, subst, sym, arith}
+use Rattle.std.proofs.Common.{◌+◌, ◌≡◌, ◌∙◌, inl, inr, ℕ, Bool, true, false, cond, List, [], ◌∷◌, ◌++◌, Option, None}
+use Rattle.std.proofs.Common.{Some, Result, Err, refl, ap, subst, sym, arith}
 use Rattle.std.specs.Prelude.{◌⊎◌, is_some, IfSome, IfNone, IsOkUnless}
 use Rattle.std.specs.Map.{lookup, set_value, remove_entry}
 use Rattle.std.specs.Option.{option_map, option_map_or}
 use Rattle.std.specs.Str.{bytes_eq}
-use Rattle.std.proofs.lemmas.Bool.{and_parts, and_from}
+use Rattle.std.proofs.lemmas.Bool.{and_parts, and_from, or_parts}
 use Rattle.std.proofs.lemmas.Slice.Eq.{bytes_eq-Decides}
 use Rattle.tangle_files.specs.Edited.{edited, edited_all, with_lines_edited}
 use Rattle.tangle_files.specs.Edits.{edit_refusal, refusal_if}
@@ -16,7 +17,8 @@ use Rattle.tangle_files.specs.declared.edits.Edit.TheVariants.{Insert, Remove, R
 use Rattle.tangle_files.specs.declared.marks.MarkMode.{MarkMode}
 use Rattle.tangle_files.specs.declared.refusal.Refusal.{Refusal}
 use Rattle.tangle_files.specs.declared.refusal.Refusal.TheVariants.{NoMemory, RoleFile}
-use Rattle.tangle_session.specs.Edits.{first_refused, has_role, list_memory, list_refusal, numbered, of_first, role_refusal, session_refusal}
+use Rattle.tangle_session.specs.Edits.{first_refused, has_role, list_memory, list_refusal, numbered, of_first}
+use Rattle.tangle_session.specs.Edits.{role_refusal, session_refusal}
 use Rattle.tangle_session.specs.declared.refusing.ListRefusal.{ListRefusal}
 
 -- neither of two refusals applies
@@ -28,64 +30,78 @@ not_refused : (b : Bool) (e : Refusal) → None ≡ refusal_if b e → b ≡ fal
 not_refused true e h = absurd (cc)
 not_refused false e h = refl
 
-neither : (a b : Bool) → (a || b) ≡ false → (a ≡ false) × (b ≡ false)
-neither false b h = (refl, h)
-neither true b h = absurd (cc)
-
 -- no file is removed where lines change
-kept_changed : (files : FileTable) (name other : List ℕ) (lines : List (List ℕ)) → is_some (lookup (bytes_eq other) (set_value (bytes_eq name) files lines)) ≡ is_some (lines_of files other)
+kept_changed : (files : FileTable) (name other : List ℕ) (lines : List (List ℕ))
+    → is_some (lookup (bytes_eq other) (set_value (bytes_eq name) files lines)) ≡ is_some (lines_of files other)
 kept_changed [] name other lines = refl
 kept_changed (f ∷ files) name other lines = by (bytes_eq name f.0) (kept_changed files name other lines)
   where
-    hit : (b : Bool) → is_some (cond b (Some lines) (lines_of files other)) ≡ is_some (cond b (Some f.1) (lines_of files other))
+    hit : (b : Bool)
+        → is_some (cond b (Some lines) (lines_of files other)) ≡ is_some (cond b (Some f.1) (lines_of files other))
     hit true = refl
     hit false = refl
 
-    miss : (b : Bool) → is_some (lookup (bytes_eq other) (set_value (bytes_eq name) files lines)) ≡ is_some (lines_of files other)
-        → is_some (cond b (Some f.1) (lookup (bytes_eq other) (set_value (bytes_eq name) files lines))) ≡ is_some (cond b (Some f.1) (lines_of files other))
+    miss : (b : Bool)
+        → is_some (lookup (bytes_eq other) (set_value (bytes_eq name) files lines)) ≡ is_some (lines_of files other)
+        → is_some (cond b (Some f.1) (lookup (bytes_eq other) (set_value (bytes_eq name) files lines)))
+        ≡ is_some (cond b (Some f.1) (lines_of files other))
     miss true h = refl
     miss false h = h
 
-    by : (a : Bool) → is_some (lookup (bytes_eq other) (set_value (bytes_eq name) files lines)) ≡ is_some (lines_of files other)
-        → is_some (lookup (bytes_eq other) (cond a ((f.0, lines) ∷ files) (f ∷ set_value (bytes_eq name) files lines))) ≡ is_some (cond (bytes_eq other f.0) (Some f.1) (lines_of files other))
+    by : (a : Bool)
+        → is_some (lookup (bytes_eq other) (set_value (bytes_eq name) files lines)) ≡ is_some (lines_of files other)
+        → is_some (lookup (bytes_eq other) (cond a ((f.0, lines) ∷ files) (f ∷ set_value (bytes_eq name) files lines)))
+        ≡ is_some (cond (bytes_eq other f.0) (Some f.1) (lines_of files other))
     by true h = hit (bytes_eq other f.0)
     by false h = miss (bytes_eq other f.0) h
 
-kept_with_changed : (files : FileTable) (name other : List ℕ) (change : List (List ℕ) → List (List ℕ)) → is_some (lines_of (with_lines_edited files name change) other) ≡ is_some (lines_of files other)
+kept_with_changed : (files : FileTable) (name other : List ℕ) (change : List (List ℕ) → List (List ℕ))
+    → is_some (lines_of (with_lines_edited files name change) other) ≡ is_some (lines_of files other)
 kept_with_changed files name other change = by (lines_of files name)
   where
-    by : (o : Option (List (List ℕ))) → is_some (lines_of (option_map_or (λ lines. set_value (bytes_eq name) files (change lines)) o files) other) ≡ is_some (lines_of files other)
+    by : (o : Option (List (List ℕ)))
+        → is_some (lines_of (option_map_or (λ lines. set_value (bytes_eq name) files (change lines)) o files) other)
+        ≡ is_some (lines_of files other)
     by None = refl
     by (Some lines) = kept_changed files name other (change lines)
 
-kept_after : (files : FileTable) (name other : List ℕ) → is_some (lines_of files other) ≡ true → is_some (lines_of (files ++ (name, []) ∷ []) other) ≡ true
+kept_after : (files : FileTable) (name other : List ℕ)
+    → is_some (lines_of files other) ≡ true → is_some (lines_of (files ++ (name, []) ∷ []) other) ≡ true
 kept_after [] name other h = absurd (cc)
 kept_after (f ∷ files) name other h = by (bytes_eq other f.0) h (kept_after files name other)
   where
-    by : (b : Bool) → is_some (cond b (Some f.1) (lines_of files other)) ≡ true → (is_some (lines_of files other) ≡ true → is_some (lines_of (files ++ (name, []) ∷ []) other) ≡ true)
+    by : (b : Bool) → is_some (cond b (Some f.1) (lines_of files other)) ≡ true
+        → (is_some (lines_of files other) ≡ true → is_some (lines_of (files ++ (name, []) ∷ []) other) ≡ true)
         → is_some (cond b (Some f.1) (lines_of (files ++ (name, []) ∷ []) other)) ≡ true
     by true h rest = refl
     by false h rest = rest h
 
 -- a file other than the discarded one stays
-kept_apart : (files : FileTable) (name other : List ℕ) → bytes_eq name other ≡ false → is_some (lookup (bytes_eq other) (remove_entry (bytes_eq name) files)) ≡ is_some (lines_of files other)
+kept_apart : (files : FileTable) (name other : List ℕ) → bytes_eq name other ≡ false
+    → is_some (lookup (bytes_eq other) (remove_entry (bytes_eq name) files)) ≡ is_some (lines_of files other)
 kept_apart [] name other apart = refl
 kept_apart (f ∷ files) name other apart = by (bytes_eq name f.0) refl (kept_apart files name other apart)
   where
-    hit : (b : Bool) → bytes_eq other f.0 ≡ b → bytes_eq name f.0 ≡ true → is_some (lines_of files other) ≡ is_some (cond b (Some f.1) (lines_of files other))
+    hit : (b : Bool) → bytes_eq other f.0 ≡ b → bytes_eq name f.0 ≡ true
+        → is_some (lines_of files other) ≡ is_some (cond b (Some f.1) (lines_of files other))
     hit false g e = refl
     hit true g e =
         let named : name ≡ f.0 = (bytes_eq-Decides name f.0).0 e in
-        let same : bytes_eq name other ≡ true = (bytes_eq-Decides name other).1 (named ∙ sym ((bytes_eq-Decides other f.0).0 g)) in
+        let same : bytes_eq name other ≡ true =
+        (bytes_eq-Decides name other).1 (named ∙ sym ((bytes_eq-Decides other f.0).0 g)) in
         absurd (let both : true ≡ false = sym same ∙ apart in cc)
 
-    miss : (b : Bool) → is_some (lookup (bytes_eq other) (remove_entry (bytes_eq name) files)) ≡ is_some (lines_of files other)
-        → is_some (cond b (Some f.1) (lookup (bytes_eq other) (remove_entry (bytes_eq name) files))) ≡ is_some (cond b (Some f.1) (lines_of files other))
+    miss : (b : Bool)
+        → is_some (lookup (bytes_eq other) (remove_entry (bytes_eq name) files)) ≡ is_some (lines_of files other)
+        → is_some (cond b (Some f.1) (lookup (bytes_eq other) (remove_entry (bytes_eq name) files)))
+        ≡ is_some (cond b (Some f.1) (lines_of files other))
     miss true h = refl
     miss false h = h
 
-    by : (a : Bool) → bytes_eq name f.0 ≡ a → is_some (lookup (bytes_eq other) (remove_entry (bytes_eq name) files)) ≡ is_some (lines_of files other)
-        → is_some (lookup (bytes_eq other) (cond a files (f ∷ remove_entry (bytes_eq name) files))) ≡ is_some (cond (bytes_eq other f.0) (Some f.1) (lines_of files other))
+    by : (a : Bool) → bytes_eq name f.0 ≡ a
+        → is_some (lookup (bytes_eq other) (remove_entry (bytes_eq name) files)) ≡ is_some (lines_of files other)
+        → is_some (lookup (bytes_eq other) (cond a files (f ∷ remove_entry (bytes_eq name) files)))
+        ≡ is_some (cond (bytes_eq other f.0) (Some f.1) (lines_of files other))
     by true e h = hit (bytes_eq other f.0) refl e
     by false e h = miss (bytes_eq other f.0) h
 
@@ -98,7 +114,8 @@ Spares (Create file) other = Unit {0}
 Spares (Discard file) other = bytes_eq file.items other ≡ false
 Spares (Marks mode) other = Unit {0}
 
-lines_stay : (files : FileTable) (edit : Edit) (other : List ℕ) → is_some (lines_of files other) ≡ true → Spares edit other → is_some (lines_of (edited files edit) other) ≡ true
+lines_stay : (files : FileTable) (edit : Edit) (other : List ℕ)
+    → is_some (lines_of files other) ≡ true → Spares edit other → is_some (lines_of (edited files edit) other) ≡ true
 lines_stay files (Insert file at text) other h s = kept_with_changed files file.items other _ ∙ h
 lines_stay files (Remove file at) other h s = kept_with_changed files file.items other _ ∙ h
 lines_stay files (Replace file at text) other h s = kept_with_changed files file.items other _ ∙ h
@@ -106,7 +123,8 @@ lines_stay files (Create file) other h s = kept_after files file.items other h
 lines_stay files (Discard file) other h s = kept_apart files file.items other s ∙ h
 lines_stay files (Marks mode) other h s = h
 
-stays_there : (files : FileTable) (edit : Edit) (other : List ℕ) → has_file files other ≡ true → Spares edit other → has_file (edited files edit) other ≡ true
+stays_there : (files : FileTable) (edit : Edit) (other : List ℕ)
+    → has_file files other ≡ true → Spares edit other → has_file (edited files edit) other ≡ true
 stays_there files edit other h s = lines_stay files edit other h s
 
 abbrev SparesRoles : Edit → RolesRead → Type 0
@@ -119,15 +137,18 @@ spares_roles roles (Replace file at text) h = (tt, λ name e. tt)
 spares_roles roles (Create file) h = (tt, λ name e. tt)
 spares_roles roles (Marks mode) h = (tt, λ name e. tt)
 spares_roles roles (Discard file) h =
-    let parts = neither (bytes_eq file.items roles.web) (option_map_or (bytes_eq file.items) roles.change false) (not_refused (has_role roles file.items) RoleFile h) in
+    let parts = or_parts (bytes_eq file.items roles.web) (option_map_or (bytes_eq file.items) roles.change false)
+    (not_refused (has_role roles file.items) RoleFile h) in
     (parts.0, λ name e. sym (ap (λ o. option_map_or (bytes_eq file.items) o false) e) ∙ parts.1)
 
-any_stays : (files : FileTable) (edit : Edit) (o : Option (List ℕ)) → has_file_if_any files o ≡ true → ((name : List ℕ) → o ≡ Some name → Spares edit name)
+any_stays : (files : FileTable) (edit : Edit) (o : Option (List ℕ))
+    → has_file_if_any files o ≡ true → ((name : List ℕ) → o ≡ Some name → Spares edit name)
     → has_file_if_any (edited files edit) o ≡ true
 any_stays files edit None h s = refl
 any_stays files edit (Some name) h s = stays_there files edit name h (s name refl)
 
-pub fits_edited : (files : FileTable) (roles : RolesRead) (edit : Edit) → fits files roles ≡ true → None ≡ session_refusal files roles edit → fits (edited files edit) roles ≡ true
+pub fits_edited : (files : FileTable) (roles : RolesRead) (edit : Edit)
+    → fits files roles ≡ true → None ≡ session_refusal files roles edit → fits (edited files edit) roles ≡ true
 fits_edited files roles edit h none =
     let parts = and_parts (has_file files roles.web) (has_file_if_any files roles.change) h in
     let spared = spares_roles roles edit (both_none (edit_refusal files edit) (role_refusal roles edit) none).1 in
@@ -205,7 +226,8 @@ refused_alike files roles marks (Discard file) = refl
 refused_alike files roles marks (Marks mode) = refl
 
 -- the files refuse no edit that the session doesn't
-pub files_take : (files : FileTable) (roles : RolesRead) (edit : Edit) → None ≡ session_refusal files roles edit → None ≡ edit_refusal files edit
+pub files_take : (files : FileTable) (roles : RolesRead) (edit : Edit)
+    → None ≡ session_refusal files roles edit → None ≡ edit_refusal files edit
 files_take files roles edit none = (both_none (edit_refusal files edit) (role_refusal roles edit) none).0
 
 -- if there is no refusal, whatever is claimed of a refusal holds
@@ -222,30 +244,37 @@ failed refusal = Err refusal
 
 -- An edit of the files failed: the session refuses it, for its file or for its role, or memory ran out.
 pub refused_in_session : (T : Type 0) (of_files of_role : Option Refusal) (refusal : Refusal)
-    → IfSome of_files (λ e. failed {T = T} refusal ≡ Err e) → IfNone of_files (IsOkUnless (failed {T = T} refusal) NoMemory)
-    → IfSome (or_else of_files of_role) (λ e. (failed {T = T} refusal ≡ Err e) ⊎ (failed {T = T} refusal ≡ Err NoMemory))
+    → IfSome of_files (λ e. failed {T = T} refusal ≡ Err e)
+    → IfNone of_files (IsOkUnless (failed {T = T} refusal) NoMemory)
+    → IfSome (or_else of_files of_role)
+    (λ e. (failed {T = T} refusal ≡ Err e) ⊎ (failed {T = T} refusal ≡ Err NoMemory))
 refused_in_session T None None refusal some none = tt
 refused_in_session T None (Some e) refusal some none = inr (ap (λ r. failed {T = T} r) none)
 refused_in_session T (Some e) of_role refusal some none = inl some
 
 pub only_memory : (T : Type 0) (of_files of_role : Option Refusal) (refusal : Refusal)
-    → IfSome of_files (λ e. failed {T = T} refusal ≡ Err e) → IfNone of_files (IsOkUnless (failed {T = T} refusal) NoMemory)
+    → IfSome of_files (λ e. failed {T = T} refusal ≡ Err e)
+    → IfNone of_files (IsOkUnless (failed {T = T} refusal) NoMemory)
     → IfNone (or_else of_files of_role) (IsOkUnless (failed {T = T} refusal) NoMemory)
 only_memory T None None refusal some none = none
 only_memory T None (Some e) refusal some none = tt
 only_memory T (Some e) of_role refusal some none = tt
 
-own_number : (at : ℕ) (refusal : Refusal) → (Some (record { at = at; refusal = refusal }) ≡ Some (numbered at refusal)) ⊎ (numbered at refusal ≡ list_memory)
+own_number : (at : ℕ) (refusal : Refusal)
+    → (Some (record { at = at; refusal = refusal }) ≡ Some (numbered at refusal)) ⊎ (numbered at refusal ≡ list_memory)
 own_number at NoMemory = inr refl
 own_number at refusal = inl refl
 
 -- the first remaining edit was not made: the list is refused for it, or memory ran out
 pub numbered_refusal : (T : Type 0) (at : ℕ) (of_edit : Option Refusal) (after : Option ListRefusal) (refusal : Refusal)
-    → IfSome of_edit (λ e. (failed {T = T} refusal ≡ Err e) ⊎ (failed {T = T} refusal ≡ Err NoMemory)) → IfNone of_edit (IsOkUnless (failed {T = T} refusal) NoMemory)
+    → IfSome of_edit (λ e. (failed {T = T} refusal ≡ Err e) ⊎ (failed {T = T} refusal ≡ Err NoMemory))
+    → IfNone of_edit (IsOkUnless (failed {T = T} refusal) NoMemory)
     → (refused_at at of_edit after ≡ Some (numbered at refusal)) ⊎ (numbered at refusal ≡ list_memory)
 numbered_refusal T at None after refusal some none = inr (ap (numbered at) none)
 numbered_refusal T at (Some e) after refusal (inl same) none =
     let equal : refusal ≡ e = cc in
-    subst (λ r. (Some (record { at = at; refusal = r }) ≡ Some (numbered at refusal)) ⊎ (numbered at refusal ≡ list_memory)) equal (own_number at refusal)
+    subst
+    (λ r. (Some (record { at = at; refusal = r }) ≡ Some (numbered at refusal)) ⊎ (numbered at refusal ≡ list_memory))
+    equal (own_number at refusal)
 numbered_refusal T at (Some e) after refusal (inr same) none =
     let equal : refusal ≡ NoMemory = cc in inr (ap (numbered at) equal)

@@ -1,6 +1,8 @@
 -- The state that a history leaves: the files with the accepted edits made, and what is shown of them.
-use Rattle.std.proofs.Common.{◌≡◌, ◌∙◌, ℕ, List, [], ◌∷◌, ◌++◌, length, map, refl, ap, sym, subst, arith, inl, inr, append_assoc, append-nil}
-use Rattle.std.specs.Prelude.{◌⊎◌, Option, None, Some, Ok, Err, Result, option_map, unwrap_or, zip, IfNone, IfSome, IsOkUnless, OnErr, OnOk}
+use Rattle.std.proofs.Common.{◌≡◌, ◌∙◌, ℕ, List, [], ◌∷◌, ◌++◌, length, map, refl, ap, sym, subst, arith, inl, inr}
+use Rattle.std.proofs.Common.{append_assoc, append-nil}
+use Rattle.std.specs.Prelude.{◌⊎◌, Option, None, Some, Ok, Err, Result, option_map, unwrap_or, zip, IfNone, IfSome}
+use Rattle.std.specs.Prelude.{IsOkUnless, OnErr, OnOk}
 use Rattle.tangle_streams.specs.Streams.{Stream}
 use Rattle.tangle_files.specs.Edited.{edited, edited_all, edited_roles, joined, roles_after}
 use Rattle.tangle_files.specs.Lines.{FileTable}
@@ -14,7 +16,8 @@ use Rattle.tangle_lines.specs.Reading.{source_of}
 use Rattle.tangle_scan.specs.Web.{web_of}
 use Rattle.tangle_names.specs.NameTable.{table_of}
 use Rattle.tangle_session.specs.Files.{source_at, web_at}
-use Rattle.tangle_session.specs.Headline.{Call, EditsRead, Single, Several, History, Started, Edited, IsAnswered, ListsLastExpanded, ByStart, ByLast, IsPlainTangling}
+use Rattle.tangle_session.specs.Headline.{Call, EditsRead, Single, Several, History, Started, Edited, IsAnswered}
+use Rattle.tangle_session.specs.Headline.{ListsLastExpanded, ByStart, ByLast, IsPlainTangling}
 use Rattle.tangle_session.specs.Headline.{NoOutputReachesACycle, EachCycleIsReported, ShowsPlainTangling, ShowsLastWork}
 use Rattle.tangle_session.specs.Headline.{accepted, edits_of, files_after, roles_with, web_after}
 use Rattle.tangle_session.specs.Sessions.{AreMade, ListsAffectedOfWebs, SessionRead}
@@ -37,17 +40,20 @@ accepted_none edits refused [] = refl
 accepted_none edits refused ((e, Ok d) ∷ calls) = ap (λ l. edits_of e ∷ l) (accepted_none edits refused calls)
 accepted_none edits refused ((e, Err r) ∷ calls) = accepted_none edits refused calls
 
-files_then : (files : FileTable) (first then : List Edit) → edited_all files (first ++ then) ≡ edited_all (edited_all files first) then
+files_then : (files : FileTable) (first then : List Edit)
+    → edited_all files (first ++ then) ≡ edited_all (edited_all files first) then
 files_then files [] then = refl
 files_then files (edit ∷ first) then = files_then (edited files edit) first then
 
-roles_then : (roles : RolesRead) (first then : List Edit) → roles_after roles (first ++ then) ≡ roles_after (roles_after roles first) then
+roles_then : (roles : RolesRead) (first then : List Edit)
+    → roles_after roles (first ++ then) ≡ roles_after (roles_after roles first) then
 roles_then roles [] then = refl
 roles_then roles (edit ∷ first) then = roles_then (edited_roles roles edit) first then
 
 joined_one : (lists : List (List Edit)) (edits : List Edit) → joined (lists ++ edits ∷ []) ≡ joined lists ++ edits
 joined_one [] edits = append-nil edits
-joined_one (first ∷ lists) edits = ap (λ l. first ++ l) (joined_one lists edits) ∙ sym (append_assoc first (joined lists) edits)
+joined_one (first ∷ lists) edits =
+    ap (λ l. first ++ l) (joined_one lists edits) ∙ sym (append_assoc first (joined lists) edits)
 
 files_more : (files : FileTable) (lists : List (List Edit)) (edits : List Edit)
     → files_after files (lists ++ edits ∷ []) ≡ edited_all (files_after files lists) edits
@@ -57,25 +63,26 @@ roles_more : (roles : RolesRead) (lists : List (List Edit)) (edits : List Edit)
     → roles_with roles (lists ++ edits ∷ []) ≡ roles_after (roles_with roles lists) edits
 roles_more roles lists edits = ap (roles_after roles) (joined_one lists edits) ∙ roles_then roles (joined lists) edits
 
-pub map_push : {X Y : Type 0} (f : X → Y) (xs : List X) (x : X) → map f (xs ++ x ∷ []) ≡ map f xs ++ f x ∷ []
-map_push f [] x = refl
-map_push f (y ∷ xs) x = ap (λ l. f y ∷ l) (map_push f xs x)
-
-pub zip_more : {X Y : Type 0} (xs : List X) (ys : List Y) (x : X) (y : Y) → length xs ≡ length ys → zip (xs ++ x ∷ []) (ys ++ y ∷ []) ≡ zip xs ys ++ (x, y) ∷ []
+pub zip_more : {X Y : Type 0} (xs : List X) (ys : List Y) (x : X) (y : Y)
+    → length xs ≡ length ys → zip (xs ++ x ∷ []) (ys ++ y ∷ []) ≡ zip xs ys ++ (x, y) ∷ []
 zip_more [] [] x y e = refl
 zip_more [] (b ∷ ys) x y e = absurd (omega (arith, e))
 zip_more (a ∷ xs) [] x y e = absurd (omega (arith, e))
-zip_more (a ∷ xs) (b ∷ ys) x y e = ap (λ l. (a, b) ∷ l) (zip_more xs ys x y (let shorter : length xs ≡ length ys = omega (arith, e) in shorter))
+zip_more (a ∷ xs) (b ∷ ys) x y e =
+    ap (λ l. (a, b) ∷ l) (zip_more xs ys x y (let shorter : length xs ≡ length ys = omega (arith, e) in shorter))
 
 -- the state that a history leaves
 
-pub record IsReached (files : FileTable) (roles : RolesRead) (lists : List (List Edit)) (session : SessionRead) : Type 0 where
+pub record IsReached (files : FileTable) (roles : RolesRead)
+    (lists : List (List Edit)) (session : SessionRead) : Type 0 where
   pub files_are : session.files ≡ files_after files lists
   pub roles_are : session.roles ≡ roles_with roles lists
   pub expanded : ListsLastExpanded files roles session.work lists
 
-reached_made : (files : FileTable) (roles : RolesRead) (lists : List (List Edit)) (before after : SessionRead) (edits : List Edit)
-    → IsReached files roles lists before → AreMade before edits after → IsReached files roles (lists ++ edits ∷ []) after
+reached_made : (files : FileTable) (roles : RolesRead)
+    (lists : List (List Edit)) (before after : SessionRead) (edits : List Edit)
+    → IsReached files roles lists before → AreMade before edits after
+    → IsReached files roles (lists ++ edits ∷ []) after
 reached_made files roles lists before after edits reached are =
     let files_now : after.files ≡ files_after files (lists ++ edits ∷ []) =
     are.files ∙ ap (λ fs. edited_all fs edits) reached.files_are ∙ sym (files_more files lists edits) in
@@ -93,8 +100,10 @@ reached_made files roles lists before after edits reached are =
           (subst (λ web. ListsAffectedOfWebs web (web_at after.files after.roles) after.work) web_before are.work));
     }
 
-reached_edited : (files : FileTable) (roles : RolesRead) (calls : List Call) (before after : SessionRead) (edits : EditsRead) (answer : Result (Unit {0}) ListRefusal)
-    → IsReached files roles (accepted calls) before → IsAnswered before edits answer after → IsReached files roles (accepted (calls ++ (edits, answer) ∷ [])) after
+reached_edited : (files : FileTable) (roles : RolesRead) (calls : List Call)
+    (before after : SessionRead) (edits : EditsRead) (answer : Result (Unit {0}) ListRefusal)
+    → IsReached files roles (accepted calls) before → IsAnswered before edits answer after
+    → IsReached files roles (accepted (calls ++ (edits, answer) ∷ [])) after
 reached_edited files roles calls before after (Single edit) (Ok done) reached is =
     subst (λ lists. IsReached files roles lists after) (sym (accepted_one (Single edit) done calls))
     (reached_made files roles (accepted calls) before after (edit ∷ []) reached is.1)
@@ -108,7 +117,8 @@ reached_edited files roles calls before after (Several edits) (Err refused) reac
     subst (λ lists. IsReached files roles lists after) (sym (accepted_none (Several edits) refused calls))
     (subst (λ s. IsReached files roles (accepted calls) s) (sym is.1) reached)
 
-pub reached : {files : FileTable} {roles : RolesRead} {calls : List Call} {session : SessionRead} → History files roles calls session → IsReached files roles (accepted calls) session
+pub reached : {files : FileTable} {roles : RolesRead} {calls : List Call} {session : SessionRead}
+    → History files roles calls session → IsReached files roles (accepted calls) session
 reached {files = files} {roles = roles} (Started {session = session} none same_files same_roles work) =
     record { files_are = same_files; roles_are = same_roles; expanded = ByStart work }
 reached {files = files} {roles = roles} (Edited {calls = calls} {after = after} before edits answer history is) =
@@ -134,10 +144,13 @@ pub one_made : (before after : SessionRead) (edit : Edit) (done : Unit {0})
     → ListsAffectedOfWebs (web_at before.files before.roles) (web_at after.files after.roles) after.work
     → IfSome (session_refusal before.files before.roles edit) (λ refusal. Ok done ≡ Err refusal)
     → IsAnswered before (Single edit) (Ok done) after
-one_made before after edit done files roles work refused =
-    (no_refusal (session_refusal before.files before.roles edit) done refused, record { files = files; roles = roles; work = work })
+one_made before after edit done files roles work refused = (
+  no_refusal (session_refusal before.files before.roles edit) done refused,
+  record { files = files; roles = roles; work = work },
+)
 
-pub one_refused : (before after : SessionRead) (edit : Edit) (refusal : Refusal) (answer : Result (Unit {0}) Refusal) → answer ≡ Err refusal
+pub one_refused : (before after : SessionRead) (edit : Edit) (refusal : Refusal) (answer : Result (Unit {0}) Refusal)
+    → answer ≡ Err refusal
     → IfSome (session_refusal before.files before.roles edit) (λ r. answer ≡ Err r)
     → IfNone (session_refusal before.files before.roles edit) (IsOkUnless answer NoMemory)
     → after ≡ before → IsAnswered before (Single edit) (Err (of_first refusal)) after
@@ -145,15 +158,18 @@ one_refused before after edit refusal answer is refused only same =
     (ap of_first (first_reason (session_refusal before.files before.roles edit) refusal answer is refused only), same)
 
 pub several_answered : (before after : SessionRead) (edits : List Edit) (answer : Result (Unit {0}) ListRefusal)
-    → OnOk answer (after.files ≡ edited_all before.files edits) → OnOk answer (after.roles ≡ roles_after before.roles edits)
+    → OnOk answer (after.files ≡ edited_all before.files edits)
+    → OnOk answer (after.roles ≡ roles_after before.roles edits)
     → OnOk answer (ListsAffectedOfWebs (web_at before.files before.roles) (web_at after.files after.roles) after.work)
-    → IfSome (list_refusal before.files before.roles edits) (λ refused. (answer ≡ Err refused) ⊎ (answer ≡ Err list_memory))
+    → IfSome (list_refusal before.files before.roles edits)
+    (λ refused. (answer ≡ Err refused) ⊎ (answer ≡ Err list_memory))
     → IfNone (list_refusal before.files before.roles edits) (IsOkUnless answer list_memory)
     → OnErr answer (after ≡ before) → IsAnswered before (Several edits) answer after
 several_answered before after edits (Ok done) files roles work refused only err =
     (none (list_refusal before.files before.roles edits) refused, record { files = files; roles = roles; work = work })
   where
-    none : (o : Option ListRefusal) → IfSome o (λ refused. (Ok done ≡ Err refused) ⊎ (Ok done ≡ Err list_memory)) → o ≡ None
+    none : (o : Option ListRefusal)
+        → IfSome o (λ refused. (Ok done ≡ Err refused) ⊎ (Ok done ≡ Err list_memory)) → o ≡ None
     none None h = refl
     none (Some refused) h = elim h [ inl h ↦ absurd (cc) | inr h ↦ absurd (cc) ]
 several_answered before after edits (Err refused) files roles work refused_for only err =
@@ -162,14 +178,16 @@ several_answered before after edits (Err refused) files roles work refused_for o
     reported : Result (Unit {0}) ListRefusal
     reported = Err refused
 
-    reason : (o : Option ListRefusal) → IfSome o (λ r. (reported ≡ Err r) ⊎ (reported ≡ Err list_memory)) → IfNone o (IsOkUnless reported list_memory)
+    reason : (o : Option ListRefusal)
+        → IfSome o (λ r. (reported ≡ Err r) ⊎ (reported ≡ Err list_memory)) → IfNone o (IsOkUnless reported list_memory)
         → (o ≡ Some refused) ⊎ (refused ≡ list_memory)
     reason None h only = inr only
     reason (Some r) h only = elim h [ inl is ↦ inl (cc) | inr is ↦ inr (cc) ]
 
 -- why a start is refused
 
-pub not_refused : {A E : Type 0} (o : Option Refusal) (give : Refusal → E) (r : Result A E) (a : A) → r ≡ Ok a → IfSome o (λ refusal. r ≡ Err (give refusal)) → o ≡ None
+pub not_refused : {A E : Type 0} (o : Option Refusal) (give : Refusal → E) (r : Result A E) (a : A)
+    → r ≡ Ok a → IfSome o (λ refusal. r ≡ Err (give refusal)) → o ≡ None
 not_refused None give r a is h = refl
 not_refused (Some refusal) give r a is h = absurd (cc)
 
@@ -183,7 +201,8 @@ pub scanned_at : (files : FileTable) (roles : RolesRead) → web_at files roles 
 unfolding web_at
 scanned_at files roles = refl
 
-abbrev pub plain_at : (files : FileTable) (roles : RolesRead) (faults : List _) → AreFaultsOf files roles faults → IsPlainTangling files roles (outputs_of files roles) faults
+abbrev pub plain_at : (files : FileTable) (roles : RolesRead) (faults : List _)
+    → AreFaultsOf files roles faults → IsPlainTangling files roles (outputs_of files roles) faults
 plain_at files roles faults are = record {
   source = source_at files roles;
   reading = read_at files roles;
@@ -223,13 +242,16 @@ module _ (name : List ℕ) (old new : Stream) (shown : Shown) where
     cycles = answers.cycles;
   }
 
-  pub shows : (s : SessionRead) → Answers s → (files : FileTable) (roles : RolesRead) (calls : List Call) → History files roles calls s
+  pub shows : (s : SessionRead) → Answers s → (files : FileTable) (roles : RolesRead) (calls : List Call)
+      → History files roles calls s
       → ShowsPlainTangling (files_after files (accepted calls)) (roles_with roles (accepted calls)) name old new shown
   shows s answers files roles calls history =
       let at = reached history in
       subst (λ rs. ShowsPlainTangling (files_after files (accepted calls)) rs name old new shown) at.roles_are
       (subst (λ fs. ShowsPlainTangling fs s.roles name old new shown) at.files_are (shows_now s answers))
 
-  pub shows_work : (s : SessionRead) → shown.work ≡ length s.work → (files : FileTable) (roles : RolesRead) (calls : List Call) → History files roles calls s
+  pub shows_work : (s : SessionRead) → shown.work ≡ length s.work
+      → (files : FileTable) (roles : RolesRead) (calls : List Call) → History files roles calls s
       → ShowsLastWork files roles (accepted calls) shown
-  shows_work s counted files roles calls history = record { nodes = s.work; expanded = (reached history).expanded; counted = counted }
+  shows_work s counted files roles calls history =
+      record { nodes = s.work; expanded = (reached history).expanded; counted = counted }

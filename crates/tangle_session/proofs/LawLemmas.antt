@@ -1,6 +1,7 @@
 -- The laws of the headline: one tangling, no cycle below an output, and each cycle reported.
-use Rattle.std.proofs.Common.{◌≡◌, ◌≢◌, ◌∙◌, ◌<◌, ◌++◌, ℕ, zero, suc, Bool, true, false, List, [], ◌∷◌, length, map, flat_map, get_or, refl, ap, sym, subst, arith, zero-add}
-use Rattle.std.specs.Prelude.{if◌then◌else◌, Option, Some, None, IsSome, Contains, option_to_list, slice_get}
+use Rattle.std.proofs.Common.{◌≡◌, ◌≢◌, ◌∙◌, ◌<◌, ◌++◌, ℕ, zero, suc, Bool, true, false, List, [], ◌∷◌, length, map}
+use Rattle.std.proofs.Common.{flat_map, get_or, refl, ap, sym, subst, arith, zero-add}
+use Rattle.std.specs.Prelude.{if◌then◌else◌, Some, None, IsSome, Contains, option_to_list, slice_get}
 use Rattle.std.specs.List.{range_with_len}
 use Rattle.std.proofs.lemmas.List.{get_or-map, get_or_default}
 use Rattle.std.proofs.lemmas.List.Elements.{Contains-append_left, Contains-append_right}
@@ -27,22 +28,31 @@ use Rattle.tangle_graph.specs.Nodes.{title_of_node}
 use Rattle.tangle_graph.specs.Outputs.{name_with_number}
 use Rattle.tangle_graph.proofs.NodeLemmas.{title_inside}
 use Rattle.tangle_graph.proofs.StoreLemmas.{there}
+use Rattle.tangle_graph.proofs.OutputLemmas.{IsFit}
 use Rattle.tangle_session.specs.Faults.{AreFaults}
 use Rattle.tangle_session.specs.Files.{shapes_of, source_at, web_at}
 use Rattle.tangle_session.specs.Laws.{IsReportedSelfContaining}
 use Rattle.tangle_session.specs.Tangle.{Tangling, IsTanglingOf}
-use Rattle.tangle_session.proofs.OutputLemmas.{IsFit}
+use Rattle.tangle_names.proofs.FirstLemmas.{some_of}
 
 abbrev AreOneList : Type 0
-AreOneList = (web : WebRead) (table : TableRead) (out : List ℕ) (a b : List FaultRead) → AreGraphFaults web table out a → AreGraphFaults web table out b → a ≡ b
+AreOneList =
+    (web : WebRead) (table : TableRead) (out : List ℕ) (a b : List FaultRead)
+    → AreGraphFaults web table out a → AreGraphFaults web table out b → a ≡ b
 
-one_faults : AreOneList → (source : SourceRead) (web : WebRead) (out : List ℕ) (a b : List FaultRead) → AreFaults source web out a → AreFaults source web out b → a ≡ b
+one_faults : AreOneList → (source : SourceRead) (web : WebRead) (out : List ℕ) (a b : List FaultRead)
+    → AreFaults source web out a → AreFaults source web out b → a ≡ b
 one_faults law source web out a b x y =
-    x.list ∙ ap (λ l. source.faults ++ (web.faults ++ ((table_of web).faults ++ l))) (law web (table_of web) out x.of_graph y.of_graph x.are_of_graph y.are_of_graph) ∙ sym y.list
+    x.list
+    ∙ ap (λ l. source.faults ++ (web.faults ++ ((table_of web).faults ++ l)))
+    (law web (table_of web) out x.of_graph y.of_graph x.are_of_graph y.are_of_graph)
+    ∙ sym y.list
 
-pub one_tangling : AreOneList → (files : FileTable) (roles : RolesRead) (a b : Tangling) → IsTanglingOf files roles a → IsTanglingOf files roles b → a ≡ b
+pub one_tangling : AreOneList → (files : FileTable) (roles : RolesRead) (a b : Tangling)
+    → IsTanglingOf files roles a → IsTanglingOf files roles b → a ≡ b
 one_tangling law files roles a b x y =
-    let faults : a.faults ≡ b.faults = one_faults law (source_at files roles) (web_at files roles) roles.out a.faults b.faults x.faults y.faults in
+    let faults : a.faults ≡ b.faults =
+    one_faults law (source_at files roles) (web_at files roles) roles.out a.faults b.faults x.faults y.faults in
     let outputs : a.outputs ≡ b.outputs = x.outputs ∙ sym y.outputs in
     λ i. record { faults = faults i; outputs = outputs i }
 
@@ -52,11 +62,13 @@ no_use : (shape : Shape) (name : List ℕ) → shape ≡ [] → UsesInShape shap
 no_use [] name e u = u
 no_use (x ∷ shape) name e u = absurd (let no : x ∷ shape ≡ [] = e in cc)
 
-none_reached : (shapes : Shapes) (node other : Title) → shapes node ≡ [] → Reaches shapes node other → ContainsItself shapes other → ⊥
+none_reached : (shapes : Shapes) (node other : Title)
+    → shapes node ≡ [] → Reaches shapes node other → ContainsItself shapes other → ⊥
 none_reached shapes node other e here c = no_use (shapes node) c.0 e c.1
 none_reached shapes node other e (on {name = name} u r) c = no_use (shapes node) name e u
 
-pub no_cycle : ((l h : ℕ) (p : Shapes) (node other : Title) → IsExpandable l h p node → Reaches p node other → ContainsItself p other → ⊥)
+pub no_cycle : ((l h : ℕ) (p : Shapes) (node other : Title)
+    → IsExpandable l h p node → Reaches p node other → ContainsItself p other → ⊥)
     → (shapes : Shapes) (names : List (List ℕ)) (output : OutputRead) (other : Title) → IsFit shapes names output
     → Reaches shapes (title_of_node names output.node) other → ContainsItself shapes other → ⊥
 no_cycle law shapes names output other fit r c = by output.has_piece refl
@@ -70,63 +82,90 @@ no_cycle law shapes names output other fit r c = by output.has_piece refl
 in_range : (n k : ℕ) → k < n → Contains (range_with_len 0 n) k
 in_range n k h = (k, omega (arith, h, length-range_with_len 0 n), get_or-range_with_len 0 n k k h ∙ zero-add k)
 
-in_mapped : (g : ℕ → List FaultRead) (ns : List ℕ) (k : ℕ) (x : FaultRead) → Contains ns k → Contains (g k) x → Contains (flat_map g ns) x
+in_mapped : (g : ℕ → List FaultRead) (ns : List ℕ) (k : ℕ) (x : FaultRead)
+    → Contains ns k → Contains (g k) x → Contains (flat_map g ns) x
 in_mapped g [] k x c d = absurd (omega (arith, c.1))
-in_mapped g (n ∷ ns) k x (zero, h, e) d = Contains-append_left (g n) (flat_map g ns) x (subst (λ m. Contains (g m) x) (sym e) d)
-in_mapped g (n ∷ ns) k x (suc i, h, e) d = Contains-append_right (g n) (flat_map g ns) x (in_mapped g ns k x (i, omega (arith, h), e) d)
+in_mapped g (n ∷ ns) k x (zero, h, e) d =
+    Contains-append_left (g n) (flat_map g ns) x (subst (λ m. Contains (g m) x) (sym e) d)
+in_mapped g (n ∷ ns) k x (suc i, h, e) d =
+    Contains-append_right (g n) (flat_map g ns) x (in_mapped g ns k x (i, omega (arith, h), e) d)
 
 a_piece : (shapes : Shapes) (name : List ℕ) → ContainsItself shapes (Named name) → shapes (Named name) ≢ []
 a_piece shapes name c e = no_use (shapes (Named name)) c.0 e c.1
 
-module _ (web : WebRead) (out : List ℕ) (faults : List FaultRead) (are : AreGraphFaults web (table_of web) out faults) (id : ℕ) (name : List ℕ) (o : OccurrenceRead)
-    (low : id < length (table_of web).names) (text : get_or (table_of web).names id [] ≡ name) (contains : ContainsItself (shapes_of web) (Named name))
+module _ (web : WebRead) (out : List ℕ) (faults : List FaultRead)
+    (are : AreGraphFaults web (table_of web) out faults) (id : ℕ) (name : List ℕ) (o : OccurrenceRead)
+    (low : id < length (table_of web).names) (text : get_or (table_of web).names id [] ≡ name)
+    (contains : ContainsItself (shapes_of web) (Named name))
     (first : first_occurrence web.occurrences name ≡ Some o) where
   flagged : are.contains_itself id ≡ true
-  flagged = (are.self_containing id (omega (arith, low))).1 (subst (ContainsItself (shapes_of web)) (sym (title_inside (table_of web).names id low ∙ ap Named text)) contains)
+  flagged = (are.self_containing id (omega (arith, low))).1
+      (subst (ContainsItself (shapes_of web)) (sym (title_inside (table_of web).names id low ∙ ap Named text)) contains)
 
   number : get_or (table_of web).first_occurrences id 0 ≡ first_number web.occurrences name
-  number = get_or-map (first_number web.occurrences) (table_of web).names id [] 0 low ∙ ap (first_number web.occurrences) text
+  number =
+      get_or-map (first_number web.occurrences) (table_of web).names id [] 0 low
+      ∙ ap (first_number web.occurrences) text
 
   reached : slice_get web.occurrences (get_or (table_of web).first_occurrences id 0) ≡ Some o
-  reached = ap (slice_get web.occurrences) number ∙ sym (find_at (resolves_to web.occurrences name) web.occurrences) ∙ first
+  reached =
+      ap (slice_get web.occurrences) number ∙ sym (find_at (resolves_to web.occurrences name) web.occurrences) ∙ first
 
-  one_fault : fault_of web (table_of web) kind.SelfContaining id (fault_occurrence web (table_of web) out are.contains_itself are.reaches_cycle kind.SelfContaining id)
+  one_fault : fault_of web (table_of web) kind.SelfContaining id
+      (fault_occurrence web (table_of web) out are.contains_itself are.reaches_cycle kind.SelfContaining id)
       ≡ fault_about kind.SelfContaining (named_place_of web.file_names o.origin) name ∷ []
   one_fault =
-      ap (λ b. fault_of web (table_of web) kind.SelfContaining id (if b then of_graph.first_occurrence_number web (table_of web) id else None)) flagged
-      ∙ ap (λ x. map (λ p. fault_about kind.SelfContaining (named_place_of web.file_names p.origin) (name_with_number (table_of web) id)) (option_to_list x)) reached
+      ap
+      (λ b. fault_of web (table_of web) kind.SelfContaining id
+      (if b then of_graph.first_occurrence_number web (table_of web) id else None)) flagged
+      ∙ ap
+      (λ x. map
+      (λ p. fault_about kind.SelfContaining (named_place_of web.file_names p.origin)
+      (name_with_number (table_of web) id)) (option_to_list x)) reached
       ∙ ap (λ t. fault_about kind.SelfContaining (named_place_of web.file_names o.origin) t ∷ []) text
 
-  among : Contains (faults_of_names web (table_of web) out are.contains_itself are.reaches_cycle kind.SelfContaining) (fault_about kind.SelfContaining (named_place_of web.file_names o.origin) name)
+  among : Contains (faults_of_names web (table_of web) out are.contains_itself are.reaches_cycle kind.SelfContaining)
+      (fault_about kind.SelfContaining (named_place_of web.file_names o.origin) name)
   among =
-      in_mapped (λ k. fault_of web (table_of web) kind.SelfContaining k (fault_occurrence web (table_of web) out are.contains_itself are.reaches_cycle kind.SelfContaining k))
-      (range_with_len 0 (length (table_of web).names)) id (fault_about kind.SelfContaining (named_place_of web.file_names o.origin) name)
+      in_mapped (λ k. fault_of web (table_of web) kind.SelfContaining k
+      (fault_occurrence web (table_of web) out are.contains_itself are.reaches_cycle kind.SelfContaining k))
+      (range_with_len 0 (length (table_of web).names)) id
+      (fault_about kind.SelfContaining (named_place_of web.file_names o.origin) name)
       (in_range (length (table_of web).names) id low)
-      (subst (λ l. Contains l (fault_about kind.SelfContaining (named_place_of web.file_names o.origin) name)) (sym one_fault) (0, omega arith, refl))
+      (subst (λ l. Contains l (fault_about kind.SelfContaining (named_place_of web.file_names o.origin) name))
+      (sym one_fault) (0, omega arith, refl))
 
   pub reported : Contains faults (fault_about kind.SelfContaining (named_place_of web.file_names o.origin) name)
   reported =
       let x = fault_about kind.SelfContaining (named_place_of web.file_names o.origin) name in
-      subst (λ l. Contains l (fault_about kind.SelfContaining (named_place_of web.file_names o.origin) name)) (sym are.list)
-      (Contains-append_right (faults_of_names web (table_of web) out are.contains_itself are.reaches_cycle kind.Undefined) _ x
-      (Contains-append_right (faults_of_names web (table_of web) out are.contains_itself are.reaches_cycle kind.Unused) _ x
-      (Contains-append_left (faults_of_names web (table_of web) out are.contains_itself are.reaches_cycle kind.SelfContaining) _ x among)))
+      subst (λ l. Contains l (fault_about kind.SelfContaining (named_place_of web.file_names o.origin) name))
+      (sym are.list)
+      (Contains-append_right
+      (faults_of_names web (table_of web) out are.contains_itself are.reaches_cycle kind.Undefined) _ x
+      (Contains-append_right (faults_of_names web (table_of web) out are.contains_itself are.reaches_cycle kind.Unused)
+      _ x
+      (Contains-append_left
+      (faults_of_names web (table_of web) out are.contains_itself are.reaches_cycle kind.SelfContaining) _ x among)))
 
-is_some_of : {X : Type 0} (x : Option X) → IsSome x → (y : X) × (x ≡ Some y)
-is_some_of None h = absurd (let no : false ≡ true = h in cc)
-is_some_of (Some y) h = (y, refl)
-
-pub reported_in : (source : SourceRead) (web : WebRead) (out : List ℕ) (faults : List FaultRead) (name : List ℕ) → ResolvesInside (table_of web)
-    → ((text : List ℕ) → Contains (names_in_order web.occurrences) text → IsSome (first_occurrence web.occurrences text))
-    → AreFaults source web out faults → ContainsItself (shapes_of web) (Named name) → IsReportedSelfContaining web name faults
+pub reported_in : (source : SourceRead) (web : WebRead) (out : List ℕ) (faults : List FaultRead) (name : List ℕ)
+    → ResolvesInside (table_of web)
+    → ((text : List ℕ)
+    → Contains (names_in_order web.occurrences) text → IsSome (first_occurrence web.occurrences text))
+    → AreFaults source web out faults → ContainsItself (shapes_of web) (Named name)
+    → IsReportedSelfContaining web name faults
 reported_in source web out faults name inside occur are c =
-    let found = there (table_of web) inside name web.pieces (λ none. a_piece (shapes_of web) name c (ap (map (λ (p : PieceRead). map (shape_item web.texts (table_of web)) p.items)) none)) in
-    let listed : Contains (names_in_order web.occurrences) name = (found.0, found.1, get_or_default (table_of web).names found.0 name [] found.1 ∙ found.2) in
-    let o = is_some_of (first_occurrence web.occurrences name) (occur name listed) in
+    let found = there (table_of web) inside name web.pieces (λ none. a_piece (shapes_of web) name
+    c (ap (map (λ (p : PieceRead). map (shape_item web.texts (table_of web)) p.items)) none)) in
+    let listed : Contains (names_in_order web.occurrences) name =
+    (found.0, found.1, get_or_default (table_of web).names found.0 name [] found.1 ∙ found.2) in
+    let o = some_of (first_occurrence web.occurrences name) (occur name listed) in
     record {
       occurrence = o.0;
       is_first = o.1;
-      reported = subst (λ l. Contains l (fault_about kind.SelfContaining (named_place_of web.file_names o.0.origin) name)) (sym are.list)
-          (Contains-append_right source.faults _ _ (Contains-append_right web.faults _ _ (Contains-append_right (table_of web).faults _ _
+      reported =
+          subst (λ l. Contains l (fault_about kind.SelfContaining (named_place_of web.file_names o.0.origin) name))
+          (sym are.list)
+          (Contains-append_right source.faults _ _
+          (Contains-append_right web.faults _ _ (Contains-append_right (table_of web).faults _ _
           (reported web out are.of_graph are.are_of_graph found.0 name o.0 found.1 found.2 c o.1))));
     }

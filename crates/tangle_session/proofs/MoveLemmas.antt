@@ -1,7 +1,9 @@
 -- Webs that are written the same, apart from origins, have the same shapes, so an edit from one to the other expands
 -- nothing.
-use Rattle.std.proofs.Common.{◌≡◌, ◌∙◌, ℕ, Bool, true, false, not, cond, List, [], ◌∷◌, map, filter, refl, ap, sym, arith}
+use Rattle.std.proofs.Common.{◌≡◌, ◌∙◌, ℕ, Bool, true, false, not, cond, List, [], ◌∷◌, map, filter, refl, ap, sym}
+use Rattle.std.proofs.Common.{arith}
 use Rattle.std.specs.Prelude.{Option, None, Some, if◌then◌else◌}
+use Rattle.std.proofs.lemmas.Simd.{map-map}
 use Rattle.tangle_lexer.specs.Occurrences.{OccurrenceRead}
 use Rattle.tangle_scan.specs.Web.{WebRead, PieceRead}
 use Rattle.tangle_scan.specs.declared.items.Item.{Item}
@@ -14,18 +16,15 @@ use Rattle.tangle_plans.specs.WebShapes.{is_node, is_piece_of, node_of_occurrenc
 use Rattle.tangle_plans.specs.Shapes.{Shape, ShapeItem, Title}
 use Rattle.tangle_plans.specs.declared.nodes.Node.{Node}
 use Rattle.tangle_session.specs.Files.{shapes_of}
-use Rattle.tangle_session.specs.Moves.{HaveSameShapes, IsMoved, said_item, said_occurrence, said_piece}
+use Rattle.tangle_session.specs.Moves.{HaveSameShapes, IsMoved, item_form, occurrence_form, piece_form}
 use Rattle.tangle_session.specs.Sessions.{ListsAffectedOfWebs}
 
-pub nothing_affected : (old new : WebRead) (nodes : List Node) → HaveSameShapes old new → ListsAffectedOfWebs old new nodes → nodes ≡ []
+pub nothing_affected : (old new : WebRead) (nodes : List Node)
+    → HaveSameShapes old new → ListsAffectedOfWebs old new nodes → nodes ≡ []
 nothing_affected old new [] same lists = refl
 nothing_affected old new (node ∷ nodes) same lists =
     let affected = ((lists.just node).0 (0, omega arith, refl)).1 in
     absurd (affected.changed (same affected.cause))
-
-map_of_map : {A B C : Type 0} (f : B → C) (g : A → B) (xs : List A) → map f (map g xs) ≡ map (λ x. f (g x)) xs
-map_of_map f g [] = refl
-map_of_map f g (x ∷ xs) = ap (λ l. f (g x) ∷ l) (map_of_map f g xs)
 
 -- the names depend only on how their occurrences are written
 
@@ -35,13 +34,16 @@ SaidOccurrence = NameText × Bool
 abbrev full_said : List SaidOccurrence → List NameText
 full_said ss = map (λ s. s.0) (filter (λ s. not s.1) ss)
 
-full_same : (os : List OccurrenceRead) → full_names os ≡ full_said (map said_occurrence os)
+full_same : (os : List OccurrenceRead) → full_names os ≡ full_said (map occurrence_form os)
 full_same [] = refl
 full_same (o ∷ os) = by (not o.is_abbreviation) (full_same os)
   where
-    by : (b : Bool) → full_names os ≡ full_said (map said_occurrence os)
-        → map (λ (x : OccurrenceRead). x.text) (cond b (o ∷ filter (λ x. not x.is_abbreviation) os) (filter (λ x. not x.is_abbreviation) os))
-        ≡ map (λ (s : SaidOccurrence). s.0) (cond b (said_occurrence o ∷ filter (λ s. not s.1) (map said_occurrence os)) (filter (λ s. not s.1) (map said_occurrence os)))
+    by : (b : Bool) → full_names os ≡ full_said (map occurrence_form os)
+        → map (λ (x : OccurrenceRead). x.text)
+        (cond b (o ∷ filter (λ x. not x.is_abbreviation) os) (filter (λ x. not x.is_abbreviation) os))
+        ≡ map (λ (s : SaidOccurrence). s.0)
+        (cond b (occurrence_form o ∷ filter (λ s. not s.1) (map occurrence_form os))
+        (filter (λ s. not s.1) (map occurrence_form os)))
     by true h = ap (λ l. o.text ∷ l) h
     by false h = h
 
@@ -54,16 +56,18 @@ names_said ss = names_of (map (meaning_said (full_said ss)) ss)
 abbrev resolved_said : List SaidOccurrence → List Resolved
 resolved_said ss = map (λ s. resolved_meaning (names_said ss) (meaning_said (full_said ss) s)) ss
 
-names_same : (os : List OccurrenceRead) → names_in_order os ≡ names_said (map said_occurrence os)
+names_same : (os : List OccurrenceRead) → names_in_order os ≡ names_said (map occurrence_form os)
 names_same os =
     ap (λ full. names_of (map (meaning full) os)) (full_same os)
-    ∙ ap names_of (sym (map_of_map (meaning_said (full_said (map said_occurrence os))) said_occurrence os))
+    ∙ ap names_of (sym (map-map (meaning_said (full_said (map occurrence_form os))) occurrence_form os))
 
-resolved_same : (os : List OccurrenceRead) → map (resolve os) os ≡ resolved_said (map said_occurrence os)
+resolved_same : (os : List OccurrenceRead) → map (resolve os) os ≡ resolved_said (map occurrence_form os)
 resolved_same os =
     ap (λ names. map (λ o. resolved_meaning names (meaning (full_names os) o)) os) (names_same os)
-    ∙ ap (λ full. map (λ o. resolved_meaning (names_said (map said_occurrence os)) (meaning full o)) os) (full_same os)
-    ∙ sym (map_of_map (λ s. resolved_meaning (names_said (map said_occurrence os)) (meaning_said (full_said (map said_occurrence os)) s)) said_occurrence os)
+    ∙ ap (λ full. map (λ o. resolved_meaning (names_said (map occurrence_form os)) (meaning full o)) os) (full_same os)
+    ∙ sym (map-map
+    (λ s. resolved_meaning (names_said (map occurrence_form os)) (meaning_said (full_said (map occurrence_form os)) s))
+    occurrence_form os)
 
 -- the shapes depend only on how the pieces are written
 
@@ -74,13 +78,14 @@ abbrev SaidPiece : Type 0
 SaidPiece = Option ℕ × List SaidItem
 
 abbrev table_with : List NameText → List Resolved → TableRead
-table_with names resolved = record { names = names; resolved = resolved; first_occurrences = []; first_file_occurrences = []; faults = [] }
+table_with names resolved =
+    record { names = names; resolved = resolved; first_occurrences = []; first_file_occurrences = []; faults = [] }
 
 module _ (table : TableRead) where
   abbrev item_said : SaidItem → ShapeItem
   item_said s = elim s.1 [ None ↦ s.0 | Some occurrence ↦ use_of table (resolved_at table occurrence) ]
 
-  item_same : (texts : List (List ℕ)) (i : Item) → shape_item texts table i ≡ item_said (said_item texts i)
+  item_same : (texts : List (List ℕ)) (i : Item) → shape_item texts table i ≡ item_said (item_form texts i)
   item_same texts (item.Word span) = refl
   item_same texts (item.Sign span) = refl
   item_same texts (item.Quoted span) = refl
@@ -93,39 +98,59 @@ module _ (table : TableRead) where
   item_same texts (item.UseOf occurrence) = refl
   item_same texts item.Defs = refl
 
-  items_same : (texts : List (List ℕ)) (items : List Item) → map (shape_item texts table) items ≡ map item_said (map (said_item texts) items)
+  items_same : (texts : List (List ℕ)) (items : List Item)
+      → map (shape_item texts table) items ≡ map item_said (map (item_form texts) items)
   items_same texts [] = refl
-  items_same texts (i ∷ items) = ap (λ x. x ∷ map (shape_item texts table) items) (item_same texts i) ∙ ap (λ l. item_said (said_item texts i) ∷ l) (items_same texts items)
+  items_same texts (i ∷ items) =
+      ap (λ x. x ∷ map (shape_item texts table) items) (item_same texts i)
+      ∙ ap (λ l. item_said (item_form texts i) ∷ l) (items_same texts items)
 
   abbrev shapes_said : List SaidPiece → Title → Shape
-  shapes_said pieces node = map (λ p. map item_said p.1) (filter (λ p. is_node table node (node_of_occurrence table p.0)) pieces)
+  shapes_said pieces node =
+      map (λ p. map item_said p.1) (filter (λ p. is_node table node (node_of_occurrence table p.0)) pieces)
 
-  one_shape : (texts : List (List ℕ)) (piece : PieceRead) (rest : List PieceRead) (rest_said : List SaidPiece) (b : Bool)
-      → map (λ (x : PieceRead). map (shape_item texts table) x.items) rest ≡ map (λ (s : SaidPiece). map item_said s.1) rest_said
-      → map (λ (x : PieceRead). map (shape_item texts table) x.items) (cond b (piece ∷ rest) rest) ≡ map (λ (s : SaidPiece). map item_said s.1) (cond b (said_piece texts piece ∷ rest_said) rest_said)
+  one_shape : (texts : List (List ℕ)) (piece : PieceRead)
+      (rest : List PieceRead) (rest_said : List SaidPiece) (b : Bool)
+      → map (λ (x : PieceRead). map (shape_item texts table) x.items) rest
+      ≡ map (λ (s : SaidPiece). map item_said s.1) rest_said
+      → map (λ (x : PieceRead). map (shape_item texts table) x.items) (cond b (piece ∷ rest) rest)
+      ≡ map (λ (s : SaidPiece). map item_said s.1) (cond b (piece_form texts piece ∷ rest_said) rest_said)
   one_shape texts piece rest rest_said true h =
       ap (λ x. x ∷ map (λ (y : PieceRead). map (shape_item texts table) y.items) rest) (items_same texts piece.items)
-      ∙ ap (λ l. map item_said (map (said_item texts) piece.items) ∷ l) h
+      ∙ ap (λ l. map item_said (map (item_form texts) piece.items) ∷ l) h
   one_shape texts piece rest rest_said false h = h
 
   shape_same : (texts : List (List ℕ)) (node : Title) (pieces : List PieceRead)
-      → map (λ (p : PieceRead). map (shape_item texts table) p.items) (filter (is_piece_of table node) pieces) ≡ shapes_said (map (said_piece texts) pieces) node
+      → map (λ (p : PieceRead). map (shape_item texts table) p.items) (filter (is_piece_of table node) pieces)
+      ≡ shapes_said (map (piece_form texts) pieces) node
   shape_same texts node [] = refl
   shape_same texts node (p ∷ pieces) =
-      one_shape texts p (filter (is_piece_of table node) pieces) (filter (λ s. is_node table node (node_of_occurrence table s.0)) (map (said_piece texts) pieces))
+      one_shape texts p (filter (is_piece_of table node) pieces)
+      (filter (λ s. is_node table node (node_of_occurrence table s.0)) (map (piece_form texts) pieces))
       (is_piece_of table node p) (shape_same texts node pieces)
 
 -- the shapes of a web are a function of how the web is written
 shapes_same : (web : WebRead) (node : Title)
-    → shapes_of web node ≡ shapes_said (table_with (names_said (map said_occurrence web.occurrences)) (resolved_said (map said_occurrence web.occurrences))) (map (said_piece web.texts) web.pieces) node
+    → shapes_of web node
+    ≡ shapes_said
+    (table_with (names_said (map occurrence_form web.occurrences))
+    (resolved_said (map occurrence_form web.occurrences))) (map (piece_form web.texts) web.pieces) node
 shapes_same web node =
     shape_same (table_of web) web.texts node web.pieces
-    ∙ ap (λ names. shapes_said (table_with names (table_of web).resolved) (map (said_piece web.texts) web.pieces) node) (names_same web.occurrences)
-    ∙ ap (λ resolved. shapes_said (table_with (names_said (map said_occurrence web.occurrences)) resolved) (map (said_piece web.texts) web.pieces) node) (resolved_same web.occurrences)
+    ∙ ap (λ names. shapes_said (table_with names (table_of web).resolved) (map (piece_form web.texts) web.pieces) node)
+    (names_same web.occurrences)
+    ∙ ap
+    (λ resolved. shapes_said (table_with (names_said (map occurrence_form web.occurrences)) resolved)
+    (map (piece_form web.texts) web.pieces) node) (resolved_same web.occurrences)
 
 pub moved_same : (old new : WebRead) → IsMoved old new → HaveSameShapes old new
 moved_same old new moved node =
     shapes_same new node
-    ∙ ap (λ ss. shapes_said (table_with (names_said ss) (resolved_said ss)) (map (said_piece new.texts) new.pieces) node) moved.occurrences
-    ∙ ap (λ ps. shapes_said (table_with (names_said (map said_occurrence old.occurrences)) (resolved_said (map said_occurrence old.occurrences))) ps node) moved.pieces
+    ∙ ap
+    (λ ss. shapes_said (table_with (names_said ss) (resolved_said ss)) (map (piece_form new.texts) new.pieces) node)
+    moved.occurrences
+    ∙ ap
+    (λ ps. shapes_said
+    (table_with (names_said (map occurrence_form old.occurrences))
+    (resolved_said (map occurrence_form old.occurrences))) ps node) moved.pieces
     ∙ sym (shapes_same old node)

@@ -1,5 +1,6 @@
 -- No two outputs of a web have the same name.
-use Rattle.std.proofs.Common.{◌≡◌, ◌≢◌, ◌∙◌, ◌<◌, ◌==◌, ◌&&◌, ◌||◌, ◌++◌, ℕ, Bool, true, false, List, [], ◌∷◌, length, map, filter, get_or, refl, ap, sym, subst, arith}
+use Rattle.std.proofs.Common.{◌≡◌, ◌≢◌, ◌∙◌, ◌<◌, ◌==◌, ◌&&◌, ◌||◌, ◌++◌, ℕ, Bool, true, false, List, [], ◌∷◌, length}
+use Rattle.std.proofs.Common.{map, filter, get_or, refl, ap, sym, subst, arith}
 use Rattle.std.specs.Prelude.{not, if◌then◌else◌, Some, All, AllPairs, Contains}
 use Rattle.std.specs.List.{IsDistinct}
 use Rattle.std.specs.Str.{bytes_eq}
@@ -20,11 +21,13 @@ use Rattle.tangle_expansion.specs.Outputs.{OutputRead}
 use Rattle.tangle_plans.specs.WebShapes.{shapes, ResolvesInside}
 use Rattle.tangle_plans.specs.Shapes.{Named, Program}
 use Rattle.tangle_plans.specs.declared.nodes.Node.TheVariants as node
-use Rattle.tangle_graph.specs.Outputs.{firsts, file_names, shape_has_piece, is_expandable, is_written, name_with_number, named_file, outputs}
+use Rattle.tangle_graph.specs.Outputs.{firsts, file_names, shape_has_piece, is_expandable, is_written, name_with_number}
+use Rattle.tangle_graph.specs.Outputs.{named_file, outputs}
 use Rattle.tangle_graph.proofs.NodeLemmas.{once_named}
+use Rattle.tangle_graph.proofs.OutputLemmas.{names_below}
 use Rattle.tangle_session.specs.Files.{output_files}
 use Rattle.tangle_session.specs.Tangle.{output_at, outputs_of}
-use Rattle.tangle_session.proofs.OutputLemmas.{names_below, names_written}
+use Rattle.tangle_session.proofs.OutputLemmas.{names_written}
 
 other_number : (n m : ℕ) → not (m == n) ≡ true → n ≢ m
 other_number n m e same = by (m == n) refl e
@@ -37,19 +40,22 @@ firsts_once : (ns : List ℕ) → AllPairs (λ a b. a ≢ b) (firsts ns)
 firsts_once [] = λ i j d less h. absurd (omega (arith, h))
 firsts_once (n ∷ ns) =
     AllPairs-cons (λ a b. a ≢ b) n (filter (λ m. not (m == n)) (firsts ns))
-    (λ i d h. other_number n (get_or (filter (λ m. not (m == n)) (firsts ns)) i d) (filter_passes (λ m. not (m == n)) (firsts ns) i d h))
+    (λ i d h. other_number n (get_or (filter (λ m. not (m == n)) (firsts ns)) i d)
+    (filter_passes (λ m. not (m == n)) (firsts ns) i d h))
     (AllPairs-filter (λ a b. a ≢ b) (λ m. not (m == n)) (firsts ns) (firsts_once ns))
 
 abbrev name_of : OutputRead → List ℕ
 name_of o = o.name
 
-module _ (web : WebRead) (table : TableRead) (resolves : ResolvesInside table) (distinct : IsDistinct bytes_eq table.names) (out : List ℕ) where
+module _ (web : WebRead) (table : TableRead) (resolves : ResolvesInside table)
+    (distinct : IsDistinct bytes_eq table.names) (out : List ℕ) where
   ids : List ℕ
   ids = filter (is_written web table out) (file_names web table)
 
   ids_below : All (λ id. id < length table.names) ids
   unfolding ids
-  ids_below = All-filter (is_written web table out) (λ id. id < length table.names) (file_names web table) (names_below web table resolves out)
+  ids_below = All-filter (is_written web table out) (λ id. id < length table.names)
+      (file_names web table) (names_below web table resolves)
 
   ids_once : AllPairs (λ a b. a ≢ b) ids
   unfolding ids
@@ -59,20 +65,26 @@ module _ (web : WebRead) (table : TableRead) (resolves : ResolvesInside table) (
   unfolding ids
   ids_written = filter_passes (is_written web table out) (file_names web table)
 
-  body_at : (i : ℕ) (d : List ℕ) → i < length ids → get_or (map name_of (map (named_file table) ids)) i d ≡ name_with_number table (get_or ids i 0)
+  body_at : (i : ℕ) (d : List ℕ)
+      → i < length ids → get_or (map name_of (map (named_file table) ids)) i d ≡ name_with_number table (get_or ids i 0)
   body_at i d h =
-      get_or-map name_of (map (named_file table) ids) i (named_file table 0) d (omega (arith, h, length-map ids (named_file table)))
+      get_or-map name_of (map (named_file table) ids) i (named_file table 0)
+      d (omega (arith, h, length-map ids (named_file table)))
       ∙ ap name_of (get_or-map (named_file table) ids i 0 (named_file table 0) h)
 
   named_once : AllPairs (λ a b. a ≢ b) (map name_of (map (named_file table) ids))
   named_once i j d less h same =
-      let high : j < length ids = omega (arith, h, length-map (map (named_file table) ids) name_of, length-map ids (named_file table)) in
+      let high : j < length ids =
+      omega (arith, h, length-map (map (named_file table) ids) name_of, length-map ids (named_file table)) in
       let low : i < length ids = omega (arith, high, less) in
       ids_once i j 0 less high
-      (once_named table.names (get_or ids i 0) (get_or ids j 0) distinct (ids_below i 0 low) (ids_below j 0 high) (sym (body_at i d low) ∙ same ∙ body_at j d high))
+      (once_named table.names (get_or ids i 0) (get_or ids j 0) distinct (ids_below i 0 low)
+      (ids_below j 0 high) (sym (body_at i d low) ∙ same ∙ body_at j d high))
 
-  not_main : (a : Bool) (id : ℕ) → (a && not (bytes_eq (name_with_number table id) out)) ≡ true → out ≢ name_with_number table id
-  not_main a id e same = by a (bytes_eq (name_with_number table id) out) ((bytes_eq-Decides (name_with_number table id) out).1 (sym same)) e
+  not_main : (a : Bool) (id : ℕ)
+      → (a && not (bytes_eq (name_with_number table id) out)) ≡ true → out ≢ name_with_number table id
+  not_main a id e same = by a (bytes_eq (name_with_number table id) out)
+      ((bytes_eq-Decides (name_with_number table id) out).1 (sym same)) e
     where
       by : (a b : Bool) → b ≡ true → (a && not b) ≡ true → ⊥
       by true true t d = absurd (let no : false ≡ true = d in cc)
@@ -82,25 +94,37 @@ module _ (web : WebRead) (table : TableRead) (resolves : ResolvesInside table) (
   main_apart : All (λ x. out ≢ x) (map name_of (map (named_file table) ids))
   main_apart =
       All-map (λ x. out ≢ x) name_of (map (named_file table) ids) (All-map (λ o. out ≢ name_of o) (named_file table) ids
-      (λ i d h. not_main (is_expandable (shapes web table) (Named (name_with_number table (get_or ids i d)))) (get_or ids i d) (ids_written i d h)))
+      (λ i d h. not_main (is_expandable (shapes web table) (Named (name_with_number table (get_or ids i d))))
+      (get_or ids i d) (ids_written i d h)))
 
   main : OutputRead
-  main = record { name = out; node = node.Program; has_macros = not web.has_all_macros; has_piece = shape_has_piece (shapes web table Program) }
+  main = record {
+    name = out;
+    node = node.Program;
+    has_macros = not web.has_all_macros;
+    has_piece = shape_has_piece (shapes web table Program);
+  }
 
   pub names_once : AllPairs (λ a b. a ≢ b) (map (λ o. o.name) (outputs web table out))
   unfolding ids main
   names_once = by (not (shape_has_piece (shapes web table Program)) || is_expandable (shapes web table) Program)
     where
-      by : (b : Bool) → AllPairs (λ a b. a ≢ b) (map (λ o. o.name) ((if b then main ∷ [] else []) ++ map (named_file table) ids))
+      by : (b : Bool)
+          → AllPairs (λ a b. a ≢ b) (map (λ o. o.name) ((if b then main ∷ [] else []) ++ map (named_file table) ids))
       by true = AllPairs-cons (λ a b. a ≢ b) out (map name_of (map (named_file table) ids)) main_apart named_once
       by false = named_once
 
-pub names_distinct : (web : WebRead) → ResolvesInside (table_of web) → IsDistinct bytes_eq (table_of web).names → (marks : MarkMode) (out : List ℕ)
+pub names_distinct : (web : WebRead)
+    → ResolvesInside (table_of web) → IsDistinct bytes_eq (table_of web).names → (marks : MarkMode) (out : List ℕ)
     → IsDistinct bytes_eq (map (λ o. o.0) (output_files web marks out))
 names_distinct web resolves distinct marks out =
     subst (IsDistinct bytes_eq) (names_written web marks (outputs web (table_of web) out))
-    (IsDistinct-from_AllPairs bytes_eq-Decides (map (λ o. o.name) (outputs web (table_of web) out)) (names_once web (table_of web) resolves distinct out))
+    (IsDistinct-from_AllPairs bytes_eq-Decides (map (λ o. o.name) (outputs web (table_of web) out))
+    (names_once web (table_of web) resolves distinct out))
 
-pub found_by_name : (files : FileTable) (roles : RolesRead) → IsDistinct bytes_eq (map (λ o. o.0) (outputs_of files roles)) → (name bytes : List ℕ) → Contains (outputs_of files roles) (name, bytes)
+pub found_by_name : (files : FileTable) (roles : RolesRead)
+    → IsDistinct bytes_eq (map (λ o. o.0) (outputs_of files roles)) → (name bytes : List ℕ)
+    → Contains (outputs_of files roles) (name, bytes)
     → output_at files roles name ≡ Some bytes
-found_by_name files roles distinct name bytes c = lookup-from_Contains nat_list_eq_equiv name bytes (outputs_of files roles) distinct c
+found_by_name files roles distinct name bytes c =
+    lookup-from_Contains nat_list_eq_equiv name bytes (outputs_of files roles) distinct c

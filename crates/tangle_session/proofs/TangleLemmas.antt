@@ -1,5 +1,6 @@
 -- The fields of a session's state, which are made one after another, agree with the files.
-use Rattle.std.proofs.Common.{◌≡◌, ◌∙◌, ◌≤◌, ◌&&◌, arith, ℕ, Bool, true, false, List, [], ◌∷◌, length, refl, ap, sym, subst, Bor, Contains, map}
+use Rattle.std.proofs.Common.{◌≡◌, ◌∙◌, ◌≤◌, ◌&&◌, arith, ℕ, Bool, true, false, List, [], ◌∷◌, length, refl, ap, sym}
+use Rattle.std.proofs.Common.{subst, Bor, Contains, map}
 use Rattle.std.specs.List.{IsDistinct}
 use Rattle.std.specs.Option.{option_copied, option_map}
 use Rattle.std.specs.Str.{bytes_eq}
@@ -26,6 +27,8 @@ use Rattle.tangle_plans.specs.declared.nodes.Node.{Node}
 use Rattle.tangle_graph.specs.Nodes.{IsNodeOf, title_of_node}
 use Rattle.tangle_graph.specs.Outputs.{outputs}
 use Rattle.tangle_graph.specs.Stores.{StoreRead, IsStoreOf}
+use Rattle.tangle_graph.proofs.OutputLemmas.{IsFit, outputs_fit}
+use Rattle.tangle_affected.proofs.OutputLemmas.{ready}
 use Rattle.tangle_session.specs.Files.{shapes_of, output_bytes, source_at, web_at}
 use Rattle.tangle_affected.specs.Affected as affected
 use Rattle.tangle_affected.specs.Keeping as keeping
@@ -33,33 +36,44 @@ use Rattle.tangle_session.specs.Sessions.{AgreesWithFiles, ListsAffectedOfWebs, 
 use Rattle.tangle_session.specs.Tangle.{output_at, outputs_of}
 use Rattle.tangle_session.specs.Writes.{IsTrueFile, WritesOutput}
 use Rattle.tangle_session.specs.declared.tangling.SessionState.{SessionState}
-use Rattle.tangle_session.proofs.OutputLemmas.{IsFit, found_in, look_up, names_written, outputs_fit, ready, same_bytes}
+use Rattle.tangle_session.proofs.OutputLemmas.{found_in, look_up, names_written, same_bytes}
 
--- the list that has each expandable node of the store has each of the web
-pub lists_nodes : (web : WebRead) (store : StoreRead) (nodes : List Node) → IsStoreOf (shapes_of web) store → store.names ≡ (table_of web).names → keeping.ListsExpandable store nodes → ListsExpandableOfWeb web nodes
+-- the list that has each expandable node of the store has each expandable node of the web
+pub lists_nodes : (web : WebRead) (store : StoreRead) (nodes : List Node) → IsStoreOf (shapes_of web) store
+    → store.names ≡ (table_of web).names → keeping.ListsExpandable store nodes → ListsExpandableOfWeb web nodes
 lists_nodes web store nodes is names_are lists = record {
   once = lists.once;
   just = λ node. (
-    λ c. (let both = (lists.just node).0 c in
-        (subst (λ l. IsNodeOf l node) names_are both.0, subst (λ l. IsExpandableNode (shapes_of web) (title_of_node l node)) names_are ((is.expandable node both.0).0 both.1))),
+    λ c. (let both = (lists.just node).0 c in (
+      subst (λ l. IsNodeOf l node) names_are both.0,
+      subst (λ l. IsExpandableNode (shapes_of web) (title_of_node l node))
+          names_are ((is.expandable node both.0).0 both.1),
+    )),
     λ both. (let inside : IsNodeOf store.names node = subst (λ l. IsNodeOf l node) (sym names_are) both.0 in
-        (lists.just node).1 (inside, (is.expandable node inside).1 (subst (λ l. IsExpandableNode (shapes_of web) (title_of_node l node)) (sym names_are) both.1))),
+        (lists.just node).1 (
+          inside,
+          (is.expandable node inside).1
+              (subst (λ l. IsExpandableNode (shapes_of web) (title_of_node l node)) (sym names_are) both.1),
+        )),
   );
 }
 
--- the same for the affected nodes, which are defined by titles
-pub lists_titles : (old new : WebRead) (store : StoreRead) (nodes : List Node) → IsStoreOf (shapes_of new) store → store.names ≡ (table_of new).names
+-- the list that has each affected node of the store has each affected node of the web
+pub lists_titles : (old new : WebRead) (store : StoreRead) (nodes : List Node)
+    → IsStoreOf (shapes_of new) store → store.names ≡ (table_of new).names
     → affected.ListsAffected (shapes_of old) (shapes_of new) store nodes → ListsAffectedOfWebs old new nodes
 lists_titles old new store nodes is names_are lists = record {
   once = lists.once;
   just = λ node. (
     λ c. (
       subst (λ l. IsNodeOf l node) names_are (lists.only node c).0,
-      subst (λ l. IsAffected levels heaviest (shapes_of old) (shapes_of new) (title_of_node l node)) names_are (lists.only node c).1,
+      subst (λ l. IsAffected levels heaviest (shapes_of old) (shapes_of new) (title_of_node l node))
+          names_are (lists.only node c).1,
     ),
     λ both. (let inside : IsNodeOf store.names node = subst (λ l. IsNodeOf l node) (sym names_are) both.0 in
         let at = lists.all (title_of_node (table_of new).names node) both.1 in
-        let same = is.once at.0 node (lists.only at.0 at.2).0 inside (at.1 ∙ ap (λ l. title_of_node l node) (sym names_are)) in
+        let same =
+        is.once at.0 node (lists.only at.0 at.2).0 inside (at.1 ∙ ap (λ l. title_of_node l node) (sym names_are)) in
         subst (Contains nodes) same at.2),
   );
 }
@@ -85,18 +99,22 @@ no_refusal files roles e = by (has_file files roles.web) (has_file_if_any files 
     by true false e = absurd (let no : false ≡ true = e in cc)
     by false b e = absurd (let no : false ≡ true = e in cc)
 
-pub no_change : (files : FileTable) (roles : RolesRead) → fits files roles ≡ false → is_some (lines_of files roles.web) ≡ true → Some NoChange ≡ start_refusal files roles
+pub no_change : (files : FileTable) (roles : RolesRead)
+    → fits files roles ≡ false → is_some (lines_of files roles.web) ≡ true → Some NoChange ≡ start_refusal files roles
 no_change files roles e there = by (has_file files roles.web) (has_file_if_any files roles.change) e there
   where
-    by : (a b : Bool) → (a && b) ≡ false → a ≡ true → Some NoChange ≡ (if a then (if b then None else Some NoChange) else Some NoWeb)
+    by : (a b : Bool)
+        → (a && b) ≡ false → a ≡ true → Some NoChange ≡ (if a then (if b then None else Some NoChange) else Some NoWeb)
     by true true e t = absurd (let no : true ≡ false = e in cc)
     by true false e t = refl
     by false b e t = absurd (let no : false ≡ true = t in cc)
 
-pub no_web : (files : FileTable) (roles : RolesRead) → is_some (lines_of files roles.web) ≡ false → Some NoWeb ≡ start_refusal files roles
+pub no_web : (files : FileTable) (roles : RolesRead)
+    → is_some (lines_of files roles.web) ≡ false → Some NoWeb ≡ start_refusal files roles
 no_web files roles missing = by (has_file files roles.web) missing
   where
-    by : (a : Bool) → a ≡ false → Some NoWeb ≡ (if a then (if has_file_if_any files roles.change then None else Some NoChange) else Some NoWeb)
+    by : (a : Bool) → a ≡ false
+        → Some NoWeb ≡ (if a then (if has_file_if_any files roles.change then None else Some NoChange) else Some NoWeb)
     by true t = absurd (let no : true ≡ false = t in cc)
     by false t = refl
 
@@ -114,20 +132,27 @@ some_copied None = refl
 some_copied (Some x) = refl
 
 -- Finding an output by its name, where the state is made from the files.
-module _ (files : FileTable) (roles : RolesRead) (state : SessionState) (hold : AgreesWithFiles files roles state) (name : List ℕ) where
+module _ (files : FileTable) (roles : RolesRead) (state : SessionState)
+    (hold : AgreesWithFiles files roles state) (name : List ℕ) where
   abbrev named : OutputRead → Bool
   named o = bytes_eq name o.name
 
-  looked_up : output_at files roles name ≡ option_map (output_bytes (web_at files roles) roles.marks) (find named state.analysis.store.outputs)
+  looked_up : output_at files roles name
+      ≡ option_map (output_bytes (web_at files roles) roles.marks) (find named state.analysis.store.outputs)
   looked_up =
-      look_up (web_at files roles) roles.marks name (outputs (web_at files roles) (table_of (web_at files roles)) roles.out)
-      ∙ ap (λ os. option_map (output_bytes (web_at files roles) roles.marks) (find named os)) (sym hold.analysis.outputs_are)
+      look_up (web_at files roles) roles.marks name
+      (outputs (web_at files roles) (table_of (web_at files roles)) roles.out)
+      ∙ ap (λ os. option_map (output_bytes (web_at files roles) roles.marks) (find named os))
+      (sym hold.analysis.outputs_are)
 
   -- no two outputs of the store have the same name
-  pub names_apart : IsDistinct bytes_eq (map (λ o. o.0) (outputs_of files roles)) → IsDistinct bytes_eq (map (λ (o : OutputRead). o.name) state.analysis.store.outputs)
+  pub names_apart : IsDistinct bytes_eq (map (λ o. o.0) (outputs_of files roles))
+      → IsDistinct bytes_eq (map (λ (o : OutputRead). o.name) state.analysis.store.outputs)
   names_apart distinct =
       subst (λ os. IsDistinct bytes_eq (map (λ (o : OutputRead). o.name) os)) (sym hold.analysis.outputs_are)
-      (subst (IsDistinct bytes_eq) (sym (names_written (web_at files roles) roles.marks (outputs (web_at files roles) (table_of (web_at files roles)) roles.out))) distinct)
+      (subst (IsDistinct bytes_eq)
+      (sym (names_written (web_at files roles) roles.marks
+      (outputs (web_at files roles) (table_of (web_at files roles)) roles.out))) distinct)
 
   pub none_at : find named state.analysis.store.outputs ≡ None → output_at files roles name ≡ None
   none_at e = looked_up ∙ ap (option_map (output_bytes (web_at files roles) roles.marks)) e
@@ -140,21 +165,27 @@ module _ (files : FileTable) (roles : RolesRead) (state : SessionState) (hold : 
     found_there = ap (find named) (sym hold.analysis.outputs_are) ∙ found
 
     module _ (resolves : (web : WebRead) → ResolvesInside (table_of web)) where
-      fit : IsFit (shapes_of (web_at files roles)) (table_of (web_at files roles)).names output
-      fit =
-          outputs_fit (web_at files roles) (table_of (web_at files roles)) (resolves (web_at files roles)) roles.out output
-          (found_in named (outputs (web_at files roles) (table_of (web_at files roles)) roles.out) output found_there)
+      fit : IsFit (shapes_of (web_at files roles)) state.analysis.store.names output
+      fit = subst (λ names. IsFit (shapes_of (web_at files roles)) names output) (sym hold.analysis.store_names)
+          (outputs_fit (web_at files roles) (table_of (web_at files roles))
+          (resolves (web_at files roles)) roles.out output
+          (found_in named (outputs (web_at files roles) (table_of (web_at files roles)) roles.out) output found_there))
 
-      pub is_ready : ((p : Shapes) (t : Title) → IsExpandableNode p t → length (flat_of p t) ≤ heaviest) → IsReady output state.kept
-      is_ready law = ready (web_at files roles) state.analysis.store state.kept hold.analysis.store hold.analysis.store_names hold.kept roles.marks output fit law
+      pub is_ready : ((p : Shapes) (t : Title) → IsExpandableNode p t → length (flat_of p t) ≤ heaviest)
+          → IsReady output state.kept
+      is_ready law = ready (shapes_of (web_at files roles)) state.analysis.store
+          state.kept hold.analysis.store hold.kept output fit law
 
-      pub bytes_are : kept_output_bytes state.analysis.numbers state.kept output ≡ output_bytes (web_at files roles) roles.marks output
+      pub bytes_are : kept_output_bytes state.analysis.numbers state.kept output
+          ≡ output_bytes (web_at files roles) roles.marks output
       bytes_are =
           ap (λ n. kept_output_bytes n state.kept output) hold.analysis.numbers
-          ∙ same_bytes (web_at files roles) state.analysis.store state.kept hold.analysis.store hold.analysis.store_names hold.kept roles.marks output fit
+          ∙ same_bytes (web_at files roles) state.analysis.store state.kept
+          hold.analysis.store hold.analysis.store_names hold.kept roles.marks output fit
 
     pub truth_at : ((source : SourceRead) (web : WebRead) (node : Title) → PiecesAreAtTheirLines source web
-        → IsTrueToLines source web node (expansion_bytes (numbers_of web (table_of web) Full) (flat_of (shapes_of web) node)))
+        → IsTrueToLines source web node
+        (expansion_bytes (numbers_of web (table_of web) Full) (flat_of (shapes_of web) node)))
         → roles.marks ≡ Full → IsTrueFile files roles name
     truth_at law full = record {
       output = output;
@@ -162,19 +193,29 @@ module _ (files : FileTable) (roles : RolesRead) (state : SessionState) (hold : 
       bytes = output_bytes (web_at files roles) Full output;
       are_its = some_at ∙ ap (λ m. Some (output_bytes (web_at files roles) m output)) full;
       true_to_lines = record {
-        of_node = expansion_bytes (numbers_of (web_at files roles) (table_of (web_at files roles)) Full) (flat_of (shapes_of (web_at files roles)) (title_of_node (table_of (web_at files roles)).names output.node));
+        of_node = expansion_bytes (numbers_of (web_at files roles) (table_of (web_at files roles)) Full)
+            (flat_of (shapes_of (web_at files roles))
+            (title_of_node (table_of (web_at files roles)).names output.node));
         made = refl;
-        true_to_lines = law (source_at files roles) (web_at files roles) (title_of_node (table_of (web_at files roles)).names output.node) hold.analysis.line_truth;
+        true_to_lines = law (source_at files roles) (web_at files roles)
+            (title_of_node (table_of (web_at files roles)).names output.node) hold.analysis.line_truth;
       };
     }
 
 -- how the writing of an output ends
 
-pub written_whole : (o : Option (List ℕ)) (old new : Stream) (bytes of_output : List ℕ) (n : ℕ) → o ≡ Some of_output → bytes ≡ of_output → IsWritten old new bytes (Ok n) → WritesOutput o old new (Ok n)
-written_whole o old new bytes of_output n at same puts = subst (λ x. WritesOutput x old new (Ok n)) (sym at) (subst (λ b. IsWritten old new b (Ok n)) same puts)
+pub written_whole : (o : Option (List ℕ)) (old new : Stream) (bytes of_output : List ℕ) (n : ℕ)
+    → o ≡ Some of_output → bytes ≡ of_output → IsWritten old new bytes (Ok n) → WritesOutput o old new (Ok n)
+written_whole o old new bytes of_output n at same puts =
+    subst (λ x. WritesOutput x old new (Ok n)) (sym at) (subst (λ b. IsWritten old new b (Ok n)) same puts)
 
-pub written_front : (o : Option (List ℕ)) (old new : Stream) (bytes of_output : List ℕ) (n : ℕ) → o ≡ Some of_output → bytes ≡ of_output → IsWritten old new bytes (Err (record { 0 = n })) → WritesOutput o old new (Err (refusal.WriteFault n))
-written_front o old new bytes of_output n at same puts = subst (λ x. WritesOutput x old new (Err (refusal.WriteFault n))) (sym at) (subst (λ b. IsWritten old new b (Err (record { 0 = n }))) same puts)
+pub written_front : (o : Option (List ℕ)) (old new : Stream) (bytes of_output : List ℕ) (n : ℕ)
+    → o ≡ Some of_output → bytes ≡ of_output → IsWritten old new bytes (Err (record { 0 = n }))
+    → WritesOutput o old new (Err (refusal.WriteFault n))
+written_front o old new bytes of_output n at same puts =
+    subst (λ x. WritesOutput x old new (Err (refusal.WriteFault n))) (sym at)
+    (subst (λ b. IsWritten old new b (Err (record { 0 = n }))) same puts)
 
-pub written_none : (o : Option (List ℕ)) (old new : Stream) → o ≡ None → new ≡ old → WritesOutput o old new (Err refusal.NoOutput)
+pub written_none : (o : Option (List ℕ)) (old new : Stream)
+    → o ≡ None → new ≡ old → WritesOutput o old new (Err refusal.NoOutput)
 written_none o old new at same = subst (λ x. WritesOutput x old new (Err refusal.NoOutput)) (sym at) (refl, same)

@@ -8,7 +8,8 @@ use Rattle.tangle_files.specs.Edits.{edit_refusal, refusal_if}
 use Rattle.tangle_files.specs.Lines.{FileTable}
 use Rattle.tangle_files.specs.Roles.{RolesRead}
 use Rattle.tangle_files.specs.declared.edits.Edit.{Edit}
-use Rattle.tangle_files.specs.declared.edits.Edit.TheVariants.{Insert, Remove, Replace, Create, Discard, Marks}
+use Rattle.tangle_files.specs.declared.edits.Edit.TheVariants.{Insert, Remove, Replace, Create}
+use Rattle.tangle_files.specs.declared.edits.Edit.TheVariants.{Discard, Marks}
 use Rattle.tangle_files.specs.declared.refusal.Refusal.{Refusal}
 use Rattle.tangle_files.specs.declared.refusal.Refusal.TheVariants.{NoMemory, RoleFile}
 use Rattle.tangle_session.specs.declared.refusing.ListRefusal.{ListRefusal}

@@ -14,9 +14,9 @@
 --   `ShowsPlainTangling` of the files and roles of the start with the accepted edits made, and it
 --   `ShowsLastWork`.
 -- - `run_retangle` of `ctangle_cli` answers a script. The edits of a script and their answers are a
---   `History`, by `the_answers_of_a_script_are_a_history`. The files and the faults that it shows are
---   those of plain tangling, by `scripts_show_plain_tangling`.
--- Text that only moves affects no node: `moved_text_expands_nothing`, over `Moves.antt`.
+-- `History`, by `the_answers_of_a_script_are_a_history`. The files and the faults that it shows are
+-- those of plain tangling, by `scripts_show_plain_tangling`. Text that only moves affects no node:
+-- `moved_text_expands_nothing`, over `Moves.antt`.
 use Rattle.std.specs.Prelude.{◌≡◌, ◌⊎◌, ◌++◌, ◌∷◌, [], ℕ, List, length, map, Contains}
 use Rattle.std.specs.Prelude.{None, Some, option_map}
 use Rattle.std.specs.Prelude.{Result, Ok, Err, OnOk, unwrap_or}
@@ -124,7 +124,8 @@ roles_with roles lists = roles_after roles (joined lists)
 -- is the state then. The call is accepted only where no refusal applies. A single edit is refused
 -- for the first refusal that applies or, where none does, because memory ran out; for a list,
 -- memory may run out before the first refused edit is found. A refused call changes nothing.
-abbrev pub IsAnswered : SessionRead → EditsRead → Result (Unit {0}) ListRefusal → SessionRead → Type 0
+abbrev pub IsAnswered : SessionRead → EditsRead → Result (Unit {0}) ListRefusal → SessionRead
+    → Type 0
 IsAnswered before (Single edit) (Ok done) after =
     (session_refusal before.files before.roles edit ≡ None) × AreMade before (edit ∷ []) after
 IsAnswered before (Single edit) (Err refused) after =
@@ -174,16 +175,16 @@ pub record ShowsPlainTangling (files : FileTable) (roles : RolesRead) (name : Li
   -- the faults are those of plain tangling, and so are the output files:
   pub output_files : List (List ℕ × List ℕ)
   pub plain : IsPlainTangling files roles output_files shown.faults.now
-  -- their names, in order
+  -- the names of the output files, in order
   pub names : shown.names ≡ map (λ file. file.0) output_files
   -- the length of the file of this name, if there is one
   pub size : shown.size ≡ option_map length (lookup (bytes_eq name) output_files)
-  -- its bytes were written, or a prefix of them and then the writer failed; where there is no such
-  -- file, nothing was written, and the call is refused
+  -- the bytes of this file were written, or a prefix of them and then the writer failed; where
+  -- there is no such file, nothing was written, and the call is refused
   pub written : WritesOutput (lookup (bytes_eq name) output_files) old new shown.written
-  -- where all are written, with line marks in full, the compiler counts the line of the source at
-  -- each byte of a word, a sign, a quoted or verbatim text or an ASCII constant, except after a
-  -- line end that a quoted text contains or a join removes, up to the next line end or mark
+  -- where all bytes are written, with line marks in full, the compiler counts the line of the
+  -- source at each byte of a word, a sign, a quoted or verbatim text or an ASCII constant, except
+  -- in macros and in stretches (`docs/scanning.md`)
   pub line_truth : roles.marks ≡ Full → OnOk shown.written (IsTrueFile files roles name)
   pub no_cycle : NoOutputReachesACycle plain.web plain.table roles.out
   pub cycles : EachCycleIsReported plain.web plain.table shown.faults.now
@@ -192,7 +193,7 @@ pub record ShowsPlainTangling (files : FileTable) (roles : RolesRead) (name : Li
 abbrev pub web_after : FileTable → RolesRead → List (List Edit) → WebRead
 web_after files roles lists = web_at (files_after files lists) (roles_with roles lists)
 
--- the nodes that the last accepted call affected; before any, the expandable nodes
+-- the nodes that the last accepted call affected; before any accepted call, the expandable nodes
 pub data ListsLastExpanded (files : FileTable) (roles : RolesRead) (nodes : List Node) :
     List (List Edit) → Type 0 where
   ByStart : ListsExpandableOfWeb (web_at files roles) nodes → ListsLastExpanded files roles nodes []

@@ -9,7 +9,9 @@ use Rattle.tangle_names.specs.Resolving.{first_occurrence}
 
 -- among the faults is one at the first occurrence of the name, which says that the name contains
 -- itself
-pub record IsReportedSelfContaining (web : WebRead) (name : List ℕ) (faults : List FaultRead) : Type 0 where
+pub record IsReportedSelfContaining (web : WebRead)
+    (name : List ℕ) (faults : List FaultRead) : Type 0 where
   pub occurrence : OccurrenceRead
   pub is_first : first_occurrence web.occurrences name ≡ Some occurrence
-  pub reported : Contains faults (fault_about SelfContaining (named_place_of web.file_names occurrence.origin) name)
+  pub reported : Contains faults
+      (fault_about SelfContaining (named_place_of web.file_names occurrence.origin) name)

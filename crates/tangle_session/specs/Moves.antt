@@ -30,20 +30,20 @@ used_occurrence _ = None
 
 -- how an item is written: its bytes without their origin, or the number of the occurrence of its
 -- use
-abbrev pub said_item : List (List ℕ) → Item → ShapeItem × Option ℕ
-said_item texts item = (shape_item texts no_names item, used_occurrence item)
+abbrev pub item_form : List (List ℕ) → Item → ShapeItem × Option ℕ
+item_form texts item = (shape_item texts no_names item, used_occurrence item)
 
 -- how a piece is written: the number of the occurrence that defines it, and its items, without its
 -- section
-abbrev pub said_piece : List (List ℕ) → PieceRead → Option ℕ × List (ShapeItem × Option ℕ)
-said_piece texts piece = (piece.occurrence, map (said_item texts) piece.items)
+abbrev pub piece_form : List (List ℕ) → PieceRead → Option ℕ × List (ShapeItem × Option ℕ)
+piece_form texts piece = (piece.occurrence, map (item_form texts) piece.items)
 
 -- how an occurrence is written: its text, and whether it is an abbreviation
-abbrev pub said_occurrence : OccurrenceRead → List ℕ × Bool
-said_occurrence occurrence = (occurrence.text, occurrence.is_abbreviation)
+abbrev pub occurrence_form : OccurrenceRead → List ℕ × Bool
+occurrence_form occurrence = (occurrence.text, occurrence.is_abbreviation)
 
 -- The occurrences and the pieces are written the same, in the same order. Lines, origins, files,
 -- section numbers, macros and faults may differ.
 pub record IsMoved (old new : WebRead) : Type 0 where
-  pub occurrences : map said_occurrence new.occurrences ≡ map said_occurrence old.occurrences
-  pub pieces : map (said_piece new.texts) new.pieces ≡ map (said_piece old.texts) old.pieces
+  pub occurrences : map occurrence_form new.occurrences ≡ map occurrence_form old.occurrences
+  pub pieces : map (piece_form new.texts) new.pieces ≡ map (piece_form old.texts) old.pieces

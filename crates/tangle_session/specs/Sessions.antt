@@ -1,5 +1,6 @@
 -- The state of a session, what of it is shown, and what an edit leaves.
-use Rattle.std.specs.Prelude.{◌≡◌, ◌≢◌, ◌↔◌, ℕ, true, List, [], None, Some, Option, AllPairs, Contains, if◌then◌else◌}
+use Rattle.std.specs.Prelude.{◌≡◌, ◌≢◌, ◌↔◌, ℕ, true, List, [], None, Some, Option, AllPairs}
+use Rattle.std.specs.Prelude.{Contains, if◌then◌else◌}
 use Rattle.tangle_files.specs.Edited.{edited_all, roles_after}
 use Rattle.tangle_files.specs.Lines.{FileTable}
 use Rattle.tangle_files.specs.Adding.{has_file}
@@ -34,26 +35,32 @@ pub record SessionRead : Type 0 where
 -- the first refusal that applies to a start, other than out of memory
 abbrev pub start_refusal : FileTable → RolesRead → Option Refusal
 start_refusal files roles =
-    if has_file files roles.web then (if has_file_if_any files roles.change then None else Some NoChange) else Some NoWeb
+    if has_file files roles.web
+    then (if has_file_if_any files roles.change then None else Some NoChange)
+    else Some NoWeb
 
 -- the list has each expandable node of the web once, and no other
 pub record ListsExpandableOfWeb (web : WebRead) (nodes : List Node) : Type 0 where
   pub once : AllPairs (λ a b. a ≢ b) nodes
   pub just : (node : Node) → Contains nodes node
-      ↔ (IsNodeOf (table_of web).names node × IsExpandableNode (shapes_of web) (title_of_node (table_of web).names node))
+      ↔ (IsNodeOf (table_of web).names node
+      × IsExpandableNode (shapes_of web) (title_of_node (table_of web).names node))
 
 -- the list has each affected node of the new web once, and no other
 pub record ListsAffectedOfWebs (old new : WebRead) (nodes : List Node) : Type 0 where
   pub once : AllPairs (λ a b. a ≢ b) nodes
   pub just : (node : Node) → Contains nodes node
-      ↔ (IsNodeOf (table_of new).names node × IsAffected levels heaviest (shapes_of old) (shapes_of new) (title_of_node (table_of new).names node))
+      ↔ (IsNodeOf (table_of new).names node
+      × IsAffected levels heaviest (shapes_of old)
+      (shapes_of new) (title_of_node (table_of new).names node))
 
 -- A list of edits was made, each in the files that the earlier ones left, from one state of a
 -- session to the other. Exactly the nodes that the whole list affects were expanded.
 pub record AreMade (before : SessionRead) (edits : List Edit) (after : SessionRead) : Type 0 where
   pub files : after.files ≡ edited_all before.files edits
   pub roles : after.roles ≡ roles_after before.roles edits
-  pub work : ListsAffectedOfWebs (web_at before.files before.roles) (web_at after.files after.roles) after.work
+  pub work : ListsAffectedOfWebs (web_at before.files before.roles)
+      (web_at after.files after.roles) after.work
 
 -- The analysis is made from the web of a source, for a main file of this name and this setting for
 -- line marks: its occurrences, its names, its store and its numbers, and the faults.
@@ -81,7 +88,8 @@ pub record IsAnalysis (analysis : Analysis) : Type 0 where
 
 -- The state is made from the files, which have the web and the change file, and keeps the expansion
 -- of each expandable node.
-pub record AgreesWithFiles (files : FileTable) (roles : RolesRead) (state : SessionState) : Type 0 where
+pub record AgreesWithFiles (files : FileTable)
+    (roles : RolesRead) (state : SessionState) : Type 0 where
   pub files_fit : fits files roles ≡ true
   pub analysis : IsAnalysisAt files roles state.analysis
   pub kept : KeepsJust (shapes_of (web_at files roles)) state.analysis.store state.kept

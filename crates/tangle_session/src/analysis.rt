@@ -26,7 +26,7 @@ pub(crate) struct Analysis {
     pub(crate) table: NameTable,
     pub(crate) store: Store,
     /// For each node, whether it has its old body and the names that it uses are unchanged.
-    pub(crate) are_as_before: Vec<bool>,
+    pub(crate) are_kept: Vec<bool>,
     pub(crate) numbers: Numbers,
     pub(crate) faults: Vec<Fault>,
 }
@@ -54,17 +54,14 @@ fn store(
     requires { table.now ≡ record (table_of web.now) { faults = table.now.faults } }
     ensures store { IfOk result (λ made. IsStoreOfWeb web.now table.now out.now made.store) }
     ensures kept { IfOk result (λ made. IfSome old.entry
-        (λ before. KeepsBodies before.now.store made.store made.are_as_before.items)) }
+        (λ before. KeepsBodies before.now.store made.store made.are_kept.items)) }
 {
     match old {
         Some(old) => Store::rebuild(alloc, web, table, out, &old.store),
         None => {
             let store = Store::build(alloc, web, table, out)?;
-            let are_as_before = Vec::new(alloc);
-            Ok(Rebuilt {
-                store,
-                are_as_before,
-            })
+            let are_kept = Vec::new(alloc);
+            Ok(Rebuilt { store, are_kept })
         }
     }
 }
@@ -92,11 +89,11 @@ impl Analysis {
         ensures of_graph { IfOk result
             (λ made. AreGraphFaults web.now (table_of web.now) out.now made.store.faults) }
         ensures kept { IfOk result (λ made. IfSome old.entry
-            (λ before. KeepsBodies before.now.store made.store made.are_as_before.items)) }
+            (λ before. KeepsBodies before.now.store made.store made.are_kept.items)) }
     {
         let mut table = name_table(alloc, web, old)?;
         let made = store(alloc, web, &table, out, old)?;
-        let are_as_before = made.are_as_before;
+        let are_kept = made.are_kept;
         let store = made.store;
         let numbers = Numbers::build(alloc, web, &store, marks)?;
         let faults = table.take_faults();
@@ -104,7 +101,7 @@ impl Analysis {
             occurrences: Vec::new(alloc),
             table,
             store,
-            are_as_before,
+            are_kept,
             numbers,
             faults,
         })
@@ -147,7 +144,7 @@ impl Analysis {
         ensures made { IfOk result (λ made.
             IsAnalysisAt files.now (record roles.now { marks = marks }) made) }
         ensures kept { IfOk result (λ made. IfSome old.entry
-            (λ before. KeepsBodies before.now.store made.store made.are_as_before.items)) }
+            (λ before. KeepsBodies before.now.store made.store made.are_kept.items)) }
     {
         let source = read_source(alloc, files, roles)?;
         let web = scan(alloc, &source)?;

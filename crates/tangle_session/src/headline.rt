@@ -69,7 +69,7 @@ fn edit_each(
     ensures history { (files : FileTable) (roles : RolesRead) → History files roles [] session.old
         → History files roles (zip (map edits_read edits.now) result.items) session.new }
 {
-    // The session is borrowed, so that it is dropped at no exit.
+    // The session is borrowed, so that no exit of this function drops it.
     for one in edits {
         answers.push_reserved(apply_edits(session, one));
     }

@@ -39,7 +39,7 @@ pub fn tangling_is_one()
     graph_faults_are_one_list();
 }
 
-/// No two output files have the same name, so each is found by its own.
+/// No two output files have the same name, so each is found by its name.
 pub fn outputs_are_found_by_their_names()
     ensures distinct { (files : FileTable) (roles : RolesRead)
         → IsDistinct bytes_eq (map (λ output. output.0) (outputs_of files roles)) }
@@ -107,8 +107,9 @@ pub fn what_leaves_the_web_expands_nothing()
         ≡ session_refusal files roles edit }
 {}
 
-/// A history leaves a session with the files and the roles of the start in which the accepted edits
-/// are made. The session's work is that of the last accepted call, or of the start.
+/// After a history, the files and the roles of the session are those that it was started with, with
+/// the accepted edits made. Its work is that of the last accepted call; where none was accepted, it
+/// is that of the start.
 pub fn histories_make_the_accepted_edits()
     ensures files { (files : FileTable) (roles : RolesRead) (calls : List Call)
         (session : SessionRead) → History files roles calls session

@@ -206,8 +206,7 @@ impl Session {
     /// Writes the output file of this name, and returns its size in bytes. If all was written, and
     /// line marks are written in full, the counted origin at each byte of a word, a sign, a quoted
     /// or verbatim text or an ASCII constant is that of the byte's source line. This does not hold
-    /// after a line end that a quoted text contains or a join removes, up to the next line end or
-    /// mark.
+    /// in macros and in stretches (`docs/scanning.md`).
     ///
     /// # Errors
     ///

@@ -115,7 +115,7 @@ fn expand_over(
 ) -> Result<SessionState, NoMemory>
     requires agrees { (before after : RolesRead)
         × AgreesWithFiles old.now.files before old.now × IsAnalysisAt files after analysis }
-    requires kept { KeepsBodies old.now.analysis.store analysis.store analysis.are_as_before.items }
+    requires kept { KeepsBodies old.now.analysis.store analysis.store analysis.are_kept.items }
     requires unbegun { work ≡ [] }
     ensures files { IfOk result (λ new. new.files ≡ files) }
     ensures agrees { (before after : RolesRead) → AgreesWithFiles old.now.files before old.now
@@ -130,7 +130,7 @@ fn expand_over(
         &old.analysis.store,
         &old.kept,
         &analysis.store,
-        &analysis.are_as_before,
+        &analysis.are_kept,
         &mut work,
     )?;
     Ok(SessionState {

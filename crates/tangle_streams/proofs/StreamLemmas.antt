@@ -1,5 +1,7 @@
 -- Consecutive writes append their bytes one after the other.
-use Rattle.std.proofs.Common.{◌≡◌, ℕ, ◌+◌, ◌-◌, ◌^◌, ◌<◌, ◌≤◌, inl, inr, Bool, true, false, cond, List, [], ◌∷◌, ◌++◌, length, take, drop, refl, sym, ap, ◌∙◌, append_assoc, append-nil, Option, None, Some, Ok, Err, arith, length-append}
+use Rattle.std.proofs.Common.{◌≡◌, ℕ, ◌+◌, ◌-◌, ◌^◌, ◌<◌, ◌≤◌, inl, inr, Bool, true, false, cond, List, [], ◌++◌}
+use Rattle.std.proofs.Common.{length, take, drop, refl, sym, ap, ◌∙◌, append_assoc, append-nil, Option, None, Some, Ok}
+use Rattle.std.proofs.Common.{Err, arith, length-append}
 use Rattle.std.proofs.lemmas.List.{take-append-drop, length-take-le}
 use Rattle.std.proofs.Math.Seq.{take-append_seam}
 use Rattle.std.proofs.lemmas.Bool.{ne_eqb, lt-ltb}
@@ -12,7 +14,8 @@ pub Appends-none : (a : Option (List ℕ)) → Appends a a []
 Appends-none None = tt
 Appends-none (Some xs) = simp append-nil
 
-pub Appends-append : (a b c : Option (List ℕ)) (xs ys : List ℕ) → Appends a b xs → Appends b c ys → Appends a c (xs ++ ys)
+pub Appends-append : (a b c : Option (List ℕ)) (xs ys : List ℕ)
+    → Appends a b xs → Appends b c ys → Appends a c (xs ++ ys)
 Appends-append None b c xs ys h k = tt
 Appends-append (Some zs) None c xs ys h k = absurd h
 Appends-append (Some zs) (Some bs) None xs ys h k = absurd k
@@ -39,7 +42,8 @@ pub record IsHalfway (old new : Stream) (count : ℕ) (output bytes rest : List 
   pub reported : Appends old.taken new.taken (output ++ front)
   pub unfailed : new.failures ≡ old.failures
 
-pub halfway_at_first : (a b : Stream) (n : ℕ) (output bytes : List ℕ) → IsWritten a b output (Ok n) → IsHalfway a b n output bytes bytes
+pub halfway_at_first : (a b : Stream) (n : ℕ) (output bytes : List ℕ)
+    → IsWritten a b output (Ok n) → IsHalfway a b n output bytes bytes
 halfway_at_first a b n output bytes h =
     record { front = []; whole = refl; so_far = omega (arith, h.0); reported = simp append-nil h.1; unfailed = h.2 }
 
@@ -49,13 +53,17 @@ unfailed_at {g} n rest some e =
     e ∙ ap (λ t. cond (t && nat_lt 0 (length rest)) (one_more_failure g) g) other
 
 pub halfway_more : (a b c : Stream) (count n : ℕ) (output bytes rest : List ℕ)
-    → IsHalfway a b count output bytes rest → 0 < n → n ≤ length rest → Takes b.taken c.taken rest (Some n) → c.failures ≡ counted_write b.failures rest (Some n)
+    → IsHalfway a b count output bytes rest → 0 < n → n ≤ length rest → Takes b.taken c.taken rest (Some n)
+    → c.failures ≡ counted_write b.failures rest (Some n)
     → IsHalfway a c (count + n) output bytes (drop n rest)
 halfway_more a b c count n output bytes rest h some within reported failed = record {
   front = h.front ++ take n rest;
-  whole = h.whole ∙ ap (λ l. h.front ++ l) (sym (take-append-drop n rest)) ∙ sym (append_assoc h.front (take n rest) (drop n rest));
+  whole =
+      h.whole ∙ ap (λ l. h.front ++ l) (sym (take-append-drop n rest))
+      ∙ sym (append_assoc h.front (take n rest) (drop n rest));
   so_far = omega (arith, h.so_far, length-append h.front (take n rest), length-take-le n rest within);
-  reported = rw (← append_assoc) (Appends-append a.taken b.taken c.taken (output ++ h.front) (take n rest) h.reported reported);
+  reported = rw (← append_assoc)
+      (Appends-append a.taken b.taken c.taken (output ++ h.front) (take n rest) h.reported reported);
   unfailed = unfailed_at n rest some failed ∙ h.unfailed;
 }
 
@@ -66,10 +74,12 @@ halfway_at_end a b count output bytes rest h none =
     (rw e (omega (arith, h.so_far, length-append output h.front)), rw e h.reported, h.unfailed)
 
 pub halfway_fault : (a b c : Stream) (count : ℕ) (output bytes rest : List ℕ)
-    → IsHalfway a b count output bytes rest → 0 < length rest → Keeps b.taken c.taken → c.failures ≡ one_more_failure b.failures
+    → IsHalfway a b count output bytes rest → 0 < length rest → Keeps b.taken c.taken
+    → c.failures ≡ one_more_failure b.failures
     → IsWritten a c (output ++ bytes) (Err (record { 0 = count }))
 halfway_fault a b c count output bytes rest h some kept failed =
-    let e : output ++ bytes ≡ (output ++ h.front) ++ rest = ap (λ l. output ++ l) h.whole ∙ sym (append_assoc output h.front rest) in
+    let e : output ++ bytes ≡ (output ++ h.front) ++ rest =
+    ap (λ l. output ++ l) h.whole ∙ sym (append_assoc output h.front rest) in
     let k : count ≡ length (output ++ h.front) = omega (arith, h.so_far, length-append output h.front) in (
       rw (e, k) (omega (arith, length-append (output ++ h.front) rest)),
       rw (e, k, take-append_seam) (Appends-kept a.taken b.taken c.taken (output ++ h.front) h.reported kept),
@@ -83,7 +93,8 @@ Keeps-none (Some xs) None h = absurd h
 Keeps-none (Some xs) (Some ys) h = h ∙ simp append-nil
 
 -- a write that takes no byte, although there are bytes, adds one to the count of failures
-pub failed_at_none : (g g' n : ℕ) (rest : List ℕ) → n ≡ 0 → 0 < length rest → g' ≡ counted_write g rest (Some n) → g' ≡ one_more_failure g
+pub failed_at_none : (g g' n : ℕ) (rest : List ℕ)
+    → n ≡ 0 → 0 < length rest → g' ≡ counted_write g rest (Some n) → g' ≡ one_more_failure g
 failed_at_none g g' n rest none some e =
     let h : nat_lt 0 (length rest) ≡ true = lt-ltb 0 (length rest) some in
     let k : g' ≡ counted_write g rest (Some 0) = e ∙ ap (λ m. counted_write g rest (Some m)) none in
@@ -92,11 +103,8 @@ failed_at_none g g' n rest none some e =
 -- the count of bytes written and the length of `rest` add up to all bytes
 pub count_and_rest : (old new : Stream) (count : ℕ) (output bytes rest : List ℕ)
     → IsHalfway old new count output bytes rest → count + length rest ≡ length output + length bytes
-count_and_rest old new count output bytes rest h = omega (arith, h.so_far, ap length h.whole, length-append h.front rest)
-
-pub empty_list : (xs : List ℕ) → length xs ≡ 0 → xs ≡ []
-empty_list [] h = refl
-empty_list (x ∷ xs) h = absurd (omega arith)
+count_and_rest old new count output bytes rest h =
+    omega (arith, h.so_far, ap length h.whole, length-append h.front rest)
 
 -- the empty output is written before any write
 pub IsWritten-none : (a : Stream) → IsWritten a a [] (Ok 0)

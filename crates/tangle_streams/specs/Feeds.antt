@@ -7,7 +7,8 @@ use Rattle.tangle_streams.specs.Streams.{one_more_failure}
 -- unless the buffer is empty
 abbrev pub Gives : Option (List ℕ) → Option (List ℕ) → List ℕ → Option ℕ → Type 0
 Gives old new buffer None = Keeps old new
-Gives old new buffer (Some n) = Consumes old new (take n buffer) × (n ≡ 0 → 0 < length buffer → IsAtEnd new)
+Gives old new buffer (Some n) =
+    Consumes old new (take n buffer) × (n ≡ 0 → 0 < length buffer → IsAtEnd new)
 
 -- the count of failures after a read: `None` adds one
 abbrev pub counted_read : ℕ → Option ℕ → ℕ

@@ -40,7 +40,7 @@ impl Write for Stuck {
     }
 }
 
-// What is written, and how many failures there are before a flush and after it.
+// What is written, and the numbers of failures before a flush and after it.
 fn flushed<W: Write + Drop>(writer: W) -> (Result<u128, WriteFault>, u64, u64) {
     let mut sink = IoSink::new(writer);
     let written = write_after(&mut sink, Ok(0), b"kept back");

@@ -14,8 +14,8 @@ fn lines_and_bytes(alloc: Global, lines: usize, bytes: u32) -> Result<Vec<u8>, A
     Ok(text)
 }
 
-// Files, by the numbers of their line feeds and of other bytes after them; and how many lines they
-// have, or why they are refused: a line that is too long comes before a line too many.
+// Files, by the numbers of their line feeds and of other bytes after them; and the number of their
+// lines, or why they are refused: a line that is too long comes before a line too many.
 const SIZES: [(usize, u32, Result<usize, Refusal>); 5] = [
     (0, 65_535, Ok(1)),
     (0, 65_536, Err(Refusal::LineTooLong)),
@@ -81,26 +81,29 @@ fn insertion(alloc: Global, file: &[u8], at: usize, text: &[u8]) -> Result<Edit,
     Ok(Edit::Insert { file, at, text })
 }
 
-// A table of the most lines refuses one more, and first a line that is too long; another file takes
-// the longest line. Spaces before its last byte count, and those after it do not.
+// Another file than the one of the most lines takes the longest line: spaces before its last byte
+// count, and those after it do not.
+fn insert_longest(rt: &impl Abort, files: &mut Files, edit: &Edit) -> Result<(), Fail> {
+    files.edit(edit)?;
+    let lines = files.lines(b"b.w").ok_or("the file")?;
+    assert_eq!(rt; lines.get(1).ok_or("the line")?.bytes().len(), 65_535);
+    Ok(())
+}
+
+// A file of the most lines refuses one more, and first a line that is too long.
 #[test]
 fn longest_texts(rt: HostRuntime) -> Result<(), Fail> {
     let lines = lines_and_bytes(rt.alloc(), 1_000_000, 0)?;
     let mut files = files_with(rt.alloc(), &[(b"a.w", &lines), (b"b.w", b"b\nc\n")])?;
     let mut text = vec![in rt.alloc(); b' '; 65_534]?;
     text.extend_from_slice(b"x   ")?;
-    files.edit(&insertion(rt.alloc(), b"b.w", 2, &text)?)?;
-    let lines = files.lines(b"b.w").ok_or("the file")?;
-    assert_eq!(rt; lines.get(1).ok_or("the line")?.bytes().len(), 65_535);
+    let longest = insertion(rt.alloc(), b"b.w", 2, &text)?;
     text.push(b'y')?;
-    for (text, refusal) in [
-        (b"x".as_slice(), Refusal::TooManyLines),
-        (&text, Refusal::LineTooLong),
-    ] {
-        let edit = insertion(rt.alloc(), b"a.w", 1_000_001, text)?;
-        assert_eq!(rt; files.edit(&edit), Err(refusal));
-    }
-    Ok(())
+    let short = insertion(rt.alloc(), b"a.w", 1_000_001, b"x")?;
+    let long = insertion(rt.alloc(), b"a.w", 1_000_001, &text)?;
+    assert_eq!(rt; files.edit(&short), Err(Refusal::TooManyLines));
+    assert_eq!(rt; files.edit(&long), Err(Refusal::LineTooLong));
+    insert_longest(&rt, &mut files, &longest)
 }
 
 fn discarding(alloc: Global, name: &[u8]) -> Result<Edit, AllocError> {

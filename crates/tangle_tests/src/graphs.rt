@@ -65,7 +65,8 @@ fn expansion_of(alloc: Global, web: &[u8], node: Node) -> Result<Expansion, Fail
     Ok(kept.get(node).ok_or("the expansion")?.share()?)
 }
 
-// Nodes of the chain, as deep as one can be that is expanded, and how many uses their texts have.
+// Nodes of the chain, the first as deep as an expanded node can be, each with the number of uses in
+// its text.
 const DEEP: [(Node, usize); 3] = [
     (Node::Program, 999),
     (Node::Name(0), 998),

@@ -1,6 +1,7 @@
 //! Sources of more lines than a listing can show.
 use crate::support::files_with;
 use std::alloc::Global;
+use std::process::Abort;
 use std::test::Fail;
 use tangle_lines::{FaultKind, Files, Refusal, Roles, Source, read_source};
 
@@ -13,17 +14,21 @@ pub(crate) fn read<'a>(alloc: Global, files: &'a Files) -> Result<Source<'a>, Re
     Ok(read_source(alloc, files, &roles)?)
 }
 
+fn check_too_long(rt: &impl Abort, source: &Source) {
+    assert_eq!(rt; source.count(), 1_999_998);
+    let kind = source.faults().first().map(|fault| fault.kind());
+    assert_eq!(rt;
+        (source.faults().len(), kind),
+        (1, Some(FaultKind::SourceTooLong))
+    );
+}
+
 #[test]
 fn reading_stops_at_two_million_lines(rt: HostRuntime) -> Result<(), Fail> {
     let most = vec![in rt.alloc(); b'\n'; 1_000_000]?;
     let web = b"@i b.w\n@i b.w\n@i b.w\n";
     let files = files_with(rt.alloc(), &[(b"a.w", web), (b"b.w", most.as_slice())])?;
     let source = read(rt.alloc(), &files)?;
-    assert_eq!(rt; source.count(), 1_999_998);
-    let kinds = source.faults().first().map(|fault| fault.kind());
-    assert_eq!(rt;
-        (source.faults().len(), kinds),
-        (1, Some(FaultKind::SourceTooLong))
-    );
+    check_too_long(&rt, &source);
     Ok(())
 }

@@ -10,14 +10,14 @@ const IN_C: &[u8] = b"/*1:*/\n#line 2 \"a.w\"\n\nint x;\n/*:1*/\n";
 
 const NOT_WRITTEN: &[u8] = b"ctangle: cannot write a.c\n";
 
-// After how many calls the folder fails, how many bytes its writers take, what the run ends with
-// and what it reports, and what there is then of the main file.
+// The number of calls before the one that fails, the capacity of the writers, the status and the
+// line of the run, and the bytes of the main file, if it was created.
 type Ending = (u64, usize, u8, &'static [u8], Option<&'static [u8]>);
 
 const ENDINGS: [Ending; 5] = [
     (0, AMPLE, 3, b"ctangle: cannot read a.w\n", None),
     (1, AMPLE, 3, NOT_WRITTEN, None),
-    // it is closed, which fails
+    // the call that fails is `close`
     (2, AMPLE, 3, NOT_WRITTEN, Some(IN_C)),
     (3, AMPLE, 0, b"", Some(IN_C)),
     (3, 7, 3, NOT_WRITTEN, Some(b"/*1:*/\n")),

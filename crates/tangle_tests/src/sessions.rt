@@ -43,9 +43,23 @@ fn reported(alloc: Global, session: &Session) -> Result<MemorySink, Fail> {
     Ok(sink)
 }
 
-// It is separate, so that the clauses of a start are used once.
+// This is a function of its own, so that the clauses of a start are used once.
 fn refused_start(alloc: Global, files: Files, roles: Roles) -> Option<(Files, Roles, Refusal)> {
     Session::start(alloc, files, roles).err()
+}
+
+// A start that is refused for this reason returns files and roles as they were reported before.
+fn check_returned(
+    rt: &impl Abort,
+    alloc: Global,
+    before: &MemorySink,
+    returned: &(Files, Roles, Refusal),
+    expected: Refusal,
+) -> Result<(), Fail> {
+    let (files, roles, refusal) = returned;
+    assert_eq!(rt; *refusal, expected);
+    assert!(rt; reported_project(alloc, files, roles)?.bytes() == before.bytes());
+    Ok(())
 }
 
 // The web and the change file of starts that are refused over `b.w` and `a.ch`.
@@ -57,19 +71,24 @@ const STARTS: [(&[u8], Option<&[u8]>, Refusal); 5] = [
     (b"b.w", Some(b"b.w "), Refusal::NoChange),
 ];
 
+fn start_without_its_files(
+    rt: &impl Abort,
+    alloc: Global,
+    web: &[u8],
+    change: Option<&[u8]>,
+    refusal: Refusal,
+) -> Result<(), Fail> {
+    let files = files_with(alloc, &[(b"b.w", b"@ A.\n@c\nx\n"), (b"a.ch", b"@x\n")])?;
+    let roles = Roles::new(alloc, web, change, b"b.c")?;
+    let before = reported_project(alloc, &files, &roles)?;
+    let returned = refused_start(alloc, files, roles).ok_or("started")?;
+    check_returned(rt, alloc, &before, &returned, refusal)
+}
+
 #[test]
 fn starts_without_their_files(rt: HostRuntime) -> Result<(), Fail> {
     for (web, change, refusal) in &STARTS {
-        let files = files_with(
-            rt.alloc(),
-            &[(b"b.w", b"@ A.\n@c\nx\n"), (b"a.ch", b"@x\n")],
-        )?;
-        let roles = Roles::new(rt.alloc(), web, *change, b"b.c")?;
-        let before = reported_project(rt.alloc(), &files, &roles)?;
-        let (files, roles, found) = refused_start(rt.alloc(), files, roles).ok_or("started")?;
-        assert_eq!(rt; found, *refusal);
-        let after = reported_project(rt.alloc(), &files, &roles)?;
-        assert!(rt; after.bytes() == before.bytes());
+        start_without_its_files(&rt, rt.alloc(), web, *change, *refusal)?;
     }
     Ok(())
 }
@@ -243,19 +262,6 @@ fn check_answers(
     Ok(())
 }
 
-// A start that is refused returns files and roles as they were reported before.
-fn check_returned(
-    rt: &impl Abort,
-    alloc: Global,
-    before: &MemorySink,
-    returned: &(Files, Roles, Refusal),
-) -> Result<(), Fail> {
-    let (files, roles, refusal) = returned;
-    assert_eq!(rt; *refusal, Refusal::NoMemory);
-    assert!(rt; reported_project(alloc, files, roles)?.bytes() == before.bytes());
-    Ok(())
-}
-
 fn check_edited(
     rt: &impl Abort,
     alloc: Global,
@@ -265,7 +271,7 @@ fn check_edited(
 ) -> Result<(), Fail> {
     match edited {
         Ok((session, answers)) => check_answers(rt, alloc, session, answers, none_failed),
-        Err(returned) => check_returned(rt, alloc, before, returned),
+        Err(returned) => check_returned(rt, alloc, before, returned, Refusal::NoMemory),
     }
 }
 

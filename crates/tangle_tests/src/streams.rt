@@ -55,7 +55,7 @@ const DOUBLING: &[u8] = b"@ P.\n@c\n@<n00@>\n@ @<n00@>=\n@<n01@>@<n01@>\n\
     @ @<n25@>=\n@<n26@>@<n26@>\n@ @<n26@>=\n@<n27@>@<n27@>\n@ @<n27@>=\n@<n28@>@<n28@>\n\
     @ @<n28@>=\n@<n29@>@<n29@>\n@ @<n29@>=\n1\n@ @(s.h@>=\n1\n";
 
-// Webs, each with an output and how many nodes a start expands.
+// Webs, each with the name and the text of an output, and the number of nodes that a start expands.
 const OUTPUTS: [(&[u8], &[u8], &[u8], u64); 2] = [
     (ONE_PIECE, b"a.c", ONE_PIECE_IN_C, 1),
     (
@@ -66,8 +66,8 @@ const OUTPUTS: [(&[u8], &[u8], &[u8], u64); 2] = [
     ),
 ];
 
-// An output that is written to a writer that fails after each number of bytes: one that takes a
-// byte a call and then reports a failure, and one that takes as many as it can and then none.
+// An output is written to writers that fail after each number of bytes: one takes a byte at each
+// call and then reports a failure, the other takes all bytes up to its capacity, and then none.
 fn fail_at_each_byte(
     rt: &impl Abort,
     alloc: Global,

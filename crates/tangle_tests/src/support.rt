@@ -16,7 +16,7 @@ pub(crate) fn files_with(alloc: Global, files: &[(&[u8], &[u8])]) -> Result<File
     Ok(table)
 }
 
-// It is separate, so that the clauses of a start are used once.
+// This is a function of its own, so that the clauses of a start are used once.
 fn started(alloc: Global, files: Files, roles: Roles) -> Option<Session> {
     Session::start(alloc, files, roles).ok()
 }

@@ -1,5 +1,6 @@
 -- The text ahead at a position of a line.
-use Rattle.std.proofs.Common.{◌≡◌, ℕ, ◌+◌, ◌<◌, ◌≤◌, suc, Bool, List, [], ◌∷◌, Some, None, false, true, IsSome, length, get_or, slice_get, drop, inl, inr, refl, ap, sym, ◌∙◌, arith, drop-cons, zero}
+use Rattle.std.proofs.Common.{◌≡◌, ℕ, ◌+◌, ◌<◌, ◌≤◌, suc, Bool, List, [], ◌∷◌, Some, None, false, true, IsSome, length}
+use Rattle.std.proofs.Common.{get_or, slice_get, drop, inl, inr, refl, ap, sym, ◌∙◌, arith, drop-cons, zero}
 use Rattle.std.proofs.Math.ListN.{drop_of_length-le}
 use Rattle.std.proofs.lemmas.Option.{get_or_from_slice_get, slice_get_cases}
 use Rattle.tangle_lines.specs.Reading.{SourceLine}
@@ -8,17 +9,22 @@ use Rattle.tangle_text.specs.Text.{text_from, byte_at, front_line, front_column,
 use Rattle.tangle_text.specs.Ahead.{rest_of, IsFront}
 
 -- at a byte
-pub rest_of-byte : (lines : List SourceLine) (bytes : List ℕ) (line column b : ℕ) → column < length bytes → slice_get bytes column ≡ Some b →
-    rest_of lines bytes line column false ≡ record { line = line; column = column; byte = Some b } ∷ rest_of lines bytes line (column + 1) false
+pub rest_of-byte : (lines : List SourceLine) (bytes : List ℕ) (line column b : ℕ)
+    → column < length bytes → slice_get bytes column ≡ Some b
+    → rest_of lines bytes line column false
+    ≡ record { line = line; column = column; byte = Some b } ∷ rest_of lines bytes line (column + 1) false
 rest_of-byte lines bytes line column b h is =
     let n : column + 1 ≡ suc column = omega arith in
     let e : drop column bytes ≡ b ∷ drop (column + 1) bytes =
-    drop-cons bytes column 0 h ∙ (ap (λ x. x ∷ drop (suc column) bytes) (get_or_from_slice_get bytes column b 0 is) ∙ ap (λ n. b ∷ drop n bytes) (sym n)) in
+    drop-cons bytes column 0 h
+    ∙ (ap (λ x. x ∷ drop (suc column) bytes) (get_or_from_slice_get bytes column b 0 is)
+    ∙ ap (λ n. b ∷ drop n bytes) (sym n)) in
     rw e refl
 
 -- at a line end
-pub rest_of-line_end : (lines : List SourceLine) (bytes : List ℕ) (line column : ℕ) → length bytes ≤ column →
-    rest_of lines bytes line column false ≡ record { line = line; column = column; byte = None } ∷ text_from (line + 1) (drop (line + 1) lines)
+pub rest_of-line_end : (lines : List SourceLine) (bytes : List ℕ) (line column : ℕ) → length bytes ≤ column
+    → rest_of lines bytes line column false
+    ≡ record { line = line; column = column; byte = None } ∷ text_from (line + 1) (drop (line + 1) lines)
 rest_of-line_end lines bytes line column h =
     rw (drop_of_length-le bytes h) refl
 
@@ -30,7 +36,8 @@ text_from-line lines n h =
     rw (drop-cons lines n no_line h, next) refl
 
 -- the byte at a position
-pub byte_at-rest : (lines : List SourceLine) (bytes : List ℕ) (line column : ℕ) → byte_at 0 (rest_of lines bytes line column false) ≡ slice_get bytes column
+pub byte_at-rest : (lines : List SourceLine) (bytes : List ℕ) (line column : ℕ)
+    → byte_at 0 (rest_of lines bytes line column false) ≡ slice_get bytes column
 byte_at-rest lines bytes line column =
     elim ((slice_get_cases bytes column).1) [
       | inl here ↦ ap (byte_at 0) (rest_of-byte lines bytes line column here.0 here.1 here.2) ∙ sym here.2
@@ -38,14 +45,16 @@ byte_at-rest lines bytes line column =
     ]
 
 -- the line and the column of a position
-pub front_line-rest : (lines : List SourceLine) (bytes : List ℕ) (line column last : ℕ) (done : Bool) → done ≡ false → front_line last (rest_of lines bytes line column done) ≡ line
+pub front_line-rest : (lines : List SourceLine) (bytes : List ℕ) (line column last : ℕ) (done : Bool)
+    → done ≡ false → front_line last (rest_of lines bytes line column done) ≡ line
 front_line-rest lines bytes line column last done is =
     elim ((slice_get_cases bytes column).1) [
       | inl here ↦ rw is (ap (front_line last) (rest_of-byte lines bytes line column here.0 here.1 here.2))
       | inr past ↦ rw is (ap (front_line last) (rest_of-line_end lines bytes line column past.0))
     ]
 
-pub front_column-rest : (lines : List SourceLine) (bytes : List ℕ) (line column : ℕ) (done : Bool) → done ≡ false → front_column (rest_of lines bytes line column done) ≡ column
+pub front_column-rest : (lines : List SourceLine) (bytes : List ℕ) (line column : ℕ) (done : Bool)
+    → done ≡ false → front_column (rest_of lines bytes line column done) ≡ column
 front_column-rest lines bytes line column done is =
     elim ((slice_get_cases bytes column).1) [
       | inl here ↦ rw is (ap front_column (rest_of-byte lines bytes line column here.0 here.1 here.2))
@@ -53,7 +62,8 @@ front_column-rest lines bytes line column done is =
     ]
 
 -- the text isn't at its end at a position of a line
-pub rest-inside : (lines : List SourceLine) (bytes : List ℕ) (line column : ℕ) (done : Bool) → done ≡ false → 0 < length (rest_of lines bytes line column done)
+pub rest-inside : (lines : List SourceLine) (bytes : List ℕ) (line column : ℕ) (done : Bool)
+    → done ≡ false → 0 < length (rest_of lines bytes line column done)
 rest-inside lines bytes line column done is =
     elim ((slice_get_cases bytes column).1) [
       | inl here ↦ rw (is, rest_of-byte lines bytes line column here.0 here.1 here.2) (omega arith)
@@ -61,19 +71,23 @@ rest-inside lines bytes line column done is =
     ]
 
 -- the front at a byte
-pub front-byte : (lines : List SourceLine) (bytes : List ℕ) (line column : ℕ) (done : Bool) → done ≡ false → column < length bytes →
-    IsFront (rest_of lines bytes line column done) (record { byte = slice_get bytes column; next = slice_get bytes (column + 1) })
+pub front-byte : (lines : List SourceLine) (bytes : List ℕ) (line column : ℕ) (done : Bool)
+    → done ≡ false → column < length bytes
+    → IsFront (rest_of lines bytes line column done)
+    (record { byte = slice_get bytes column; next = slice_get bytes (column + 1) })
 front-byte lines bytes line column done is h =
     elim ((slice_get_cases bytes column).1) [
       | inl here ↦
           let e = rest_of-byte lines bytes line column here.0 here.1 here.2 in
-          rw (is, e, here.2) (record { inside = omega arith; byte = refl; next = byte_at-rest lines bytes line (column + 1) })
+          rw (is, e, here.2)
+          (record { inside = omega arith; byte = refl; next = byte_at-rest lines bytes line (column + 1) })
       | inr past ↦ absurd (omega (arith, past.0))
     ]
 
 -- the front at a line end
-pub front-line_end : (lines : List SourceLine) (bytes : List ℕ) (line column : ℕ) (done : Bool) → done ≡ false → length bytes ≤ column →
-    IsFront (rest_of lines bytes line column done)
+pub front-line_end : (lines : List SourceLine) (bytes : List ℕ) (line column : ℕ) (done : Bool)
+    → done ≡ false → length bytes ≤ column
+    → IsFront (rest_of lines bytes line column done)
     (record { byte = slice_get bytes column; next = byte_at 0 (text_from (line + 1) (drop (line + 1) lines)) })
 front-line_end lines bytes line column done is h =
     elim ((slice_get_cases bytes column).1) [
@@ -97,8 +111,9 @@ none-some : IsSome {T = ℕ} None → ⊥
 none-some h = cc
 
 -- if there is a byte, the column is inside its line
-pub byte-inside : (lines : List SourceLine) (bytes : List ℕ) (line column : ℕ) (done : Bool) → IsSome (byte_at 0 (rest_of lines bytes line column done)) →
-    (done ≡ false) × (column < length bytes)
+pub byte-inside : (lines : List SourceLine) (bytes : List ℕ) (line column : ℕ) (done : Bool)
+    → IsSome (byte_at 0 (rest_of lines bytes line column done))
+    → (done ≡ false) × (column < length bytes)
 byte-inside lines bytes line column true h = absurd (none-some h)
 byte-inside lines bytes line column false h =
     elim ((slice_get_cases bytes column).1) [

@@ -1,5 +1,7 @@
 -- Ordinary bytes, which have no meaning, are skipped one by one.
-use Rattle.std.proofs.Common.{◌≡◌, ℕ, ◌+◌, zero, suc, Bool, true, false, not, ◌||◌, List, [], ◌∷◌, ◌++◌, Option, Some, None, drop, refl, sym, ◌∙◌, arith}
+use Rattle.std.proofs.Common.{◌≡◌, ℕ, ◌+◌, zero, suc, Bool, true, false, not, ◌||◌, List, [], ◌∷◌, ◌++◌, Option, Some}
+use Rattle.std.proofs.Common.{None, drop, refl, sym, ◌∙◌, arith}
+use Rattle.std.proofs.lemmas.Bool.{false≢true, not-true}
 use Rattle.tangle_text.specs.declared.regions.Region.{Region}
 use Rattle.tangle_text.specs.declared.regions.Region.TheVariants as region
 use Rattle.tangle_text.specs.declared.regions.Unit.TheVariants as unit
@@ -9,29 +11,24 @@ use Rattle.tangle_text.specs.Regions.{unit_of, region_end, is_ordinary, holds_or
 use Rattle.tangle_text.specs.Ahead.{run_length}
 use Rattle.tangle_text.proofs.RegionLemmas.{region_end-one}
 
-pub not-false : (b : Bool) → not b ≡ true → b ≡ false
-not-false true h = sym h
-not-false false h = refl
-
-pub not-true : false ≡ true → ⊥
-not-true h = cc
-
 pub or-false : (a b : Bool) → not (a || b) ≡ true → (not a ≡ true) × (b ≡ false)
-or-false true b h = absurd (not-true h)
-or-false false b h = (refl, not-false b h)
+or-false true b h = absurd (false≢true h)
+or-false false b h = (refl, not-true b h)
 
 -- in each region that skips ordinary bytes, such a byte is a unit of its own
-byte-one : (r : Region) (b : ℕ) (next : Option ℕ) → skips_ordinary r ≡ true → is_ordinary b ≡ true → unit_of r (Some b) next ≡ unit.One
+byte-one : (r : Region) (b : ℕ) (next : Option ℕ)
+    → skips_ordinary r ≡ true → is_ordinary b ≡ true → unit_of r (Some b) next ≡ unit.One
 byte-one r b next skips h =
     let greater = or-false _ _ h in
     let apostrophe = or-false _ _ greater.0 in
     let quote = or-false _ _ apostrophe.0 in
     let backslash = or-false _ _ quote.0 in
     let asterisk = or-false _ _ backslash.0 in
-    go r skips (not-false _ asterisk.0) asterisk.1 backslash.1 quote.1 apostrophe.1 greater.1
+    go r skips (not-true _ asterisk.0) asterisk.1 backslash.1 quote.1 apostrophe.1 greater.1
   where
-    go : (r : Region) → skips_ordinary r ≡ true → holds 64 (Some b) ≡ false → holds 42 (Some b) ≡ false → holds 92 (Some b) ≡ false → holds 34 (Some b) ≡ false →
-        holds 39 (Some b) ≡ false → holds 62 (Some b) ≡ false → unit_of r (Some b) next ≡ unit.One
+    go : (r : Region) → skips_ordinary r ≡ true → holds 64 (Some b) ≡ false
+        → holds 42 (Some b) ≡ false → holds 92 (Some b) ≡ false → holds 34 (Some b) ≡ false
+        → holds 39 (Some b) ≡ false → holds 62 (Some b) ≡ false → unit_of r (Some b) next ≡ unit.One
     go region.BlockComment skips at asterisk backslash quote apostrophe greater = rw (at, asterisk) refl
     go region.ControlText skips at asterisk backslash quote apostrophe greater = rw at refl
     go region.Verbatim skips at asterisk backslash quote apostrophe greater = rw at refl
@@ -39,28 +36,33 @@ byte-one r b next skips h =
     go region.Apostrophe skips at asterisk backslash quote apostrophe greater = rw (at, backslash, apostrophe) refl
     go region.HeaderName skips at asterisk backslash quote apostrophe greater = rw (at, greater) refl
     go region.LineComment skips at asterisk backslash quote apostrophe greater = rw at refl
-    go region.Name skips at asterisk backslash quote apostrophe greater = absurd (not-true skips)
-    go region.Word skips at asterisk backslash quote apostrophe greater = absurd (not-true skips)
-    go region.White skips at asterisk backslash quote apostrophe greater = absurd (not-true skips)
-    go region.Prose skips at asterisk backslash quote apostrophe greater = absurd (not-true skips)
-    go region.BadConstant skips at asterisk backslash quote apostrophe greater = absurd (not-true skips)
+    go region.Name skips at asterisk backslash quote apostrophe greater = absurd (false≢true skips)
+    go region.Word skips at asterisk backslash quote apostrophe greater = absurd (false≢true skips)
+    go region.White skips at asterisk backslash quote apostrophe greater = absurd (false≢true skips)
+    go region.Prose skips at asterisk backslash quote apostrophe greater = absurd (false≢true skips)
+    go region.BadConstant skips at asterisk backslash quote apostrophe greater = absurd (false≢true skips)
 
-pub cell-one : (r : Region) (b next : Option ℕ) → skips_ordinary r ≡ true → holds_ordinary b ≡ true → unit_of r b next ≡ unit.One
-cell-one r None next skips h = absurd (not-true h)
+pub cell-one : (r : Region) (b next : Option ℕ)
+    → skips_ordinary r ≡ true → holds_ordinary b ≡ true → unit_of r b next ≡ unit.One
+cell-one r None next skips h = absurd (false≢true h)
 cell-one r (Some b) next skips h = byte-one r b next skips h
 
-pub region_end-ordinary : (r : Region) → skips_ordinary r ≡ true → (n : ℕ) (text : List Cell) → AreOrdinary n text → region_end r (drop n text) ≡ region_end r text
+pub region_end-ordinary : (r : Region) → skips_ordinary r ≡ true → (n : ℕ) (text : List Cell)
+    → AreOrdinary n text → region_end r (drop n text) ≡ region_end r text
 region_end-ordinary r is zero text h = refl
 region_end-ordinary r is (suc n) [] h = refl
 region_end-ordinary r is (suc n) (c ∷ cs) h =
     region_end-ordinary r is n cs h.1 ∙ sym (region_end-one r (c ∷ cs) (cell-one r c.byte (byte_at 0 cs) is h.0))
 
 -- the run of ordinary bytes in a line
-pub run-ordinary : (line column : ℕ) (bytes : List ℕ) (rest : List Cell) → AreOrdinary (run_length is_ordinary bytes) (line_text line column bytes ++ rest)
+pub run-ordinary : (line column : ℕ) (bytes : List ℕ) (rest : List Cell)
+    → AreOrdinary (run_length is_ordinary bytes) (line_text line column bytes ++ rest)
 run-ordinary line column [] rest = tt
 run-ordinary line column (b ∷ bs) rest = go (is_ordinary b) refl (run-ordinary line (column + 1) bs rest)
   where
-    go : (t : Bool) → is_ordinary b ≡ t → AreOrdinary (run_length is_ordinary bs) (line_text line (column + 1) bs ++ rest) →
-        AreOrdinary (run_length is_ordinary (b ∷ bs)) (line_text line column (b ∷ bs) ++ rest)
-    go true h more = let n : run_length is_ordinary (b ∷ bs) ≡ suc (run_length is_ordinary bs) = rw h (omega arith) in rw n (h, more)
+    go : (t : Bool)
+        → is_ordinary b ≡ t → AreOrdinary (run_length is_ordinary bs) (line_text line (column + 1) bs ++ rest)
+        → AreOrdinary (run_length is_ordinary (b ∷ bs)) (line_text line column (b ∷ bs) ++ rest)
+    go true h more =
+        let n : run_length is_ordinary (b ∷ bs) ≡ suc (run_length is_ordinary bs) = rw h (omega arith) in rw n (h, more)
     go false h more = let n : run_length is_ordinary (b ∷ bs) ≡ 0 = rw h refl in rw n tt

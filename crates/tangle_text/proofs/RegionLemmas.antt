@@ -28,14 +28,16 @@ region_end-stop r (c ∷ cs) h = region_end-counted r (c ∷ cs) ∙ none
     none : drop (counted r 0 (c ∷ cs)) (c ∷ cs) ≡ c ∷ cs
     none = rw h refl
 
-pub region_end-one : (r : Region) (text : List Cell) → unit_at r text ≡ unit.One → region_end r text ≡ region_end r (drop 1 text)
+pub region_end-one : (r : Region) (text : List Cell)
+    → unit_at r text ≡ unit.One → region_end r text ≡ region_end r (drop 1 text)
 region_end-one r [] h = refl
 region_end-one r (c ∷ cs) h = region_end-counted r (c ∷ cs) ∙ passed ∙ sym (region_end-counted r cs)
   where
     passed : drop (counted r 0 (c ∷ cs)) (c ∷ cs) ≡ drop (counted r 0 cs) cs
     passed = rw h (drop-more (counted r 0 cs) c cs)
 
-region_end-two : (r : Region) (text : List Cell) → unit_at r text ≡ unit.Two → region_end r text ≡ region_end r (drop 1 (drop 1 text))
+region_end-two : (r : Region) (text : List Cell)
+    → unit_at r text ≡ unit.Two → region_end r text ≡ region_end r (drop 1 (drop 1 text))
 region_end-two r [] h = refl
 region_end-two r (c ∷ []) h = region_end-counted r (c ∷ []) ∙ passed ∙ sym (region_end-counted r [])
   where
@@ -54,7 +56,8 @@ region_end-go r text unit.One h go = region_end-one r text h
 region_end-go r text unit.Two h go = region_end-two r text h
 
 -- the unit at the front of a text, by the first two bytes
-pub unit_at-front : (r : Region) (text : List Cell) (front : Front) (u : Unit-of) → IsFront text front → u ≡ unit_of r front.byte front.next → unit_at r text ≡ u
+pub unit_at-front : (r : Region) (text : List Cell) (front : Front) (u : Unit-of)
+    → IsFront text front → u ≡ unit_of r front.byte front.next → unit_at r text ≡ u
 unit_at-front r text front u here is = rw (here.byte, here.next) (sym is)
 
 pub region_end-is : (r : Region) (text : List Cell) → region_end r text ≡ drop (count_before r text) text

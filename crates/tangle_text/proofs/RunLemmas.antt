@@ -1,5 +1,7 @@
 -- Words and white space, which end in their line, and text without an `@`.
-use Rattle.std.proofs.Common.{◌≡◌, ℕ, ◌+◌, ◌<◌, ◌≤◌, zero, suc, Bool, true, false, not, List, [], ◌∷◌, ◌++◌, Option, Some, None, length, take, drop, get_or, inl, inr, refl, ap, sym, ◌∙◌, arith, drop-drop, length-drop, nat_eq}
+use Rattle.std.proofs.Common.{◌≡◌, ℕ, ◌+◌, ◌<◌, ◌≤◌, zero, suc, Bool, true, false, not, List, [], ◌∷◌, ◌++◌, Option}
+use Rattle.std.proofs.Common.{Some, None, length, take, drop, get_or, inl, inr, refl, ap, sym, ◌∙◌, arith, drop-drop}
+use Rattle.std.proofs.Common.{length-drop, nat_eq}
 use Rattle.std.proofs.lemmas.Option.{get_or_from_slice_get, slice_get_cases}
 use Rattle.std.proofs.lemmas.Bool.Decides.{eqb_tells}
 use Rattle.tangle_lines.specs.Bytes.{is_white}
@@ -55,29 +57,35 @@ drop-line : (line column n : ℕ) (bytes : List ℕ) (rest : List Cell) → n �
 drop-line line column zero bytes rest h = ap (λ k. line_text line k bytes ++ rest) (omega arith)
 drop-line line column (suc n) [] rest h = absurd (omega (arith, h))
 drop-line line column (suc n) (b ∷ bs) rest h =
-    drop-line line (column + 1) n bs rest (omega (arith, h)) ∙ ap (λ k. line_text line k (drop n bs) ++ rest) (omega arith)
+    drop-line line (column + 1) n bs rest (omega (arith, h))
+    ∙ ap (λ k. line_text line k (drop n bs) ++ rest) (omega arith)
 
 bytes-line : (line column n : ℕ) (bytes : List ℕ) (rest : List Cell) → n ≤ length bytes →
     bytes_of (take n (line_text line column bytes ++ rest)) ≡ take n bytes
 bytes-line line column zero bytes rest h = refl
 bytes-line line column (suc n) [] rest h = absurd (omega (arith, h))
-bytes-line line column (suc n) (b ∷ bs) rest h = ap (λ xs. b ∷ xs) (bytes-line line (column + 1) n bs rest (omega (arith, h)))
+bytes-line line column (suc n) (b ∷ bs) rest h =
+    ap (λ xs. b ∷ xs) (bytes-line line (column + 1) n bs rest (omega (arith, h)))
 
--- the same for a position
-pub rest_of-further : (lines : List SourceLine) (bytes : List ℕ) (line column n : ℕ) (done : Bool) → column + n ≤ length bytes →
-    rest_of lines bytes line (column + n) done ≡ drop n (rest_of lines bytes line column done)
+-- the text ahead of a position that is `n` bytes further on the line
+pub rest_of-further : (lines : List SourceLine) (bytes : List ℕ) (line column n : ℕ) (done : Bool)
+    → column + n ≤ length bytes
+    → rest_of lines bytes line (column + n) done ≡ drop n (rest_of lines bytes line column done)
 rest_of-further lines bytes line column n true h = sym (drop-none n)
   where
     drop-none : (n : ℕ) → drop {A = Cell} n [] ≡ []
     drop-none zero = refl
     drop-none (suc n) = refl
 rest_of-further lines bytes line column n false h =
-    sym (drop-line line column n (drop column bytes) (text_from (line + 1) (drop (line + 1) lines)) (omega (arith, h, length-drop column bytes))
-    ∙ ap (λ bs. line_text line (column + n) bs ++ text_from (line + 1) (drop (line + 1) lines)) (drop-drop n column bytes))
+    sym (drop-line line column n (drop column bytes)
+    (text_from (line + 1) (drop (line + 1) lines)) (omega (arith, h, length-drop column bytes))
+    ∙ ap (λ bs. line_text line (column + n) bs ++ text_from (line + 1) (drop (line + 1) lines))
+    (drop-drop n column bytes))
 
 -- the number of cells of a run after its first byte
-pub run-count : (r : Region) (test : ℕ → Bool) → IsRunOf r test → (lines : List SourceLine) (bytes : List ℕ) (line column : ℕ) → column < length bytes →
-    count_before r (drop 1 (rest_of lines bytes line column false)) ≡ run_length test (drop (column + 1) bytes)
+pub run-count : (r : Region) (test : ℕ → Bool)
+    → IsRunOf r test → (lines : List SourceLine) (bytes : List ℕ) (line column : ℕ) → column < length bytes
+    → count_before r (drop 1 (rest_of lines bytes line column false)) ≡ run_length test (drop (column + 1) bytes)
 run-count r test run lines bytes line column h =
     ap (count_before r) (sym (advance-byte lines bytes line column false h))
     ∙ count-run r test run line (column + 1) (drop (column + 1) bytes) (text_from (line + 1) (drop (line + 1) lines))
@@ -88,30 +96,43 @@ pub run-end : (test : ℕ → Bool) (lines : List SourceLine) (bytes : List ℕ)
     ≡ drop (run_length test (drop (column + 1) bytes)) (drop 1 (rest_of lines bytes line column false))
 run-end test lines bytes line column h =
     let n = run_length test (drop (column + 1) bytes) in
-    rest_of-further lines bytes line (column + 1) n false (omega (arith, h, run-fits test (drop (column + 1) bytes), length-drop (column + 1) bytes))
+    rest_of-further lines bytes line (column + 1) n false
+    (omega (arith, h, run-fits test (drop (column + 1) bytes), length-drop (column + 1) bytes))
     ∙ ap (drop n) (advance-byte lines bytes line column false h)
 
 -- the bytes of a run
 pub run-bytes : (lines : List SourceLine) (bytes : List ℕ) (line column n : ℕ) → column + n ≤ length bytes →
     bytes_of (take n (rest_of lines bytes line column false)) ≡ take n (drop column bytes)
-run-bytes lines bytes line column n h = bytes-line line column n (drop column bytes) _ (omega (arith, h, length-drop column bytes))
+run-bytes lines bytes line column n h =
+    bytes-line line column n (drop column bytes) _ (omega (arith, h, length-drop column bytes))
 
 -- text without an `@` is skipped
-pub prose-skip : (lines : List SourceLine) (bytes : List ℕ) (line column n : ℕ) (done : Bool) → column + n ≤ length bytes →
-    ((k : ℕ) → column + k < column + n → get_or bytes (column + k) 0 ≡ 64 → ⊥) →
-    region_end region.Prose (rest_of lines bytes line (column + n) done) ≡ region_end region.Prose (rest_of lines bytes line column done)
+pub prose-skip : (lines : List SourceLine) (bytes : List ℕ) (line column n : ℕ) (done : Bool)
+    → column + n ≤ length bytes
+    → ((k : ℕ) → column + k < column + n → get_or bytes (column + k) 0 ≡ 64 → ⊥)
+    → region_end region.Prose (rest_of lines bytes line (column + n) done)
+    ≡ region_end region.Prose (rest_of lines bytes line column done)
 prose-skip lines bytes line column n true h other = refl
-prose-skip lines bytes line column zero false h other = ap (λ k. region_end region.Prose (rest_of lines bytes line k false)) (omega arith)
+prose-skip lines bytes line column zero false h other =
+    ap (λ k. region_end region.Prose (rest_of lines bytes line k false)) (omega arith)
 prose-skip lines bytes line column (suc n) false h other =
     elim ((slice_get_cases bytes column).1) [
       | inl here ↦
           let is = rest_of-byte lines bytes line column here.0 here.1 here.2 in
-          let byte : get_or bytes (column + 0) 0 ≡ here.0 = ap (λ k. get_or bytes k 0) (omega arith) ∙ get_or_from_slice_get bytes column here.0 0 here.2 in
-          let simple : nat_eq here.0 64 ≡ false = elim (eqb_tells here.0 64) [ inl same ↦ absurd (other 0 (omega arith) (byte ∙ same.1)) | inr differ ↦ differ.0 ] in
-          let one : unit_at region.Prose (rest_of lines bytes line column false) ≡ unit.One = ap (unit_at region.Prose) is ∙ rw simple refl in
-          let further : rest_of lines bytes line (column + 1 + n) false ≡ rest_of lines bytes line (column + suc n) false = ap (λ k. rest_of lines bytes line k false) (omega arith) in
+          let byte : get_or bytes (column + 0) 0 ≡ here.0 =
+          ap (λ k. get_or bytes k 0) (omega arith) ∙ get_or_from_slice_get bytes column here.0 0 here.2 in
+          let simple : nat_eq here.0 64 ≡ false = elim (eqb_tells here.0 64) [
+            | inl same ↦ absurd (other 0 (omega arith) (byte ∙ same.1))
+            | inr differ ↦ differ.0
+          ] in
+          let one : unit_at region.Prose (rest_of lines bytes line column false) ≡ unit.One =
+          ap (unit_at region.Prose) is ∙ rw simple refl in
+          let further : rest_of lines bytes line (column + 1 + n) false
+          ≡ rest_of lines bytes line (column + suc n) false =
+          ap (λ k. rest_of lines bytes line k false) (omega arith) in
           ap (region_end region.Prose) (sym further)
-          ∙ (prose-skip lines bytes line (column + 1) n false (omega (arith, h)) (λ k lt same. other (k + 1) (omega (arith, lt)) (ap (λ i. get_or bytes i 0) (omega arith) ∙ same))
+          ∙ (prose-skip lines bytes line (column + 1) n false (omega (arith, h))
+          (λ k lt same. other (k + 1) (omega (arith, lt)) (ap (λ i. get_or bytes i 0) (omega arith) ∙ same))
           ∙ (ap (region_end region.Prose) (advance-byte lines bytes line column false here.1)
           ∙ sym (region_end-one region.Prose (rest_of lines bytes line column false) one)))
       | inr past ↦ absurd (omega (arith, past.0, h))

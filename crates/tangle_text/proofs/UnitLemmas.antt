@@ -1,5 +1,6 @@
 -- The cells of a region, counted one by one.
-use Rattle.std.proofs.Common.{◌≡◌, ℕ, zero, suc, ◌+◌, Bool, true, false, ◌&&◌, ◌||◌, List, [], ◌∷◌, ◌++◌, length, flat_map, Option, None, refl, ap, sym, ◌∙◌, arith}
+use Rattle.std.proofs.Common.{◌≡◌, ℕ, zero, suc, ◌+◌, Bool, true, false, ◌&&◌, ◌||◌, List, [], ◌∷◌, ◌++◌, length}
+use Rattle.std.proofs.Common.{flat_map, Option, None, refl, ap, sym, ◌∙◌, arith}
 use Rattle.tangle_text.specs.declared.regions.Region.{Region}
 use Rattle.tangle_text.specs.declared.regions.Region.TheVariants as region
 use Rattle.tangle_text.specs.declared.regions.Unit.{Unit as Unit-of}
@@ -26,27 +27,31 @@ pub count-is : (r : Region) (text : List Cell) → count_before r text ≡ count
 count-is r [] = refl
 count-is r (c ∷ []) = by (unit_at r (c ∷ []))
   where
-    by : (u : Unit-of) → length (flat_map (λ v. v) (unless_stop u ((c ∷ []) ∷ []))) ≡ count_by u (counted r (more_by u) [])
+    by : (u : Unit-of)
+        → length (flat_map (λ v. v) (unless_stop u ((c ∷ []) ∷ []))) ≡ count_by u (counted r (more_by u) [])
     by unit.Stop = refl
     by unit.One = refl
     by unit.Two = refl
 count-is r (c ∷ d ∷ cs) = by (unit_at r (c ∷ d ∷ cs)) (count-is r (d ∷ cs)) (count-is r cs)
   where
     by : (u : Unit-of) → count_before r (d ∷ cs) ≡ counted r 0 (d ∷ cs) → count_before r cs ≡ counted r 0 cs
-        → length (flat_map (λ v. v) (units_from u c d (units r (d ∷ cs)) (units r cs))) ≡ count_by u (counted r (more_by u) (d ∷ cs))
+        → length (flat_map (λ v. v) (units_from u c d (units r (d ∷ cs)) (units r cs)))
+        ≡ count_by u (counted r (more_by u) (d ∷ cs))
     by unit.Stop one two = refl
     by unit.One one two = omega (arith, one)
     by unit.Two one two = omega (arith, two)
 
 -- by the unit at the front
 
-pub count-one : (r : Region) (c : Cell) (cs : List Cell) → unit_at r (c ∷ cs) ≡ unit.One → count_before r (c ∷ cs) ≡ 1 + count_before r cs
+pub count-one : (r : Region) (c : Cell) (cs : List Cell)
+    → unit_at r (c ∷ cs) ≡ unit.One → count_before r (c ∷ cs) ≡ 1 + count_before r cs
 count-one r c cs e = count-is r (c ∷ cs) ∙ passed ∙ ap (λ n. 1 + n) (sym (count-is r cs))
   where
     passed : counted r 0 (c ∷ cs) ≡ 1 + counted r 0 cs
     passed = rw e refl
 
-pub count-two : (r : Region) (c d : Cell) (cs : List Cell) → unit_at r (c ∷ d ∷ cs) ≡ unit.Two → count_before r (c ∷ d ∷ cs) ≡ 1 + (1 + count_before r cs)
+pub count-two : (r : Region) (c d : Cell) (cs : List Cell)
+    → unit_at r (c ∷ d ∷ cs) ≡ unit.Two → count_before r (c ∷ d ∷ cs) ≡ 1 + (1 + count_before r cs)
 count-two r c d cs e = count-is r (c ∷ d ∷ cs) ∙ passed ∙ ap (λ n. 1 + (1 + n)) (sym (count-is r cs))
   where
     passed : counted r 0 (c ∷ d ∷ cs) ≡ 1 + (1 + counted r 0 cs)
@@ -57,24 +62,30 @@ abbrev pub from_units : {A : Type 0} → (Unit-of → Cell → Option ℕ → Li
 from_units f r k [] = []
 from_units f r (suc k) (c ∷ cs) = from_units f r k cs
 from_units f r zero (c ∷ cs) =
-    unless_stop (unit_at r (c ∷ cs)) (f (unit_at r (c ∷ cs)) c (byte_at 0 cs) ++ from_units f r (more_by (unit_at r (c ∷ cs))) cs)
+    unless_stop (unit_at r (c ∷ cs))
+    (f (unit_at r (c ∷ cs)) c (byte_at 0 cs) ++ from_units f r (more_by (unit_at r (c ∷ cs))) cs)
 
 -- What each unit gives is a flat map over the units, where it depends on the cells of the unit alone.
 pub units-give : {A : Type 0} (f : Unit-of → Cell → Option ℕ → List A) (g : List Cell → List A) (r : Region)
-    → ((c : Cell) (next : Option ℕ) → f unit.One c next ≡ g (c ∷ [])) → ((c d : Cell) → f unit.Two c d.byte ≡ g (c ∷ d ∷ []))
+    → ((c : Cell) (next : Option ℕ) → f unit.One c next ≡ g (c ∷ []))
+    → ((c d : Cell) → f unit.Two c d.byte ≡ g (c ∷ d ∷ []))
     → ((c : Cell) → unit_at r (c ∷ []) ≡ unit.Two → f unit.Two c None ≡ g (c ∷ []))
     → (text : List Cell) → flat_map g (units r text) ≡ from_units f r 0 text
 units-give f g r one two last [] = refl
 units-give f g r one two last (c ∷ []) = by (unit_at r (c ∷ [])) refl
   where
-    by : (u : Unit-of) → unit_at r (c ∷ []) ≡ u → flat_map g (unless_stop u ((c ∷ []) ∷ [])) ≡ unless_stop u (f u c None ++ from_units f r (more_by u) [])
+    by : (u : Unit-of) → unit_at r (c ∷ []) ≡ u
+        → flat_map g (unless_stop u ((c ∷ []) ∷ [])) ≡ unless_stop u (f u c None ++ from_units f r (more_by u) [])
     by unit.Stop e = refl
     by unit.One e = ap (λ xs. xs ++ []) (sym (one c None))
     by unit.Two e = ap (λ xs. xs ++ []) (sym (last c e))
-units-give f g r one two last (c ∷ d ∷ cs) = by (unit_at r (c ∷ d ∷ cs)) (units-give f g r one two last (d ∷ cs)) (units-give f g r one two last cs)
+units-give f g r one two last (c ∷ d ∷ cs) =
+    by (unit_at r (c ∷ d ∷ cs)) (units-give f g r one two last (d ∷ cs)) (units-give f g r one two last cs)
   where
-    by : (u : Unit-of) → flat_map g (units r (d ∷ cs)) ≡ from_units f r 0 (d ∷ cs) → flat_map g (units r cs) ≡ from_units f r 0 cs
-        → flat_map g (units_from u c d (units r (d ∷ cs)) (units r cs)) ≡ unless_stop u (f u c d.byte ++ from_units f r (more_by u) (d ∷ cs))
+    by : (u : Unit-of)
+        → flat_map g (units r (d ∷ cs)) ≡ from_units f r 0 (d ∷ cs) → flat_map g (units r cs) ≡ from_units f r 0 cs
+        → flat_map g (units_from u c d (units r (d ∷ cs)) (units r cs))
+        ≡ unless_stop u (f u c d.byte ++ from_units f r (more_by u) (d ∷ cs))
     by unit.Stop after_one after_two = refl
     by unit.One after_one after_two = rw (one c d.byte, after_one) refl
     by unit.Two after_one after_two = rw (two c d, after_two) refl
@@ -93,4 +104,5 @@ never-two b e = by (holds at_sign b) e
     by false e = cc
 
 pub name_bytes-are : (text : List Cell) → name_bytes text ≡ from_units name_bytes_of region.Name 0 text
-name_bytes-are text = units-give name_bytes_of unit_bytes region.Name (λ c n. refl) (λ c d. refl) (λ c e. absurd (never-two c.byte e)) text
+name_bytes-are text = units-give name_bytes_of unit_bytes region.Name
+    (λ c n. refl) (λ c d. refl) (λ c e. absurd (never-two c.byte e)) text

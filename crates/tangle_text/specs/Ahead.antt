@@ -1,5 +1,6 @@
 -- The text ahead of a position.
-use Rattle.std.specs.Prelude.{◌≡◌, ◌<◌, ℕ, ◌+◌, Bool, true, false, List, [], ◌∷◌, ◌++◌, length, drop, if◌then◌else◌}
+use Rattle.std.specs.Prelude.{◌≡◌, ◌<◌, ℕ, ◌+◌, Bool, true, false, List, [], ◌∷◌, ◌++◌, length}
+use Rattle.std.specs.Prelude.{drop, if◌then◌else◌}
 use Rattle.tangle_lines.specs.Reading.{SourceLine}
 use Rattle.tangle_text.specs.declared.ahead.Front.{Front}
 use Rattle.tangle_text.specs.Text.{Cell, line_text, text_from, byte_at}
@@ -7,7 +8,8 @@ use Rattle.tangle_text.specs.Text.{Cell, line_text, text_from, byte_at}
 -- the text from a column of a line with these bytes on; nothing after the last line
 abbrev pub rest_of : List SourceLine → List ℕ → ℕ → ℕ → Bool → List Cell
 rest_of lines bytes line column true = []
-rest_of lines bytes line column false = line_text line column (drop column bytes) ++ text_from (line + 1) (drop (line + 1) lines)
+rest_of lines bytes line column false =
+    line_text line column (drop column bytes) ++ text_from (line + 1) (drop (line + 1) lines)
 
 -- the first two bytes of a text that isn't at its end
 pub record IsFront (text : List Cell) (front : Front) : Type 0 where

@@ -1,5 +1,6 @@
 -- Bytes and their classes. A cell of the text has a byte, or `None` at a line end.
-use Rattle.std.specs.Prelude.{ℕ, ◌+◌, Bool, true, false, ◌==◌, nat_le, ◌&&◌, ◌||◌, if◌then◌else◌, Option, Some, None}
+use Rattle.std.specs.Prelude.{ℕ, ◌+◌, Bool, true, false, ◌==◌, nat_le, ◌&&◌, ◌||◌, if◌then◌else◌}
+use Rattle.std.specs.Prelude.{Option, Some, None}
 use Rattle.tangle_lines.specs.Bytes.{at_sign, is_white}
 
 -- the bytes with a meaning in CWEB or in C, besides those of the rules of reading
@@ -45,7 +46,8 @@ is_digit b = is_between 48 57 b
 -- a letter, a digit, _, $ or a byte past 127
 abbrev pub is_word_byte : ℕ → Bool
 is_word_byte b =
-    is_between 97 122 b || is_between 65 90 b || is_digit b || b == 95 || b == 36 || is_between 128 255 b
+    is_between 97 122 b || is_between 65 90 b || is_digit b
+    || b == 95 || b == 36 || is_between 128 255 b
 
 -- the small letter of a capital one; any other byte unchanged
 abbrev pub lower : ℕ → ℕ

@@ -1,5 +1,6 @@
 -- The bytes of a name, as they are read from the text.
-use Rattle.std.specs.Prelude.{◌≡◌, ◌≤◌, ℕ, List, [], ◌∷◌, ◌++◌, length, flat_map, if◌then◌else◌, Option, None, unwrap_or}
+use Rattle.std.specs.Prelude.{◌≡◌, ◌≤◌, ℕ, List, [], ◌∷◌, ◌++◌, length, flat_map, if◌then◌else◌}
+use Rattle.std.specs.Prelude.{Option, None, unwrap_or}
 use Rattle.tangle_text.specs.declared.regions.Region.TheVariants as region
 use Rattle.tangle_text.specs.declared.regions.Unit.{Unit as Unit-of}
 use Rattle.tangle_text.specs.declared.regions.Unit.TheVariants as unit
@@ -14,7 +15,8 @@ name_byte b = unwrap_or b 32
 
 -- `@@` is one `@`, and other control codes keep their two bytes
 abbrev pub unit_name_bytes : Unit-of → Option ℕ → Option ℕ → List ℕ
-unit_name_bytes unit.Two b next = if holds at_sign next then at_sign ∷ [] else at_sign ∷ name_byte next ∷ []
+unit_name_bytes unit.Two b next =
+    if holds at_sign next then at_sign ∷ [] else at_sign ∷ name_byte next ∷ []
 unit_name_bytes _ b next = name_byte b ∷ []
 
 -- the bytes of a unit of a name

@@ -1,11 +1,14 @@
 -- Regions: parts of the text that are read up to the first position where they end.
-use Rattle.std.specs.Prelude.{◌≡◌, ℕ, zero, suc, Bool, true, false, ◌==◌, ◌&&◌, ◌||◌, not, List, [], ◌∷◌, length, flat_map, drop, if◌then◌else◌, Option, None, Some}
+use Rattle.std.specs.Prelude.{◌≡◌, ℕ, zero, suc, Bool, true, false, ◌==◌, ◌&&◌, ◌||◌, not, List, []}
+use Rattle.std.specs.Prelude.{◌∷◌, length, flat_map, drop, if◌then◌else◌, Option, None, Some}
 use Rattle.tangle_text.specs.declared.regions.Region.{Region}
 use Rattle.tangle_text.specs.declared.regions.Region.TheVariants as region
 use Rattle.tangle_text.specs.declared.regions.Unit.{Unit as Unit-of}
 use Rattle.tangle_text.specs.declared.regions.Unit.TheVariants as unit
 use Rattle.tangle_lines.specs.Bytes.{at_sign, double_quote}
-use Rattle.tangle_text.specs.Bytes.{backslash, apostrophe, asterisk, slash, greater_sign, holds, is_line_end, holds_white, holds_word_byte, are_bytes, is_section_start, is_name_start, is_end_code}
+use Rattle.tangle_text.specs.Bytes.{backslash, apostrophe, asterisk, slash, greater_sign, holds}
+use Rattle.tangle_text.specs.Bytes.{is_line_end, holds_white, holds_word_byte, are_bytes}
+use Rattle.tangle_text.specs.Bytes.{is_section_start, is_name_start, is_end_code}
 use Rattle.tangle_text.specs.Text.{Cell, byte_at}
 
 -- the region ends here, or goes on by two cells, or by one
@@ -16,30 +19,38 @@ unit_by ends is_two = if ends then unit.Stop else if is_two then unit.Two else u
 -- backslash and the next cell, unless that is `@`
 abbrev pub quoted_unit : ℕ → Option ℕ → Option ℕ → Unit-of
 quoted_unit close b next =
-    unit_by (holds close b || is_line_end b) (are_bytes at_sign at_sign b next || holds backslash b && not (holds at_sign next))
+    unit_by (holds close b || is_line_end b)
+    (are_bytes at_sign at_sign b next || holds backslash b && not (holds at_sign next))
 
 -- The unit of a region at these two cells: the end of the region, two cells that belong together,
 -- or one.
 abbrev pub unit_of : Region → Option ℕ → Option ℕ → Unit-of
 -- a comment ends at `*/` and at a section start; other control codes in it are taken as two bytes
-unit_of region.BlockComment b next = unit_by (are_bytes asterisk slash b next || is_section_start b next) (holds at_sign b)
+unit_of region.BlockComment b next =
+    unit_by (are_bytes asterisk slash b next || is_section_start b next) (holds at_sign b)
 -- a comment up to the line end ends at a section start too
-unit_of region.LineComment b next = unit_by (is_line_end b || is_section_start b next) (holds at_sign b)
+unit_of region.LineComment b next =
+    unit_by (is_line_end b || is_section_start b next) (holds at_sign b)
 -- a control text ends at any control code but `@@`
-unit_of region.ControlText b next = unit_by (holds at_sign b && not (holds at_sign next)) (holds at_sign b)
+unit_of region.ControlText b next =
+    unit_by (holds at_sign b && not (holds at_sign next)) (holds at_sign b)
 -- a verbatim text ends at `@>` and at a line end; `@@` belongs together
-unit_of region.Verbatim b next = unit_by (is_line_end b || is_end_code b next) (are_bytes at_sign at_sign b next)
+unit_of region.Verbatim b next =
+    unit_by (is_line_end b || is_end_code b next) (are_bytes at_sign at_sign b next)
 -- a name ends at `@>`, at a section start, and where another name starts; other control codes
 -- belong together
-unit_of region.Name b next = unit_by (is_end_code b next || is_section_start b next || is_name_start b next) (holds at_sign b)
+unit_of region.Name b next =
+    unit_by (is_end_code b next || is_section_start b next || is_name_start b next)
+    (holds at_sign b)
 unit_of region.DoubleQuote b next = quoted_unit double_quote b next
 unit_of region.Apostrophe b next = quoted_unit apostrophe b next
 -- a file name after `#include <` ends at `>` and at a line end; a backslash in it has no meaning
-unit_of region.HeaderName b next = unit_by (holds greater_sign b || is_line_end b) (are_bytes at_sign at_sign b next)
--- words and white space go on as long as there are such bytes
+unit_of region.HeaderName b next =
+    unit_by (holds greater_sign b || is_line_end b) (are_bytes at_sign at_sign b next)
+-- a word ends where no word byte is, and white space where no white space is
 unit_of region.Word b next = unit_by (not (holds_word_byte b)) false
 unit_of region.White b next = unit_by (not (holds_white b)) false
--- text without an `@`, which may go on over lines
+-- text without an `@`, which may have line ends in it
 unit_of region.Prose b next = unit_by (holds at_sign b) false
 -- a bad constant goes on up to an apostrophe or the line end
 unit_of region.BadConstant b next = unit_by (holds apostrophe b || is_line_end b) false
@@ -59,7 +70,8 @@ more_by unit.Two = 1
 more_by _ = 0
 
 -- a unit of the first cell, or of the first two, and the units after it
-abbrev pub units_from : Unit-of → Cell → Cell → List (List Cell) → List (List Cell) → List (List Cell)
+abbrev pub units_from : Unit-of → Cell → Cell → List (List Cell) → List (List Cell)
+    → List (List Cell)
 units_from unit.Stop c d after_one after_two = []
 units_from unit.One c d after_one after_two = (c ∷ []) ∷ after_one
 units_from unit.Two c d after_one after_two = (c ∷ d ∷ []) ∷ after_two
@@ -88,7 +100,8 @@ region_end r text = drop (count_before r text) text
 
 abbrev pub is_ordinary : ℕ → Bool
 is_ordinary b =
-    not (b == at_sign || b == asterisk || b == backslash || b == double_quote || b == apostrophe || b == greater_sign)
+    not (b == at_sign || b == asterisk || b == backslash
+    || b == double_quote || b == apostrophe || b == greater_sign)
 
 abbrev pub holds_ordinary : Option ℕ → Bool
 holds_ordinary None = false

@@ -1,5 +1,6 @@
 -- The text that is scanned: the source lines, each followed by a line end.
-use Rattle.std.specs.Prelude.{ℕ, zero, suc, ◌+◌, List, [], ◌∷◌, ◌++◌, flat_map, Option, Some, None, option_to_list}
+use Rattle.std.specs.Prelude.{ℕ, zero, suc, ◌+◌, List, [], ◌∷◌, ◌++◌, flat_map, Option, Some, None}
+use Rattle.std.specs.Prelude.{option_to_list}
 use Rattle.tangle_lines.specs.Reading.{SourceLine}
 use Rattle.tangle_text.specs.declared.spans.Span.{Span}
 
@@ -13,7 +14,8 @@ pub record Cell : Type 0 where
 -- the cells of a line from a column on, with its line end
 abbrev pub line_text : ℕ → ℕ → List ℕ → List Cell
 line_text line column [] = record { line = line; column = column; byte = None } ∷ []
-line_text line column (b ∷ bs) = record { line = line; column = column; byte = Some b } ∷ line_text line (column + 1) bs
+line_text line column (b ∷ bs) =
+    record { line = line; column = column; byte = Some b } ∷ line_text line (column + 1) bs
 
 -- the text of source lines, the first of which has this number
 abbrev pub text_from : ℕ → List SourceLine → List Cell
@@ -48,4 +50,5 @@ span_at count (c ∷ cs) = record { line = c.line; start = c.column; end = c.col
 
 -- the first cell of a text; at the end of the source, a line end
 abbrev pub front_cell : ℕ → List Cell → Cell
-front_cell last text = record { line = front_line last text; column = front_column text; byte = byte_at 0 text }
+front_cell last text =
+    record { line = front_line last text; column = front_column text; byte = byte_at 0 text }

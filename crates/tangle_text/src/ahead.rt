@@ -354,7 +354,7 @@ impl<'s, 'a> Reader<'s, 'a> {
         }
     }
 
-    /// The byte at this distance from the position; `None` at a line end.
+    /// The byte at this distance from the position; `None` at a line end and after the text.
     pub fn peek(&self, distance: usize) -> Option<u8>
         ensures { result ≡ byte_at distance self.now }
     {

@@ -3,7 +3,7 @@ ghost use Rattle.std.specs.Prelude.{◌≡◌};
 ghost use Rattle.tangle_lines.specs.Bytes as lines;
 ghost use Rattle.tangle_text.specs.Bytes as spec;
 
-/// Whether the position has this byte.
+/// Whether the byte at a position is the expected one; false at a line end.
 pub fn holds(expected: u8, byte: Option<u8>) -> bool
     ensures { result ≡ spec.holds expected byte }
 {
@@ -60,7 +60,7 @@ pub fn lower(byte: u8) -> u8
     }
 }
 
-/// Whether the position has white space.
+/// Whether the byte at a position is white space; false at a line end.
 pub fn holds_white(byte: Option<u8>) -> bool
     ensures { result ≡ spec.holds_white byte }
 {
@@ -70,7 +70,7 @@ pub fn holds_white(byte: Option<u8>) -> bool
     }
 }
 
-/// Whether the position has white space or is a line end.
+/// Whether the byte at a position is white space, or the position is a line end.
 pub fn is_white_or_line_end(byte: Option<u8>) -> bool
     ensures { result ≡ spec.is_white_or_line_end byte }
 {
@@ -80,7 +80,7 @@ pub fn is_white_or_line_end(byte: Option<u8>) -> bool
     }
 }
 
-/// Whether the position has a word byte.
+/// Whether the byte at a position is a word byte; false at a line end.
 pub fn holds_word_byte(byte: Option<u8>) -> bool
     ensures { result ≡ spec.holds_word_byte byte }
 {
@@ -90,7 +90,7 @@ pub fn holds_word_byte(byte: Option<u8>) -> bool
     }
 }
 
-/// Whether the position has an octal digit.
+/// Whether the byte at a position is an octal digit; false at a line end.
 pub fn is_octal(byte: Option<u8>) -> bool
     ensures { result ≡ spec.is_octal byte }
 {

@@ -25,9 +25,9 @@ pub enum Region {
     Apostrophe,
     /// The name of a header after `#include <`: up to `>` or the line end.
     HeaderName,
-    /// As long as there are word bytes.
+    /// Up to a byte that is no word byte, or the line end.
     Word,
-    /// As long as there is white space.
+    /// Up to a byte that is no white space, or the line end.
     White,
     /// Up to an `@`, which may be on a later line.
     Prose,

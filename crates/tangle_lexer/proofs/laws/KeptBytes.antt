@@ -1,5 +1,7 @@
 -- The bytes of the segments that are kept are those in the spans of the tokens of C parts.
-use Rattle.std.proofs.Common.{◌≡◌, ℕ, zero, suc, ◌+◌, ◌-◌, Bool, true, false, not, List, [], ◌∷◌, ◌++◌, take, drop, flat_map, Option, Some, None, refl, ap, sym, ◌∙◌, arith, append_assoc, append-nil, cond, ◌==◌, if◌then◌else◌}
+use Rattle.std.proofs.Common.{◌≡◌, ℕ, zero, suc, ◌+◌, ◌-◌, Bool, true, false, not, List, [], ◌∷◌, ◌++◌, take, drop}
+use Rattle.std.proofs.Common.{flat_map, Option, Some, None, refl, ap, sym, ◌∙◌, arith, append_assoc, append-nil, cond}
+use Rattle.std.proofs.Common.{◌==◌, if◌then◌else◌}
 use Rattle.std.proofs.lemmas.Grind.{flat_map-append}
 use Rattle.std.specs.List.{list_any}
 use Rattle.tangle_faults.specs.declared.faults.FaultKind.{FaultKind}
@@ -29,17 +31,23 @@ use Rattle.tangle_lexer.specs.Lexemes.{Lexeme, lexeme_of, fault_if, in_mode}
 use Rattle.tangle_lexer.specs.Comments.{line_ends, ends_comment, starts_section, has_end_code}
 use Rattle.tangle_lexer.specs.Quoted.{quote_end}
 use Rattle.tangle_lexer.specs.Constants.{constant_at, constant_lexeme}
-use Rattle.tangle_lexer.specs.Names.{name_end, is_ended, name_faults, after_name, has_single_equals, definition_or_mention, definition_count}
-use Rattle.tangle_lexer.specs.Steps.{code_at, byte_kind, kind_by, kind_at, prose, section_start, documentation_code, c_code, c_lexeme, macro_code, macro_lexeme, lexeme_in, lexeme, lexemes}
-use Rattle.tangle_lexer.specs.Segments.{Segment, segment, span_points, byte_points, kept_points, code_segments, c_segments, segments_in, segments, text_segments, verbatim_segments}
+use Rattle.tangle_lexer.specs.Names.{name_end, is_ended, name_faults, after_name, has_single_equals}
+use Rattle.tangle_lexer.specs.Names.{definition_or_mention, definition_count}
+use Rattle.tangle_lexer.specs.Steps.{code_at, byte_kind, kind_by, kind_at, prose, section_start, documentation_code}
+use Rattle.tangle_lexer.specs.Steps.{c_code, c_lexeme, macro_code, macro_lexeme, lexeme_in, lexeme, lexemes}
+use Rattle.tangle_lexer.specs.Segments.{Segment, segment, span_points, byte_points, kept_points, code_segments}
+use Rattle.tangle_lexer.specs.Segments.{c_segments, segments_in, segments, text_segments, verbatim_segments}
 use Rattle.tangle_lexer.specs.Segments.SegmentKind.{ControlBytes}
-use Rattle.tangle_lexer.proofs.lemmas.PlainTokens.{AreNoHeadsOrUses, is_head_or_use, seen, plain-append, fault_if-plain, white-plain, line_ends-plain, verbatim_tokens-plain, cut_tokens-plain, quote_end-plain, constant-plain}
+use Rattle.tangle_lexer.proofs.lemmas.PlainTokens.{AreNoHeadsOrUses, is_head_or_use, seen, plain-append, fault_if-plain}
+use Rattle.tangle_lexer.proofs.lemmas.PlainTokens.{white-plain, line_ends-plain, verbatim_tokens-plain}
+use Rattle.tangle_lexer.proofs.lemmas.PlainTokens.{cut_tokens-plain, quote_end-plain, constant-plain}
 use Rattle.tangle_lexer.proofs.laws.Points.{Point, after_cell, after_cells, HoldsBytes, IsTextAt, text-after_cells}
 use Rattle.tangle_lexer.proofs.laws.RegionOrder.{more-bytes}
 use Rattle.tangle_lexer.proofs.laws.WhiteOrder.{word-bytes}
 use Rattle.tangle_lexer.proofs.laws.KindCells.{CodeCells, Cells, kind-cells}
 use Rattle.tangle_lexer.proofs.laws.SegmentPoints.{token_points, points-append, bytes-columns}
-use Rattle.tangle_lexer.proofs.laws.KeptText.{text_points, double_quoted-keeps, apostrophe-keeps, header_name-keeps, verbatim-keeps}
+use Rattle.tangle_lexer.proofs.laws.KeptText.{text_points, double_quoted-keeps, apostrophe-keeps, header_name-keeps}
+use Rattle.tangle_lexer.proofs.laws.KeptText.{verbatim-keeps}
 
 -- lexemes that do not begin with @
 
@@ -55,7 +63,8 @@ kind-no-sign : (inc : IncludeState) (b next : Option ℕ) → NoAtSign (kind_by 
 kind-no-sign inc None next = refl
 kind-no-sign inc (Some b) next = by (b == at_sign) refl
   where
-    by : (t : Bool) → holds at_sign (Some b) ≡ t → NoAtSign (cond t (lexeme_kind.Control (code_at next)) (byte_kind inc b next)) (Some b)
+    by : (t : Bool) → holds at_sign (Some b) ≡ t
+        → NoAtSign (cond t (lexeme_kind.Control (code_at next)) (byte_kind inc b next)) (Some b)
     by true h = tt
     by false h = no-sign (byte_kind inc b next) (Some b) h
 
@@ -75,7 +84,8 @@ part_points within (token.NamedPart occurrence line ∷ us) = part_points true u
 part_points within (token.Span kind s ∷ us) = (if within then span_points s else []) ++ part_points within us
 part_points within (_ ∷ us) = part_points within us
 
-part_points-within : (ts us : List Token) → list_any is_head_or_use ts ≡ false → part_points true (ts ++ us) ≡ token_points ts ++ part_points true us
+part_points-within : (ts us : List Token)
+    → list_any is_head_or_use ts ≡ false → part_points true (ts ++ us) ≡ token_points ts ++ part_points true us
 part_points-within [] us h = refl
 part_points-within (token.Section ∷ ts) us h = cc
 part_points-within (token.MacroStart line ∷ ts) us h = cc
@@ -83,10 +93,12 @@ part_points-within (token.UnnamedPart line ∷ ts) us h = cc
 part_points-within (token.NamedPart occurrence line ∷ ts) us h = cc
 part_points-within (token.UseOf occurrence line ∷ ts) us h = cc
 part_points-within (token.Span kind s ∷ ts) us h =
-    ap (λ ps. span_points s ++ ps) (part_points-within ts us h) ∙ sym (append_assoc (span_points s) (token_points ts) (part_points true us))
+    ap (λ ps. span_points s ++ ps) (part_points-within ts us h)
+    ∙ sym (append_assoc (span_points s) (token_points ts) (part_points true us))
 part_points-within (_ ∷ ts) us h = part_points-within ts us h
 
-part_points-outside : (ts us : List Token) → list_any is_head_or_use ts ≡ false → part_points false (ts ++ us) ≡ part_points false us
+part_points-outside : (ts us : List Token)
+    → list_any is_head_or_use ts ≡ false → part_points false (ts ++ us) ≡ part_points false us
 part_points-outside [] us h = refl
 part_points-outside (token.Section ∷ ts) us h = cc
 part_points-outside (token.MacroStart line ∷ ts) us h = cc
@@ -113,7 +125,9 @@ units-points r zero (c ∷ cs) =
     stop-points (unit_at r (c ∷ cs)) _ (by (is_line_end c.byte) (units-points r (more_by (unit_at r (c ∷ cs))) cs))
   where
     by : (b : Bool) → token_points (from_units line_end_of r (more_by (unit_at r (c ∷ cs))) cs) ≡ []
-        → token_points (cond b (token.LineEnd c.line ∷ []) [] ++ from_units line_end_of r (more_by (unit_at r (c ∷ cs))) cs) ≡ []
+        → token_points
+        (cond b (token.LineEnd c.line ∷ []) [] ++ from_units line_end_of r (more_by (unit_at r (c ∷ cs))) cs)
+        ≡ []
     by true h = h
     by false h = h
 
@@ -121,17 +135,20 @@ line_ends-points : (r : Region) (text : List Cell) → token_points (line_ends r
 line_ends-points r text = ap token_points (line_ends-are r text) ∙ units-points r 0 text
 
 -- white space, line ends and the fault of a comment or control text have no points
-white-points : (r : Region) (text : List Cell) (b : Bool) (kind : FaultKind) (line : ℕ) → token_points (token.White ∷ line_ends r text ++ fault_if b kind line) ≡ []
+white-points : (r : Region) (text : List Cell) (b : Bool) (kind : FaultKind) (line : ℕ)
+    → token_points (token.White ∷ line_ends r text ++ fault_if b kind line) ≡ []
 white-points r text b kind line =
     points-append (line_ends r text) (fault_if b kind line)
     ∙ ap (λ ps. ps ++ token_points (fault_if b kind line)) (line_ends-points r text)
     ∙ fault-points b kind line
 
-constant-points : (k : Option AsciiConstant) (s : LexerState) (text : List Cell) → token_points (constant_lexeme k s text).tokens ≡ []
+constant-points : (k : Option AsciiConstant) (s : LexerState) (text : List Cell)
+    → token_points (constant_lexeme k s text).tokens ≡ []
 constant-points None s text = refl
 constant-points (Some k) s text = refl
 
-constant-mode : (k : Option AsciiConstant) (s : LexerState) (text : List Cell) → (constant_lexeme k s text).after.mode ≡ s.mode
+constant-mode : (k : Option AsciiConstant) (s : LexerState) (text : List Cell)
+    → (constant_lexeme k s text).after.mode ≡ s.mode
 constant-mode None s text = refl
 constant-mode (Some k) s text = refl
 
@@ -143,33 +160,46 @@ record IsPlain (s : LexerState) (here : Lexeme) : Type 0 where
 plain : (s : LexerState) (here : Lexeme) → AreNoHeadsOrUses here.tokens → here.after.mode ≡ s.mode → IsPlain s here
 plain s here q m = record { tokens = q; mode = m }
 
-code-plain : (kind : ControlCode) (s : LexerState) (text : List Cell) → (kind ≡ code.SectionStart → ⊥) → (kind ≡ code.Name → ⊥) → IsPlain s (c_code kind s text)
+code-plain : (kind : ControlCode) (s : LexerState) (text : List Cell)
+    → (kind ≡ code.SectionStart → ⊥) → (kind ≡ code.Name → ⊥) → IsPlain s (c_code kind s text)
 code-plain code.SectionStart s text h k = absurd (h refl)
 code-plain code.Name s text h k = absurd (k refl)
-code-plain code.ControlText s text h k = plain s _ (white-plain _ _ (line_ends-plain region.ControlText (drop 2 text)) (fault_if-plain _ fault.ControlText _)) refl
+code-plain code.ControlText s text h k = plain s _
+    (white-plain _ _ (line_ends-plain region.ControlText (drop 2 text)) (fault_if-plain _ fault.ControlText _)) refl
 code-plain code.Verbatim s text h k = plain s _ (verbatim_tokens-plain (drop 2 text)) refl
-code-plain code.AsciiConstant s text h k = plain s _ (constant-plain (constant_at (drop 2 text)) s text) (constant-mode (constant_at (drop 2 text)) s text)
+code-plain code.AsciiConstant s text h k =
+    plain s _ (constant-plain (constant_at (drop 2 text)) s text) (constant-mode (constant_at (drop 2 text)) s text)
 code-plain _ s text h k = plain s _ (seen _ refl) refl
 
 abbrev IsCode : LexemeKind → Type 0
 IsCode (lexeme_kind.Control code) = Unit {0}
 IsCode _ = ⊥
 
-kind-plain : (kind : LexemeKind) (s : LexerState) (text : List Cell) → (IsCode kind → ⊥) → IsPlain s (c_lexeme kind s text)
+kind-plain : (kind : LexemeKind) (s : LexerState) (text : List Cell)
+    → (IsCode kind → ⊥) → IsPlain s (c_lexeme kind s text)
 kind-plain (lexeme_kind.Control code) s text h = absurd (h tt)
-kind-plain lexeme_kind.BlockComment s text h = plain s _ (white-plain _ _ (line_ends-plain region.BlockComment (drop 2 text)) (fault_if-plain _ fault.CommentEnd _)) refl
-kind-plain lexeme_kind.LineComment s text h = plain s _ (white-plain [] _ (seen [] refl) (fault_if-plain _ fault.CommentEnd _)) refl
+kind-plain lexeme_kind.BlockComment s text h = plain s _
+    (white-plain _ _ (line_ends-plain region.BlockComment (drop 2 text)) (fault_if-plain _ fault.CommentEnd _)) refl
+kind-plain lexeme_kind.LineComment s text h =
+    plain s _ (white-plain [] _ (seen [] refl) (fault_if-plain _ fault.CommentEnd _)) refl
 kind-plain lexeme_kind.DoubleQuote s text h =
-    plain s _ (cut_tokens-plain (quote_end region.DoubleQuote double_quote s.last_line) region.DoubleQuote 0 (front_column text) (drop 1 text) (quote_end-plain region.DoubleQuote double_quote s.last_line)) refl
+    plain s _
+    (cut_tokens-plain (quote_end region.DoubleQuote double_quote s.last_line) region.DoubleQuote 0
+    (front_column text) (drop 1 text) (quote_end-plain region.DoubleQuote double_quote s.last_line)) refl
 kind-plain lexeme_kind.Apostrophe s text h =
-    plain s _ (cut_tokens-plain (quote_end region.Apostrophe apostrophe s.last_line) region.Apostrophe 0 (front_column text) (drop 1 text) (quote_end-plain region.Apostrophe apostrophe s.last_line)) refl
+    plain s _
+    (cut_tokens-plain (quote_end region.Apostrophe apostrophe s.last_line) region.Apostrophe 0
+    (front_column text) (drop 1 text) (quote_end-plain region.Apostrophe apostrophe s.last_line)) refl
 kind-plain lexeme_kind.HeaderName s text h =
-    plain s _ (cut_tokens-plain (quote_end region.HeaderName greater_sign s.last_line) region.HeaderName 0 (front_column text) (drop 1 text) (quote_end-plain region.HeaderName greater_sign s.last_line)) refl
+    plain s _
+    (cut_tokens-plain (quote_end region.HeaderName greater_sign s.last_line) region.HeaderName 0
+    (front_column text) (drop 1 text) (quote_end-plain region.HeaderName greater_sign s.last_line)) refl
 kind-plain _ s text h = plain s _ (seen _ refl) refl
 
 module _ (width : ℕ → ℕ) (count : ℕ) where
   -- the points of a span are those of its bytes
-  span-keeps : (at : Point) (n : ℕ) (c : Cell) (cs : List Cell) → IsTextAt width count at (c ∷ cs) → HoldsBytes n (c ∷ cs)
+  span-keeps : (at : Point) (n : ℕ) (c : Cell) (cs : List Cell)
+      → IsTextAt width count at (c ∷ cs) → HoldsBytes n (c ∷ cs)
       → span_points (span_at n (c ∷ cs)) ++ [] ≡ byte_points (take n (c ∷ cs)) ++ []
   span-keeps at n c cs is h =
       let e : c.column + n - c.column ≡ n = omega arith in
@@ -179,44 +209,58 @@ module _ (width : ℕ → ℕ) (count : ℕ) where
   -- kind.
 
   abbrev CodeKeeps : ControlCode → LexerState → List Cell → Type 0
-  CodeKeeps kind s text = token_points (c_code kind s text).tokens ≡ flat_map kept_points (code_segments kind (1 + (c_code kind s text).more) text)
+  CodeKeeps kind s text =
+      token_points (c_code kind s text).tokens
+      ≡ flat_map kept_points (code_segments kind (1 + (c_code kind s text).more) text)
 
-  verbatim-kept : (text : List Cell) → flat_map kept_points (verbatim_segments text) ≡ text_points false (take (count_before region.Verbatim (drop 2 text)) (drop 2 text))
+  verbatim-kept : (text : List Cell)
+      → flat_map kept_points (verbatim_segments text)
+      ≡ text_points false (take (count_before region.Verbatim (drop 2 text)) (drop 2 text))
   verbatim-kept text =
       let inside : ℕ = count_before region.Verbatim (drop 2 text) in
       let rest : List Cell = drop inside (drop 2 text) in
-      flat_map-append kept_points (text_segments false (take inside (drop 2 text))) (if has_end_code rest then segment ControlBytes (take 2 rest) ∷ [] else [])
+      flat_map-append kept_points (text_segments false (take inside (drop 2 text)))
+      (if has_end_code rest then segment ControlBytes (take 2 rest) ∷ [] else [])
       ∙ ap (λ ps. text_points false (take inside (drop 2 text)) ++ ps) (by (has_end_code rest) (take 2 rest))
       ∙ append-nil (text_points false (take inside (drop 2 text)))
     where
-      by : (b : Bool) (cells : List Cell) → flat_map kept_points (if b then segment ControlBytes cells ∷ [] else []) ≡ []
+      by : (b : Bool) (cells : List Cell)
+          → flat_map kept_points (if b then segment ControlBytes cells ∷ [] else []) ≡ []
       by true cells = refl
       by false cells = refl
 
-  code-keeps : (kind : ControlCode) (s : LexerState) (at : Point) (c : Cell) (cs : List Cell) → IsTextAt width count at (c ∷ cs)
+  code-keeps : (kind : ControlCode) (s : LexerState) (at : Point) (c : Cell) (cs : List Cell)
+      → IsTextAt width count at (c ∷ cs)
       → CodeCells kind c.byte (byte_at 0 cs) → CodeKeeps kind s (c ∷ cs)
   code-keeps code.DoubleAt s at c cs is h = span-keeps at 1 c cs is (h.0, tt)
   code-keeps code.Name s at c cs is h =
       let text : List Cell = c ∷ cs in
-      let others : List Token = fault_if (has_single_equals (after_name text)) fault.NameEquals (front_line s.last_line text) in
+      let others : List Token =
+      fault_if (has_single_equals (after_name text)) fault.NameEquals (front_line s.last_line text) in
       points-append (name_faults s.last_line text) others
-      ∙ ap (λ ps. ps ++ token_points others) (fault-points (not (is_ended text)) fault.NameEnd (front_line s.last_line (name_end text)))
+      ∙ ap (λ ps. ps ++ token_points others)
+      (fault-points (not (is_ended text)) fault.NameEnd (front_line s.last_line (name_end text)))
       ∙ fault-points (has_single_equals (after_name text)) fault.NameEquals (front_line s.last_line text)
   code-keeps code.ControlText s at c cs is h =
       let rest : List Cell = drop (count_before region.ControlText (drop 1 cs)) (drop 1 cs) in
-      white-points region.ControlText (drop 1 cs) (not (has_end_code rest)) fault.ControlText (front_line s.last_line rest)
+      white-points region.ControlText (drop 1 cs) (not (has_end_code rest))
+      fault.ControlText (front_line s.last_line rest)
   code-keeps code.Verbatim s at c cs is h =
-      verbatim-keeps width count (after_cells at 2 (c ∷ cs)) (drop 1 cs) (text-after_cells width count at 2 (c ∷ cs) is) ∙ sym (verbatim-kept (c ∷ cs))
+      verbatim-keeps width count (after_cells at 2 (c ∷ cs)) (drop 1 cs) (text-after_cells width count at 2 (c ∷ cs) is)
+      ∙ sym (verbatim-kept (c ∷ cs))
   code-keeps code.AsciiConstant s at c cs is h = constant-points (constant_at (drop 1 cs)) s (c ∷ cs)
   code-keeps _ s at c cs is h = refl
 
-  kind-keeps : (kind : LexemeKind) (s : LexerState) (at : Point) (c : Cell) (cs : List Cell) → IsTextAt width count at (c ∷ cs)
+  kind-keeps : (kind : LexemeKind) (s : LexerState) (at : Point) (c : Cell) (cs : List Cell)
+      → IsTextAt width count at (c ∷ cs)
       → Cells kind c.byte (byte_at 0 cs) → NoAtSign kind c.byte
-      → token_points (c_lexeme kind s (c ∷ cs)).tokens ≡ flat_map kept_points (c_segments kind (1 + (c_lexeme kind s (c ∷ cs)).more) (c ∷ cs))
+      → token_points (c_lexeme kind s (c ∷ cs)).tokens
+      ≡ flat_map kept_points (c_segments kind (1 + (c_lexeme kind s (c ∷ cs)).more) (c ∷ cs))
   kind-keeps (lexeme_kind.Control kind) s at c cs is h k = code-keeps kind s at c cs is h
   kind-keeps lexeme_kind.BlockComment s at c cs is h k =
       let rest : List Cell = drop (count_before region.BlockComment (drop 1 cs)) (drop 1 cs) in
-      white-points region.BlockComment (drop 1 cs) (not (ends_comment rest)) fault.CommentEnd (front_line s.last_line rest)
+      white-points region.BlockComment (drop 1 cs) (not (ends_comment rest))
+      fault.CommentEnd (front_line s.last_line rest)
   kind-keeps lexeme_kind.LineComment s at c cs is h k =
       let rest : List Cell = drop (count_before region.LineComment (drop 1 cs)) (drop 1 cs) in
       fault-points (starts_section rest) fault.CommentEnd (front_line s.last_line rest)
@@ -226,66 +270,90 @@ module _ (width : ℕ → ℕ) (count : ℕ) where
   kind-keeps lexeme_kind.LineEnd s at c cs is h k = refl
   kind-keeps lexeme_kind.White s at c cs is h k = refl
   kind-keeps lexeme_kind.Word s at c cs is h k =
-      span-keeps at (1 + count_before region.Word cs) c cs is (more-bytes 1 (count_before region.Word cs) (c ∷ cs) (h, tt) (word-bytes cs))
+      span-keeps at (1 + count_before region.Word cs) c cs is
+      (more-bytes 1 (count_before region.Word cs) (c ∷ cs) (h, tt) (word-bytes cs))
   kind-keeps lexeme_kind.Other s at c cs is h k = span-keeps at 1 c cs is (h, tt)
 
   -- The same with the tokens after the lexeme: each counts only if it is in a C part.
 
   abbrev Keeps : Mode → Lexeme → List Segment → Type 0
-  Keeps m here ss = (us : List Token) → part_points (in_part m) (here.tokens ++ us) ≡ flat_map kept_points ss ++ part_points (in_part here.after.mode) us
+  Keeps m here ss =
+      (us : List Token)
+      → part_points (in_part m) (here.tokens ++ us)
+      ≡ flat_map kept_points ss ++ part_points (in_part here.after.mode) us
 
-  plain-within : (s : LexerState) (here : Lexeme) (ss : List Segment) → s.mode ≡ mode.CPart → IsPlain s here → token_points here.tokens ≡ flat_map kept_points ss → Keeps mode.CPart here ss
+  plain-within : (s : LexerState) (here : Lexeme) (ss : List Segment) → s.mode ≡ mode.CPart
+      → IsPlain s here → token_points here.tokens ≡ flat_map kept_points ss → Keeps mode.CPart here ss
   plain-within s here ss m p e us =
       part_points-within here.tokens us p.tokens.none
       ∙ rw e (ap (λ x. flat_map kept_points ss ++ part_points (in_part x) us) (sym (p.mode ∙ m)))
 
-  plain-outside : (s : LexerState) (here : Lexeme) → in_part s.mode ≡ false → IsPlain s here → (us : List Token) → part_points false (here.tokens ++ us) ≡ part_points (in_part here.after.mode) us
+  plain-outside : (s : LexerState) (here : Lexeme) → in_part s.mode ≡ false → IsPlain s here → (us : List Token)
+      → part_points false (here.tokens ++ us) ≡ part_points (in_part here.after.mode) us
   plain-outside s here m p us =
       part_points-outside here.tokens us p.tokens.none ∙ ap (λ x. part_points x us) (sym (ap in_part p.mode ∙ m))
 
-  use-plain : (s : LexerState) (text : List Cell) → AreNoHeadsOrUses (name_faults s.last_line text ++ fault_if (has_single_equals (after_name text)) fault.NameEquals (front_line s.last_line text))
-  use-plain s text = plain-append _ _ (fault_if-plain _ fault.NameEnd _) (fault_if-plain (has_single_equals (after_name text)) fault.NameEquals (front_line s.last_line text))
+  use-plain : (s : LexerState) (text : List Cell) → AreNoHeadsOrUses (name_faults s.last_line text
+      ++ fault_if (has_single_equals (after_name text)) fault.NameEquals (front_line s.last_line text))
+  use-plain s text = plain-append _ _ (fault_if-plain _ fault.NameEnd _)
+      (fault_if-plain (has_single_equals (after_name text)) fault.NameEquals (front_line s.last_line text))
 
-  code-within : (kind : ControlCode) (s : LexerState) (c : Cell) (cs : List Cell) → s.mode ≡ mode.CPart → CodeKeeps kind s (c ∷ cs)
+  code-within : (kind : ControlCode) (s : LexerState) (c : Cell) (cs : List Cell)
+      → s.mode ≡ mode.CPart → CodeKeeps kind s (c ∷ cs)
       → Keeps mode.CPart (c_code kind s (c ∷ cs)) (code_segments kind (1 + (c_code kind s (c ∷ cs)).more) (c ∷ cs))
   code-within code.SectionStart s c cs m e us = refl
   code-within code.Name s c cs m e us =
-      part_points-within (name_faults s.last_line (c ∷ cs) ++ fault_if (has_single_equals (after_name (c ∷ cs))) fault.NameEquals (front_line s.last_line (c ∷ cs))) us (use-plain s (c ∷ cs)).none
+      part_points-within
+      (name_faults s.last_line (c ∷ cs)
+      ++ fault_if (has_single_equals (after_name (c ∷ cs))) fault.NameEquals (front_line s.last_line (c ∷ cs)))
+      us (use-plain s (c ∷ cs)).none
       ∙ rw (e, m) refl
-  code-within kind s c cs m e us = plain-within s (c_code kind s (c ∷ cs)) (code_segments kind (1 + (c_code kind s (c ∷ cs)).more) (c ∷ cs)) m (code-plain kind s (c ∷ cs) (λ k. cc) (λ k. cc)) e us
+  code-within kind s c cs m e us =
+      plain-within s (c_code kind s (c ∷ cs)) (code_segments kind (1 + (c_code kind s (c ∷ cs)).more) (c ∷ cs))
+      m (code-plain kind s (c ∷ cs) (λ k. cc) (λ k. cc)) e us
 
   kind-within : (kind : LexemeKind) (s : LexerState) (c : Cell) (cs : List Cell) → s.mode ≡ mode.CPart
-      → token_points (c_lexeme kind s (c ∷ cs)).tokens ≡ flat_map kept_points (c_segments kind (1 + (c_lexeme kind s (c ∷ cs)).more) (c ∷ cs))
+      → token_points (c_lexeme kind s (c ∷ cs)).tokens
+      ≡ flat_map kept_points (c_segments kind (1 + (c_lexeme kind s (c ∷ cs)).more) (c ∷ cs))
       → Keeps mode.CPart (c_lexeme kind s (c ∷ cs)) (c_segments kind (1 + (c_lexeme kind s (c ∷ cs)).more) (c ∷ cs))
   kind-within (lexeme_kind.Control kind) s c cs m e = code-within kind s c cs m e
-  kind-within kind s c cs m e = plain-within s (c_lexeme kind s (c ∷ cs)) (c_segments kind (1 + (c_lexeme kind s (c ∷ cs)).more) (c ∷ cs)) m (kind-plain kind s (c ∷ cs) (λ k. k)) e
+  kind-within kind s c cs m e = plain-within s (c_lexeme kind s (c ∷ cs))
+      (c_segments kind (1 + (c_lexeme kind s (c ∷ cs)).more) (c ∷ cs)) m (kind-plain kind s (c ∷ cs) (λ k. k)) e
 
   -- a lexeme outside of C parts adds no points; the mode after it says whether a C part begins
 
   abbrev Leads : Lexeme → Type 0
   Leads here = (us : List Token) → part_points false (here.tokens ++ us) ≡ part_points (in_part here.after.mode) us
 
-  name-leads : (s : LexerState) (text : List Cell) → in_part s.mode ≡ false → (o : Option ℕ) → Leads (definition_or_mention o s text)
-  name-leads s text m None us = part_points-outside (name_faults s.last_line text) us (fault_if-plain _ fault.NameEnd _).none ∙ ap (λ x. part_points x us) (sym m)
+  name-leads : (s : LexerState) (text : List Cell)
+      → in_part s.mode ≡ false → (o : Option ℕ) → Leads (definition_or_mention o s text)
+  name-leads s text m None us =
+      part_points-outside (name_faults s.last_line text) us (fault_if-plain _ fault.NameEnd _).none
+      ∙ ap (λ x. part_points x us) (sym m)
   name-leads s text m (Some k) us = refl
 
-  documentation-leads : (kind : ControlCode) (s : LexerState) (text : List Cell) → in_part s.mode ≡ false → Leads (documentation_code kind s text)
+  documentation-leads : (kind : ControlCode) (s : LexerState) (text : List Cell)
+      → in_part s.mode ≡ false → Leads (documentation_code kind s text)
   documentation-leads code.SectionStart s text m us = refl
   documentation-leads code.Macro s text m us = refl
   documentation-leads code.UnnamedPart s text m us = refl
   documentation-leads code.Name s text m us = name-leads s text m (definition_count text) us
   documentation-leads _ s text m us = rw m refl
 
-  macro-code-leads : (kind : ControlCode) (s : LexerState) (text : List Cell) → in_part s.mode ≡ false → Leads (macro_code kind s text)
+  macro-code-leads : (kind : ControlCode) (s : LexerState) (text : List Cell)
+      → in_part s.mode ≡ false → Leads (macro_code kind s text)
   macro-code-leads code.SectionStart s text m us = refl
   macro-code-leads code.Macro s text m us = refl
   macro-code-leads code.UnnamedPart s text m us = refl
-  macro-code-leads code.Name s text m us = name-leads (in_mode mode.Documentation s) text refl (definition_count text) us
+  macro-code-leads code.Name s text m us =
+      name-leads (in_mode mode.Documentation s) text refl (definition_count text) us
   macro-code-leads code.Format s text m us = refl
   macro-code-leads code.AllMacros s text m us = rw m refl
-  macro-code-leads kind s text m us = plain-outside s (c_code kind s text) m (code-plain kind s text (λ k. cc) (λ k. cc)) us
+  macro-code-leads kind s text m us =
+      plain-outside s (c_code kind s text) m (code-plain kind s text (λ k. cc) (λ k. cc)) us
 
-  macro-leads : (kind : LexemeKind) (s : LexerState) (text : List Cell) → in_part s.mode ≡ false → Leads (macro_lexeme kind s text)
+  macro-leads : (kind : LexemeKind) (s : LexerState) (text : List Cell)
+      → in_part s.mode ≡ false → Leads (macro_lexeme kind s text)
   macro-leads (lexeme_kind.Control kind) s text m = macro-code-leads kind s text m
   macro-leads kind s text m = plain-outside s (c_lexeme kind s text) m (kind-plain kind s text (λ k. k))
 
@@ -301,20 +369,26 @@ module _ (width : ℕ → ℕ) (count : ℕ) where
       skip : (n : ℕ) → in_part s.mode ≡ false → Leads (lexeme_of [] n s)
       skip n m us = rw m refl
 
-      by : (m : Mode) → s.mode ≡ m → Keeps m (lexeme_in m s (c ∷ cs)) (segments_in m s (1 + (lexeme_in m s (c ∷ cs)).more) (c ∷ cs))
+      by : (m : Mode)
+          → s.mode ≡ m → Keeps m (lexeme_in m s (c ∷ cs)) (segments_in m s (1 + (lexeme_in m s (c ∷ cs)).more) (c ∷ cs))
       by mode.Limbo e =
           if-leads (starts_section (c ∷ cs)) (section_start s) _ (λ us. refl)
-          (if-leads (holds at_sign c.byte) (lexeme_of [] 1 s) (prose s (c ∷ cs)) (skip 1 (ap in_part e)) (skip (count_before region.Prose cs) (ap in_part e)))
+          (if-leads (holds at_sign c.byte) (lexeme_of [] 1 s) (prose s (c ∷ cs))
+          (skip 1 (ap in_part e)) (skip (count_before region.Prose cs) (ap in_part e)))
       by mode.Documentation e =
-          if-leads (holds at_sign c.byte) _ (prose s (c ∷ cs)) (documentation-leads (code_at (byte_at 0 cs)) s (c ∷ cs) (ap in_part e)) (skip (count_before region.Prose cs) (ap in_part e))
+          if-leads (holds at_sign c.byte) _ (prose s (c ∷ cs))
+          (documentation-leads (code_at (byte_at 0 cs)) s (c ∷ cs) (ap in_part e))
+          (skip (count_before region.Prose cs) (ap in_part e))
       by mode.CPart e =
           kind-within (kind_at s.include (c ∷ cs)) s c cs e
-          (kind-keeps (kind_at s.include (c ∷ cs)) s at c cs is (kind-cells s.include c.byte (byte_at 0 cs)) (kind-no-sign s.include c.byte (byte_at 0 cs)))
+          (kind-keeps (kind_at s.include (c ∷ cs)) s at c cs is
+          (kind-cells s.include c.byte (byte_at 0 cs)) (kind-no-sign s.include c.byte (byte_at 0 cs)))
       by mode.Macro e = macro-leads (kind_at s.include (c ∷ cs)) s (c ∷ cs) (ap in_part e)
 
   -- all lexemes: the points of the spans in C parts are those of the segments that are kept
   pub segments-keep : (k : ℕ) (s : LexerState) (text : List Cell) (at : Point) → IsTextAt width count at text
-      → part_points (in_part s.mode) (flat_map (λ l. l.tokens) (lexemes k s text)) ≡ flat_map kept_points (segments k s text)
+      → part_points (in_part s.mode) (flat_map (λ l. l.tokens) (lexemes k s text))
+      ≡ flat_map kept_points (segments k s text)
   segments-keep k s [] at is = refl
   segments-keep (suc k) s (c ∷ cs) at is = segments-keep k s cs (after_cell c) is.1
   segments-keep zero s (c ∷ cs) at is =

@@ -1,5 +1,6 @@
 -- The kind of a lexeme determines which of its first two cells are bytes.
 use Rattle.std.proofs.Common.{◌≡◌, ℕ, Bool, true, false, ◌&&◌, ◌||◌, Option, Some, None, refl, if◌then◌else◌, ◌==◌}
+use Rattle.std.proofs.lemmas.Bool.{and_parts}
 use Rattle.tangle_lines.specs.Bytes.{at_sign, double_quote, is_white}
 use Rattle.tangle_lexer.specs.declared.modes.IncludeState.{IncludeState}
 use Rattle.tangle_lexer.specs.declared.modes.IncludeState.TheVariants as include
@@ -7,10 +8,11 @@ use Rattle.tangle_lexer.specs.declared.lexeme_kinds.ControlCode.{ControlCode}
 use Rattle.tangle_lexer.specs.declared.lexeme_kinds.ControlCode.TheVariants as code
 use Rattle.tangle_lexer.specs.declared.lexeme_kinds.LexemeKind.{LexemeKind}
 use Rattle.tangle_lexer.specs.declared.lexeme_kinds.LexemeKind.TheVariants as lexeme_kind
-use Rattle.tangle_text.specs.Bytes.{asterisk, slash, less_sign, left_parenthesis, equals_sign, apostrophe, holds, is_word_byte, lower}
+use Rattle.tangle_text.specs.Bytes.{asterisk, slash, less_sign, left_parenthesis, equals_sign, apostrophe, holds}
+use Rattle.tangle_text.specs.Bytes.{is_word_byte, lower}
 use Rattle.tangle_lexer.specs.Steps.{code_of, code_at, less_kind, byte_kind, kind_by}
 use Rattle.tangle_lexer.proofs.laws.Points.{IsByte}
-use Rattle.tangle_lexer.proofs.laws.RegionOrder.{holds-byte, both}
+use Rattle.tangle_lexer.proofs.laws.RegionOrder.{holds-byte}
 
 abbrev pub IsLineEnd : Option ℕ → Type 0
 IsLineEnd None = Unit {0}
@@ -60,8 +62,10 @@ less-cells include.Elsewhere b next = tt
 
 byte-cells : (inc : IncludeState) (b : ℕ) (next : Option ℕ) → Cells (byte_kind inc b next) (Some b) next
 byte-cells inc b next =
-    if-holds (λ k. Cells k (Some b) next) (b == slash && holds asterisk next) lexeme_kind.BlockComment _ (λ e. (tt, holds-byte asterisk next (both (b == slash) (holds asterisk next) e).1))
-    (if-holds (λ k. Cells k (Some b) next) (b == slash && holds slash next) lexeme_kind.LineComment _ (λ e. (tt, holds-byte slash next (both (b == slash) (holds slash next) e).1))
+    if-holds (λ k. Cells k (Some b) next) (b == slash && holds asterisk next) lexeme_kind.BlockComment
+    _ (λ e. (tt, holds-byte asterisk next (and_parts (b == slash) (holds asterisk next) e).1))
+    (if-holds (λ k. Cells k (Some b) next) (b == slash && holds slash next) lexeme_kind.LineComment
+    _ (λ e. (tt, holds-byte slash next (and_parts (b == slash) (holds slash next) e).1))
     (if-holds (λ k. Cells k (Some b) next) (b == double_quote) lexeme_kind.DoubleQuote _ (λ e. tt)
     (if-holds (λ k. Cells k (Some b) next) (b == apostrophe) lexeme_kind.Apostrophe _ (λ e. tt)
     (if-holds (λ k. Cells k (Some b) next) (b == less_sign) (less_kind inc) _ (λ e. less-cells inc b next)
@@ -70,4 +74,5 @@ byte-cells inc b next =
 
 pub kind-cells : (inc : IncludeState) (b next : Option ℕ) → Cells (kind_by inc b next) b next
 kind-cells inc None next = tt
-kind-cells inc (Some b) next = if-holds (λ k. Cells k (Some b) next) (b == at_sign) (lexeme_kind.Control (code_at next)) (byte_kind inc b next) (λ e. code-cells b next) (byte-cells inc b next)
+kind-cells inc (Some b) next = if-holds (λ k. Cells k (Some b) next) (b == at_sign)
+    (lexeme_kind.Control (code_at next)) (byte_kind inc b next) (λ e. code-cells b next) (byte-cells inc b next)

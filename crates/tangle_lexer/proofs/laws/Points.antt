@@ -1,5 +1,6 @@
 -- Points of the text, and the point after a number of cells.
-use Rattle.std.proofs.Common.{◌≡◌, ℕ, zero, suc, ◌+◌, ◌<◌, ◌≤◌, List, [], ◌∷◌, ◌++◌, length, get_or, drop, Option, Some, None, refl, ap, sym, ◌∙◌, arith, add-zero}
+use Rattle.std.proofs.Common.{◌≡◌, ℕ, zero, suc, ◌+◌, ◌<◌, ◌≤◌, List, [], ◌∷◌, ◌++◌, length, get_or, drop, Option, Some}
+use Rattle.std.proofs.Common.{None, refl, ap, sym, ◌∙◌, arith, add-zero}
 use Rattle.tangle_lines.specs.Reading.{SourceLine}
 use Rattle.tangle_lines.specs.Reading.{no_line}
 use Rattle.tangle_text.specs.Text.{Cell, line_text, text_from}
@@ -38,7 +39,7 @@ after_cells at zero text = at
 after_cells at (suc k) [] = at
 after_cells at (suc k) (c ∷ cs) = after_cells (after_cell c) k cs
 
--- this number of cells at the front are bytes
+-- this number of cells at the front have bytes
 abbrev pub HoldsBytes : ℕ → List Cell → Type 0
 HoldsBytes zero text = Unit {0}
 HoldsBytes (suc k) [] = ⊥
@@ -52,7 +53,11 @@ pub record IsCellAt (width : ℕ → ℕ) (count : ℕ) (at : Point) (c : Cell) 
   pub real : at.line < count
 
 pub precedes-trans : (a b c : Point) → Precedes a b → Precedes b c → Precedes a c
-precedes-trans a b c h k = (omega (arith, h.0, k.0), λ e. let x : a.line ≡ b.line = omega (arith, h.0, k.0, e) in let y : b.line ≡ c.line = omega (arith, h.0, k.0, e) in omega (arith, h.1 x, k.1 y))
+precedes-trans a b c h k = (
+  omega (arith, h.0, k.0),
+  λ e. let x : a.line ≡ b.line = omega (arith, h.0, k.0, e) in
+      let y : b.line ≡ c.line = omega (arith, h.0, k.0, e) in omega (arith, h.1 x, k.1 y),
+)
 
 pub precedes-refl : (a : Point) → Precedes a a
 precedes-refl a = (omega arith, λ e. omega arith)
@@ -71,7 +76,8 @@ module _ (width : ℕ → ℕ) (count : ℕ) where
   IsTextAt at (c ∷ cs) = IsCellAt width count at c × IsTextAt (after_cell c) cs
 
   -- the rest of a text begins at the point after its first `n` cells
-  pub text-after_cells : (at : Point) (n : ℕ) (text : List Cell) → IsTextAt at text → IsTextAt (after_cells at n text) (drop n text)
+  pub text-after_cells : (at : Point) (n : ℕ) (text : List Cell)
+      → IsTextAt at text → IsTextAt (after_cells at n text) (drop n text)
   text-after_cells at zero text is = is
   text-after_cells at (suc n) [] is = is
   text-after_cells at (suc n) (c ∷ cs) is = text-after_cells (after_cell c) n cs is.1
@@ -88,14 +94,17 @@ module _ (width : ℕ → ℕ) (count : ℕ) where
       by None = (omega (arith, is.line), λ e. absurd (omega (arith, is.line, e)))
       by (Some b) = (omega (arith, is.line), λ e. omega (arith, is.column))
 
-  pub precedes-after_cells : (at : Point) (n : ℕ) (text : List Cell) → IsTextAt at text → Precedes at (after_cells at n text)
+  pub precedes-after_cells : (at : Point) (n : ℕ) (text : List Cell)
+      → IsTextAt at text → Precedes at (after_cells at n text)
   precedes-after_cells at zero text is = precedes-refl at
   precedes-after_cells at (suc n) [] is = precedes-refl at
   precedes-after_cells at (suc n) (c ∷ cs) is =
-      precedes-trans at (after_cell c) (after_cells (after_cell c) n cs) (precedes-after at c is.0) (precedes-after_cells (after_cell c) n cs is.1)
+      precedes-trans at (after_cell c) (after_cells (after_cell c) n cs)
+      (precedes-after at c is.0) (precedes-after_cells (after_cell c) n cs is.1)
 
   -- the point after `n` bytes is on the same line
-  pub after_cells-bytes : (at : Point) (n : ℕ) (text : List Cell) → IsTextAt at text → HoldsBytes n text → after_cells at n text ≡ point_at at.line (at.column + n)
+  pub after_cells-bytes : (at : Point) (n : ℕ) (text : List Cell)
+      → IsTextAt at text → HoldsBytes n text → after_cells at n text ≡ point_at at.line (at.column + n)
   after_cells-bytes at zero text is h = λ i. point_at at.line (sym (add-zero at.column) i)
   after_cells-bytes at (suc n) [] is h = absurd h
   after_cells-bytes at (suc n) (c ∷ cs) is h =
@@ -107,12 +116,16 @@ module _ (width : ℕ → ℕ) (count : ℕ) where
 
   line-is : (line column : ℕ) (bytes : List ℕ) (rest : List Cell) → column + length bytes ≡ width line → line < count
       → IsTextAt (point_at (line + 1) 0) rest → IsTextAt (point_at line column) (line_text line column bytes ++ rest)
-  line-is line column [] rest h real is = (record { line = refl; column = refl; inside = omega (arith, h); real = real }, is)
-  line-is line column (b ∷ bs) rest h real is =
-      (record { line = refl; column = refl; inside = omega (arith, h); real = real }, line-is line (column + 1) bs rest (omega (arith, h)) real is)
+  line-is line column [] rest h real is =
+      (record { line = refl; column = refl; inside = omega (arith, h); real = real }, is)
+  line-is line column (b ∷ bs) rest h real is = (
+    record { line = refl; column = refl; inside = omega (arith, h); real = real },
+    line-is line (column + 1) bs rest (omega (arith, h)) real is,
+  )
 
   -- the cells of the text of lines follow one another
-  pub text-is : (n : ℕ) (lines : List SourceLine) → n + length lines ≡ count → ((k : ℕ) → k < length lines → length (get_or lines k no_line).bytes ≡ width (n + k))
+  pub text-is : (n : ℕ) (lines : List SourceLine)
+      → n + length lines ≡ count → ((k : ℕ) → k < length lines → length (get_or lines k no_line).bytes ≡ width (n + k))
       → IsTextAt (point_at n 0) (text_from n lines)
   text-is n [] all h = (refl, omega (arith, all))
   text-is n (l ∷ ls) all h =

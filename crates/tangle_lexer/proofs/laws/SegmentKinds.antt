@@ -1,10 +1,13 @@
 -- The segments of a text are side by side and fill it, and the cells of each are such as its kind has.
-use Rattle.std.proofs.Common.{◌≡◌, ◌<◌, ◌≤◌, ℕ, zero, suc, ◌+◌, Bool, true, false, not, ◌&&◌, ◌||◌, List, [], ◌∷◌, ◌++◌, length, take, drop, flat_map, Option, Some, None, inl, inr, refl, ap, sym, ◌∙◌, arith, append-nil, cond, ◌==◌, if◌then◌else◌, ◌-◌, subst}
+use Rattle.std.proofs.Common.{◌≡◌, ◌<◌, ◌≤◌, ℕ, zero, suc, ◌+◌, Bool, true, false, not, ◌&&◌, ◌||◌, List, [], ◌∷◌, ◌++◌}
+use Rattle.std.proofs.Common.{take, drop, flat_map, Option, Some, None, inl, inr, refl, ap, sym, ◌∙◌, arith, append-nil}
+use Rattle.std.proofs.Common.{cond, ◌==◌, if◌then◌else◌, ◌-◌, subst}
 use Rattle.std.proofs.Math.Seq.{take-add}
 use Rattle.std.proofs.lemmas.Grind.{flat_map-append}
-use Rattle.std.proofs.lemmas.List.{take-append-drop}
+use Rattle.std.proofs.lemmas.List.{take-append-drop, drop-drop, length-take}
 use Rattle.std.proofs.lemmas.Bool.Decides.{eqb_tells}
 use Rattle.std.specs.List.{AllByRecursion}
+use Rattle.std.proofs.lemmas.Bool.{and_parts}
 use Rattle.tangle_lines.specs.Bytes.{at_sign, double_quote, is_white}
 use Rattle.tangle_lexer.specs.declared.modes.Mode.{Mode}
 use Rattle.tangle_lexer.specs.declared.modes.Mode.TheVariants as mode
@@ -18,7 +21,9 @@ use Rattle.tangle_lexer.specs.declared.lexeme_kinds.LexemeKind.TheVariants as le
 use Rattle.tangle_text.specs.declared.regions.Region.TheVariants as region
 use Rattle.tangle_lexer.specs.declared.constants.AsciiConstant.{AsciiConstant}
 use Rattle.tangle_text.specs.declared.regions.Unit.TheVariants as unit
-use Rattle.tangle_text.specs.Bytes.{asterisk, slash, less_sign, left_parenthesis, equals_sign, apostrophe, backslash, greater_sign, holds, is_line_end, holds_white, is_word_byte, are_bytes, is_between, lower, is_white_or_line_end, is_section_start}
+use Rattle.tangle_text.specs.Bytes.{asterisk, slash, less_sign, left_parenthesis, equals_sign, apostrophe, backslash}
+use Rattle.tangle_text.specs.Bytes.{greater_sign, holds, is_line_end, holds_white, is_word_byte, are_bytes, is_between}
+use Rattle.tangle_text.specs.Bytes.{lower, is_white_or_line_end, is_section_start}
 use Rattle.tangle_text.specs.Text.{Cell, byte_at}
 use Rattle.tangle_text.specs.Regions.{count_before, unit_by, unit_of, unit_at, more_by}
 use Rattle.tangle_text.proofs.UnitLemmas.{count_by, counted, count-is}
@@ -26,15 +31,19 @@ use Rattle.tangle_lexer.specs.Lexemes.{Lexeme}
 use Rattle.tangle_lexer.specs.Comments.{has_end_code, two_if, ends_comment, block_comment, line_comment, control_text}
 use Rattle.tangle_lexer.specs.Constants.{constant_at, constant_lexeme, ascii_constant}
 use Rattle.tangle_lexer.specs.Names.{name_count, is_ended, name_more}
-use Rattle.tangle_lexer.specs.Steps.{code_at, less_kind, byte_kind, kind_by, kind_at, c_code, c_lexeme, lexeme_in, lexeme}
-use Rattle.tangle_lexer.specs.Segments.{Segment, segment, ShowsKind, OpensWith, text_segments, verbatim_segments, code_segments, c_segments, segments_in, segments, HasNoSection, IsBlockComment, IsLineComment, IsControlText, IsSectionName, IsAsciiConstant}
+use Rattle.tangle_lexer.specs.Steps.{code_at, less_kind, byte_kind, kind_by, kind_at, c_code, c_lexeme, lexeme_in}
+use Rattle.tangle_lexer.specs.Steps.{lexeme}
+use Rattle.tangle_lexer.specs.Segments.{Segment, segment, ShowsKind, OpensWith, text_segments, verbatim_segments}
+use Rattle.tangle_lexer.specs.Segments.{code_segments, c_segments, segments_in, segments, HasNoSection, IsBlockComment}
+use Rattle.tangle_lexer.specs.Segments.{IsLineComment, IsControlText, IsSectionName, IsAsciiConstant}
 use Rattle.tangle_lexer.specs.Segments.SegmentKind.{Kept, SecondAtSign, LineEnd, WhiteSpace, ControlBytes}
 use Rattle.tangle_text.proofs.AheadLemmas.{byte_at-drop}
 use Rattle.tangle_text.specs.declared.regions.Unit.{Unit as Unit-of}
 use Rattle.tangle_lexer.proofs.laws.Points.{IsByte, HoldsBytes}
-use Rattle.tangle_lexer.proofs.laws.RegionOrder.{both, holds-byte, more-bytes, drop-add, two-bytes}
+use Rattle.tangle_lexer.proofs.laws.RegionOrder.{holds-byte, more-bytes, two-bytes}
 use Rattle.tangle_lexer.proofs.laws.WhiteOrder.{word-bytes, line_comment-bytes}
-use Rattle.tangle_lexer.proofs.laws.CodesInside.{control_text-codes, name-codes, block_comment-codes, line_comment-codes, codes-opened}
+use Rattle.tangle_lexer.proofs.laws.CodesInside.{control_text-codes, name-codes, block_comment-codes}
+use Rattle.tangle_lexer.proofs.laws.CodesInside.{line_comment-codes, codes-opened}
 use Rattle.tangle_lexer.proofs.laws.ConstantOrder.{ascii_constant-bytes}
 use Rattle.tangle_lexer.proofs.laws.ConstantQuotes.{ascii_constant-quotes}
 use Rattle.tangle_lexer.proofs.laws.KindCells.{CodeCells, Cells, if-holds, kind-cells}
@@ -56,20 +65,24 @@ verbatim-fills text =
     let last : ℕ = two_if (has_end_code after) in
     let sum : 1 + (1 + inside + last) ≡ 2 + (inside + last) = omega arith in
     ap (λ xs. take 2 text ++ xs)
-    (flat_map-append (λ s. s.cells) (text_segments false (take inside (drop 2 text))) (if has_end_code after then segment ControlBytes (take 2 after) ∷ [] else [])
-    ∙ ap (λ xs. xs ++ cells_of (if has_end_code after then segment ControlBytes (take 2 after) ∷ [] else [])) (text-fills false (take inside (drop 2 text)))
+    (flat_map-append (λ s. s.cells) (text_segments false (take inside (drop 2 text)))
+    (if has_end_code after then segment ControlBytes (take 2 after) ∷ [] else [])
+    ∙ ap (λ xs. xs ++ cells_of (if has_end_code after then segment ControlBytes (take 2 after) ∷ [] else []))
+    (text-fills false (take inside (drop 2 text)))
     ∙ ap (λ xs. take inside (drop 2 text) ++ xs) (by (has_end_code after) after)
     ∙ sym (take-add inside last (drop 2 text)))
     ∙ sym (take-add 2 (inside + last) text)
     ∙ sym (ap (λ n. take n text) sum)
   where
-    by : (b : Bool) (cells : List Cell) → cells_of (if b then segment ControlBytes (take 2 cells) ∷ [] else []) ≡ take (two_if b) cells
+    by : (b : Bool) (cells : List Cell)
+        → cells_of (if b then segment ControlBytes (take 2 cells) ∷ [] else []) ≡ take (two_if b) cells
     by true cells = append-nil (take 2 cells)
     by false cells = refl
 
 code-fills : (kind : ControlCode) (s : LexerState) (text : List Cell)
     → cells_of (code_segments kind (1 + (c_code kind s text).more) text) ≡ take (1 + (c_code kind s text).more) text
-code-fills code.DoubleAt s text = ap (λ xs. take 1 text ++ xs) (append-nil (take 1 (drop 1 text))) ∙ sym (take-add 1 1 text)
+code-fills code.DoubleAt s text =
+    ap (λ xs. take 1 text ++ xs) (append-nil (take 1 (drop 1 text))) ∙ sym (take-add 1 1 text)
 code-fills code.Verbatim s text = verbatim-fills text
 code-fills kind s text = append-nil (take (1 + (c_code kind s text).more) text)
 
@@ -81,11 +94,13 @@ c-fills lexeme_kind.Apostrophe s text = text-fills false _
 c-fills lexeme_kind.HeaderName s text = text-fills false _
 c-fills kind s text = append-nil (take (1 + (c_lexeme kind s text).more) text)
 
-lexeme-fills : (s : LexerState) (text : List Cell) → cells_of (segments_in s.mode s (1 + (lexeme s text).more) text) ≡ take (1 + (lexeme s text).more) text
+lexeme-fills : (s : LexerState) (text : List Cell)
+    → cells_of (segments_in s.mode s (1 + (lexeme s text).more) text) ≡ take (1 + (lexeme s text).more) text
 unfolding lexeme
 lexeme-fills s text = by s.mode
   where
-    by : (m : Mode) → cells_of (segments_in m s (1 + (lexeme_in m s text).more) text) ≡ take (1 + (lexeme_in m s text).more) text
+    by : (m : Mode)
+        → cells_of (segments_in m s (1 + (lexeme_in m s text).more) text) ≡ take (1 + (lexeme_in m s text).more) text
     by mode.Limbo = append-nil (take (1 + (lexeme_in mode.Limbo s text).more) text)
     by mode.Documentation = append-nil (take (1 + (lexeme_in mode.Documentation s text).more) text)
     by mode.CPart = c-fills (kind_at s.include text) s text
@@ -99,7 +114,8 @@ segments-fill zero s (c ∷ cs) =
     let here : Lexeme = lexeme s (c ∷ cs) in
     let e : 1 + here.more ≡ suc here.more = omega arith in
     flat_map-append (λ s. s.cells) (segments_in s.mode s (1 + here.more) (c ∷ cs)) (segments here.more here.after cs)
-    ∙ ap (λ xs. xs ++ cells_of (segments here.more here.after cs)) (lexeme-fills s (c ∷ cs) ∙ ap (λ n. take n (c ∷ cs)) e)
+    ∙ ap (λ xs. xs ++ cells_of (segments here.more here.after cs))
+    (lexeme-fills s (c ∷ cs) ∙ ap (λ n. take n (c ∷ cs)) e)
     ∙ ap (λ xs. c ∷ take here.more cs ++ xs) (segments-fill here.more here.after cs)
     ∙ ap (λ xs. c ∷ xs) (take-append-drop here.more cs)
 
@@ -178,17 +194,14 @@ byte-take k (suc n) [] h = refl
 byte-take zero (suc n) (c ∷ cs) h = refl
 byte-take (suc k) (suc n) (c ∷ cs) h = byte-take k n cs (omega (arith, h))
 
-length-taken : (n : ℕ) (text : List Cell) → length (take n text) ≤ n
-length-taken zero text = omega arith
-length-taken (suc n) [] = omega arith
-length-taken (suc n) (c ∷ cs) = let h = length-taken n cs in omega (arith, h)
-
-opens-taken : (kind : ControlCode) (n : ℕ) (text : List Cell) → 1 < n → OpensWith kind text → OpensWith kind (take n text)
+opens-taken : (kind : ControlCode) (n : ℕ) (text : List Cell)
+    → 1 < n → OpensWith kind text → OpensWith kind (take n text)
 opens-taken kind n text h o = rw (byte-take 0 n text (omega (arith, h)), byte-take 1 n text h) o
 
-code-taken : (n : ℕ) (text : List Cell) → 0 < n → n ≤ 2 → holds at_sign (byte_at 0 text) ≡ true → ShowsKind ControlBytes (take n text)
+code-taken : (n : ℕ) (text : List Cell)
+    → 0 < n → n ≤ 2 → holds at_sign (byte_at 0 text) ≡ true → ShowsKind ControlBytes (take n text)
 code-taken n text h k sign =
-    let l = length-taken n text in
+    let l = length-take n text in
     (ap (holds at_sign) (byte-take 0 n text h) ∙ sign, omega (arith, l, k))
 
 -- cells that are bytes are such as a Kept segment has
@@ -204,7 +217,8 @@ bytes-shows (suc n) (c ∷ cs) h = (by c.byte h.0, bytes-shows n cs h.1)
 
 -- comments
 
-comment-goes : (b n : Option ℕ) (u : Unit-of) → unit_of region.BlockComment b n ≡ u → (u ≡ unit.Stop → ⊥) → are_bytes asterisk slash b n ≡ false
+comment-goes : (b n : Option ℕ) (u : Unit-of)
+    → unit_of region.BlockComment b n ≡ u → (u ≡ unit.Stop → ⊥) → are_bytes asterisk slash b n ≡ false
 comment-goes b n u e go = by (are_bytes asterisk slash b n) (is_section_start b n) (holds at_sign b) u e go
   where
     by : (x y s : Bool) (u : Unit-of) → unit_by (x || y) s ≡ u → (u ≡ unit.Stop → ⊥) → x ≡ false
@@ -226,17 +240,21 @@ counted-open : (k : ℕ) (text : List Cell) → k < counted region.BlockComment 
 counted-open k [] h = absurd (omega (arith, h))
 counted-open k (c ∷ []) h = by (unit_at region.BlockComment (c ∷ [])) refl k h
   where
-    by : (u : Unit-of) → unit_at region.BlockComment (c ∷ []) ≡ u → (k : ℕ) → k < count_by u (counted region.BlockComment (more_by u) []) → ends_comment (drop k (c ∷ [])) ≡ false
+    by : (u : Unit-of) → unit_at region.BlockComment (c ∷ []) ≡ u → (k : ℕ)
+        → k < count_by u (counted region.BlockComment (more_by u) []) → ends_comment (drop k (c ∷ [])) ≡ false
     by unit.Stop e k h = absurd (omega (arith, h))
     by unit.One e zero h = comment-goes c.byte None unit.One e (λ q. cc)
     by unit.Two e zero h = comment-goes c.byte None unit.Two e (λ q. cc)
     by unit.One e (suc k) h = absurd (omega (arith, h))
     by unit.Two e (suc k) h = absurd (omega (arith, h))
-counted-open k (c ∷ d ∷ cs) h = by (unit_at region.BlockComment (c ∷ d ∷ cs)) refl k h (λ j l. counted-open j (d ∷ cs) l) (λ j l. counted-open j cs l)
+counted-open k (c ∷ d ∷ cs) h = by (unit_at region.BlockComment (c ∷ d ∷ cs))
+    refl k h (λ j l. counted-open j (d ∷ cs) l) (λ j l. counted-open j cs l)
   where
-    by : (u : Unit-of) → unit_at region.BlockComment (c ∷ d ∷ cs) ≡ u → (k : ℕ) → k < count_by u (counted region.BlockComment (more_by u) (d ∷ cs))
+    by : (u : Unit-of) → unit_at region.BlockComment (c ∷ d ∷ cs) ≡ u → (k : ℕ)
+        → k < count_by u (counted region.BlockComment (more_by u) (d ∷ cs))
         → ((j : ℕ) → j < counted region.BlockComment 0 (d ∷ cs) → ends_comment (drop j (d ∷ cs)) ≡ false)
-        → ((j : ℕ) → j < counted region.BlockComment 0 cs → ends_comment (drop j cs) ≡ false) → ends_comment (drop k (c ∷ d ∷ cs)) ≡ false
+        → ((j : ℕ) → j < counted region.BlockComment 0 cs → ends_comment (drop j cs) ≡ false)
+        → ends_comment (drop k (c ∷ d ∷ cs)) ≡ false
     by unit.Stop e k h one two = absurd (omega (arith, h))
     by unit.One e zero h one two = comment-goes c.byte d.byte unit.One e (λ q. cc)
     by unit.One e (suc k) h one two = one k (omega (arith, h))
@@ -244,7 +262,8 @@ counted-open k (c ∷ d ∷ cs) h = by (unit_at region.BlockComment (c ∷ d ∷
     by unit.Two e (suc zero) h one two = rw (comment-second c.byte d.byte e) refl
     by unit.Two e (suc (suc k)) h one two = two k (omega (arith, h))
 
-comment-open : (k : ℕ) (text : List Cell) → k < count_before region.BlockComment text → ends_comment (drop k text) ≡ false
+comment-open : (k : ℕ) (text : List Cell)
+    → k < count_before region.BlockComment text → ends_comment (drop k text) ≡ false
 comment-open k text h = counted-open k text (subst (λ n. k < n) (count-is region.BlockComment text) h)
 
 two_if-few : (b : Bool) → two_if b ≤ 2
@@ -252,30 +271,33 @@ two_if-few true = omega arith
 two_if-few false = omega arith
 
 -- */ is at distance `k` where the text from there on begins with */
-cells-there : (k : ℕ) (text : List Cell) → are_bytes asterisk slash (byte_at k text) (byte_at (k + 1) text) ≡ ends_comment (drop k text)
+cells-there : (k : ℕ) (text : List Cell)
+    → are_bytes asterisk slash (byte_at k text) (byte_at (k + 1) text) ≡ ends_comment (drop k text)
 cells-there k text =
-    rw (byte_at-drop k text, byte_at-drop (k + 1) text, drop-add k 1 text, byte_at-drop 1 (drop k text)) refl
+    rw (byte_at-drop k text, byte_at-drop (k + 1) text, ← drop-drop 1 k text, byte_at-drop 1 (drop k text)) refl
 
-block_comment-shows : (s : LexerState) (text : List Cell) → are_bytes slash asterisk (byte_at 0 text) (byte_at 1 text) ≡ true
+block_comment-shows : (s : LexerState) (text : List Cell)
+    → are_bytes slash asterisk (byte_at 0 text) (byte_at 1 text) ≡ true
     → IsBlockComment (take (1 + (block_comment s text).more) text)
 block_comment-shows s text o =
     let inside : ℕ = count_before region.BlockComment (drop 2 text) in
     let closed : Bool = ends_comment (drop inside (drop 2 text)) in
     let n : ℕ = 1 + (1 + inside + two_if closed) in
     let few = two_if-few closed in
-    let long = length-taken n text in (
+    let long = length-take n text in (
       rw (byte-take 0 n text (omega arith), byte-take 1 n text (omega arith)) o,
       λ k h l.
           let sum : k ≡ 2 + (k - 2) = omega (arith, h) in
           rw (byte-take k n text (omega (arith, l, long)), byte-take (k + 1) n text (omega (arith, l, long)))
           (cells-there k text
           ∙ ap (λ j. ends_comment (drop j text)) sum
-          ∙ ap ends_comment (drop-add 2 (k - 2) text)
+          ∙ ap ends_comment (sym (drop-drop (k - 2) 2 text))
           ∙ comment-open (k - 2) (drop 2 text) (omega (arith, h, l, long, few))),
       codes-opened _ inside (two_if closed) text (block_comment-codes (drop 2 text)),
     )
 
-line_comment-shows : (s : LexerState) (text : List Cell) → HoldsBytes 2 text → are_bytes slash slash (byte_at 0 text) (byte_at 1 text) ≡ true
+line_comment-shows : (s : LexerState) (text : List Cell)
+    → HoldsBytes 2 text → are_bytes slash slash (byte_at 0 text) (byte_at 1 text) ≡ true
     → IsLineComment (take (1 + (line_comment s text).more) text)
 line_comment-shows s text h o =
     let inside : ℕ = count_before region.LineComment (drop 2 text) in
@@ -283,8 +305,10 @@ line_comment-shows s text h o =
     let sum : 2 + inside ≡ n = omega arith in
     let all : 1 + (1 + inside + 0) ≡ n = omega arith in (
       rw (byte-take 0 n text (omega arith), byte-take 1 n text (omega arith)) o,
-      bytes-shows n text (subst (λ k. HoldsBytes k text) sum (more-bytes 2 inside text h (line_comment-bytes (drop 2 text)))),
-      subst (λ k. HasNoSection (drop 2 (take k text))) all (codes-opened _ inside 0 text (line_comment-codes (drop 2 text))),
+      bytes-shows n text
+          (subst (λ k. HoldsBytes k text) sum (more-bytes 2 inside text h (line_comment-bytes (drop 2 text)))),
+      subst (λ k. HasNoSection (drop 2 (take k text))) all
+          (codes-opened _ inside 0 text (line_comment-codes (drop 2 text))),
     )
 
 -- white space and texts
@@ -293,7 +317,8 @@ counted-white : (text : List Cell) → ShowsKind WhiteSpace (take (counted regio
 counted-white [] = tt
 counted-white (c ∷ cs) = by (holds_white c.byte) refl (counted-white cs)
   where
-    by : (b : Bool) → holds_white c.byte ≡ b → ShowsKind WhiteSpace (take (counted region.White 0 cs) cs) → ShowsKind WhiteSpace (take (counted region.White 0 (c ∷ cs)) (c ∷ cs))
+    by : (b : Bool) → holds_white c.byte ≡ b → ShowsKind WhiteSpace (take (counted region.White 0 cs) cs)
+        → ShowsKind WhiteSpace (take (counted region.White 0 (c ∷ cs)) (c ∷ cs))
     by false e rest = let none : counted region.White 0 (c ∷ cs) ≡ 0 = rw e refl in rw none tt
     by true e rest =
         let n : ℕ = counted region.White 0 cs in
@@ -302,13 +327,18 @@ counted-white (c ∷ cs) = by (holds_white c.byte) refl (counted-white cs)
         rw (one, more) (e, rest)
 
 white-shows : (text : List Cell) → ShowsKind WhiteSpace (take (count_before region.White text) text)
-white-shows text = subst (λ n. ShowsKind WhiteSpace (take n text)) (sym (count-is region.White text)) (counted-white text)
+white-shows text =
+    subst (λ n. ShowsKind WhiteSpace (take n text)) (sym (count-is region.White text)) (counted-white text)
 
 text-shows : (after_at_sign : Bool) (cells : List Cell) → AllShow (text_segments after_at_sign cells)
 text-shows after_at_sign [] = tt
-text-shows after_at_sign (c ∷ cs) = (by (is_line_end c.byte) refl after_at_sign (holds at_sign c.byte) refl, text-shows (holds at_sign c.byte && not after_at_sign) cs)
+text-shows after_at_sign (c ∷ cs) = (
+  by (is_line_end c.byte) refl after_at_sign (holds at_sign c.byte) refl,
+  text-shows (holds at_sign c.byte && not after_at_sign) cs,
+)
   where
-    by : (e : Bool) → is_line_end c.byte ≡ e → (h sign : Bool) → holds at_sign c.byte ≡ sign → ShowsKind (cond e LineEnd (cond (h && sign) SecondAtSign Kept)) (c ∷ [])
+    by : (e : Bool) → is_line_end c.byte ≡ e → (h sign : Bool)
+        → holds at_sign c.byte ≡ sign → ShowsKind (cond e LineEnd (cond (h && sign) SecondAtSign Kept)) (c ∷ [])
     by true e h sign k = (e, tt)
     by false e true true k = (refl, k)
     by false e true false k = (e, tt)
@@ -319,14 +349,22 @@ verbatim-shows text sign =
     let inside : ℕ = count_before region.Verbatim (drop 2 text) in
     let after : List Cell = drop inside (drop 2 text) in (
       code-taken 2 text (omega arith) (omega arith) sign,
-      shows-append (text_segments false (take inside (drop 2 text))) (if has_end_code after then segment ControlBytes (take 2 after) ∷ [] else []) (text-shows false (take inside (drop 2 text))) (by (has_end_code after) after refl),
+      shows-append (text_segments false (take inside (drop 2 text)))
+          (if has_end_code after then segment ControlBytes (take 2 after) ∷ [] else [])
+          (text-shows false (take inside (drop 2 text))) (by (has_end_code after) after refl),
     )
   where
-    by : (b : Bool) (cells : List Cell) → has_end_code cells ≡ b → AllShow (if b then segment ControlBytes (take 2 cells) ∷ [] else [])
-    by true cells e = (code-taken 2 cells (omega arith) (omega arith) (both (holds at_sign (byte_at 0 cells)) (holds greater_sign (byte_at 1 cells)) e).0, tt)
+    by : (b : Bool) (cells : List Cell)
+        → has_end_code cells ≡ b → AllShow (if b then segment ControlBytes (take 2 cells) ∷ [] else [])
+    by true cells e = (
+      code-taken 2 cells (omega arith) (omega arith)
+          (and_parts (holds at_sign (byte_at 0 cells)) (holds greater_sign (byte_at 1 cells)) e).0,
+      tt,
+    )
     by false cells e = tt
 
-control_text-shows : (s : LexerState) (text : List Cell) → OpensWith code.ControlText text → IsControlText (take (1 + (control_text s text).more) text)
+control_text-shows : (s : LexerState) (text : List Cell)
+    → OpensWith code.ControlText text → IsControlText (take (1 + (control_text s text).more) text)
 control_text-shows s text o =
     let inside : ℕ = count_before region.ControlText (drop 2 text) in
     let last : ℕ = two_if (has_end_code (drop inside (drop 2 text))) in (
@@ -334,7 +372,8 @@ control_text-shows s text o =
       codes-opened _ inside last text (control_text-codes (drop 2 text)),
     )
 
-name-shows : (s : LexerState) (text : List Cell) → OpensWith code.Name text → IsSectionName (take (1 + name_more text) text)
+name-shows : (s : LexerState) (text : List Cell)
+    → OpensWith code.Name text → IsSectionName (take (1 + name_more text) text)
 name-shows s text o =
     let last : ℕ = two_if (is_ended text) in (
       opens-taken code.Name (1 + name_more text) text (omega arith) o,
@@ -345,56 +384,70 @@ constant-long : (k : Option AsciiConstant) (s : LexerState) (text : List Cell) �
 constant-long None s text = omega arith
 constant-long (Some k) s text = omega arith
 
-constant-shows : (s : LexerState) (c : Cell) (cs : List Cell) → IsByte c.byte × IsByte (byte_at 0 cs) → OpensWith code.AsciiConstant (c ∷ cs)
+constant-shows : (s : LexerState) (c : Cell) (cs : List Cell)
+    → IsByte c.byte × IsByte (byte_at 0 cs) → OpensWith code.AsciiConstant (c ∷ cs)
     → IsAsciiConstant (take (1 + (ascii_constant s (c ∷ cs)).more) (c ∷ cs))
 constant-shows s c cs h o =
     let n : ℕ = 1 + (ascii_constant s (c ∷ cs)).more in
-    let long = length-taken n (c ∷ cs) in
+    let long = length-take n (c ∷ cs) in
     let two : 1 < n = constant-long (constant_at (drop 1 cs)) s (c ∷ cs) in (
       opens-taken code.AsciiConstant n (c ∷ cs) two o,
       bytes-shows n (c ∷ cs) (ascii_constant-bytes s c cs (two-bytes (c ∷ cs) h.0 h.1)),
       λ k first last quote.
-          let here : holds apostrophe (byte_at k (c ∷ cs)) ≡ true = ap (holds apostrophe) (sym (byte-take k n (c ∷ cs) (omega (arith, last, long)))) ∙ quote in
+          let here : holds apostrophe (byte_at k (c ∷ cs)) ≡ true =
+          ap (holds apostrophe) (sym (byte-take k n (c ∷ cs) (omega (arith, last, long)))) ∙ quote in
           let inside = ascii_constant-quotes s (c ∷ cs) k first (omega (arith, last, long)) here in
           let third : 2 < n = omega (arith, first, last, long) in
           (inside.0, ap (holds backslash) (byte-take 2 n (c ∷ cs) third) ∙ inside.1),
     )
 
 -- the segments of both bytes of @@
-signs-shows : (c : Cell) (cs : List Cell) → OpensWith code.DoubleAt (c ∷ cs) → AllShow (code_segments code.DoubleAt 2 (c ∷ cs))
-signs-shows c cs o = (bytes-shows 1 (c ∷ cs) (holds-byte at_sign c.byte o.0, tt), (by cs (second-sign (byte_at 0 cs) o.1), tt))
+signs-shows : (c : Cell) (cs : List Cell)
+    → OpensWith code.DoubleAt (c ∷ cs) → AllShow (code_segments code.DoubleAt 2 (c ∷ cs))
+signs-shows c cs o =
+    (bytes-shows 1 (c ∷ cs) (holds-byte at_sign c.byte o.0, tt), (by cs (second-sign (byte_at 0 cs) o.1), tt))
   where
     by : (cells : List Cell) → holds at_sign (byte_at 0 cells) ≡ true → ShowsKind SecondAtSign (take 1 cells)
     by [] h = cc
     by (d ∷ ds) h = (refl, h)
 
-code-shows : (kind : ControlCode) (s : LexerState) (c : Cell) (cs : List Cell) → CodeCells kind c.byte (byte_at 0 cs) → OpensWith kind (c ∷ cs)
+code-shows : (kind : ControlCode) (s : LexerState) (c : Cell) (cs : List Cell)
+    → CodeCells kind c.byte (byte_at 0 cs) → OpensWith kind (c ∷ cs)
     → AllShow (code_segments kind (1 + (c_code kind s (c ∷ cs)).more) (c ∷ cs))
 code-shows code.DoubleAt s c cs h o = signs-shows c cs o
 code-shows code.Verbatim s c cs h o = verbatim-shows (c ∷ cs) o.0
 code-shows code.ControlText s c cs h o = (control_text-shows s (c ∷ cs) o, tt)
 code-shows code.Name s c cs h o = (name-shows s (c ∷ cs) o, tt)
 code-shows code.AsciiConstant s c cs h o = (constant-shows s c cs h o, tt)
-code-shows kind s c cs h o = (code-taken (1 + (c_code kind s (c ∷ cs)).more) (c ∷ cs) (omega arith) (omega arith) o.0, tt)
+code-shows kind s c cs h o =
+    (code-taken (1 + (c_code kind s (c ∷ cs)).more) (c ∷ cs) (omega arith) (omega arith) o.0, tt)
 
-kind-shows : (kind : LexemeKind) (s : LexerState) (c : Cell) (cs : List Cell) → Cells kind c.byte (byte_at 0 cs) → Opens kind c.byte (byte_at 0 cs)
+kind-shows : (kind : LexemeKind) (s : LexerState) (c : Cell) (cs : List Cell)
+    → Cells kind c.byte (byte_at 0 cs) → Opens kind c.byte (byte_at 0 cs)
     → AllShow (c_segments kind (1 + (c_lexeme kind s (c ∷ cs)).more) (c ∷ cs))
 kind-shows (lexeme_kind.Control kind) s c cs h o = code-shows kind s c cs h o
 kind-shows lexeme_kind.BlockComment s c cs h o = (inl (block_comment-shows s (c ∷ cs) o), tt)
 kind-shows lexeme_kind.LineComment s c cs h o = (inr (line_comment-shows s (c ∷ cs) (two-bytes (c ∷ cs) h.0 h.1) o), tt)
-kind-shows lexeme_kind.DoubleQuote s c cs h o = text-shows false (take (1 + (c_lexeme lexeme_kind.DoubleQuote s (c ∷ cs)).more) (c ∷ cs))
-kind-shows lexeme_kind.Apostrophe s c cs h o = text-shows false (take (1 + (c_lexeme lexeme_kind.Apostrophe s (c ∷ cs)).more) (c ∷ cs))
-kind-shows lexeme_kind.HeaderName s c cs h o = text-shows false (take (1 + (c_lexeme lexeme_kind.HeaderName s (c ∷ cs)).more) (c ∷ cs))
+kind-shows lexeme_kind.DoubleQuote s c cs h o =
+    text-shows false (take (1 + (c_lexeme lexeme_kind.DoubleQuote s (c ∷ cs)).more) (c ∷ cs))
+kind-shows lexeme_kind.Apostrophe s c cs h o =
+    text-shows false (take (1 + (c_lexeme lexeme_kind.Apostrophe s (c ∷ cs)).more) (c ∷ cs))
+kind-shows lexeme_kind.HeaderName s c cs h o =
+    text-shows false (take (1 + (c_lexeme lexeme_kind.HeaderName s (c ∷ cs)).more) (c ∷ cs))
 kind-shows lexeme_kind.LineEnd s c cs h o = ((o, tt), tt)
 kind-shows lexeme_kind.White s c cs h o =
     let n : ℕ = count_before region.White cs in
     let more : 1 + n ≡ suc n = omega arith in
     (rw more (o, white-shows cs), tt)
-kind-shows lexeme_kind.Word s c cs h o =
-    (bytes-shows (1 + count_before region.Word cs) (c ∷ cs) (more-bytes 1 (count_before region.Word cs) (c ∷ cs) (h, tt) (word-bytes cs)), tt)
+kind-shows lexeme_kind.Word s c cs h o = (
+  bytes-shows (1 + count_before region.Word cs) (c ∷ cs)
+      (more-bytes 1 (count_before region.Word cs) (c ∷ cs) (h, tt) (word-bytes cs)),
+  tt,
+)
 kind-shows lexeme_kind.Other s c cs h o = (bytes-shows 1 (c ∷ cs) (h, tt), tt)
 
-lexeme-shows : (s : LexerState) (c : Cell) (cs : List Cell) → AllShow (segments_in s.mode s (1 + (lexeme s (c ∷ cs)).more) (c ∷ cs))
+lexeme-shows : (s : LexerState) (c : Cell) (cs : List Cell)
+    → AllShow (segments_in s.mode s (1 + (lexeme s (c ∷ cs)).more) (c ∷ cs))
 unfolding lexeme
 lexeme-shows s c cs = by s.mode
   where
@@ -402,7 +455,8 @@ lexeme-shows s c cs = by s.mode
     by mode.Limbo = (tt, tt)
     by mode.Documentation = (tt, tt)
     by mode.CPart =
-        kind-shows (kind_at s.include (c ∷ cs)) s c cs (kind-cells s.include c.byte (byte_at 0 cs)) (kind-opens s.include c.byte (byte_at 0 cs))
+        kind-shows (kind_at s.include (c ∷ cs)) s c cs
+        (kind-cells s.include c.byte (byte_at 0 cs)) (kind-opens s.include c.byte (byte_at 0 cs))
     by mode.Macro = (tt, tt)
 
 pub segments-shows : (k : ℕ) (s : LexerState) (text : List Cell) → AllShow (segments k s text)
@@ -411,4 +465,5 @@ segments-shows (suc k) s [] = tt
 segments-shows (suc k) s (c ∷ cs) = segments-shows k s cs
 segments-shows zero s (c ∷ cs) =
     let here : Lexeme = lexeme s (c ∷ cs) in
-    shows-append (segments_in s.mode s (1 + here.more) (c ∷ cs)) (segments here.more here.after cs) (lexeme-shows s c cs) (segments-shows here.more here.after cs)
+    shows-append (segments_in s.mode s (1 + here.more) (c ∷ cs)) (segments here.more here.after cs)
+    (lexeme-shows s c cs) (segments-shows here.more here.after cs)

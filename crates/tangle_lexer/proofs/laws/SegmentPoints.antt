@@ -1,5 +1,6 @@
 -- The points of the bytes of cells and of ranges.
-use Rattle.std.proofs.Common.{◌≡◌, ℕ, zero, suc, ◌+◌, ◌-◌, ◌≤◌, Bool, true, false, List, [], ◌∷◌, ◌++◌, take, Option, Some, None, refl, ap, sym, ◌∙◌, arith, append_assoc, cond}
+use Rattle.std.proofs.Common.{◌≡◌, ℕ, zero, suc, ◌+◌, ◌-◌, ◌≤◌, Bool, true, false, List, [], ◌∷◌, ◌++◌, take, Option}
+use Rattle.std.proofs.Common.{Some, None, refl, ap, sym, ◌∙◌, arith, append_assoc, cond}
 use Rattle.std.specs.Prelude.{nat_lt}
 use Rattle.std.proofs.lemmas.Bool.{ltb-false}
 use Rattle.tangle_lexer.specs.declared.tokens.Token.{Token}
@@ -14,20 +15,24 @@ use Rattle.tangle_lexer.proofs.laws.Points.{Point, IsByte, after_cell, HoldsByte
 abbrev pub columns_to : ℕ → ℕ → ℕ → List (ℕ × ℕ)
 columns_to line start end = columns_from line start (end - start)
 
-columns-more : (line column n : ℕ) → columns_from line column (n + 1) ≡ columns_from line column n ++ (line, column + n) ∷ []
+columns-more : (line column n : ℕ)
+    → columns_from line column (n + 1) ≡ columns_from line column n ++ (line, column + n) ∷ []
 columns-more line column zero = let e : column ≡ column + 0 = omega arith in ap (λ x. (line, x) ∷ []) e
 columns-more line column (suc n) =
     let e : suc n + 1 ≡ suc (n + 1) = omega arith in
     let f : column + 1 + n ≡ column + suc n = omega arith in
     ap (columns_from line column) e
-    ∙ ap (λ ps. (line, column) ∷ ps) (columns-more line (column + 1) n ∙ ap (λ x. columns_from line (column + 1) n ++ (line, x) ∷ []) f)
+    ∙ ap (λ ps. (line, column) ∷ ps)
+    (columns-more line (column + 1) n ∙ ap (λ x. columns_from line (column + 1) n ++ (line, x) ∷ []) f)
 
 -- the points with one more column at the end
-pub columns-next : (line start column : ℕ) → start ≤ column → columns_to line start (column + 1) ≡ columns_to line start column ++ (line, column) ∷ []
+pub columns-next : (line start column : ℕ)
+    → start ≤ column → columns_to line start (column + 1) ≡ columns_to line start column ++ (line, column) ∷ []
 columns-next line start column h =
     let e : column + 1 - start ≡ (column - start) + 1 = omega (arith, h) in
     let f : start + (column - start) ≡ column = omega (arith, h) in
-    ap (columns_from line start) e ∙ columns-more line start (column - start) ∙ ap (λ x. columns_to line start column ++ (line, x) ∷ []) f
+    ap (columns_from line start) e ∙ columns-more line start (column - start)
+    ∙ ap (λ x. columns_to line start column ++ (line, x) ∷ []) f
 
 pub columns-nothing : (line column : ℕ) → columns_to line column column ≡ []
 columns-nothing line column = let e : column - column ≡ 0 = omega arith in ap (columns_from line column) e
@@ -48,15 +53,19 @@ token_points (_ ∷ ts) = token_points ts
 
 pub points-append : (ts us : List Token) → token_points (ts ++ us) ≡ token_points ts ++ token_points us
 points-append [] us = refl
-points-append (token.Span kind s ∷ ts) us = ap (λ ps. span_points s ++ ps) (points-append ts us) ∙ sym (append_assoc (span_points s) (token_points ts) (token_points us))
+points-append (token.Span kind s ∷ ts) us =
+    ap (λ ps. span_points s ++ ps) (points-append ts us)
+    ∙ sym (append_assoc (span_points s) (token_points ts) (token_points us))
 points-append (_ ∷ ts) us = points-append ts us
 
 -- the points of a range are its columns, also if the range is empty
-pub cut-points : (r : Region) (line start end : ℕ) (ts : List Token) → token_points (cut_range r line start end ++ ts) ≡ columns_to line start end ++ token_points ts
+pub cut-points : (r : Region) (line start end : ℕ) (ts : List Token)
+    → token_points (cut_range r line start end ++ ts) ≡ columns_to line start end ++ token_points ts
 cut-points r line start end ts = by (nat_lt start end) refl
   where
     by : (b : Bool) → nat_lt start end ≡ b
-        → token_points (cond b (range_token r (record { line = line; start = start; end = end }) ∷ []) [] ++ ts) ≡ columns_to line start end ++ token_points ts
+        → token_points (cond b (range_token r (record { line = line; start = start; end = end }) ∷ []) [] ++ ts)
+        ≡ columns_to line start end ++ token_points ts
     by true e = refl
     by false e =
         let less : end ≤ start = ltb-false start end e in

@@ -1,5 +1,6 @@
 -- Texts that are cut, unit by unit.
-use Rattle.std.proofs.Common.{◌≡◌, ◌<◌, ◌+◌, ℕ, Bool, true, false, nat_eq, inl, inr, List, [], ◌∷◌, ◌++◌, length, drop, drop-drop, refl, ap, sym, ◌∙◌, arith}
+use Rattle.std.proofs.Common.{◌≡◌, ◌<◌, ◌+◌, ℕ, Bool, true, false, nat_eq, inl, inr, List, [], ◌∷◌, ◌++◌, length, drop}
+use Rattle.std.proofs.Common.{drop-drop, refl, ap, sym, ◌∙◌, arith}
 use Rattle.std.proofs.lemmas.Bool.Decides.{eqb_tells}
 use Rattle.tangle_text.specs.declared.regions.Region.{Region}
 use Rattle.tangle_text.specs.declared.regions.Unit.{Unit as Unit-of}
@@ -23,8 +24,9 @@ cut-go ends r start last (c ∷ cs) unit.One inside h go = rw h refl
 cut-go ends r start last (c ∷ []) unit.Two inside h go = rw h refl
 cut-go ends r start last (c ∷ d ∷ cs) unit.Two inside h go = rw h refl
 
-pub cut-stop : (ends : ℕ → List Cell → List Token) (r : Region) (start : ℕ) (text : List Cell) → unit_at r text ≡ unit.Stop →
-    cut_tokens ends r 0 start text ≡ ends start text
+pub cut-stop : (ends : ℕ → List Cell → List Token) (r : Region) (start : ℕ) (text : List Cell)
+    → unit_at r text ≡ unit.Stop
+    → cut_tokens ends r 0 start text ≡ ends start text
 cut-stop ends r start [] h = refl
 cut-stop ends r start (c ∷ cs) h = rw h refl
 
@@ -48,9 +50,11 @@ count_by-go unit.Stop n go = absurd (go refl)
 count_by-go unit.One n go = neq_false (1 + n) 0 (λ h. omega (arith, h))
 count_by-go unit.Two n go = neq_false (1 + n) 0 (λ h. omega (arith, h))
 
-pub at_once-go : (r : Region) (text : List Cell) (u : Unit-of) → 0 < length text → unit_at r text ≡ u → (u ≡ unit.Stop → ⊥) → ends_at_once r text ≡ false
+pub at_once-go : (r : Region) (text : List Cell) (u : Unit-of)
+    → 0 < length text → unit_at r text ≡ u → (u ≡ unit.Stop → ⊥) → ends_at_once r text ≡ false
 at_once-go r [] u inside h go = absurd (omega (arith, inside))
-at_once-go r (c ∷ cs) u inside h go = ap (λ n. nat_eq n 0) (count-is r (c ∷ cs)) ∙ count_by-go (unit_at r (c ∷ cs)) _ (λ stop. go (sym h ∙ stop))
+at_once-go r (c ∷ cs) u inside h go =
+    ap (λ n. nat_eq n 0) (count-is r (c ∷ cs)) ∙ count_by-go (unit_at r (c ∷ cs)) _ (λ stop. go (sym h ∙ stop))
 
 pub at_once-end : (r : Region) (text : List Cell) → ends_at_once r text ≡ true → text ≡ region_end r text
 unfolding region_end
@@ -60,8 +64,10 @@ at_once-end r text h = let none : count_before r text ≡ 0 = zero-is (count_bef
     zero-is n h = grind (arith, h)
 
 -- the text after a region and the byte that may end it
-pub drop-end : (r : Region) (text : List Cell) (b : List Cell → Bool) →
-    drop (one_if (b (region_end r text))) (region_end r text) ≡ drop (count_before r text + one_if (b (drop (count_before r text) text))) text
+pub drop-end : (r : Region) (text : List Cell) (b : List Cell → Bool)
+    → drop (one_if (b (region_end r text))) (region_end r text)
+    ≡ drop (count_before r text + one_if (b (drop (count_before r text) text))) text
 drop-end r text b =
     let is = region_end-is r text in
-    ap (λ t. drop (one_if (b t)) t) is ∙ drop-drop (one_if (b (drop (count_before r text) text))) (count_before r text) text
+    ap (λ t. drop (one_if (b t)) t) is
+    ∙ drop-drop (one_if (b (drop (count_before r text) text))) (count_before r text) text

@@ -1,5 +1,6 @@
 -- The tokens of the units of a region.
-use Rattle.std.proofs.Common.{◌≡◌, ◌<◌, ℕ, List, [], ◌∷◌, ◌++◌, Bool, true, false, not, append_assoc, append-nil, length, drop, Option, refl, ap, sym, ◌∙◌, arith}
+use Rattle.std.proofs.Common.{◌≡◌, ◌<◌, ℕ, List, [], ◌∷◌, ◌++◌, Bool, true, false, not, append_assoc, append-nil}
+use Rattle.std.proofs.Common.{length, drop, Option, refl, ap, sym, ◌∙◌, arith}
 use Rattle.tangle_faults.specs.declared.faults.FaultKind.{FaultKind}
 use Rattle.tangle_lexer.specs.declared.tokens.Token.TheVariants as token
 use Rattle.tangle_lexer.proofs.lemmas.OpenedRegions.{drop-two, mid-is}
@@ -18,16 +19,19 @@ use Rattle.tangle_lexer.specs.Lexemes.{include_over, fault_if, line_end_by}
 use Rattle.tangle_lexer.specs.Comments.{unit_line_end, line_ends}
 
 -- a unit that does not end the region adds the items that `f` gives for it
-pub from_units-go : {A : Type 0} (f : Unit-of → Cell → Option ℕ → List A) (r : Region) (last : ℕ) (text : List Cell) (u : Unit-of) →
-    0 < length text → unit_at r text ≡ u → (u ≡ unit.Stop → ⊥) →
-    from_units f r 0 text ≡ f u (front_cell last text) (byte_at 1 text) ++ from_units f r 0 (drop (more_by u) (drop 1 text))
+pub from_units-go : {A : Type 0} (f : Unit-of → Cell → Option ℕ → List A)
+    (r : Region) (last : ℕ) (text : List Cell) (u : Unit-of)
+    → 0 < length text → unit_at r text ≡ u → (u ≡ unit.Stop → ⊥)
+    → from_units f r 0 text
+    ≡ f u (front_cell last text) (byte_at 1 text) ++ from_units f r 0 (drop (more_by u) (drop 1 text))
 from_units-go f r last [] u inside h go = absurd (omega (arith, inside))
 from_units-go f r last (c ∷ cs) unit.Stop inside h go = absurd (go refl)
 from_units-go f r last (c ∷ cs) unit.One inside h go = rw h refl
 from_units-go f r last (c ∷ []) unit.Two inside h go = rw h refl
 from_units-go f r last (c ∷ d ∷ cs) unit.Two inside h go = rw h refl
 
-pub from_units-stop : {A : Type 0} (f : Unit-of → Cell → Option ℕ → List A) (r : Region) (text : List Cell) → unit_at r text ≡ unit.Stop → from_units f r 0 text ≡ []
+pub from_units-stop : {A : Type 0} (f : Unit-of → Cell → Option ℕ → List A) (r : Region) (text : List Cell)
+    → unit_at r text ≡ unit.Stop → from_units f r 0 text ≡ []
 from_units-stop f r [] h = refl
 from_units-stop f r (c ∷ cs) h = rw h refl
 
@@ -42,47 +46,60 @@ line_ends-are r text = units-give line_end_of unit_line_end r (λ c n. refl) (λ
 pub line_ends-stop : (r : Region) (text : List Cell) → unit_at r text ≡ unit.Stop → line_ends r text ≡ []
 line_ends-stop r text h = line_ends-are r text ∙ from_units-stop line_end_of r text h
 
-pub line_ends-go : (r : Region) (last : ℕ) (text : List Cell) (u : Unit-of) → 0 < length text → unit_at r text ≡ u → (u ≡ unit.Stop → ⊥)
-    → line_ends r text ≡ line_end_of u (front_cell last text) (byte_at 1 text) ++ line_ends r (drop (more_by u) (drop 1 text))
+pub line_ends-go : (r : Region) (last : ℕ) (text : List Cell) (u : Unit-of)
+    → 0 < length text → unit_at r text ≡ u → (u ≡ unit.Stop → ⊥)
+    → line_ends r text
+    ≡ line_end_of u (front_cell last text) (byte_at 1 text) ++ line_ends r (drop (more_by u) (drop 1 text))
 line_ends-go r last text u inside h go =
     line_ends-are r text ∙ from_units-go line_end_of r last text u inside h go
-    ∙ ap (λ ts. line_end_of u (front_cell last text) (byte_at 1 text) ++ ts) (sym (line_ends-are r (drop (more_by u) (drop 1 text))))
+    ∙ ap (λ ts. line_end_of u (front_cell last text) (byte_at 1 text) ++ ts)
+    (sym (line_ends-are r (drop (more_by u) (drop 1 text))))
 
 -- names, unit by unit
 
 pub name_bytes-stop : (text : List Cell) → unit_at region.Name text ≡ unit.Stop → name_bytes text ≡ []
 name_bytes-stop text h = name_bytes-are text ∙ from_units-stop name_bytes_of region.Name text h
 
-pub name_bytes-go : (last : ℕ) (text : List Cell) (u : Unit-of) → 0 < length text → unit_at region.Name text ≡ u → (u ≡ unit.Stop → ⊥)
-    → name_bytes text ≡ name_bytes_of u (front_cell last text) (byte_at 1 text) ++ name_bytes (drop (more_by u) (drop 1 text))
+pub name_bytes-go : (last : ℕ) (text : List Cell) (u : Unit-of)
+    → 0 < length text → unit_at region.Name text ≡ u → (u ≡ unit.Stop → ⊥)
+    → name_bytes text
+    ≡ name_bytes_of u (front_cell last text) (byte_at 1 text) ++ name_bytes (drop (more_by u) (drop 1 text))
 name_bytes-go last text u inside h go =
     name_bytes-are text ∙ from_units-go name_bytes_of region.Name last text u inside h go
-    ∙ ap (λ bs. name_bytes_of u (front_cell last text) (byte_at 1 text) ++ bs) (sym (name_bytes-are (drop (more_by u) (drop 1 text))))
+    ∙ ap (λ bs. name_bytes_of u (front_cell last text) (byte_at 1 text) ++ bs)
+    (sym (name_bytes-are (drop (more_by u) (drop 1 text))))
 
 -- after a line end #include may begin
 include_over-start : (ts : List Token) → include_over ts include.AtStart ≡ include.AtStart
 include_over-start [] = refl
 include_over-start (t ∷ ts) = refl
 
-pub include_over-append : (ts us : List Token) (inc : IncludeState) → include_over (ts ++ us) inc ≡ include_over us (include_over ts inc)
+pub include_over-append : (ts us : List Token) (inc : IncludeState)
+    → include_over (ts ++ us) inc ≡ include_over us (include_over ts inc)
 include_over-append [] us inc = refl
 include_over-append (t ∷ ts) us inc = sym (include_over-start us)
 
 -- the tokens of a comment or a control text that is closed
-pub comment-closed : (ends : List Cell → Bool) (r : Region) (kind : FaultKind) (last : ℕ) (text after mid : List Cell) (old first new : List Token) →
-    first ≡ old ++ token.White ∷ [] → after ≡ drop 1 (drop 1 text) → mid ≡ region_end r after → new ≡ first ++ line_ends r after → ends mid ≡ true →
-    new ≡ old ++ (token.White ∷ (line_ends r (drop 2 text)
-    ++ fault_if (not (ends (drop (count_before r (drop 2 text)) (drop 2 text)))) kind (front_line last (drop (count_before r (drop 2 text)) (drop 2 text)))))
+pub comment-closed : (ends : List Cell → Bool) (r : Region) (kind : FaultKind)
+    (last : ℕ) (text after mid : List Cell) (old first new : List Token)
+    → first ≡ old ++ token.White ∷ [] → after ≡ drop 1 (drop 1 text)
+    → mid ≡ region_end r after → new ≡ first ++ line_ends r after → ends mid ≡ true
+    → new ≡ old ++ (token.White ∷ (line_ends r (drop 2 text)
+    ++ fault_if (not (ends (drop (count_before r (drop 2 text)) (drop 2 text))))
+    kind (front_line last (drop (count_before r (drop 2 text)) (drop 2 text)))))
 comment-closed ends r kind last text after mid old first new h1 h2 h3 h4 closed =
     let is = mid-is r text mid (h3 ∙ ap (region_end r) h2) in
     rw (h4, h1, h2, drop-two text, ← is, closed, append-nil, append_assoc) refl
 
 -- the tokens of a comment or a control text that is not closed
-pub comment-open : (ends : List Cell → Bool) (r : Region) (kind : FaultKind) (last : ℕ) (text after mid : List Cell) (old first second new : List Token) →
-    first ≡ old ++ token.White ∷ [] → after ≡ drop 1 (drop 1 text) → mid ≡ region_end r after → second ≡ first ++ line_ends r after → ends mid ≡ false →
-    (line : ℕ) → line ≡ front_line last mid → new ≡ second ++ token.Fault kind line ∷ [] →
+pub comment-open : (ends : List Cell → Bool) (r : Region) (kind : FaultKind)
+    (last : ℕ) (text after mid : List Cell) (old first second new : List Token)
+    → first ≡ old ++ token.White ∷ [] → after ≡ drop 1 (drop 1 text)
+    → mid ≡ region_end r after → second ≡ first ++ line_ends r after → ends mid ≡ false
+    → (line : ℕ) → line ≡ front_line last mid → new ≡ second ++ token.Fault kind line ∷ [] →
     new ≡ old ++ (token.White ∷ (line_ends r (drop 2 text)
-    ++ fault_if (not (ends (drop (count_before r (drop 2 text)) (drop 2 text)))) kind (front_line last (drop (count_before r (drop 2 text)) (drop 2 text)))))
+    ++ fault_if (not (ends (drop (count_before r (drop 2 text)) (drop 2 text))))
+    kind (front_line last (drop (count_before r (drop 2 text)) (drop 2 text)))))
 comment-open ends r kind last text after mid old first second new h1 h2 h3 h4 isnt line on h5 =
     let is = mid-is r text mid (h3 ∙ ap (region_end r) h2) in
     rw (h5, on, h4, h1, h2, drop-two text, ← is, isnt)

@@ -1,5 +1,7 @@
 -- The ends of names, and the equals signs after them.
-use Rattle.std.proofs.Common.{◌≡◌, ℕ, ◌+◌, Bool, true, false, not, List, drop, Option, Some, None, refl, ap, sym, ◌∙◌, arith, drop-drop, subst, if◌then◌else◌}
+use Rattle.std.proofs.Common.{◌≡◌, ℕ, ◌+◌, true, false, List, drop, Option, Some, None, refl, ap, sym, ◌∙◌, arith}
+use Rattle.std.proofs.Common.{drop-drop, subst, if◌then◌else◌}
+use Rattle.std.proofs.lemmas.Option.{none-some, same_Some}
 use Rattle.tangle_lexer.specs.declared.names.Equals.{Equals}
 use Rattle.tangle_lexer.specs.declared.names.Equals.TheVariants as equals
 use Rattle.tangle_lexer.specs.Reads.{PassesEquals}
@@ -8,29 +10,36 @@ use Rattle.tangle_text.specs.Bytes.{holds, plus_sign}
 use Rattle.tangle_text.specs.Text.{Cell, byte_at, front_line}
 use Rattle.tangle_text.specs.Regions.{count_before, region_end}
 use Rattle.tangle_lexer.specs.Comments.{two_if, has_end_code}
-use Rattle.tangle_lexer.specs.Names.{name_end, is_ended, after_name, name_count, count_before_equals, equals_by, equals_in, definition_count, name_more, equals_count, count_through}
+use Rattle.tangle_lexer.specs.Names.{name_end, is_ended, after_name, name_count, count_before_equals, equals_by}
+use Rattle.tangle_lexer.specs.Names.{equals_in, definition_count, name_more, equals_count, count_through}
 use Rattle.tangle_text.proofs.RegionLemmas.{region_end-is}
 use Rattle.tangle_lexer.proofs.lemmas.OpenedRegions.{after-two, mid-is}
 use Rattle.tangle_text.proofs.AheadLemmas.{byte_at-drop}
 
 pub byte_at-next : (n : ℕ) (text : List Cell) → byte_at (n + 1) text ≡ byte_at 1 (drop n text)
 byte_at-next n text =
-    byte_at-drop (n + 1) text ∙ (ap (byte_at 0) (ap (λ k. drop k text) (omega arith) ∙ sym (drop-drop 1 n text)) ∙ sym (byte_at-drop 1 (drop n text)))
+    byte_at-drop (n + 1) text
+    ∙ (ap (byte_at 0) (ap (λ k. drop k text) (omega arith) ∙ sym (drop-drop 1 n text))
+    ∙ sym (byte_at-drop 1 (drop n text)))
 
 -- the equals sign, by the text after the cells before it
-pub equals-further : (text : List Cell) →
-    equals_by (byte_at 0 (drop (count_before_equals text) text)) (byte_at 1 (drop (count_before_equals text) text)) ≡ equals_in text
+pub equals-further : (text : List Cell)
+    → equals_by (byte_at 0 (drop (count_before_equals text) text)) (byte_at 1 (drop (count_before_equals text) text))
+    ≡ equals_in text
 equals-further text =
     let n = count_before_equals text in
-    sym (ap (λ b. equals_by b (byte_at (n + 1) text)) (byte_at-drop n text) ∙ ap (equals_by (byte_at 0 (drop n text))) (byte_at-next n text))
+    sym (ap (λ b. equals_by b (byte_at (n + 1) text)) (byte_at-drop n text)
+    ∙ ap (equals_by (byte_at 0 (drop n text))) (byte_at-next n text))
 
 pub name_end-is : (text mid : List Cell) → mid ≡ region_end region.Name (drop 1 (drop 1 text)) → mid ≡ name_end text
 name_end-is text mid h = mid-is region.Name text mid h
 
-pub after-is : (text mid rest : List Cell) → mid ≡ name_end text → rest ≡ drop (two_if (has_end_code mid)) mid → rest ≡ after_name text
+pub after-is : (text mid rest : List Cell)
+    → mid ≡ name_end text → rest ≡ drop (two_if (has_end_code mid)) mid → rest ≡ after_name text
 after-is text mid rest h go =
     go ∙ (ap (λ t. drop (two_if (has_end_code t)) t) h
-    ∙ (ap (drop (two_if (is_ended text))) (sym (after-two (name_count text) text)) ∙ drop-drop (two_if (is_ended text)) (1 + name_count text) (drop 1 text)))
+    ∙ (ap (drop (two_if (is_ended text))) (sym (after-two (name_count text) text))
+    ∙ drop-drop (two_if (is_ended text)) (1 + name_count text) (drop 1 text)))
 
 -- the text after white space, + and white space
 pub plus-further : (text : List Cell) → holds plus_sign (byte_at 0 (region_end region.White text)) ≡ true →
@@ -38,8 +47,10 @@ pub plus-further : (text : List Cell) → holds plus_sign (byte_at 0 (region_end
 plus-further text h =
     let first = count_before region.White text in
     let is = region_end-is region.White text in
-    let plus : holds plus_sign (byte_at first text) ≡ true = ap (holds plus_sign) (byte_at-drop first text ∙ sym (ap (byte_at 0) is)) ∙ h in
-    let next : drop 1 (region_end region.White text) ≡ drop (first + 1) text = ap (drop 1) is ∙ (drop-drop 1 first text) in
+    let plus : holds plus_sign (byte_at first text) ≡ true =
+    ap (holds plus_sign) (byte_at-drop first text ∙ sym (ap (byte_at 0) is)) ∙ h in
+    let next : drop 1 (region_end region.White text) ≡ drop (first + 1) text =
+    ap (drop 1) is ∙ (drop-drop 1 first text) in
     region_end-is region.White (drop 1 (region_end region.White text))
     ∙ (ap (λ t. drop (count_before region.White t) t) next
     ∙ (drop-drop (count_before region.White (drop (first + 1) text)) (first + 1) text ∙ rw plus refl))
@@ -49,43 +60,46 @@ pub no_plus-further : (text : List Cell) → holds plus_sign (byte_at 0 (region_
 no_plus-further text h =
     let first = count_before region.White text in
     let is = region_end-is region.White text in
-    let plus : holds plus_sign (byte_at first text) ≡ false = ap (holds plus_sign) (byte_at-drop first text ∙ sym (ap (byte_at 0) is)) ∙ h in
+    let plus : holds plus_sign (byte_at first text) ≡ false =
+    ap (holds plus_sign) (byte_at-drop first text ∙ sym (ap (byte_at 0) is)) ∙ h in
     is ∙ rw plus refl
 
-some-eq : {a b : ℕ} → Some a ≡ Some b → a ≡ b
-some-eq {a} {b} h = cc
-
-pub not-false : (b : Bool) → not b ≡ false → b ≡ true
-not-false true h = refl
-not-false false h = sym h
-
-none-some : {A : Type 0} (a : A) → Some a ≡ None → ⊥
-none-some a h = cc
-
 -- a name whose equals sign was read is a definition
-pub definition-read : (last line : ℕ) (text rest : List Cell) (e : Equals) → is_ended text ≡ true → equals_in (after_name text) ≡ e →
-    PassesEquals e (count_before_equals (after_name text)) last (after_name text) rest (Some line) →
-    (n : ℕ) × (definition_count text ≡ Some n) × (rest ≡ drop (name_more text + n) (drop 1 text)) × (line ≡ front_line last (drop (name_more text + n) text))
-definition-read last line text rest equals.Absent ended is takes = absurd (none-some line takes.1)
+pub definition-read : (last line : ℕ) (text rest : List Cell) (e : Equals)
+    → is_ended text ≡ true → equals_in (after_name text) ≡ e
+    → PassesEquals e (count_before_equals (after_name text)) last (after_name text) rest (Some line)
+    → (n : ℕ) × (definition_count text ≡ Some n) × (rest ≡ drop (name_more text + n) (drop 1 text))
+    × (line ≡ front_line last (drop (name_more text + n) text))
+definition-read last line text rest equals.Absent ended is takes = absurd (none-some line (sym takes.1))
 definition-read last line text rest equals.Single ended is takes =
     let n = count_before_equals (after_name text) in (
       n + 1,
       ap (λ b. if b then equals_count (after_name text) else None) ended ∙ ap (λ e. count_through e n) is,
       takes.0 ∙ drop-drop (n + 1) (name_more text) (drop 1 text),
-      some-eq (takes.1 ∙ ap (λ t. Some (front_line last t)) (drop-drop n (name_more text) (drop 1 text) ∙ (drop-drop (name_more text + n) 1 text ∙ ap (λ k. drop k text) (omega arith)))),
+      same_Some _ _
+          (takes.1
+          ∙ ap (λ t. Some (front_line last t))
+          (drop-drop n (name_more text) (drop 1 text)
+          ∙ (drop-drop (name_more text + n) 1 text ∙ ap (λ k. drop k text) (omega arith)))),
     )
 definition-read last line text rest equals.Double ended is takes =
     let n = count_before_equals (after_name text) in (
       n + 2,
       ap (λ b. if b then equals_count (after_name text) else None) ended ∙ ap (λ e. count_through e n) is,
       takes.0 ∙ drop-drop (n + 2) (name_more text) (drop 1 text),
-      some-eq (takes.1 ∙ ap (λ t. Some (front_line last t)) (drop-drop (n + 1) (name_more text) (drop 1 text) ∙ (drop-drop (name_more text + (n + 1)) 1 text ∙ ap (λ k. drop k text) (omega arith)))),
+      same_Some _ _
+          (takes.1
+          ∙ ap (λ t. Some (front_line last t))
+          (drop-drop (n + 1) (name_more text) (drop 1 text)
+          ∙ (drop-drop (name_more text + (n + 1)) 1 text ∙ ap (λ k. drop k text) (omega arith)))),
     )
 
 -- a name is a definition if `pass_equals` found an equals sign after it
-pub definition-found : (last line : ℕ) (found : Option ℕ) (text after rest : List Cell) → is_ended text ≡ true → after ≡ after_name text → found ≡ Some line →
-    PassesEquals (equals_in after) (count_before_equals after) last after rest found →
-    (n : ℕ) × (definition_count text ≡ Some n) × (rest ≡ drop (name_more text + n) (drop 1 text)) × (line ≡ front_line last (drop (name_more text + n) text))
+pub definition-found : (last line : ℕ) (found : Option ℕ) (text after rest : List Cell)
+    → is_ended text ≡ true → after ≡ after_name text → found ≡ Some line
+    → PassesEquals (equals_in after) (count_before_equals after) last after rest found
+    → (n : ℕ) × (definition_count text ≡ Some n) × (rest ≡ drop (name_more text + n) (drop 1 text))
+    × (line ≡ front_line last (drop (name_more text + n) text))
 definition-found last line found text after rest ended is some takes =
     definition-read last line text rest (equals_in (after_name text)) ended refl
     (subst (λ t. PassesEquals (equals_in t) (count_before_equals t) last t rest (Some line)) is

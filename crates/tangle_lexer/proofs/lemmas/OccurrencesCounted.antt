@@ -1,5 +1,7 @@
 -- Occurrences are numbered one after another, so their numbers in tokens are below their count.
-use Rattle.std.proofs.Common.{◌≡◌, ◌≤◌, ◌<◌, ℕ, zero, suc, ◌+◌, Bool, true, false, ◌||◌, List, [], ◌∷◌, ◌++◌, length, drop, flat_map, refl, ap, arith, if◌then◌else◌, Option, None, Some, option_to_list, length-append}
+use Rattle.std.proofs.Common.{◌≡◌, ◌≤◌, ◌<◌, ℕ, zero, suc, ◌+◌, Bool, true, false, ◌||◌, List, [], ◌∷◌, ◌++◌, length}
+use Rattle.std.proofs.Common.{drop, flat_map, refl, ap, arith, if◌then◌else◌, Option, None, Some, option_to_list}
+use Rattle.std.proofs.Common.{length-append}
 use Rattle.std.specs.List.{list_any, AllByRecursion}
 use Rattle.tangle_faults.specs.declared.faults.FaultKind.TheVariants as fault
 use Rattle.tangle_lexer.specs.declared.tokens.Token.{Token}
@@ -21,8 +23,11 @@ use Rattle.tangle_lexer.specs.Quoted.{quote_end}
 use Rattle.tangle_lexer.specs.declared.constants.AsciiConstant.{AsciiConstant}
 use Rattle.tangle_lexer.specs.Constants.{constant_lexeme, constant_at}
 use Rattle.tangle_lexer.specs.Names.{definition_or_mention, definition_count, has_single_equals, after_name}
-use Rattle.tangle_lexer.specs.Steps.{documentation_code, c_code, c_lexeme, macro_code, macro_lexeme, lexeme_in, lexeme, lexemes, tokens_from, occurrences_from, kind_at, code_at, prose}
-use Rattle.tangle_lexer.proofs.lemmas.PlainTokens.{AreNoHeadsOrUses, is_head_or_use, seen, plain-append, fault_if-plain, white-plain, line_ends-plain, verbatim_tokens-plain, cut_tokens-plain, quote_end-plain, constant-plain}
+use Rattle.tangle_lexer.specs.Steps.{documentation_code, c_code, c_lexeme, macro_code, macro_lexeme, lexeme_in, lexeme}
+use Rattle.tangle_lexer.specs.Steps.{lexemes, tokens_from, occurrences_from, kind_at, code_at, prose}
+use Rattle.tangle_lexer.proofs.lemmas.PlainTokens.{AreNoHeadsOrUses, is_head_or_use, seen, plain-append, fault_if-plain}
+use Rattle.tangle_lexer.proofs.lemmas.PlainTokens.{white-plain, line_ends-plain, verbatim_tokens-plain}
+use Rattle.tangle_lexer.proofs.lemmas.PlainTokens.{cut_tokens-plain, quote_end-plain, constant-plain}
 
 -- a token has no number of an occurrence, or one below `count`
 abbrev pub IsBelow : ℕ → Token → Type 0
@@ -46,7 +51,8 @@ plain-below : (count : ℕ) (ts : List Token) → list_any is_head_or_use ts ≡
 plain-below count [] h = tt
 plain-below count (t ∷ ts) h = both t (λ k. plain-below count ts k) h
   where
-    both : (t : Token) → (list_any is_head_or_use ts ≡ false → AreBelow count ts) → (is_head_or_use t || list_any is_head_or_use ts) ≡ false → IsBelow count t × AreBelow count ts
+    both : (t : Token) → (list_any is_head_or_use ts ≡ false → AreBelow count ts)
+        → (is_head_or_use t || list_any is_head_or_use ts) ≡ false → IsBelow count t × AreBelow count ts
     both token.Section more h = cc
     both (token.MacroStart line) more h = cc
     both (token.UnnamedPart line) more h = cc
@@ -55,13 +61,15 @@ plain-below count (t ∷ ts) h = both t (λ k. plain-below count ts k) h
     both _ more h = (tt, more h)
 
 -- a lexeme without an occurrence
-plain-keeps : (s : LexerState) (l : Lexeme) → l.occurrence ≡ None → l.after.occurrences ≡ s.occurrences → AreNoHeadsOrUses l.tokens → Keeps s l
+plain-keeps : (s : LexerState) (l : Lexeme)
+    → l.occurrence ≡ None → l.after.occurrences ≡ s.occurrences → AreNoHeadsOrUses l.tokens → Keeps s l
 plain-keeps s l none same q = record {
   count = omega (arith, same, ap (λ n. length (option_to_list n)) none);
   below = plain-below _ l.tokens q.none;
 }
 
-head-keeps : (s : LexerState) (l : Lexeme) (h : Token) → l.occurrence ≡ None → l.after.occurrences ≡ s.occurrences → l.tokens ≡ h ∷ [] → IsBelow (s.occurrences + length (option_to_list l.occurrence)) h → Keeps s l
+head-keeps : (s : LexerState) (l : Lexeme) (h : Token) → l.occurrence ≡ None → l.after.occurrences ≡ s.occurrences
+    → l.tokens ≡ h ∷ [] → IsBelow (s.occurrences + length (option_to_list l.occurrence)) h → Keeps s l
 head-keeps s l h none same is below = record {
   count = omega (arith, same, ap (λ n. length (option_to_list n)) none);
   below = rw is (below, tt);
@@ -71,15 +79,18 @@ if-keeps : (b : Bool) (s : LexerState) (x y : Lexeme) → Keeps s x → Keeps s 
 if-keeps true s x y h k = h
 if-keeps false s x y h k = k
 
-constant-keeps : (constant : Option AsciiConstant) (s : LexerState) (text : List Cell) → Keeps s (constant_lexeme constant s text)
+constant-keeps : (constant : Option AsciiConstant) (s : LexerState) (text : List Cell)
+    → Keeps s (constant_lexeme constant s text)
 constant-keeps None s text = plain-keeps s _ refl refl (constant-plain None s text)
 constant-keeps (Some constant) s text = plain-keeps s _ refl refl (constant-plain (Some constant) s text)
 
 name-keeps : (count : Option ℕ) (s : LexerState) (text : List Cell) → Keeps s (definition_or_mention count s text)
-name-keeps None s text = record { count = refl; below = plain-below (s.occurrences + 1) _ (fault_if-plain _ fault.NameEnd _).none }
+name-keeps None s text =
+    record { count = refl; below = plain-below (s.occurrences + 1) _ (fault_if-plain _ fault.NameEnd _).none }
 name-keeps (Some count) s text = record { count = refl; below = (omega arith, tt) }
 
-documentation-keeps : (kind : ControlCode) (s : LexerState) (text : List Cell) → Keeps s (documentation_code kind s text)
+documentation-keeps : (kind : ControlCode) (s : LexerState) (text : List Cell)
+    → Keeps s (documentation_code kind s text)
 documentation-keeps code.SectionStart s text = head-keeps s _ token.Section refl refl refl tt
 documentation-keeps code.Macro s text = head-keeps s _ _ refl refl refl tt
 documentation-keeps code.UnnamedPart s text = head-keeps s _ _ refl refl refl tt
@@ -93,24 +104,34 @@ code-keeps code.Name s text = record {
   below = (
     omega arith,
     plain-below (s.occurrences + 1) _
-        (plain-append _ _ (fault_if-plain _ fault.NameEnd _) (fault_if-plain (has_single_equals (after_name text)) fault.NameEquals (front_line s.last_line text))).none,
+        (plain-append _ _ (fault_if-plain _ fault.NameEnd _)
+        (fault_if-plain (has_single_equals (after_name text)) fault.NameEquals (front_line s.last_line text))).none,
   );
 }
-code-keeps code.ControlText s text = plain-keeps s _ refl refl (white-plain _ _ (line_ends-plain region.ControlText (drop 2 text)) (fault_if-plain _ fault.ControlText _))
+code-keeps code.ControlText s text = plain-keeps s _ refl refl
+    (white-plain _ _ (line_ends-plain region.ControlText (drop 2 text)) (fault_if-plain _ fault.ControlText _))
 code-keeps code.Verbatim s text = plain-keeps s _ refl refl (verbatim_tokens-plain (drop 2 text))
 code-keeps code.AsciiConstant s text = constant-keeps (constant_at (drop 2 text)) s text
 code-keeps _ s text = plain-keeps s _ refl refl (seen _ refl)
 
 c-keeps : (kind : LexemeKind) (s : LexerState) (text : List Cell) → Keeps s (c_lexeme kind s text)
 c-keeps (lexeme_kind.Control code) s text = code-keeps code s text
-c-keeps lexeme_kind.BlockComment s text = plain-keeps s _ refl refl (white-plain _ _ (line_ends-plain region.BlockComment (drop 2 text)) (fault_if-plain _ fault.CommentEnd _))
-c-keeps lexeme_kind.LineComment s text = plain-keeps s _ refl refl (white-plain [] _ (seen [] refl) (fault_if-plain _ fault.CommentEnd _))
+c-keeps lexeme_kind.BlockComment s text = plain-keeps s _ refl refl
+    (white-plain _ _ (line_ends-plain region.BlockComment (drop 2 text)) (fault_if-plain _ fault.CommentEnd _))
+c-keeps lexeme_kind.LineComment s text =
+    plain-keeps s _ refl refl (white-plain [] _ (seen [] refl) (fault_if-plain _ fault.CommentEnd _))
 c-keeps lexeme_kind.DoubleQuote s text =
-    plain-keeps s _ refl refl (cut_tokens-plain (quote_end region.DoubleQuote double_quote s.last_line) region.DoubleQuote 0 (front_column text) (drop 1 text) (quote_end-plain region.DoubleQuote double_quote s.last_line))
+    plain-keeps s _ refl refl
+    (cut_tokens-plain (quote_end region.DoubleQuote double_quote s.last_line) region.DoubleQuote 0
+    (front_column text) (drop 1 text) (quote_end-plain region.DoubleQuote double_quote s.last_line))
 c-keeps lexeme_kind.Apostrophe s text =
-    plain-keeps s _ refl refl (cut_tokens-plain (quote_end region.Apostrophe apostrophe s.last_line) region.Apostrophe 0 (front_column text) (drop 1 text) (quote_end-plain region.Apostrophe apostrophe s.last_line))
+    plain-keeps s _ refl refl
+    (cut_tokens-plain (quote_end region.Apostrophe apostrophe s.last_line) region.Apostrophe 0
+    (front_column text) (drop 1 text) (quote_end-plain region.Apostrophe apostrophe s.last_line))
 c-keeps lexeme_kind.HeaderName s text =
-    plain-keeps s _ refl refl (cut_tokens-plain (quote_end region.HeaderName greater_sign s.last_line) region.HeaderName 0 (front_column text) (drop 1 text) (quote_end-plain region.HeaderName greater_sign s.last_line))
+    plain-keeps s _ refl refl
+    (cut_tokens-plain (quote_end region.HeaderName greater_sign s.last_line) region.HeaderName 0
+    (front_column text) (drop 1 text) (quote_end-plain region.HeaderName greater_sign s.last_line))
 c-keeps _ s text = plain-keeps s _ refl refl (seen _ refl)
 
 macro_code-keeps : (kind : ControlCode) (s : LexerState) (text : List Cell) → Keeps s (macro_code kind s text)
@@ -130,9 +151,11 @@ macro-keeps kind s text = c-keeps kind s text
 mode-keeps : (m : Mode) (s : LexerState) (text : List Cell) → Keeps s (lexeme_in m s text)
 mode-keeps mode.Limbo s text =
     if-keeps (starts_section text) s _ _ (head-keeps s _ token.Section refl refl refl tt)
-    (if-keeps (holds at_sign (byte_at 0 text)) s (lexeme_of [] 1 s) (prose s text) (plain-keeps s _ refl refl (seen _ refl)) (plain-keeps s _ refl refl (seen _ refl)))
+    (if-keeps (holds at_sign (byte_at 0 text)) s (lexeme_of [] 1 s) (prose s text)
+    (plain-keeps s _ refl refl (seen _ refl)) (plain-keeps s _ refl refl (seen _ refl)))
 mode-keeps mode.Documentation s text =
-    if-keeps (holds at_sign (byte_at 0 text)) s _ _ (documentation-keeps (code_at (byte_at 1 text)) s text) (plain-keeps s _ refl refl (seen _ refl))
+    if-keeps (holds at_sign (byte_at 0 text)) s _ _
+    (documentation-keeps (code_at (byte_at 1 text)) s text) (plain-keeps s _ refl refl (seen _ refl))
 mode-keeps mode.CPart s text = c-keeps (kind_at s.include text) s text
 mode-keeps mode.Macro s text = macro-keeps (kind_at s.include text) s text
 
@@ -151,8 +174,9 @@ below-more : (few many : ℕ) (ts : List Token) → few ≤ many → AreBelow fe
 below-more few many [] h k = tt
 below-more few many (t ∷ ts) h k = (token-more few many t h k.0, below-more few many ts h k.1)
 
-lexemes-below : (k : ℕ) (s : LexerState) (text : List Cell) (count : ℕ) →
-    count ≡ s.occurrences + length (flat_map (λ l. option_to_list l.occurrence) (lexemes k s text)) → AreBelow count (flat_map (λ l. l.tokens) (lexemes k s text))
+lexemes-below : (k : ℕ) (s : LexerState) (text : List Cell) (count : ℕ)
+    → count ≡ s.occurrences + length (flat_map (λ l. option_to_list l.occurrence) (lexemes k s text))
+    → AreBelow count (flat_map (λ l. l.tokens) (lexemes k s text))
 lexemes-below zero s [] count is = tt
 lexemes-below (suc k) s [] count is = tt
 lexemes-below (suc k) s (c ∷ cs) count is = lexemes-below k s cs count is
@@ -165,6 +189,7 @@ lexemes-below zero s (c ∷ cs) count is =
     (below-more _ count here.tokens (omega (arith, is, lengths)) keeps.below)
     (lexemes-below here.more here.after cs count (omega (arith, is, lengths, keeps.count)))
 
-pub tokens-below : (s : LexerState) (text : List Cell) → AreBelow (s.occurrences + length (occurrences_from s text)) (tokens_from s text)
+pub tokens-below : (s : LexerState) (text : List Cell)
+    → AreBelow (s.occurrences + length (occurrences_from s text)) (tokens_from s text)
 unfolding tokens_from occurrences_from
 tokens-below s text = lexemes-below 0 s text _ refl

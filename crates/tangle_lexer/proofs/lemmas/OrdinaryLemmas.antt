@@ -1,5 +1,6 @@
 -- Ordinary bytes of a region are units of one cell without tokens.
 use Rattle.std.proofs.Common.{◌≡◌, ℕ, zero, suc, true, false, List, [], ◌∷◌, Option, Some, None, drop, refl, sym, ◌∙◌}
+use Rattle.std.proofs.lemmas.Bool.{false≢true, not-true}
 use Rattle.tangle_text.specs.declared.regions.Region.{Region}
 use Rattle.tangle_lexer.specs.declared.tokens.Token.{Token}
 use Rattle.tangle_lines.specs.Bytes.{at_sign}
@@ -11,17 +12,18 @@ use Rattle.tangle_text.proofs.UnitLemmas.{from_units}
 use Rattle.tangle_lexer.specs.Lexemes.{line_end_by}
 use Rattle.tangle_lexer.specs.Comments.{line_ends}
 use Rattle.tangle_lexer.specs.Quoted.{cut_tokens}
-use Rattle.tangle_text.proofs.OrdinaryBytes.{not-false, not-true, or-false, cell-one}
+use Rattle.tangle_text.proofs.OrdinaryBytes.{or-false, cell-one}
 
 no_line_end : (b : Option ℕ) (line : ℕ) → holds_ordinary b ≡ true → line_end_by b line ≡ []
-no_line_end None line h = absurd (not-true h)
+no_line_end None line h = absurd (false≢true h)
 no_line_end (Some b) line h = refl
 
 no_at : (b : Option ℕ) → holds_ordinary b ≡ true → holds at_sign b ≡ false
 no_at None h = refl
-no_at (Some b) h = not-false _ (or-false _ _ (or-false _ _ (or-false _ _ (or-false _ _ (or-false _ _ h).0).0).0).0).0
+no_at (Some b) h = not-true _ (or-false _ _ (or-false _ _ (or-false _ _ (or-false _ _ (or-false _ _ h).0).0).0).0).0
 
-pub line_ends-ordinary : (r : Region) → skips_ordinary r ≡ true → (n : ℕ) (text : List Cell) → AreOrdinary n text → line_ends r (drop n text) ≡ line_ends r text
+pub line_ends-ordinary : (r : Region) → skips_ordinary r ≡ true → (n : ℕ) (text : List Cell)
+    → AreOrdinary n text → line_ends r (drop n text) ≡ line_ends r text
 line_ends-ordinary r is zero text h = refl
 line_ends-ordinary r is (suc n) [] h = refl
 line_ends-ordinary r is (suc n) (c ∷ cs) h =
@@ -30,8 +32,9 @@ line_ends-ordinary r is (suc n) (c ∷ cs) h =
     passed : from_units line_end_of r 0 (c ∷ cs) ≡ from_units line_end_of r 0 cs
     passed = rw (cell-one r c.byte (byte_at 0 cs) is h.0, no_line_end c.byte c.line h.0) refl
 
-pub cut-ordinary : (ends : ℕ → List Cell → List Token) (r : Region) → skips_ordinary r ≡ true → (n start : ℕ) (text : List Cell) → AreOrdinary n text →
-    cut_tokens ends r 0 start (drop n text) ≡ cut_tokens ends r 0 start text
+pub cut-ordinary : (ends : ℕ → List Cell → List Token) (r : Region)
+    → skips_ordinary r ≡ true → (n start : ℕ) (text : List Cell) → AreOrdinary n text
+    → cut_tokens ends r 0 start (drop n text) ≡ cut_tokens ends r 0 start text
 cut-ordinary ends r is zero start text h = refl
 cut-ordinary ends r is (suc n) start [] h = refl
 cut-ordinary ends r is (suc n) start (c ∷ cs) h =

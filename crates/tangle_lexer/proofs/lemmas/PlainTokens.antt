@@ -1,5 +1,6 @@
 -- Tokens that are neither heads nor uses.
-use Rattle.std.proofs.Common.{◌≡◌, ℕ, zero, suc, ◌+◌, Bool, true, false, ◌&&◌, ◌||◌, nat_lt, List, [], ◌∷◌, ◌++◌, refl, sym, subst, if◌then◌else◌, Option, None, Some}
+use Rattle.std.proofs.Common.{◌≡◌, ℕ, zero, suc, ◌+◌, Bool, true, false, ◌&&◌, ◌||◌, nat_lt, List, [], ◌∷◌, ◌++◌, refl}
+use Rattle.std.proofs.Common.{sym, subst, if◌then◌else◌, Option, None, Some}
 use Rattle.std.specs.List.{list_any}
 use Rattle.tangle_faults.specs.declared.faults.FaultKind.{FaultKind}
 use Rattle.tangle_lexer.specs.declared.tokens.Token.{Token}
@@ -19,7 +20,8 @@ use Rattle.tangle_lexer.proofs.lemmas.LexemeLemmas.{line_end_of, line_ends-are}
 use Rattle.tangle_text.proofs.UnitLemmas.{from_units}
 use Rattle.tangle_lexer.specs.Lexemes.{fault_if}
 use Rattle.tangle_lexer.specs.Comments.{line_ends}
-use Rattle.tangle_lexer.specs.Quoted.{range_token, cut_range, unit_tokens, next_start, at_stop, cut_tokens, quote_end, verbatim_end, verbatim_tokens, empty_end, ends_at_once}
+use Rattle.tangle_lexer.specs.Quoted.{range_token, cut_range, unit_tokens, next_start, at_stop, cut_tokens, quote_end}
+use Rattle.tangle_lexer.specs.Quoted.{verbatim_end, verbatim_tokens, empty_end, ends_at_once}
 use Rattle.tangle_lexer.specs.declared.constants.AsciiConstant.{AsciiConstant}
 use Rattle.tangle_lexer.specs.Constants.{constant_lexeme}
 use Rattle.tangle_lexer.specs.Heads.{is_head}
@@ -36,7 +38,8 @@ pub record AreNoHeadsOrUses (ts : List Token) : Type 0 where
 pub seen : (ts : List Token) → list_any is_head_or_use ts ≡ false → AreNoHeadsOrUses ts
 seen ts h = record { none = h }
 
-append-plain : (xs ys : List Token) → list_any is_head_or_use xs ≡ false → list_any is_head_or_use ys ≡ false → list_any is_head_or_use (xs ++ ys) ≡ false
+append-plain : (xs ys : List Token) → list_any is_head_or_use xs ≡ false → list_any is_head_or_use ys ≡ false
+    → list_any is_head_or_use (xs ++ ys) ≡ false
 append-plain [] ys h k = k
 append-plain (x ∷ xs) ys h k = both (is_head_or_use x) (λ h. append-plain xs ys h k) h
   where
@@ -48,7 +51,8 @@ append-plain (x ∷ xs) ys h k = both (is_head_or_use x) (λ h. append-plain xs 
 pub plain-append : (xs ys : List Token) → AreNoHeadsOrUses xs → AreNoHeadsOrUses ys → AreNoHeadsOrUses (xs ++ ys)
 plain-append xs ys h k = seen (xs ++ ys) (append-plain xs ys h.none k.none)
 
-plain-if : (b : Bool) (xs ys : List Token) → AreNoHeadsOrUses xs → AreNoHeadsOrUses ys → AreNoHeadsOrUses (if b then xs else ys)
+plain-if : (b : Bool) (xs ys : List Token)
+    → AreNoHeadsOrUses xs → AreNoHeadsOrUses ys → AreNoHeadsOrUses (if b then xs else ys)
 plain-if true xs ys h k = h
 plain-if false xs ys h k = k
 
@@ -67,13 +71,15 @@ units-plain r zero [] = seen [] refl
 units-plain r (suc k) [] = seen [] refl
 units-plain r (suc k) (c ∷ cs) = units-plain r k cs
 units-plain r zero (c ∷ cs) =
-    stop-plain (unit_at r (c ∷ cs)) _ (plain-append _ _ (plain-if (is_line_end c.byte) (token.LineEnd c.line ∷ []) [] (seen _ refl) (seen _ refl))
+    stop-plain (unit_at r (c ∷ cs)) _
+    (plain-append _ _ (plain-if (is_line_end c.byte) (token.LineEnd c.line ∷ []) [] (seen _ refl) (seen _ refl))
     (units-plain r (more_by (unit_at r (c ∷ cs))) cs))
 
 pub line_ends-plain : (r : Region) (text : List Cell) → AreNoHeadsOrUses (line_ends r text)
 line_ends-plain r text = subst AreNoHeadsOrUses (sym (line_ends-are r text)) (units-plain r 0 text)
 
-pub white-plain : (ends faults : List Token) → AreNoHeadsOrUses ends → AreNoHeadsOrUses faults → AreNoHeadsOrUses (token.White ∷ ends ++ faults)
+pub white-plain : (ends faults : List Token)
+    → AreNoHeadsOrUses ends → AreNoHeadsOrUses faults → AreNoHeadsOrUses (token.White ∷ ends ++ faults)
 white-plain ends faults h k = seen _ (append-plain ends faults h.none k.none)
 
 -- ranges of quoted and verbatim texts
@@ -83,38 +89,46 @@ range-plain region.Verbatim s = seen _ refl
 range-plain _ s = seen _ refl
 
 cut_range-plain : (r : Region) (line start end : ℕ) → AreNoHeadsOrUses (cut_range r line start end)
-cut_range-plain r line start end = plain-if (nat_lt start end) _ [] (range-plain r (record { line = line; start = start; end = end })) (seen [] refl)
+cut_range-plain r line start end =
+    plain-if (nat_lt start end) _ [] (range-plain r (record { line = line; start = start; end = end })) (seen [] refl)
 
-unit_tokens-plain : (r : Region) (u : Unit-of) (start : ℕ) (c : Cell) (next : Option ℕ) → AreNoHeadsOrUses (unit_tokens r u start c next)
+unit_tokens-plain : (r : Region) (u : Unit-of) (start : ℕ) (c : Cell) (next : Option ℕ)
+    → AreNoHeadsOrUses (unit_tokens r u start c next)
 unit_tokens-plain r unit.Two start c next =
     plain-if (holds at_sign c.byte) _ _ (cut_range-plain r c.line start (c.column + 1))
     (plain-if (holds backslash c.byte && is_line_end next) _ _
     (plain-append _ _ (cut_range-plain r c.line start (c.column + 1)) (seen _ refl)) (seen [] refl))
 unit_tokens-plain r _ start c next = fault_if-plain (holds at_sign c.byte) fault.StringAt c.line
 
-at_stop-plain : (u : Unit-of) (ending others : List Token) → AreNoHeadsOrUses ending → AreNoHeadsOrUses others → AreNoHeadsOrUses (at_stop u ending others)
+at_stop-plain : (u : Unit-of) (ending others : List Token)
+    → AreNoHeadsOrUses ending → AreNoHeadsOrUses others → AreNoHeadsOrUses (at_stop u ending others)
 at_stop-plain unit.Stop ending others h k = h
 at_stop-plain _ ending others h k = k
 
-pub cut_tokens-plain : (ends : ℕ → List Cell → List Token) (r : Region) (k start : ℕ) (text : List Cell) →
-    ((start : ℕ) (text : List Cell) → AreNoHeadsOrUses (ends start text)) → AreNoHeadsOrUses (cut_tokens ends r k start text)
+pub cut_tokens-plain : (ends : ℕ → List Cell → List Token) (r : Region) (k start : ℕ) (text : List Cell)
+    → ((start : ℕ) (text : List Cell) → AreNoHeadsOrUses (ends start text))
+    → AreNoHeadsOrUses (cut_tokens ends r k start text)
 cut_tokens-plain ends r zero start [] h = h start []
 cut_tokens-plain ends r (suc k) start [] h = h start []
 cut_tokens-plain ends r (suc k) start (c ∷ cs) h = cut_tokens-plain ends r k start cs h
 cut_tokens-plain ends r zero start (c ∷ cs) h =
     at_stop-plain (unit_at r (c ∷ cs)) _ _ (h start (c ∷ cs))
     (plain-append _ _ (unit_tokens-plain r (unit_at r (c ∷ cs)) start c (byte_at 0 cs))
-    (cut_tokens-plain ends r (more_by (unit_at r (c ∷ cs))) (next_start (unit_at r (c ∷ cs)) start c (byte_at 0 cs)) cs h))
+    (cut_tokens-plain ends r (more_by (unit_at r (c ∷ cs)))
+    (next_start (unit_at r (c ∷ cs)) start c (byte_at 0 cs)) cs h))
 
-pub quote_end-plain : (r : Region) (close last start : ℕ) (text : List Cell) → AreNoHeadsOrUses (quote_end r close last start text)
+pub quote_end-plain : (r : Region) (close last start : ℕ) (text : List Cell)
+    → AreNoHeadsOrUses (quote_end r close last start text)
 quote_end-plain r close last start [] = seen _ refl
 quote_end-plain r close last start (c ∷ cs) =
-    plain-if (holds close c.byte) _ _ (cut_range-plain r c.line start (c.column + 1)) (plain-append _ _ (cut_range-plain r c.line start c.column) (seen _ refl))
+    plain-if (holds close c.byte) _ _ (cut_range-plain r c.line start (c.column + 1))
+    (plain-append _ _ (cut_range-plain r c.line start c.column) (seen _ refl))
 
 verbatim_end-plain : (start : ℕ) (text : List Cell) → AreNoHeadsOrUses (verbatim_end start text)
 verbatim_end-plain start [] = seen [] refl
 verbatim_end-plain start (c ∷ cs) =
-    plain-append _ _ (cut_range-plain region.Verbatim c.line start c.column) (fault_if-plain (is_line_end c.byte) fault.VerbatimEnd c.line)
+    plain-append _ _ (cut_range-plain region.Verbatim c.line start c.column)
+    (fault_if-plain (is_line_end c.byte) fault.VerbatimEnd c.line)
 
 empty_end-plain : (text : List Cell) → AreNoHeadsOrUses (empty_end text)
 empty_end-plain [] = seen [] refl
@@ -122,8 +136,10 @@ empty_end-plain (c ∷ cs) = fault_if-plain (is_line_end c.byte) fault.VerbatimE
 
 pub verbatim_tokens-plain : (text : List Cell) → AreNoHeadsOrUses (verbatim_tokens text)
 verbatim_tokens-plain text =
-    plain-if (ends_at_once region.Verbatim text) _ _ (seen _ (empty_end-plain text).none) (cut_tokens-plain verbatim_end region.Verbatim 0 (front_column text) text verbatim_end-plain)
+    plain-if (ends_at_once region.Verbatim text) _ _ (seen _ (empty_end-plain text).none)
+    (cut_tokens-plain verbatim_end region.Verbatim 0 (front_column text) text verbatim_end-plain)
 
-pub constant-plain : (constant : Option AsciiConstant) (s : LexerState) (text : List Cell) → AreNoHeadsOrUses (constant_lexeme constant s text).tokens
+pub constant-plain : (constant : Option AsciiConstant) (s : LexerState) (text : List Cell)
+    → AreNoHeadsOrUses (constant_lexeme constant s text).tokens
 constant-plain None s text = seen _ refl
 constant-plain (Some constant) s text = seen _ refl

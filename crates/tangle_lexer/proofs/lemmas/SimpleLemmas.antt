@@ -1,6 +1,8 @@
 -- Simple lexemes: words, white space, signs and line ends of C text.
-use Rattle.std.proofs.Common.{◌≡◌, ◌<◌, ℕ, ◌==◌, Bool, true, false, ◌||◌, if◌then◌else◌, List, [], ◌∷◌, ◌++◌, length, drop, arith, Option, Some, None, option_to_list, subst, refl, ap, sym, ◌∙◌}
+use Rattle.std.proofs.Common.{◌≡◌, ◌<◌, ℕ, ◌==◌, Bool, true, false, if◌then◌else◌, List, [], ◌∷◌, ◌++◌, length, drop}
+use Rattle.std.proofs.Common.{arith, Option, Some, None, option_to_list, subst, refl, ap, sym, ◌∙◌}
 use Rattle.std.specs.Option.{IfSome}
+use Rattle.std.proofs.lemmas.Bool.{or_parts}
 use Rattle.tangle_lines.specs.Bytes.{at_sign, double_quote, is_white}
 use Rattle.tangle_lexer.specs.declared.modes.IncludeState.{IncludeState}
 use Rattle.tangle_lexer.specs.declared.lexeme_kinds.LexemeKind.TheVariants as lexeme_kind
@@ -20,7 +22,8 @@ use Rattle.tangle_lexer.specs.Heads.{HasNoHead}
 use Rattle.tangle_lexer.proofs.lemmas.StepLemmas.{occurrences_from-step}
 
 -- a simple lexeme is the same in C parts and in macros
-pub lexeme-simple : (s : LexerState) (text : List Cell) (p : SimpleLexeme) → IsSimple text p → is_c_text s.mode ≡ true → lexeme s text ≡ c_lexeme (simple_kind p) s text
+pub lexeme-simple : (s : LexerState) (text : List Cell) (p : SimpleLexeme)
+    → IsSimple text p → is_c_text s.mode ≡ true → lexeme s text ≡ c_lexeme (simple_kind p) s text
 unfolding lexeme
 lexeme-simple s text p here h = go s.mode h
   where
@@ -40,15 +43,18 @@ lexeme-simple s text p here h = go s.mode h
     go mode.Macro h = ap (λ k. macro_lexeme k s text) (here.lexeme_kind s.include) ∙ alike p
 
 -- a simple lexeme changes nothing of the state but how much of #include was read
-pub simple-after : (p : SimpleLexeme) (inc : IncludeState) (s : LexerState) (text : List Cell) →
-    (c_lexeme (simple_kind p) (with_include inc s) text).after ≡ with_include (c_lexeme (simple_kind p) (with_include inc s) text).after.include s
+pub simple-after : (p : SimpleLexeme) (inc : IncludeState) (s : LexerState) (text : List Cell)
+    → (c_lexeme (simple_kind p) (with_include inc s) text).after
+    ≡ with_include (c_lexeme (simple_kind p) (with_include inc s) text).after.include s
 simple-after simple.Word inc s text = refl
 simple-after simple.White inc s text = refl
 simple-after simple.Sign inc s text = refl
 simple-after simple.LineEnd inc s text = refl
 
-pub simple-again : (old new : List Token) (inc : IncludeState) (s state after : LexerState) (text rest : List Cell) (p : SimpleLexeme) → state ≡ with_include inc s →
-    IsRead old new text rest after (c_lexeme (simple_kind p) state text) →
+pub simple-again : (old new : List Token) (inc : IncludeState)
+    (s state after : LexerState) (text rest : List Cell) (p : SimpleLexeme)
+    → state ≡ with_include inc s
+    → IsRead old new text rest after (c_lexeme (simple_kind p) state text) →
     IsRead old new text rest (with_include after.include s) (c_lexeme (simple_kind p) (with_include inc s) text)
 simple-again old new inc s state after text rest p is read =
     let again = subst (λ t. IsRead old new text rest after (c_lexeme (simple_kind p) t text)) is read in
@@ -59,59 +65,71 @@ simple-again old new inc s state after text rest p is read =
     }
 
 -- a simple lexeme has no occurrence and no head
-pub simple-none : (p : SimpleLexeme) (s : LexerState) (text : List Cell) → (c_lexeme (simple_kind p) s text).occurrence ≡ None
+pub simple-none : (p : SimpleLexeme) (s : LexerState) (text : List Cell)
+    → (c_lexeme (simple_kind p) s text).occurrence ≡ None
 simple-none simple.Word s text = refl
 simple-none simple.White s text = refl
 simple-none simple.Sign s text = refl
 simple-none simple.LineEnd s text = refl
 
-pub simple-no_head : (p : SimpleLexeme) (s : LexerState) (text : List Cell) → HasNoHead (c_lexeme (simple_kind p) s text).tokens
+pub simple-no_head : (p : SimpleLexeme) (s : LexerState) (text : List Cell)
+    → HasNoHead (c_lexeme (simple_kind p) s text).tokens
 simple-no_head simple.Word s text = refl
 simple-no_head simple.White s text = refl
 simple-no_head simple.Sign s text = refl
 simple-no_head simple.LineEnd s text = refl
 
-pub simple-read : (old new : List Token) (s after : LexerState) (text rest : List Cell) (p : SimpleLexeme) → IsSimple text p → is_c_text s.mode ≡ true →
-    IsRead old new text rest after (c_lexeme (simple_kind p) s text) → IsRead old new text rest after (lexeme s text)
-simple-read old new s after text rest p here h read = subst (λ l. IsRead old new text rest after l) (sym (lexeme-simple s text p here h)) read
+pub simple-read : (old new : List Token) (s after : LexerState) (text rest : List Cell) (p : SimpleLexeme)
+    → IsSimple text p → is_c_text s.mode ≡ true
+    → IsRead old new text rest after (c_lexeme (simple_kind p) s text) → IsRead old new text rest after (lexeme s text)
+simple-read old new s after text rest p here h read =
+    subst (λ l. IsRead old new text rest after l) (sym (lexeme-simple s text p here h)) read
 
-pub simple-occurrences_from : (old new : List Token) (s after : LexerState) (text rest : List Cell) (p : SimpleLexeme) → IsSimple text p → is_c_text s.mode ≡ true →
-    IsRead old new text rest after (c_lexeme (simple_kind p) s text) → occurrences_from after rest ≡ occurrences_from s text
+pub simple-occurrences_from : (old new : List Token) (s after : LexerState) (text rest : List Cell) (p : SimpleLexeme)
+    → IsSimple text p → is_c_text s.mode ≡ true
+    → IsRead old new text rest after (c_lexeme (simple_kind p) s text)
+    → occurrences_from after rest ≡ occurrences_from s text
 simple-occurrences_from old new s after text rest p here h read =
     let is = lexeme-simple s text p here h in
     let none : (lexeme s text).occurrence ≡ None = ap (λ l. l.occurrence) is ∙ simple-none p s text in
-    rw (read.ahead, read.state, ← is) (sym (occurrences_from-step s text here.inside ∙ ap (λ n. option_to_list n ++ occurrences_from (lexeme s text).after (drop (lexeme s text).more (drop 1 text))) none))
+    rw (read.ahead, read.state, ← is)
+    (sym (occurrences_from-step s text here.inside
+    ∙ ap (λ n. option_to_list n ++ occurrences_from (lexeme s text).after (drop (lexeme s text).more (drop 1 text)))
+    none))
 
 -- the kind of a lexeme that begins with a byte that opens nothing longer
-
-or-parts : (a b : Bool) → (a || b) ≡ false → (a ≡ false) × (b ≡ false)
-or-parts true b h = cc
-or-parts false b h = (refl, h)
 
 some-inside : (text : List Cell) (b : ℕ) → byte_at 0 text ≡ Some b → 0 < length text
 some-inside [] b h = cc
 some-inside (c ∷ cs) b h = omega arith
 
-closed-kind : (inc : IncludeState) (b : ℕ) (next : Option ℕ) → is_opener b ≡ false →
-    kind_by inc (Some b) next ≡ (if is_white b then lexeme_kind.White else if is_word_byte b then lexeme_kind.Word else lexeme_kind.Other)
+closed-kind : (inc : IncludeState) (b : ℕ) (next : Option ℕ) → is_opener b ≡ false
+    → kind_by inc (Some b) next
+    ≡ (if is_white b then lexeme_kind.White else if is_word_byte b then lexeme_kind.Word else lexeme_kind.Other)
 closed-kind inc b next h =
-    let less = or-parts _ (b == less_sign) h in
-    let apostrophes = or-parts _ (b == apostrophe) less.0 in
-    let quotes = or-parts _ (b == double_quote) apostrophes.0 in
-    let slashes = or-parts (b == at_sign) (b == slash) quotes.0 in
+    let less = or_parts _ (b == less_sign) h in
+    let apostrophes = or_parts _ (b == apostrophe) less.0 in
+    let quotes = or_parts _ (b == double_quote) apostrophes.0 in
+    let slashes = or_parts (b == at_sign) (b == slash) quotes.0 in
     rw (slashes.0, slashes.1, quotes.1, apostrophes.1, less.1) refl
 
-pub simple-is : (text : List Cell) (b : ℕ) → byte_at 0 text ≡ Some b → IfSome (simple_of b) (λ simple. IsSimple text simple)
+pub simple-is : (text : List Cell) (b : ℕ)
+    → byte_at 0 text ≡ Some b → IfSome (simple_of b) (λ simple. IsSimple text simple)
 simple-is text b is = by (is_opener b) refl (is_white b) refl (is_word_byte b) refl
   where
-    kind : (s : SimpleLexeme) → is_opener b ≡ false → (if is_white b then lexeme_kind.White else if is_word_byte b then lexeme_kind.Word else lexeme_kind.Other) ≡ simple_kind s → IsSimple text s
+    kind : (s : SimpleLexeme) → is_opener b ≡ false
+        → (if is_white b then lexeme_kind.White else if is_word_byte b then lexeme_kind.Word else lexeme_kind.Other)
+        ≡ simple_kind s
+        → IsSimple text s
     kind s closed k = record {
       inside = some-inside text b is;
-      lexeme_kind = λ inc. ap (λ x. kind_by inc x (byte_at 1 text)) is ∙ (closed-kind inc b (byte_at 1 text) closed ∙ k);
+      lexeme_kind =
+          λ inc. ap (λ x. kind_by inc x (byte_at 1 text)) is ∙ (closed-kind inc b (byte_at 1 text) closed ∙ k);
       byte = λ other. rw is refl;
     }
 
-    by : (o : Bool) → is_opener b ≡ o → (w : Bool) → is_white b ≡ w → (d : Bool) → is_word_byte b ≡ d → IfSome (simple_of b) (λ simple. IsSimple text simple)
+    by : (o : Bool) → is_opener b ≡ o → (w : Bool) → is_white b ≡ w → (d : Bool)
+        → is_word_byte b ≡ d → IfSome (simple_of b) (λ simple. IsSimple text simple)
     by true o w e d f = rw o tt
     by false o true e d f = rw (o, e) (kind simple.White o (rw e refl))
     by false o false e true f = rw (o, e, f) (kind simple.Word o (rw (e, f) refl))

@@ -1,6 +1,9 @@
 -- What one step of the lexer does to the text, the tokens and the occurrences.
-use Rattle.std.proofs.Common.{◌≡◌, ◌<◌, ◌+◌, ℕ, zero, suc, Bool, true, false, ◌||◌, List, [], ◌∷◌, ◌++◌, length, drop, map, flat_map, Option, Some, None, option_to_list, inl, inr, refl, ap, sym, ◌∙◌, arith, append_assoc, length-drop}
+use Rattle.std.proofs.Common.{◌≡◌, ◌<◌, ◌+◌, ℕ, zero, suc, Bool, true, false, ◌||◌, List, [], ◌∷◌, ◌++◌, length, drop}
+use Rattle.std.proofs.Common.{map, flat_map, Option, Some, None, option_to_list, inl, inr, refl, ap, sym, ◌∙◌, arith}
+use Rattle.std.proofs.Common.{append_assoc, length-drop}
 use Rattle.std.specs.List.{list_any}
+use Rattle.std.proofs.lemmas.List.{length_push}
 use Rattle.tangle_lines.specs.Reading.{SourceLine}
 use Rattle.tangle_lexer.specs.declared.modes.Mode.{Mode}
 use Rattle.tangle_lexer.specs.declared.modes.Mode.TheVariants as mode
@@ -18,11 +21,12 @@ use Rattle.tangle_lexer.specs.Lexemes.{Lexeme, OccurrenceOnLine, in_mode}
 use Rattle.tangle_lexer.specs.Comments.{starts_section}
 use Rattle.tangle_lexer.specs.Constants.{constant_at, constant_lexeme}
 use Rattle.tangle_lexer.specs.Names.{definition_or_mention, definition_count}
-use Rattle.tangle_lexer.specs.Steps.{lexeme, lexemes, lexeme_in, limbo_lexeme, documentation_lexeme, documentation_code, c_code, c_lexeme, macro_code, macro_lexeme, kind_at, code_at, tokens_from, occurrences_from}
+use Rattle.tangle_lexer.specs.Steps.{lexeme, lexemes, lexeme_in, limbo_lexeme, documentation_lexeme, documentation_code}
+use Rattle.tangle_lexer.specs.Steps.{c_code, c_lexeme, macro_code, macro_lexeme, kind_at, code_at, tokens_from}
+use Rattle.tangle_lexer.specs.Steps.{occurrences_from}
 use Rattle.tangle_lexer.specs.Occurrences.{OccurrenceRead, occurrence_of}
-use Rattle.tangle_lexer.specs.Heads.{is_head}
+use Rattle.tangle_lexer.specs.Heads.{is_head, HasNoHead}
 use Rattle.tangle_lexer.specs.Reads.{IsRead, AddsOccurrence}
-use Rattle.tangle_lexer.specs.Heads.{HasNoHead}
 use Rattle.tangle_lexer.proofs.lemmas.HeadLemmas.{IsHeadAlone, no_head-append}
 
 pub lexemes-drop : (k : ℕ) (s : LexerState) (text : List Cell) → lexemes k s text ≡ lexemes 0 s (drop k text)
@@ -30,47 +34,66 @@ lexemes-drop zero s text = refl
 lexemes-drop (suc k) s [] = refl
 lexemes-drop (suc k) s (c ∷ cs) = lexemes-drop k s cs
 
-tokens_from-step : (s : LexerState) (text : List Cell) → 0 < length text →
-    tokens_from s text ≡ (lexeme s text).tokens ++ tokens_from (lexeme s text).after (drop (lexeme s text).more (drop 1 text))
+tokens_from-step : (s : LexerState) (text : List Cell) → 0 < length text
+    → tokens_from s text
+    ≡ (lexeme s text).tokens ++ tokens_from (lexeme s text).after (drop (lexeme s text).more (drop 1 text))
 unfolding tokens_from
 tokens_from-step s [] h = absurd (omega (arith, h))
 tokens_from-step s (c ∷ cs) h =
     let here : Lexeme = lexeme s (c ∷ cs) in
     ap (λ rest. here.tokens ++ flat_map (λ l. l.tokens) rest) (lexemes-drop here.more here.after cs)
 
-pub occurrences_from-step : (s : LexerState) (text : List Cell) → 0 < length text →
-    occurrences_from s text ≡ option_to_list (lexeme s text).occurrence ++ occurrences_from (lexeme s text).after (drop (lexeme s text).more (drop 1 text))
+pub occurrences_from-step : (s : LexerState) (text : List Cell) → 0 < length text
+    → occurrences_from s text
+    ≡ option_to_list (lexeme s text).occurrence
+    ++ occurrences_from (lexeme s text).after (drop (lexeme s text).more (drop 1 text))
 unfolding occurrences_from
 occurrences_from-step s [] h = absurd (omega (arith, h))
 occurrences_from-step s (c ∷ cs) h =
     let here : Lexeme = lexeme s (c ∷ cs) in
-    ap (λ rest. option_to_list here.occurrence ++ flat_map (λ l. option_to_list l.occurrence) rest) (lexemes-drop here.more here.after cs)
+    ap (λ rest. option_to_list here.occurrence ++ flat_map (λ l. option_to_list l.occurrence) rest)
+    (lexemes-drop here.more here.after cs)
 
 -- a step does not change the list of the tokens read and those ahead
-pub step-tokens : (old new : List Token) (s after : LexerState) (text rest : List Cell) → 0 < length text → IsRead old new text rest after (lexeme s text) →
-    new ++ tokens_from after rest ≡ old ++ tokens_from s text
+pub step-tokens : (old new : List Token) (s after : LexerState) (text rest : List Cell)
+    → 0 < length text → IsRead old new text rest after (lexeme s text)
+    → new ++ tokens_from after rest ≡ old ++ tokens_from s text
 step-tokens old new s after text rest h read =
     let step = tokens_from-step s text h in
     rw (read.tokens, read.ahead, read.state, step, append_assoc) refl
 
 -- a step does not change the list of the occurrences read and those ahead
-pub step-occurrences : (lines : List SourceLine) (old new : List OccurrenceRead) (from to : List Token) (s after : LexerState) (text rest : List Cell) → 0 < length text →
-    IsRead from to text rest after (lexeme s text) → AddsOccurrence lines old new (lexeme s text).occurrence →
-    new ++ map (occurrence_of lines) (occurrences_from after rest) ≡ old ++ map (occurrence_of lines) (occurrences_from s text)
+pub step-occurrences : (lines : List SourceLine) (old new : List OccurrenceRead)
+    (from to : List Token) (s after : LexerState) (text rest : List Cell)
+    → 0 < length text
+    → IsRead from to text rest after (lexeme s text) → AddsOccurrence lines old new (lexeme s text).occurrence
+    → new ++ map (occurrence_of lines) (occurrences_from after rest)
+    ≡ old ++ map (occurrence_of lines) (occurrences_from s text)
 step-occurrences lines old new from to s after text rest h read adds =
     rw (read.ahead, read.state, occurrences_from-step s text h) (go (lexeme s text).occurrence adds)
   where
-    go : (occurrence : Option OccurrenceOnLine) → AddsOccurrence lines old new occurrence →
-        new ++ map (occurrence_of lines) (occurrences_from (lexeme s text).after (drop (lexeme s text).more (drop 1 text)))
-        ≡ old ++ map (occurrence_of lines) (option_to_list occurrence ++ occurrences_from (lexeme s text).after (drop (lexeme s text).more (drop 1 text)))
-    go None adds = ap (λ xs. xs ++ map (occurrence_of lines) (occurrences_from (lexeme s text).after (drop (lexeme s text).more (drop 1 text)))) adds
+    go : (occurrence : Option OccurrenceOnLine) → AddsOccurrence lines old new occurrence
+        → new
+        ++ map (occurrence_of lines) (occurrences_from (lexeme s text).after (drop (lexeme s text).more (drop 1 text)))
+        ≡ old
+        ++ map (occurrence_of lines)
+        (option_to_list occurrence ++ occurrences_from (lexeme s text).after (drop (lexeme s text).more (drop 1 text)))
+    go None adds = ap
+        (λ xs. xs
+        ++ map (occurrence_of lines) (occurrences_from (lexeme s text).after (drop (lexeme s text).more (drop 1 text))))
+        adds
     go (Some occurrence) adds =
-        ap (λ xs. xs ++ map (occurrence_of lines) (occurrences_from (lexeme s text).after (drop (lexeme s text).more (drop 1 text)))) adds
-        ∙ append_assoc old (occurrence_of lines occurrence ∷ []) (map (occurrence_of lines) (occurrences_from (lexeme s text).after (drop (lexeme s text).more (drop 1 text))))
+        ap
+        (λ xs. xs
+        ++ map (occurrence_of lines) (occurrences_from (lexeme s text).after (drop (lexeme s text).more (drop 1 text))))
+        adds
+        ∙ append_assoc old (occurrence_of lines occurrence ∷ [])
+        (map (occurrence_of lines) (occurrences_from (lexeme s text).after (drop (lexeme s text).more (drop 1 text))))
 
 -- a step makes the text ahead shorter
-pub step-shorter : (old new : List Token) (s after : LexerState) (text rest : List Cell) → 0 < length text → IsRead old new text rest after (lexeme s text) →
-    length rest < length text
+pub step-shorter : (old new : List Token) (s after : LexerState) (text rest : List Cell)
+    → 0 < length text → IsRead old new text rest after (lexeme s text)
+    → length rest < length text
 step-shorter old new s after text rest h read =
     omega (arith, h, ap length read.ahead, length-drop (lexeme s text).more (drop 1 text), length-drop 1 text)
 
@@ -80,15 +103,19 @@ abbrev Counts : Option OccurrenceOnLine → ℕ → ℕ → Type 0
 Counts None before after = after ≡ before
 Counts (Some occurrence) before after = after ≡ before + 1
 
-constant-counts : (found : Option AsciiConstant) (s : LexerState) (text : List Cell) → Counts (constant_lexeme found s text).occurrence s.occurrences (constant_lexeme found s text).after.occurrences
+constant-counts : (found : Option AsciiConstant) (s : LexerState) (text : List Cell)
+    → Counts (constant_lexeme found s text).occurrence s.occurrences (constant_lexeme found s text).after.occurrences
 constant-counts None s text = refl
 constant-counts (Some constant) s text = refl
 
-definition-counts : (found : Option ℕ) (s : LexerState) (text : List Cell) → Counts (definition_or_mention found s text).occurrence s.occurrences (definition_or_mention found s text).after.occurrences
+definition-counts : (found : Option ℕ) (s : LexerState) (text : List Cell)
+    → Counts (definition_or_mention found s text).occurrence
+    s.occurrences (definition_or_mention found s text).after.occurrences
 definition-counts None s text = refl
 definition-counts (Some count) s text = refl
 
-documentation-counts : (c : ControlCode) (s : LexerState) (text : List Cell) → Counts (documentation_code c s text).occurrence s.occurrences (documentation_code c s text).after.occurrences
+documentation-counts : (c : ControlCode) (s : LexerState) (text : List Cell)
+    → Counts (documentation_code c s text).occurrence s.occurrences (documentation_code c s text).after.occurrences
 documentation-counts code.SectionStart s text = refl
 documentation-counts code.Macro s text = refl
 documentation-counts code.UnnamedPart s text = refl
@@ -102,7 +129,8 @@ documentation-counts code.AllMacros s text = refl
 documentation-counts code.AsciiConstant s text = refl
 documentation-counts code.Other s text = refl
 
-c_code-counts : (c : ControlCode) (s : LexerState) (text : List Cell) → Counts (c_code c s text).occurrence s.occurrences (c_code c s text).after.occurrences
+c_code-counts : (c : ControlCode) (s : LexerState) (text : List Cell)
+    → Counts (c_code c s text).occurrence s.occurrences (c_code c s text).after.occurrences
 c_code-counts code.SectionStart s text = refl
 c_code-counts code.DoubleAt s text = refl
 c_code-counts code.Macro s text = refl
@@ -116,7 +144,8 @@ c_code-counts code.AllMacros s text = refl
 c_code-counts code.AsciiConstant s text = constant-counts (constant_at (drop 2 text)) s text
 c_code-counts code.Other s text = refl
 
-c_lexeme-counts : (k : LexemeKind) (s : LexerState) (text : List Cell) → Counts (c_lexeme k s text).occurrence s.occurrences (c_lexeme k s text).after.occurrences
+c_lexeme-counts : (k : LexemeKind) (s : LexerState) (text : List Cell)
+    → Counts (c_lexeme k s text).occurrence s.occurrences (c_lexeme k s text).after.occurrences
 c_lexeme-counts (lexeme_kind.Control c) s text = c_code-counts c s text
 c_lexeme-counts lexeme_kind.BlockComment s text = refl
 c_lexeme-counts lexeme_kind.LineComment s text = refl
@@ -128,7 +157,8 @@ c_lexeme-counts lexeme_kind.White s text = refl
 c_lexeme-counts lexeme_kind.Word s text = refl
 c_lexeme-counts lexeme_kind.Other s text = refl
 
-macro_code-counts : (c : ControlCode) (s : LexerState) (text : List Cell) → Counts (macro_code c s text).occurrence s.occurrences (macro_code c s text).after.occurrences
+macro_code-counts : (c : ControlCode) (s : LexerState) (text : List Cell)
+    → Counts (macro_code c s text).occurrence s.occurrences (macro_code c s text).after.occurrences
 macro_code-counts code.SectionStart s text = refl
 macro_code-counts code.Macro s text = refl
 macro_code-counts code.UnnamedPart s text = refl
@@ -142,7 +172,8 @@ macro_code-counts code.Join s text = refl
 macro_code-counts code.AsciiConstant s text = constant-counts (constant_at (drop 2 text)) s text
 macro_code-counts code.Other s text = refl
 
-macro-counts : (k : LexemeKind) (s : LexerState) (text : List Cell) → Counts (macro_lexeme k s text).occurrence s.occurrences (macro_lexeme k s text).after.occurrences
+macro-counts : (k : LexemeKind) (s : LexerState) (text : List Cell)
+    → Counts (macro_lexeme k s text).occurrence s.occurrences (macro_lexeme k s text).after.occurrences
 macro-counts (lexeme_kind.Control c) s text = macro_code-counts c s text
 macro-counts lexeme_kind.BlockComment s text = refl
 macro-counts lexeme_kind.LineComment s text = refl
@@ -154,8 +185,9 @@ macro-counts lexeme_kind.White s text = refl
 macro-counts lexeme_kind.Word s text = refl
 macro-counts lexeme_kind.Other s text = refl
 
-limbo-counts : (a b : Bool) (s : LexerState) (text : List Cell) → starts_section text ≡ a → holds at_sign (byte_at 0 text) ≡ b →
-    Counts (limbo_lexeme s text).occurrence s.occurrences (limbo_lexeme s text).after.occurrences
+limbo-counts : (a b : Bool) (s : LexerState) (text : List Cell)
+    → starts_section text ≡ a → holds at_sign (byte_at 0 text) ≡ b
+    → Counts (limbo_lexeme s text).occurrence s.occurrences (limbo_lexeme s text).after.occurrences
 limbo-counts true b s text h j = rw h refl
 limbo-counts false true s text h j = rw (h, j) refl
 limbo-counts false false s text h j = rw (h, j) refl
@@ -165,28 +197,31 @@ documentation_lexeme-counts : (b : Bool) (s : LexerState) (text : List Cell) →
 documentation_lexeme-counts true s text j = rw j (documentation-counts (code_at (byte_at 1 text)) s text)
 documentation_lexeme-counts false s text j = rw j refl
 
-lexeme_in-counts : (m : Mode) (s : LexerState) (text : List Cell) → Counts (lexeme_in m s text).occurrence s.occurrences (lexeme_in m s text).after.occurrences
+lexeme_in-counts : (m : Mode) (s : LexerState) (text : List Cell)
+    → Counts (lexeme_in m s text).occurrence s.occurrences (lexeme_in m s text).after.occurrences
 lexeme_in-counts mode.Limbo s text = limbo-counts _ _ s text refl refl
 lexeme_in-counts mode.Documentation s text = documentation_lexeme-counts _ s text refl
 lexeme_in-counts mode.CPart s text = c_lexeme-counts (kind_at s.include text) s text
 lexeme_in-counts mode.Macro s text = macro-counts (kind_at s.include text) s text
 
-lexeme-counts : (s : LexerState) (text : List Cell) → Counts (lexeme s text).occurrence s.occurrences (lexeme s text).after.occurrences
+lexeme-counts : (s : LexerState) (text : List Cell)
+    → Counts (lexeme s text).occurrence s.occurrences (lexeme s text).after.occurrences
 unfolding lexeme
 lexeme-counts s text = lexeme_in-counts s.mode s text
 
-length-snoc : (xs : List OccurrenceRead) (x : OccurrenceRead) → length (xs ++ x ∷ []) ≡ length xs + 1
-length-snoc [] x = refl
-length-snoc (y ∷ ys) x = omega (arith, length-snoc ys x)
-
-pub step-count : (lines : List SourceLine) (old new : List OccurrenceRead) (from to : List Token) (s after : LexerState) (text rest : List Cell) →
-    IsRead from to text rest after (lexeme s text) → AddsOccurrence lines old new (lexeme s text).occurrence → s.occurrences ≡ length old → after.occurrences ≡ length new
+pub step-count : (lines : List SourceLine) (old new : List OccurrenceRead)
+    (from to : List Token) (s after : LexerState) (text rest : List Cell)
+    → IsRead from to text rest after (lexeme s text) → AddsOccurrence lines old new (lexeme s text).occurrence
+    → s.occurrences ≡ length old → after.occurrences ≡ length new
 step-count lines old new from to s after text rest read adds before =
     ap (λ t. t.occurrences) read.state ∙ go (lexeme s text).occurrence adds (lexeme-counts s text)
   where
-    go : (occurrence : Option OccurrenceOnLine) → AddsOccurrence lines old new occurrence → Counts occurrence s.occurrences (lexeme s text).after.occurrences → (lexeme s text).after.occurrences ≡ length new
+    go : (occurrence : Option OccurrenceOnLine)
+        → AddsOccurrence lines old new occurrence → Counts occurrence s.occurrences (lexeme s text).after.occurrences
+        → (lexeme s text).after.occurrences ≡ length new
     go None adds counts = counts ∙ (before ∙ sym (ap length adds))
-    go (Some occurrence) adds counts = counts ∙ (ap (λ n. n + 1) before ∙ sym (ap length adds ∙ length-snoc old (occurrence_of lines occurrence)))
+    go (Some occurrence) adds counts =
+        counts ∙ (ap (λ n. n + 1) before ∙ sym (ap length adds ∙ length_push old (occurrence_of lines occurrence)))
 
 -- the tokens before a head that was removed
 
@@ -216,12 +251,15 @@ no_head-snoc (t ∷ ts) head h j = go (is_head t) j (no_head-snoc ts head h)
     go true j next = cc
     go false j next = next j
 
-pub taken-none : (old new rest ts : List Token) (head : Token) → HasNoHead old → IsHeadAlone ts → new ≡ old ++ ts → new ≡ rest ++ head ∷ [] → is_head head ≡ true → HasNoHead rest
+pub taken-none : (old new rest ts : List Token) (head : Token)
+    → HasNoHead old → IsHeadAlone ts → new ≡ old ++ ts → new ≡ rest ++ head ∷ [] → is_head head ≡ true → HasNoHead rest
 taken-none old new rest ts head none alone h j is =
     elim alone [
-      | inl simple ↦ absurd (no_head-snoc rest head is (ap (list_any is_head) (sym j ∙ h) ∙ no_head-append old ts none simple))
+      | inl simple ↦
+          absurd (no_head-snoc rest head is (ap (list_any is_head) (sym j ∙ h) ∙ no_head-append old ts none simple))
       | inr here ↦
-          let same : rest ≡ old = sym (init-snoc rest head) ∙ (ap init (sym j ∙ (h ∙ ap (λ xs. old ++ xs) here.1)) ∙ init-snoc old here.0) in
+          let same : rest ≡ old =
+          sym (init-snoc rest head) ∙ (ap init (sym j ∙ (h ∙ ap (λ xs. old ++ xs) here.1)) ∙ init-snoc old here.0) in
           ap (list_any is_head) same ∙ none
     ]
 

@@ -1,7 +1,10 @@
 -- A C compiler reads two items of a piece apart if the source keeps them apart.
-use Rattle.std.proofs.Common.{◌≡◌, ℕ, ◌+◌, Bool, true, false, ◌&&◌, if◌then◌else◌, List, [], ◌∷◌, ◌++◌, flat_map, append_assoc, append-nil}
-use Rattle.std.proofs.Common.{Option, Some, None, is_some, inl, inr, ◌⊎◌, refl, ap, sym, ◌∙◌, subst}
+use Rattle.std.proofs.Common.{◌≡◌, ℕ, ◌+◌, Bool, true, false, ◌&&◌, if◌then◌else◌, List, [], ◌∷◌, ◌++◌, flat_map}
+use Rattle.std.proofs.Common.{append_assoc, append-nil, Option, Some, None, is_some, inl, inr, ◌⊎◌, refl, ap, sym, ◌∙◌}
+use Rattle.std.proofs.Common.{subst}
 use Rattle.std.proofs.lemmas.Slice.Eq.{bytes_eq-Decides}
+use Rattle.std.proofs.lemmas.Bool.{and_parts}
+use Rattle.std.proofs.Math.Bool.{and-true}
 use Rattle.tangle_files.specs.Bytes.{space, line_feed}
 use Rattle.tangle_text.specs.Bytes.{backslash}
 use Rattle.tangle_faults.specs.declared.faults.Origin.{Origin}
@@ -10,13 +13,18 @@ use Rattle.tangle_lexer.specs.declared.tokens.Token.{Token}
 use Rattle.tangle_lexer.specs.declared.tokens.Token.TheVariants as token
 use Rattle.tangle_lexer.specs.declared.tokens.SpanKind.TheVariants as span_kind
 use Rattle.tangle_scan.specs.declared.items.Item.{Item}
-use Rattle.tangle_scan.specs.Rules.{texts_of, span_text, ends_in_backslash, is_continued, blanks, items_by_origin}
-use Rattle.tangle_scan.specs.Rules.{next_line, is_expected}
+use Rattle.tangle_scan.specs.Rules.{texts_of, span_text, ends_in_backslash, is_continued}
+use Rattle.tangle_scan.specs.Rules.{blanks, next_line, part_tokens, part_items}
+use Rattle.tangle_scan.specs.LineTruth.{is_expected}
+use Rattle.tangle_scan.proofs.lemmas.ItemsByOrigin.{items_by_origin, part_items-by_origin}
 use Rattle.tangle_scan.specs.Passes.{is_front_gap, counted_after_token}
-use Rattle.tangle_scan.specs.Apart.{read_after, is_gap_read, ends_line, is_backslash, read_tokens, needs_white, after_backslash}
+use Rattle.tangle_scan.specs.Apart.{read_after, is_gap_read, ends_line, is_backslash, read_tokens, needs_white}
+use Rattle.tangle_scan.specs.Apart.{after_backslash}
 use Rattle.tangle_scan.specs.Apart.{token_bytes, AreReadApart, EndsPiece, piece_item_bytes, IsPieceReadApart}
-use Rattle.tangle_scan.proofs.laws.ApartReading.{IsSkipped, IsWhite, backslash-skipped, line_feed-skipped, space-white, line_feed-white}
-use Rattle.tangle_scan.proofs.laws.ApartReading.{white-append, skipped-append, skipped-white, read-nothing, skipped-reads}
+use Rattle.tangle_scan.proofs.laws.ApartReading.{IsSkipped, IsWhite, backslash-skipped, line_feed-skipped, space-white}
+use Rattle.tangle_scan.proofs.laws.ApartReading.{line_feed-white}
+use Rattle.tangle_scan.proofs.laws.ApartReading.{white-append, skipped-append, skipped-white, read-nothing}
+use Rattle.tangle_scan.proofs.laws.ApartReading.{skipped-reads}
 use Rattle.tangle_scan.proofs.laws.ApartReading.{white-serves, nothing-serves, item-apart}
 
 module _ (lines : List SourceLine) (used : ℕ → List ℕ) (mark : Origin → List ℕ) (macros : List ℕ) where
@@ -28,7 +36,8 @@ module _ (lines : List SourceLine) (used : ℕ → List ℕ) (mark : Origin → 
 
   -- The bytes that rules 3 to 5 make of tokens. The arguments before the tokens are those of the rules.
   abbrev text_from : Option Token → Bool → Origin → List Token → List ℕ
-  text_from before white counted es = flat_map item_bytes (items_by_origin lines before counted (blanks texts before white es))
+  text_from before white counted es =
+      flat_map item_bytes (items_by_origin lines before counted (blanks texts before white es))
 
   abbrev bytes_of : Token → List ℕ
   bytes_of e = token_bytes texts (λ occurrence. space ∷ used occurrence) (line_feed ∷ macros) e
@@ -51,7 +60,8 @@ module _ (lines : List SourceLine) (used : ℕ → List ℕ) (mark : Origin → 
 
   item-text : (before : Option Token) (counted : Origin) (e : Token) (es : List Token) → is_front_gap e ≡ false →
       flat_map item_bytes (items_by_origin lines before counted (e ∷ es))
-      ≡ bytes_of e ++ (mark_after e ++ flat_map item_bytes (items_by_origin lines (Some e) (counted_after_token lines counted e) es))
+      ≡ bytes_of e
+      ++ (mark_after e ++ flat_map item_bytes (items_by_origin lines (Some e) (counted_after_token lines counted e) es))
   item-text before counted token.White es item = cc
   item-text before counted (token.LineEnd line) es item = cc
   item-text before counted (token.Span span_kind.Word s) es item = refl
@@ -61,9 +71,11 @@ module _ (lines : List SourceLine) (used : ℕ → List ℕ) (mark : Origin → 
   item-text before counted _ es item = refl
 
   -- the bytes of an item, and of a blank before it
-  text-item : (before : Option Token) (white : Bool) (counted : Origin) (e : Token) (es : List Token) → is_front_gap e ≡ false →
-      text_from before white counted (e ∷ es)
-      ≡ blank_bytes (is_some before && white) ++ (bytes_of e ++ (mark_after e ++ text_from (Some e) false (counted_after_token lines counted e) es))
+  text-item : (before : Option Token) (white : Bool) (counted : Origin) (e : Token) (es : List Token)
+      → is_front_gap e ≡ false
+      → text_from before white counted (e ∷ es)
+      ≡ blank_bytes (is_some before && white)
+      ++ (bytes_of e ++ (mark_after e ++ text_from (Some e) false (counted_after_token lines counted e) es))
   text-item before white counted token.White es item = cc
   text-item before white counted (token.LineEnd line) es item = cc
   text-item before white counted e es item =
@@ -72,8 +84,10 @@ module _ (lines : List SourceLine) (used : ℕ → List ℕ) (mark : Origin → 
       ∙ ap (λ bs. blank_bytes (is_some before && white) ++ bs) (item-text before counted e rest item)
 
   -- the bytes at the end of a continued line
-  text-continued : (before : Option Token) (white : Bool) (counted : Origin) (line : ℕ) (es : List Token) → is_continued texts before ≡ true →
-      text_from before white counted (token.LineEnd line ∷ es) ≡ line_feed ∷ text_from (Some (token.LineEnd line)) false (next_line counted) es
+  text-continued : (before : Option Token) (white : Bool) (counted : Origin) (line : ℕ) (es : List Token)
+      → is_continued texts before ≡ true
+      → text_from before white counted (token.LineEnd line ∷ es)
+      ≡ line_feed ∷ text_from (Some (token.LineEnd line)) false (next_line counted) es
   text-continued before white counted line es continued = rw continued refl
 
   -- the bytes at the end of a line that is not continued: a line feed or a mark
@@ -82,18 +96,24 @@ module _ (lines : List SourceLine) (used : ℕ → List ℕ) (mark : Origin → 
     next : Origin
     is : text_from before white counted (token.LineEnd line ∷ es) ≡ (line_feed ∷ more) ++ text_from None false next es
 
-  text-line_end : (before : Option Token) (white : Bool) (counted : Origin) (line : ℕ) (es : List Token) → is_continued texts before ≡ false →
-      AtLineEnd before white counted line es
+  text-line_end : (before : Option Token) (white : Bool) (counted : Origin) (line : ℕ) (es : List Token)
+      → is_continued texts before ≡ false
+      → AtLineEnd before white counted line es
   text-line_end before white counted line es continued = by (is_expected lines counted line) refl
     where
       by : (b : Bool) → is_expected lines counted line ≡ b → AtLineEnd before white counted line es
       by true is = record { more = []; next = next_line counted; is = rw (continued, is) refl }
-      by false is = record { more = mark (origin_at lines (line + 1)); next = origin_at lines (line + 1); is = rw (continued, is) refl }
+      by false is = record {
+        more = mark (origin_at lines (line + 1));
+        next = origin_at lines (line + 1);
+        is = rw (continued, is) refl;
+      }
 
   -- the tokens that the compiler reads, from an item on
   read-item : (continued : Bool) (e : Token) (es : List Token) → is_front_gap e ≡ false →
       let continues : Bool = ends_in_backslash texts e && ends_line texts es in
-      read_tokens texts continued (e ∷ es) ≡ (if continues && is_backslash texts e then [] else e ∷ []) ++ read_tokens texts continues es
+      read_tokens texts continued (e ∷ es)
+      ≡ (if continues && is_backslash texts e then [] else e ∷ []) ++ read_tokens texts continues es
   read-item continued token.White es item = cc
   read-item continued (token.LineEnd line) es item = cc
   read-item continued _ es item = refl
@@ -124,7 +144,8 @@ module _ (lines : List SourceLine) (used : ℕ → List ℕ) (mark : Origin → 
     ended = ended last;
   }
     where
-      ended : (last : Option Token) → is_continued texts last ≡ false → (more : List ℕ) → IsWhite (after last) (line_feed ∷ more)
+      ended : (last : Option Token) → is_continued texts last ≡ false → (more : List ℕ)
+          → IsWhite (after last) (line_feed ∷ more)
       ended None is more = line_feed-white more
       ended (Some e) is more = subst (λ b. IsWhite b (line_feed ∷ more)) (sym is) (line_feed-white more)
 
@@ -154,7 +175,8 @@ module _ (lines : List SourceLine) (used : ℕ → List ℕ) (mark : Origin → 
 
   abbrev AreRead : Bool → Option Token → List Token → List ℕ → Type 0
   AreRead apart last es bytes =
-      AreReadApart texts (λ occurrence. space ∷ used occurrence) (line_feed ∷ macros) (EndsPiece texts) false apart last es bytes
+      AreReadApart texts (λ occurrence. space ∷ used occurrence)
+      (line_feed ∷ macros) (EndsPiece texts) false apart last es bytes
 
   -- the tokens that follow are read apart, unless they are at the end of a line after a backslash
   abbrev ReadsPlain : List Token → Type 0
@@ -172,14 +194,6 @@ module _ (lines : List SourceLine) (used : ℕ → List ℕ) (mark : Origin → 
     plain : ReadsPlain es
     continued : ReadsContinued es
 
-  and-true : (b : Bool) → (b && true) ≡ b
-  and-true true = refl
-  and-true false = refl
-
-  both-true : {a b : Bool} → (a && b) ≡ true → (a ≡ true) × (b ≡ true)
-  both-true {a = true} h = (refl, h)
-  both-true {a = false} h = cc
-
   plain-end : ReadsPlain []
   plain-end apart white last before counted gap is continued = rw (append-nil gap) (by is)
     where
@@ -188,29 +202,37 @@ module _ (lines : List SourceLine) (used : ℕ → List ℕ) (mark : Origin → 
       by (inr unread) = nothing-serves false (after last) gap refl unread.nothing.reads
 
   plain-white : (es : List Token) → ReadsPlain es → ReadsPlain (token.White ∷ es)
-  plain-white es next apart white last before counted gap is continued = next true true last before counted gap (by is) continued
+  plain-white es next apart white last before counted gap is continued =
+      next true true last before counted gap (by is) continued
     where
       by : IsGap apart white last before gap → IsGap true true last before gap
       by (inl space_first) = inl space_first
       by (inr unread) =
-          inr (record { nothing = unread.nothing; here = λ none. unread.front (sym (and-true (is_some before)) ∙ none); front = unread.front })
+          inr (record {
+            nothing = unread.nothing;
+            here = λ none. unread.front (sym (and-true (is_some before)) ∙ none);
+            front = unread.front;
+          })
 
   plain-line_end : (line : ℕ) (es : List Token) → ReadsPlain es → ReadsPlain (token.LineEnd line ∷ es)
   plain-line_end line es next apart white last before counted gap is continued =
       let ends : is_continued texts before ≡ false = sym (and-true (is_continued texts before)) ∙ continued in
       let at = text-line_end before white counted line es ends in
       rw at.is
-      (subst (AreRead true last (read_tokens texts false es)) (append_assoc gap (line_feed ∷ at.more) (text_from None false at.next es))
+      (subst (AreRead true last (read_tokens texts false es))
+      (append_assoc gap (line_feed ∷ at.more) (text_from None false at.next es))
       (next true false last None at.next (gap ++ line_feed ∷ at.more) (inl (by at.more ends is)) refl))
     where
-      by : (more : List ℕ) → is_continued texts before ≡ false → IsGap apart white last before gap → IsWhite (after last) (gap ++ line_feed ∷ more)
+      by : (more : List ℕ) → is_continued texts before ≡ false → IsGap apart white last before gap
+          → IsWhite (after last) (gap ++ line_feed ∷ more)
       by more ends (inl space_first) = white-append (after last) gap (line_feed ∷ more) space_first
       by more ends (inr unread) = unread.nothing.ended ends more
 
   continued-line_end : (line : ℕ) (es : List Token) → ReadsPlain es → ReadsContinued (token.LineEnd line ∷ es)
   continued-line_end line es next apart white last before counted gap is continued ends =
       rw (text-continued before white counted line es continued)
-      (subst (AreRead apart last (read_tokens texts false es)) (append_assoc gap (line_feed ∷ []) (text_from front false (next_line counted) es))
+      (subst (AreRead apart last (read_tokens texts false es))
+      (append_assoc gap (line_feed ∷ []) (text_from front false (next_line counted) es))
       (next apart false last front (next_line counted) (gap ++ line_feed ∷ []) (by is) refl))
     where
       front : Option Token
@@ -226,18 +248,25 @@ module _ (lines : List SourceLine) (used : ℕ → List ℕ) (mark : Origin → 
           })
 
   -- the bytes between the last item and the next one, with the blank, if there is one
-  gap-read : (apart white : Bool) (last before : Option Token) (gap : List ℕ) (e : Token) → IsGap apart white last before gap →
-      is_gap_read (needs_white texts false apart last e) (read_after (after last) (gap ++ blank_bytes (is_some before && white))) ≡ true
+  gap-read : (apart white : Bool) (last before : Option Token) (gap : List ℕ) (e : Token)
+      → IsGap apart white last before gap
+      → is_gap_read (needs_white texts false apart last e)
+      (read_after (after last) (gap ++ blank_bytes (is_some before && white)))
+      ≡ true
   gap-read apart white last before gap e (inl space_first) =
       let blank : List ℕ = blank_bytes (is_some before && white) in
-      white-serves (needs_white texts false apart last e) (after last) (gap ++ blank) (white-append (after last) gap blank space_first)
+      white-serves (needs_white texts false apart last e) (after last)
+      (gap ++ blank) (white-append (after last) gap blank space_first)
   gap-read apart white last before gap e (inr unread) = by (is_some before && white) refl
     where
       by : (blank : Bool) → (is_some before && white) ≡ blank →
           is_gap_read (needs_white texts false apart last e) (read_after (after last) (gap ++ blank_bytes blank)) ≡ true
-      by true is = white-serves (needs_white texts false apart last e) (after last) (gap ++ space ∷ []) (unread.nothing.spaced [])
+      by true is = white-serves (needs_white texts false apart last e)
+          (after last) (gap ++ space ∷ []) (unread.nothing.spaced [])
       by false is =
-          rw (append-nil gap) (nothing-serves (needs_white texts false apart last e) (after last) gap (unread.here is e) unread.nothing.reads)
+          rw (append-nil gap)
+          (nothing-serves (needs_white texts false apart last e)
+          (after last) gap (unread.here is e) unread.nothing.reads)
 
   -- the bytes directly after an item: those of a mark, or none
   gap-after : (e : Token) → IsGap false false (Some e) (Some e) (mark_after e)
@@ -255,13 +284,15 @@ module _ (lines : List SourceLine) (used : ℕ → List ℕ) (mark : Origin → 
   backslash-bytes _ is = cc
 
   -- the bytes from the last item through a backslash and the line end of a continued line
-  gap-to_line_end : (apart white : Bool) (last before : Option Token) (gap : List ℕ) → IsGap apart white last before gap →
-      IsGapToLineEnd apart last (gap ++ (blank_bytes (is_some before && white) ++ backslash ∷ line_feed ∷ []))
+  gap-to_line_end : (apart white : Bool) (last before : Option Token) (gap : List ℕ) → IsGap apart white last before gap
+      → IsGapToLineEnd apart last (gap ++ (blank_bytes (is_some before && white) ++ backslash ∷ line_feed ∷ []))
   gap-to_line_end apart white last before gap (inl space_first) =
-      inl (white-append (after last) gap (blank_bytes (is_some before && white) ++ backslash ∷ line_feed ∷ []) space_first)
+      inl
+      (white-append (after last) gap (blank_bytes (is_some before && white) ++ backslash ∷ line_feed ∷ []) space_first)
   gap-to_line_end apart white last before gap (inr unread) = by (is_some before && white) refl
     where
-      by : (blank : Bool) → (is_some before && white) ≡ blank → IsGapToLineEnd apart last (gap ++ (blank_bytes blank ++ backslash ∷ line_feed ∷ []))
+      by : (blank : Bool) → (is_some before && white) ≡ blank
+          → IsGapToLineEnd apart last (gap ++ (blank_bytes blank ++ backslash ∷ line_feed ∷ []))
       by true is = inl (unread.nothing.spaced (backslash ∷ line_feed ∷ []))
       by false is = inr (unread.nothing.joined, unread.here is)
 
@@ -283,9 +314,11 @@ module _ (lines : List SourceLine) (used : ℕ → List ℕ) (mark : Origin → 
       kept : (fs : List Token) → AreRead false (Some e) fs (mark_after e ++ rest) →
           AreRead apart last (e ∷ fs) (gap ++ (blank ++ (bytes_of e ++ (mark_after e ++ rest))))
       kept fs more =
-          item-apart texts (λ occurrence. space ∷ used occurrence) (line_feed ∷ macros) (EndsPiece texts) false apart last e fs
+          item-apart texts (λ occurrence. space ∷ used occurrence)
+          (line_feed ∷ macros) (EndsPiece texts) false apart last e fs
           (gap ++ blank) (mark_after e ++ rest) (gap ++ (blank ++ (bytes_of e ++ (mark_after e ++ rest)))) item
-          (sym (append_assoc gap blank (bytes_of e ++ (mark_after e ++ rest)))) (gap-read apart white last before gap e is) more
+          (sym (append_assoc gap blank (bytes_of e ++ (mark_after e ++ rest))))
+          (gap-read apart white last before gap e is) more
 
       -- the case in which the item is a backslash at the end of a continued line
       taken_out : ends_in_backslash texts e ≡ true → ends_line texts es ≡ true → bytes_of e ≡ backslash ∷ [] →
@@ -293,25 +326,29 @@ module _ (lines : List SourceLine) (used : ℕ → List ℕ) (mark : Origin → 
       taken_out is_last line_ends bytes =
           rw (bytes, no-mark e is_last)
           (subst (AreRead apart last (read_tokens texts true es))
-          (append_assoc gap (blank ++ backslash ∷ []) rest ∙ ap (λ bs. gap ++ bs) (append_assoc blank (backslash ∷ []) rest))
+          (append_assoc gap (blank ++ backslash ∷ []) rest
+          ∙ ap (λ bs. gap ++ bs) (append_assoc blank (backslash ∷ []) rest))
           (next.continued apart false last (Some e) counted_after (gap ++ (blank ++ backslash ∷ []))
           (rw (append_assoc, append_assoc) (gap-to_line_end apart white last before gap is)) is_last line_ends))
 
-      by : (continues : Bool) → (ends_in_backslash texts e && ends_line texts es) ≡ continues → (is_sign : Bool) → is_backslash texts e ≡ is_sign →
-          AreRead apart last ((if continues && is_sign then [] else e ∷ []) ++ read_tokens texts continues es)
+      by : (continues : Bool) → (ends_in_backslash texts e && ends_line texts es) ≡ continues → (is_sign : Bool)
+          → is_backslash texts e ≡ is_sign
+          → AreRead apart last ((if continues && is_sign then [] else e ∷ []) ++ read_tokens texts continues es)
           (gap ++ (blank ++ (bytes_of e ++ (mark_after e ++ rest))))
-      by true both true sign = let ends = both-true both in taken_out ends.0 ends.1 (backslash-bytes e sign)
+      by true both true sign = let ends = and_parts _ _ both in taken_out ends.0 ends.1 (backslash-bytes e sign)
       by true both false other =
-          let ends = both-true both in
+          let ends = and_parts _ _ both in
           kept (read_tokens texts true es)
           (rw (no-mark e ends.0)
           (next.continued false false (Some e) (Some e) counted_after []
           (inr (subst (λ b. IsSkipped b (line_feed ∷ [])) (sym ends.0) line_feed-skipped, λ f. refl)) ends.0 ends.1))
       by false both is_sign sign =
-          kept (read_tokens texts false es) (next.plain false false (Some e) (Some e) counted_after (mark_after e) (gap-after e) both)
+          kept (read_tokens texts false es)
+          (next.plain false false (Some e) (Some e) counted_after (mark_after e) (gap-after e) both)
 
   reads : (es : List Token) → Reads es
-  reads [] = record { plain = plain-end; continued = λ apart white last before counted gap is continued ends. absurd cc }
+  reads [] =
+      record { plain = plain-end; continued = λ apart white last before counted gap is continued ends. absurd cc }
   reads (token.White ∷ es) =
       let next = reads es in
       record {
@@ -327,8 +364,10 @@ module _ (lines : List SourceLine) (used : ℕ → List ℕ) (mark : Origin → 
   }
 
 -- the items of a whole piece are read apart
-pub piece-apart : (lines : List SourceLine) (counted : Origin) (es : List Token) →
-    IsPieceReadApart (texts_of lines) es (items_by_origin lines None counted (blanks (texts_of lines) None false es))
-piece-apart lines counted es used mark macros =
-    (reads lines used mark macros es).plain false false None None counted []
-    (inr (record { nothing = no-bytes lines used mark macros None; here = λ none f. refl; front = λ none f. refl })) refl
+pub piece-apart : (lines : List SourceLine) (line : ℕ) (tokens : List Token) →
+    IsPieceReadApart (texts_of lines) (part_tokens tokens) (part_items lines line tokens)
+piece-apart lines line tokens used mark macros =
+    rw (part_items-by_origin lines line tokens)
+    ((reads lines used mark macros (part_tokens tokens)).plain false false None None (origin_at lines line) []
+    (inr (record { nothing = no-bytes lines used mark macros None; here = λ none f. refl; front = λ none f. refl }))
+    refl)

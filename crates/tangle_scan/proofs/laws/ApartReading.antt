@@ -7,7 +7,8 @@ use Rattle.tangle_lexer.specs.declared.tokens.Token.{Token}
 use Rattle.tangle_lexer.specs.declared.tokens.Token.TheVariants as token
 use Rattle.tangle_scan.specs.Rules.{is_name_part}
 use Rattle.tangle_scan.specs.Passes.{is_front_gap}
-use Rattle.tangle_scan.specs.Apart.{as_read, read_after, is_gap_read, needs_white, after_backslash, token_bytes, AreReadApart}
+use Rattle.tangle_scan.specs.Apart.{as_read, read_after, is_gap_read, needs_white, after_backslash, token_bytes}
+use Rattle.tangle_scan.specs.Apart.{AreReadApart}
 
 -- The compiler reads white space unchanged.
 
@@ -47,10 +48,13 @@ line_feed-white more bytes = ap (is_gap_read true) (read-line_feed (more ++ byte
 pub white-append : (after : Bool) (gap more : List ℕ) → IsWhite after gap → IsWhite after (gap ++ more)
 white-append after gap more white bytes = rw (append_assoc gap more bytes) (white (more ++ bytes))
 
-pub skipped-append : (after : Bool) (gap more : List ℕ) → IsSkipped after gap → IsSkipped false more → IsSkipped after (gap ++ more)
-skipped-append after gap more first second bytes = rw (append_assoc gap more bytes) (first (more ++ bytes) ∙ second bytes)
+pub skipped-append : (after : Bool) (gap more : List ℕ)
+    → IsSkipped after gap → IsSkipped false more → IsSkipped after (gap ++ more)
+skipped-append after gap more first second bytes =
+    rw (append_assoc gap more bytes) (first (more ++ bytes) ∙ second bytes)
 
-pub skipped-white : (after : Bool) (gap more : List ℕ) → IsSkipped after gap → IsWhite false more → IsWhite after (gap ++ more)
+pub skipped-white : (after : Bool) (gap more : List ℕ)
+    → IsSkipped after gap → IsWhite false more → IsWhite after (gap ++ more)
 skipped-white after gap more first second bytes =
     rw (append_assoc gap more bytes) (ap (is_gap_read true) (first (more ++ bytes)) ∙ second bytes)
 
@@ -64,9 +68,11 @@ pub skipped-reads : (after : Bool) (gap : List ℕ) → IsSkipped after gap → 
 skipped-reads after gap skipped = ap (read_after after) (sym (append-nil gap)) ∙ skipped []
 
 -- bytes of which white space is read first are enough, whether or not white space is needed
-pub white-serves : (is_needed after : Bool) (gap : List ℕ) → IsWhite after gap → is_gap_read is_needed (read_after after gap) ≡ true
+pub white-serves : (is_needed after : Bool) (gap : List ℕ)
+    → IsWhite after gap → is_gap_read is_needed (read_after after gap) ≡ true
 white-serves is_needed after gap white =
-    weaker (read_after after gap) (subst (λ bytes. is_gap_read true (read_after after bytes) ≡ true) (append-nil gap) (white []))
+    weaker (read_after after gap)
+    (subst (λ bytes. is_gap_read true (read_after after bytes) ≡ true) (append-nil gap) (white []))
   where
     weaker : (bytes : List ℕ) → is_gap_read true bytes ≡ true → is_gap_read is_needed bytes ≡ true
     weaker [] h = cc
@@ -79,11 +85,14 @@ nothing-serves is_needed after gap none reads = rw (none, reads) refl
 
 -- an item is read apart after bytes that are enough
 pub item-apart : (texts : List (List ℕ)) (used : ℕ → List ℕ) (macros : List ℕ) (AtEnd : Option Token → List ℕ → Type 0)
-    (in_name apart : Bool) (before : Option Token) (e : Token) (es : List Token) (between rest bytes : List ℕ) → is_front_gap e ≡ false →
-    bytes ≡ between ++ (token_bytes texts used macros e ++ rest) →
+    (in_name apart : Bool) (before : Option Token) (e : Token) (es : List Token) (between rest bytes : List ℕ)
+    → is_front_gap e ≡ false
+    → bytes ≡ between ++ (token_bytes texts used macros e ++ rest) →
     is_gap_read (needs_white texts in_name apart before e) (read_after (after_backslash texts before) between) ≡ true →
     AreReadApart texts used macros AtEnd (in_name && not apart && is_name_part e) false (Some e) es rest →
     AreReadApart texts used macros AtEnd in_name apart before (e ∷ es) bytes
 item-apart texts used macros AtEnd in_name apart before token.White es between rest bytes item is read next = absurd cc
-item-apart texts used macros AtEnd in_name apart before (token.LineEnd line) es between rest bytes item is read next = absurd cc
-item-apart texts used macros AtEnd in_name apart before _ es between rest bytes item is read next = (between, rest, is, read, next)
+item-apart texts used macros AtEnd in_name apart before (token.LineEnd line) es between rest bytes item is read next =
+    absurd cc
+item-apart texts used macros AtEnd in_name apart before _ es between rest bytes item is read next =
+    (between, rest, is, read, next)

@@ -22,34 +22,54 @@ AllFlow count [] = Unit {0}
 AllFlow count (p ∷ ps) = BlockFlows count p × AllFlow count ps
 
 module _ (width : ℕ → ℕ) (count : ℕ) where
-  pub in_order-flows : (at : Point) (es : List Token) (stays : Bool) (to : Point) → AreInOrder width count true at es stays to → Flows count at.line (body es)
+  pub in_order-flows : (at : Point) (es : List Token) (stays : Bool) (to : Point)
+      → AreInOrder width count true at es stays to → Flows count at.line (body es)
   in_order-flows at [] stays to ordered = tt
   in_order-flows at (token.Section ∷ es) stays to ordered = tt
   in_order-flows at (token.MacroStart line ∷ es) stays to ordered = tt
   in_order-flows at (token.UnnamedPart line ∷ es) stays to ordered = tt
   in_order-flows at (token.NamedPart occurrence line ∷ es) stays to ordered = tt
-  in_order-flows at (token.Span kind s ∷ es) stays to ordered =
-      (ordered.0.line, (ordered.0.real, subst (λ l. Flows count l (body es)) ordered.0.line (in_order-flows (span_end s) es stays to ordered.1)))
-  in_order-flows at (token.AsciiConstant value line ∷ es) stays to ordered = (ordered.0, (ordered.1.0, in_order-flows at es stays to ordered.1.1))
-  in_order-flows at (token.LineEnd line ∷ es) stays to ordered =
-      (ordered.0, subst (λ l. Flows count (l + 1) (body es)) ordered.0 (in_order-flows (point_at (line + 1) 0) es stays to ordered.1))
-  in_order-flows at (token.QuoteBreak ∷ es) stays to ordered = in_order-flows (point_at (at.line + 1) 0) es stays to ordered
-  in_order-flows at (token.UseOf occurrence line ∷ es) stays to ordered = in_order-flows (jumped at line) es stays to ordered.1
+  in_order-flows at (token.Span kind s ∷ es) stays to ordered = (
+    ordered.0.line,
+    (
+      ordered.0.real,
+      subst (λ l. Flows count l (body es)) ordered.0.line (in_order-flows (span_end s) es stays to ordered.1),
+    ),
+  )
+  in_order-flows at (token.AsciiConstant value line ∷ es) stays to ordered =
+      (ordered.0, (ordered.1.0, in_order-flows at es stays to ordered.1.1))
+  in_order-flows at (token.LineEnd line ∷ es) stays to ordered = (
+    ordered.0,
+    subst (λ l. Flows count (l + 1) (body es)) ordered.0
+        (in_order-flows (point_at (line + 1) 0) es stays to ordered.1),
+  )
+  in_order-flows at (token.QuoteBreak ∷ es) stays to ordered =
+      in_order-flows (point_at (at.line + 1) 0) es stays to ordered
+  in_order-flows at (token.UseOf occurrence line ∷ es) stays to ordered =
+      in_order-flows (jumped at line) es stays to ordered.1
   in_order-flows at (token.AllMacros line ∷ es) stays to ordered = (ordered.0, in_order-flows at es stays to ordered.1)
   in_order-flows at (_ ∷ es) stays to ordered = in_order-flows at es stays to ordered
 
-  pub blocks-flow : (n : ℕ) (from : Bool) (at : Point) (es : List Token) (stays : Bool) (to : Point) → AreInOrder width count from at es stays to → AllFlow count (blocks n es)
+  pub blocks-flow : (n : ℕ) (from : Bool) (at : Point) (es : List Token) (stays : Bool) (to : Point)
+      → AreInOrder width count from at es stays to → AllFlow count (blocks n es)
   blocks-flow n from at [] stays to ordered = tt
   blocks-flow n from at (token.Section ∷ es) stays to ordered = blocks-flow (n + 1) false at es stays to ordered
-  blocks-flow n from at (token.MacroStart line ∷ es) stays to ordered = (tt, blocks-flow n true (jumped at line) es stays to ordered.1)
+  blocks-flow n from at (token.MacroStart line ∷ es) stays to ordered =
+      (tt, blocks-flow n true (jumped at line) es stays to ordered.1)
   blocks-flow n from at (token.UnnamedPart line ∷ es) stays to ordered =
       (in_order-flows (jumped at line) es stays to ordered.1, blocks-flow n true (jumped at line) es stays to ordered.1)
   blocks-flow n from at (token.NamedPart occurrence line ∷ es) stays to ordered =
       (in_order-flows (jumped at line) es stays to ordered.1, blocks-flow n true (jumped at line) es stays to ordered.1)
-  blocks-flow n from at (token.Span kind s ∷ es) stays to ordered = blocks-flow n true (span_end s) es stays to (from-inside width count from _ ordered).1
-  blocks-flow n from at (token.AsciiConstant value line ∷ es) stays to ordered = blocks-flow n true at es stays to (from-inside width count from _ ordered).1.1
-  blocks-flow n from at (token.LineEnd line ∷ es) stays to ordered = blocks-flow n true (point_at (line + 1) 0) es stays to (from-inside width count from _ ordered).1
-  blocks-flow n from at (token.QuoteBreak ∷ es) stays to ordered = blocks-flow n true (point_at (at.line + 1) 0) es stays to (from-inside width count from _ ordered)
-  blocks-flow n from at (token.UseOf occurrence line ∷ es) stays to ordered = blocks-flow n true (jumped at line) es stays to (from-inside width count from _ ordered).1
-  blocks-flow n from at (token.AllMacros line ∷ es) stays to ordered = blocks-flow n true at es stays to (from-inside width count from _ ordered).1
+  blocks-flow n from at (token.Span kind s ∷ es) stays to ordered =
+      blocks-flow n true (span_end s) es stays to (from-inside width count from _ ordered).1
+  blocks-flow n from at (token.AsciiConstant value line ∷ es) stays to ordered =
+      blocks-flow n true at es stays to (from-inside width count from _ ordered).1.1
+  blocks-flow n from at (token.LineEnd line ∷ es) stays to ordered =
+      blocks-flow n true (point_at (line + 1) 0) es stays to (from-inside width count from _ ordered).1
+  blocks-flow n from at (token.QuoteBreak ∷ es) stays to ordered =
+      blocks-flow n true (point_at (at.line + 1) 0) es stays to (from-inside width count from _ ordered)
+  blocks-flow n from at (token.UseOf occurrence line ∷ es) stays to ordered =
+      blocks-flow n true (jumped at line) es stays to (from-inside width count from _ ordered).1
+  blocks-flow n from at (token.AllMacros line ∷ es) stays to ordered =
+      blocks-flow n true at es stays to (from-inside width count from _ ordered).1
   blocks-flow n from at (_ ∷ es) stays to ordered = blocks-flow n from at es stays to ordered

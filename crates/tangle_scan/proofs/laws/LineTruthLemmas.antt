@@ -1,8 +1,10 @@
 -- If tokens follow one another line by line, their items are at their own lines.
-use Rattle.std.proofs.Common.{◌≡◌, ℕ, ◌+◌, ◌<◌, Bool, true, false, not, ◌&&◌, ◌||◌, cond, if◌then◌else◌, Option, Some, None, is_some}
-use Rattle.std.proofs.Common.{List, [], ◌∷◌, ◌++◌, length, refl, ap, sym, ◌∙◌, arith, subst, append_assoc, append-nil, inl, inr}
+use Rattle.std.proofs.Common.{◌≡◌, ℕ, ◌+◌, ◌<◌, Bool, true, false, not, ◌&&◌, ◌||◌, cond, if◌then◌else◌, Option, Some}
+use Rattle.std.proofs.Common.{None, is_some}
+use Rattle.std.proofs.Common.{List, [], ◌∷◌, ◌++◌, length, refl, ap, sym, ◌∙◌, arith, subst, append_assoc, append-nil}
+use Rattle.std.proofs.Common.{inl, inr}
 use Rattle.std.specs.List.{AllZip}
-use Rattle.std.proofs.lemmas.Bool.Decides.{eqb_tells, leb_tells}
+use Rattle.std.proofs.lemmas.Bool.Decides.{leb_tells}
 use Rattle.tangle_faults.specs.declared.faults.Origin.{Origin}
 use Rattle.tangle_lexer.specs.declared.tokens.Token.{Token}
 use Rattle.tangle_lexer.specs.declared.tokens.SpanKind.TheVariants as span_kind
@@ -10,11 +12,14 @@ use Rattle.tangle_lexer.specs.declared.tokens.Token.TheVariants as token
 use Rattle.tangle_scan.specs.declared.items.Item.{Item}
 use Rattle.tangle_scan.specs.declared.items.Item.TheVariants as item
 use Rattle.tangle_lines.specs.Reading.{SourceLine, origin_at}
-use Rattle.tangle_scan.specs.Rules.{texts_of, without_faults, would_merge, with_spaces, is_gap, has_join, map_runs, left_of_run, part_tokens}
-use Rattle.tangle_scan.specs.Rules.{is_continued, at_line_front, blanks, next_line, same_origin, is_expected, counted_after_line_end}
-use Rattle.tangle_scan.specs.Rules.{items_by_origin, part_items}
-use Rattle.tangle_scan.specs.LineTruth.{CountedItem, counted_items, has_line_end, left_or_join, locations, part_locations, IsOwn, IsAtItsLine}
+use Rattle.tangle_scan.specs.Rules.{texts_of, without_faults, would_merge, with_spaces, is_gap, has_join, map_runs}
+use Rattle.tangle_scan.specs.Rules.{left_of_run, part_tokens}
+use Rattle.tangle_scan.specs.Rules.{is_continued, at_line_front, blanks, next_line, same_origin, part_items}
+use Rattle.tangle_scan.specs.LineTruth.{is_expected, counted_after_line_end}
+use Rattle.tangle_scan.specs.LineTruth.{CountedItem, counted_items, has_line_end, left_or_join, locations}
+use Rattle.tangle_scan.specs.LineTruth.{part_locations, IsOwn, IsAtItsLine}
 use Rattle.tangle_scan.proofs.lemmas.Gaps.{AreGaps, gaps-append}
+use Rattle.tangle_scan.proofs.lemmas.ItemsByOrigin.{items_by_origin, part_items-by_origin, same_origin-either}
 
 -- The tokens follow one another line by line, from this line on: each source item is on the line that the line ends
 -- before it lead to, which is a line of the source.
@@ -40,10 +45,12 @@ flows-first count (token.Span kind s) es fs h line f = (f.0, (f.1.0, h line f.1.
 flows-first count (token.AsciiConstant b at) es fs h line f = (f.0, (f.1.0, h line f.1.1))
 flows-first count _ es fs h line f = h line f
 
-without_faults-flows : (count : ℕ) (es : List Token) (line : ℕ) → Flows count line es → Flows count line (without_faults es)
+without_faults-flows : (count : ℕ) (es : List Token) (line : ℕ)
+    → Flows count line es → Flows count line (without_faults es)
 without_faults-flows count [] line f = f
 without_faults-flows count (token.Fault kind at ∷ es) line f = without_faults-flows count es line f
-without_faults-flows count (e ∷ es) line f = flows-first count e es (without_faults es) (without_faults-flows count es) line f
+without_faults-flows count (e ∷ es) line f =
+    flows-first count e es (without_faults es) (without_faults-flows count es) line f
 
 white-flows : (count : ℕ) (b : Bool) (line : ℕ) (es : List Token) → Flows count line es
     → Flows count line ((if b then token.White ∷ [] else []) ++ es)
@@ -63,30 +70,21 @@ line_after_tokens line [] = line
 line_after_tokens line (token.LineEnd at ∷ es) = line_after_tokens (line + 1) es
 line_after_tokens line (_ ∷ es) = line_after_tokens line es
 
-line_after_tokens-same : (line : ℕ) (run : List Token) → AreGaps run → has_line_end run ≡ false → line_after_tokens line run ≡ line
+line_after_tokens-same : (line : ℕ) (run : List Token)
+    → AreGaps run → has_line_end run ≡ false → line_after_tokens line run ≡ line
 line_after_tokens-same line [] g h = refl
 line_after_tokens-same line (token.Join ∷ run) g h = line_after_tokens-same line run g h
 line_after_tokens-same line (token.White ∷ run) g h = line_after_tokens-same line run g h
 line_after_tokens-same line (token.LineEnd at ∷ run) g h = cc
 line_after_tokens-same line (_ ∷ run) g h = absurd g
 
-flows-after : (count line : ℕ) (run es : List Token) → AreGaps run → Flows count line (run ++ es) → Flows count (line_after_tokens line run) es
+flows-after : (count line : ℕ) (run es : List Token)
+    → AreGaps run → Flows count line (run ++ es) → Flows count (line_after_tokens line run) es
 flows-after count line [] es g f = f
 flows-after count line (token.Join ∷ run) es g f = flows-after count line run es g f
 flows-after count line (token.White ∷ run) es g f = flows-after count line run es g f
 flows-after count line (token.LineEnd at ∷ run) es g f = flows-after count (line + 1) run es g f.1
 flows-after count line (_ ∷ run) es g f = absurd g
-
--- the choice between two origins that are the same makes no difference
-same_origin-either : (p q : Origin) → (if same_origin p q then q else p) ≡ p
-same_origin-either p q =
-    elim (eqb_tells p.file q.file) [
-      | inl f ↦ elim (eqb_tells p.line q.line) [
-        | inl l ↦ rw (f.0, l.0) (ap (λ x. record { file = x; line = q.line }) (sym f.1) ∙ ap (λ y. record { file = p.file; line = y }) (sym l.1))
-        | inr l ↦ rw (f.0, l.0) refl
-      ]
-      | inr f ↦ rw f.0 refl
-    ]
 
 -- after a line end that begins no stretch the counted origin is that of the next line, if there is one
 counted_after_line_end-next : (lines : List SourceLine) (continued : Bool) (counted : Origin) (line : ℕ)
@@ -96,12 +94,14 @@ counted_after_line_end-next lines continued counted line out inside =
     elim (leb_tells (length lines) (line + 1)) [
       | inl over ↦ absurd (omega (arith, over.1))
       | inr under ↦
-          let expected : is_expected lines counted line ≡ same_origin (origin_at lines (line + 1)) (next_line counted) = rw under.0 refl in
+          let expected : is_expected lines counted line ≡ same_origin (origin_at lines (line + 1)) (next_line counted) =
+          rw under.0 refl in
           rw expected (by continued (same_origin (origin_at lines (line + 1)) (next_line counted)) (rw expected at out)
           (same_origin-either (origin_at lines (line + 1)) (next_line counted)))
     ]
   where
-    by : (b same : Bool) → (b && not same) ≡ false → (if same then next_line counted else origin_at lines (line + 1)) ≡ origin_at lines (line + 1)
+    by : (b same : Bool) → (b && not same) ≡ false
+        → (if same then next_line counted else origin_at lines (line + 1)) ≡ origin_at lines (line + 1)
         → (if b || same then next_line counted else origin_at lines (line + 1)) ≡ origin_at lines (line + 1)
     by true true h e = e
     by true false h e = cc
@@ -119,12 +119,14 @@ module _ (lines : List SourceLine) where
   counted_after before counted line = counted_after_line_end lines (is_continued texts before) counted line
 
   seen-line_end : (before : Option Token) (counted : Origin) (line : ℕ) (es : List Token)
-      → seen before counted (token.LineEnd line ∷ es) ≡ seen (at_line_front texts before line) (counted_after before counted line) es
+      → seen before counted (token.LineEnd line ∷ es)
+      ≡ seen (at_line_front texts before line) (counted_after before counted line) es
   seen-line_end before counted line es = by (is_continued texts before || is_expected lines counted line)
     where
       by : (b : Bool) → let after : Origin = cond b (next_line counted) (origin_at lines (line + 1)) in
           counted_items (Some counted)
-          (cond b item.LineEnd (item.LineMark (origin_at lines (line + 1))) ∷ items_by_origin lines (at_line_front texts before line) after es)
+          (cond b item.LineEnd (item.LineMark (origin_at lines (line + 1)))
+          ∷ items_by_origin lines (at_line_front texts before line) after es)
           ≡ seen (at_line_front texts before line) after es
       by true = refl
       by false = refl
@@ -138,19 +140,25 @@ module _ (lines : List SourceLine) where
       seen-line_end before counted line es ∙ h (at_line_front texts before line) (counted_after before counted line)
       ∙ sym (seen-line_end before counted line fs)
   seen-first token.White es fs h before counted = h before counted
-  seen-first (token.UseOf occurrence line) es fs h before counted = h (Some (token.UseOf occurrence line)) (origin_at lines line)
+  seen-first (token.UseOf occurrence line) es fs h before counted =
+      h (Some (token.UseOf occurrence line)) (origin_at lines line)
   seen-first (token.AllMacros line) es fs h before counted = h (Some (token.AllMacros line)) (origin_at lines line)
   seen-first token.QuoteBreak es fs h before counted = h (Some token.QuoteBreak) (next_line counted)
   seen-first (token.Span span_kind.Word s) es fs h before counted =
-      ap (λ ps. record { item = item.Word s; origin = Some counted } ∷ ps) (h (Some (token.Span span_kind.Word s)) counted)
+      ap (λ ps. record { item = item.Word s; origin = Some counted } ∷ ps)
+      (h (Some (token.Span span_kind.Word s)) counted)
   seen-first (token.Span span_kind.Sign s) es fs h before counted =
-      ap (λ ps. record { item = item.Sign s; origin = Some counted } ∷ ps) (h (Some (token.Span span_kind.Sign s)) counted)
+      ap (λ ps. record { item = item.Sign s; origin = Some counted } ∷ ps)
+      (h (Some (token.Span span_kind.Sign s)) counted)
   seen-first (token.Span span_kind.Quoted s) es fs h before counted =
-      ap (λ ps. record { item = item.Quoted s; origin = Some counted } ∷ ps) (h (Some (token.Span span_kind.Quoted s)) counted)
+      ap (λ ps. record { item = item.Quoted s; origin = Some counted } ∷ ps)
+      (h (Some (token.Span span_kind.Quoted s)) counted)
   seen-first (token.Span span_kind.Verbatim s) es fs h before counted =
-      ap (λ ps. record { item = item.Verbatim s; origin = Some counted } ∷ ps) (h (Some (token.Span span_kind.Verbatim s)) counted)
+      ap (λ ps. record { item = item.Verbatim s; origin = Some counted } ∷ ps)
+      (h (Some (token.Span span_kind.Verbatim s)) counted)
   seen-first (token.AsciiConstant b line) es fs h before counted =
-      ap (λ ps. record { item = item.Code b; origin = Some counted } ∷ ps) (h (Some (token.AsciiConstant b line)) counted)
+      ap (λ ps. record { item = item.Code b; origin = Some counted } ∷ ps)
+      (h (Some (token.AsciiConstant b line)) counted)
   seen-first e es fs h before counted = h (Some e) counted
 
   -- rule 3 does not change the counted origin of a source item
@@ -161,7 +169,8 @@ module _ (lines : List SourceLine) where
       let rest : List Token = blanks texts (at_line_front texts left line) false es in
       seen-first (token.LineEnd line) rest es (blanks-seen (at_line_front texts left line) false es) before counted
   blanks-seen left white (e ∷ es) before counted =
-      blank (is_some left && white) ∙ seen-first e (blanks texts (Some e) false es) es (blanks-seen (Some e) false es) before counted
+      blank (is_some left && white)
+      ∙ seen-first e (blanks texts (Some e) false es) es (blanks-seen (Some e) false es) before counted
     where
       blank : (b : Bool) → let rest : List Token = e ∷ blanks texts (Some e) false es in
           seen before counted ((if b then token.White ∷ [] else []) ++ rest) ≡ seen before counted rest
@@ -176,10 +185,12 @@ module _ (lines : List SourceLine) where
   -- are at the locations of `gs`.
   abbrev AreTrue : List Token → List Token → List Token → Type 0
   AreTrue es fs gs =
-      (before : Option Token) (counted : Origin) (stretch : Bool) (line : ℕ) → IsCounted counted stretch line → Flows (length lines) line es
+      (before : Option Token) (counted : Origin) (stretch : Bool) (line : ℕ)
+      → IsCounted counted stretch line → Flows (length lines) line es
       → AllZip (IsOwn lines) (seen before counted fs) (locations lines before counted stretch gs)
 
-  own : (counted : Origin) (stretch : Bool) (line at : ℕ) (i : Item) → at ≡ line → IsCounted counted stretch line → line < length lines
+  own : (counted : Origin) (stretch : Bool) (line at : ℕ) (i : Item)
+      → at ≡ line → IsCounted counted stretch line → line < length lines
       → IsOwn lines (record { item = i; origin = Some counted }) (record { item = i; line = at; in_stretch = stretch })
   own counted stretch line at i e here inside = record {
     item = refl;
@@ -188,7 +199,8 @@ module _ (lines : List SourceLine) where
   }
 
   -- one token other than a join, white space and a line end, before others
-  first-true : (e : Token) (es fs gs : List Token) → is_gap e ≡ false → AreTrue es fs gs → AreTrue (e ∷ es) (e ∷ fs) (e ∷ gs)
+  first-true : (e : Token) (es fs gs : List Token)
+      → is_gap e ≡ false → AreTrue es fs gs → AreTrue (e ∷ es) (e ∷ fs) (e ∷ gs)
   first-true token.Join es fs gs gap next before counted stretch line here flows = cc
   first-true token.White es fs gs gap next before counted stretch line here flows = cc
   first-true (token.LineEnd at) es fs gs gap next before counted stretch line here flows = cc
@@ -221,8 +233,10 @@ module _ (lines : List SourceLine) where
   first-true e es fs gs gap next before counted stretch line here flows = next (Some e) counted stretch line here flows
 
   -- a run that rule 2 does not remove, before other tokens
-  kept-true : (run es fs gs : List Token) → AreGaps run → has_join run ≡ false → AreTrue es fs gs → AreTrue (run ++ es) (run ++ fs) (run ++ gs)
-  kept-true [] es fs gs gaps none next before counted stretch line here flows = next before counted stretch line here flows
+  kept-true : (run es fs gs : List Token)
+      → AreGaps run → has_join run ≡ false → AreTrue es fs gs → AreTrue (run ++ es) (run ++ fs) (run ++ gs)
+  kept-true [] es fs gs gaps none next before counted stretch line here flows =
+      next before counted stretch line here flows
   kept-true (token.Join ∷ run) es fs gs gaps none next before counted stretch line here flows = cc
   kept-true (token.White ∷ run) es fs gs gaps none next before counted stretch line here flows =
       kept-true run es fs gs gaps none next before counted stretch line here flows
@@ -231,20 +245,25 @@ module _ (lines : List SourceLine) where
       let begins : Bool = continued && not (is_expected lines counted at) in
       let after : IsCounted (counted_after before counted at) begins (line + 1) =
       λ out inside.
-      counted_after_line_end-next lines continued counted at out (omega (arith, flows.0, inside)) ∙ ap (λ l. origin_at lines (l + 1)) flows.0 in
+      counted_after_line_end-next lines continued counted at out (omega (arith, flows.0, inside))
+      ∙ ap (λ l. origin_at lines (l + 1)) flows.0 in
       rw (seen-line_end before counted at (run ++ fs))
-      (kept-true run es fs gs gaps none next (at_line_front texts before at) (counted_after before counted at) begins (line + 1) after flows.1)
+      (kept-true run es fs gs gaps none next (at_line_front texts before at)
+      (counted_after before counted at) begins (line + 1) after flows.1)
   kept-true (_ ∷ run) es fs gs gaps none next before counted stretch line here flows = absurd gaps
 
   -- what rule 2 leaves of a run, before other tokens
-  run-true : (run es fs gs : List Token) → AreGaps run → AreTrue es fs gs → AreTrue (run ++ es) (left_of_run run ++ fs) (left_or_join run ++ gs)
-  run-true run es fs gs gaps next before counted stretch line here flows = by (has_join run) refl (has_line_end run) refl
+  run-true : (run es fs gs : List Token)
+      → AreGaps run → AreTrue es fs gs → AreTrue (run ++ es) (left_of_run run ++ fs) (left_or_join run ++ gs)
+  run-true run es fs gs gaps next before counted stretch line here flows =
+      by (has_join run) refl (has_line_end run) refl
     where
       by : (j : Bool) → has_join run ≡ j → (b : Bool) → has_line_end run ≡ b
           → AllZip (IsOwn lines) (seen before counted ((if j then [] else run) ++ fs))
           (locations lines before counted stretch ((if j then (if b then token.Join ∷ [] else []) else run) ++ gs))
       by true joined true ends =
-          next before counted true (line_after_tokens line run) (λ e. absurd cc) (flows-after (length lines) line run es gaps flows)
+          next before counted true (line_after_tokens line run)
+          (λ e. absurd cc) (flows-after (length lines) line run es gaps flows)
       by true joined false ends =
           next before counted stretch (line_after_tokens line run)
           (subst (IsCounted counted stretch) (sym (line_after_tokens-same line run gaps ends)) here)
@@ -252,16 +271,20 @@ module _ (lines : List SourceLine) where
       by false none b ends = kept-true run es fs gs gaps none next before counted stretch line here flows
 
   -- rule 2 for all tokens of a part
-  map_runs-true : (run es : List Token) → AreGaps run → AreTrue (run ++ es) (map_runs left_of_run run es) (map_runs left_or_join run es)
+  map_runs-true : (run es : List Token)
+      → AreGaps run → AreTrue (run ++ es) (map_runs left_of_run run es) (map_runs left_or_join run es)
   map_runs-true run [] gaps before counted stretch line here flows =
       rw (← append-nil (left_of_run run), ← append-nil (left_or_join run))
       (run-true run [] [] [] gaps (λ b c s l h f. tt) before counted stretch line here flows)
   map_runs-true run (token.Join ∷ es) gaps before counted stretch line here flows =
-      map_runs-true (run ++ token.Join ∷ []) es (gaps-append run token.Join gaps tt) before counted stretch line here (rw append_assoc flows)
+      map_runs-true (run ++ token.Join ∷ []) es (gaps-append run token.Join gaps tt)
+      before counted stretch line here (rw append_assoc flows)
   map_runs-true run (token.White ∷ es) gaps before counted stretch line here flows =
-      map_runs-true (run ++ token.White ∷ []) es (gaps-append run token.White gaps tt) before counted stretch line here (rw append_assoc flows)
+      map_runs-true (run ++ token.White ∷ []) es (gaps-append run token.White gaps tt)
+      before counted stretch line here (rw append_assoc flows)
   map_runs-true run (token.LineEnd at ∷ es) gaps before counted stretch line here flows =
-      map_runs-true (run ++ token.LineEnd at ∷ []) es (gaps-append run (token.LineEnd at) gaps tt) before counted stretch line here
+      map_runs-true (run ++ token.LineEnd at ∷ []) es
+      (gaps-append run (token.LineEnd at) gaps tt) before counted stretch line here
       (rw append_assoc flows)
   map_runs-true run (e ∷ es) gaps before counted stretch line here flows =
       run-true run (e ∷ es) (e ∷ map_runs left_of_run [] es) (e ∷ map_runs left_or_join [] es) gaps
@@ -275,5 +298,5 @@ module _ (lines : List SourceLine) where
       let clean : List Token = without_faults es in
       let spaced : Flows (length lines) line (with_spaces clean) =
       with_spaces-flows (length lines) clean line (without_faults-flows (length lines) es line flows) in
-      rw (blanks-seen None false (part_tokens es) None (origin_at lines line))
+      rw (part_items-by_origin lines line es, blanks-seen None false (part_tokens es) None (origin_at lines line))
       (map_runs-true [] (with_spaces clean) tt None (origin_at lines line) false line (λ out inside. refl) spaced)

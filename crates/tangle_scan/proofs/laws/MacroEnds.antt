@@ -1,12 +1,14 @@
 -- The items that are dropped at the end of a macro are those of the tokens that are dropped there.
-use Rattle.std.proofs.Common.{◌≡◌, ℕ, Bool, true, false, ◌&&◌, not, if◌then◌else◌, List, [], ◌∷◌, ◌++◌, refl, ap, sym, ◌∙◌}
+use Rattle.std.proofs.Common.{◌≡◌, ℕ, Bool, true, false, ◌&&◌, not, if◌then◌else◌, List, [], ◌∷◌, ◌++◌, refl, ap, sym}
+use Rattle.std.proofs.Common.{◌∙◌}
 use Rattle.std.proofs.Common.{Option, Some, None, is_some}
 use Rattle.tangle_lexer.specs.declared.tokens.Token.{Token}
 use Rattle.tangle_lexer.specs.declared.tokens.Token.TheVariants as token
 use Rattle.tangle_lexer.specs.declared.tokens.SpanKind.TheVariants as span_kind
 use Rattle.tangle_scan.specs.declared.items.Item.{Item}
 use Rattle.tangle_scan.specs.declared.items.Item.TheVariants as item
-use Rattle.tangle_scan.specs.Rules.{next_item, has_blank_at_line_end, is_name_part, macro_blanks, unmarked_items, span_item}
+use Rattle.tangle_scan.specs.Rules.{next_item, has_blank_at_line_end, is_name_part, macro_blanks, unmarked_items}
+use Rattle.tangle_scan.specs.Rules.{span_item}
 use Rattle.tangle_scan.specs.MacroBytes.{without_end}
 use Rattle.tangle_scan.specs.Apart.{is_dropped_token, with_written, written_tokens}
 
@@ -23,13 +25,16 @@ module _ (texts : List (List ℕ)) where
   abbrev blank_if : Bool → List Item
   blank_if blank = if blank then item.Blank ∷ [] else []
 
-  blank-items : (blank : Bool) (es : List Token) → unmarked_items (white_if blank ++ es) ≡ blank_if blank ++ unmarked_items es
+  blank-items : (blank : Bool) (es : List Token)
+      → unmarked_items (white_if blank ++ es) ≡ blank_if blank ++ unmarked_items es
   blank-items true es = refl
   blank-items false es = refl
 
   -- none of the items is written
   abbrev AreDropped : List Token → Type 0
-  AreDropped es = (in_name : Bool) (before : Option Token) (white : Bool) → without_end texts (items_from in_name before white es) ≡ []
+  AreDropped es =
+      (in_name : Bool) (before : Option Token) (white : Bool)
+      → without_end texts (items_from in_name before white es) ≡ []
 
   -- `written` are the items that are written of `items`, and there is at least one
   record IsWritten (items written : List Item) : Type 0 where
@@ -41,20 +46,24 @@ module _ (texts : List (List ℕ)) where
   -- of the items of the tokens `es` those of the tokens `fs` are written
   abbrev AreWritten : List Token → List Token → Type 0
   AreWritten es fs =
-      (in_name : Bool) (before : Option Token) (white : Bool) → IsWritten (items_from in_name before white es) (items_from in_name before white fs)
+      (in_name : Bool) (before : Option Token) (white : Bool)
+      → IsWritten (items_from in_name before white es) (items_from in_name before white fs)
 
   -- no token is written, or the tokens up to some item are
   data Written (es : List Token) : Type 0 where
     NoToken : written_tokens texts es ≡ [] → AreDropped es → Written es
-    SomeTokens : (f : Token) (fs : List Token) → written_tokens texts es ≡ f ∷ fs → next_item es ≡ next_item (f ∷ fs) → AreWritten es (f ∷ fs) →
-        Written es
+    SomeTokens : (f : Token) (fs : List Token)
+        → written_tokens texts es ≡ f ∷ fs → next_item es ≡ next_item (f ∷ fs) → AreWritten es (f ∷ fs)
+        → Written es
 
-  dropped-sign : (blank : Bool) (x : Item) (xs : List Item) → without_end texts (x ∷ []) ≡ [] → without_end texts xs ≡ [] →
-      without_end texts (blank_if blank ++ x ∷ xs) ≡ []
+  dropped-sign : (blank : Bool) (x : Item) (xs : List Item)
+      → without_end texts (x ∷ []) ≡ [] → without_end texts xs ≡ []
+      → without_end texts (blank_if blank ++ x ∷ xs) ≡ []
   dropped-sign true x xs alone h = rw (h, alone) refl
   dropped-sign false x xs alone h = rw h alone
 
-  dropped-blank : (blank : Bool) (xs : List Item) → without_end texts xs ≡ [] → without_end texts (blank_if blank ++ xs) ≡ []
+  dropped-blank : (blank : Bool) (xs : List Item)
+      → without_end texts xs ≡ [] → without_end texts (blank_if blank ++ xs) ≡ []
   dropped-blank true xs h = rw h refl
   dropped-blank false xs h = h
 
@@ -64,7 +73,8 @@ module _ (texts : List (List ℕ)) where
   dropped-before (token.LineEnd line) es dropped h in_name before white =
       let blank : Bool = has_blank_at_line_end texts in_name before (next_item es) in
       let rest = macro_blanks texts false None false es in
-      rw (blank-items blank (token.LineEnd line ∷ rest)) (dropped-sign blank item.LineEnd (unmarked_items rest) refl (h false None false))
+      rw (blank-items blank (token.LineEnd line ∷ rest))
+      (dropped-sign blank item.LineEnd (unmarked_items rest) refl (h false None false))
   dropped-before (token.Span span_kind.Sign s) es dropped h in_name before white =
       let e = token.Span span_kind.Sign s in
       let rest = macro_blanks texts (in_name && not white && false) (Some e) false es in
@@ -77,11 +87,13 @@ module _ (texts : List (List ℕ)) where
   dropped-before e es dropped h in_name before white =
       let rest = macro_blanks texts (in_name && not white && is_name_part e) (Some e) false es in
       rw (blank-items (is_some before && white) (e ∷ rest))
-      (dropped-blank (is_some before && white) (unmarked_items rest) (h (in_name && not white && is_name_part e) (Some e) false))
+      (dropped-blank (is_some before && white) (unmarked_items rest)
+      (h (in_name && not white && is_name_part e) (Some e) false))
 
   -- an item before items none of which is written
-  written-at : (e : Token) (x : Item) (es : List Token) → ((fs : List Token) → unmarked_items (e ∷ fs) ≡ x ∷ unmarked_items fs) →
-      without_end texts (x ∷ []) ≡ x ∷ [] → AreDropped es → (in_name blank : Bool) →
+  written-at : (e : Token) (x : Item) (es : List Token)
+      → ((fs : List Token) → unmarked_items (e ∷ fs) ≡ x ∷ unmarked_items fs)
+      → without_end texts (x ∷ []) ≡ x ∷ [] → AreDropped es → (in_name blank : Bool) →
       IsWritten (unmarked_items (white_if blank ++ e ∷ macro_blanks texts in_name (Some e) false es))
       (unmarked_items (white_if blank ++ e ∷ []))
   written-at e x es is alone h in_name true = record {
@@ -97,24 +109,32 @@ module _ (texts : List (List ℕ)) where
     is = rw (is (macro_blanks texts in_name (Some e) false es), h in_name (Some e) false) alone;
   }
 
-  written-last : (e : Token) (es : List Token) → is_dropped_token texts e ≡ false → AreDropped es → AreWritten (e ∷ es) (e ∷ [])
+  written-last : (e : Token) (es : List Token)
+      → is_dropped_token texts e ≡ false → AreDropped es → AreWritten (e ∷ es) (e ∷ [])
   written-last (token.Span span_kind.Word s) es kept h in_name before white =
-      written-at (token.Span span_kind.Word s) (item.Word s) es (λ fs. refl) refl h (in_name && not white && true) (is_some before && white)
+      written-at (token.Span span_kind.Word s) (item.Word s) es (λ fs. refl)
+      refl h (in_name && not white && true) (is_some before && white)
   written-last (token.Span span_kind.Sign s) es kept h in_name before white =
-      written-at (token.Span span_kind.Sign s) (item.Sign s) es (λ fs. refl) (rw kept refl) h (in_name && not white && false) (is_some before && white)
+      written-at (token.Span span_kind.Sign s) (item.Sign s) es (λ fs. refl)
+      (rw kept refl) h (in_name && not white && false) (is_some before && white)
   written-last (token.Span span_kind.Quoted s) es kept h in_name before white =
-      written-at (token.Span span_kind.Quoted s) (item.Quoted s) es (λ fs. refl) refl h (in_name && not white && false) (is_some before && white)
+      written-at (token.Span span_kind.Quoted s) (item.Quoted s) es (λ fs. refl)
+      refl h (in_name && not white && false) (is_some before && white)
   written-last (token.Span span_kind.Verbatim s) es kept h in_name before white =
-      written-at (token.Span span_kind.Verbatim s) (item.Verbatim s) es (λ fs. refl) refl h (in_name && not white && true) (is_some before && white)
+      written-at (token.Span span_kind.Verbatim s) (item.Verbatim s) es
+      (λ fs. refl) refl h (in_name && not white && true) (is_some before && white)
   written-last (token.AsciiConstant value line) es kept h in_name before white =
-      written-at (token.AsciiConstant value line) (item.Code value) es (λ fs. refl) refl h (in_name && not white && true) (is_some before && white)
+      written-at (token.AsciiConstant value line) (item.Code value) es
+      (λ fs. refl) refl h (in_name && not white && true) (is_some before && white)
   written-last token.QuoteBreak es kept h in_name before white =
-      written-at token.QuoteBreak item.QuoteBreak es (λ fs. refl) refl h (in_name && not white && false) (is_some before && white)
+      written-at token.QuoteBreak item.QuoteBreak es (λ fs. refl)
+      refl h (in_name && not white && false) (is_some before && white)
   written-last _ es kept h in_name before white = absurd cc
 
   -- items before items of which some are written
   more-written : (p : Item) (xs ys : List Item) → IsWritten xs ys → IsWritten (p ∷ xs) (p ∷ ys)
-  more-written p xs ys h = record { first = p; rest = h.first ∷ h.rest; some = ap (λ zs. p ∷ zs) h.some; is = rw h.is refl }
+  more-written p xs ys h =
+      record { first = p; rest = h.first ∷ h.rest; some = ap (λ zs. p ∷ zs) h.some; is = rw h.is refl }
 
   more-items : (front es fs : List Token) → IsWritten (unmarked_items es) (unmarked_items fs) →
       IsWritten (unmarked_items (front ++ es)) (unmarked_items (front ++ fs))
@@ -122,11 +142,14 @@ module _ (texts : List (List ℕ)) where
   more-items (token.LineEnd line ∷ front) es fs h =
       more-written item.LineEnd (unmarked_items (front ++ es)) (unmarked_items (front ++ fs)) (more-items front es fs h)
   more-items (token.QuoteBreak ∷ front) es fs h =
-      more-written item.QuoteBreak (unmarked_items (front ++ es)) (unmarked_items (front ++ fs)) (more-items front es fs h)
+      more-written item.QuoteBreak (unmarked_items (front ++ es))
+      (unmarked_items (front ++ fs)) (more-items front es fs h)
   more-items (token.Span kind s ∷ front) es fs h =
-      more-written (span_item kind s) (unmarked_items (front ++ es)) (unmarked_items (front ++ fs)) (more-items front es fs h)
+      more-written (span_item kind s) (unmarked_items (front ++ es))
+      (unmarked_items (front ++ fs)) (more-items front es fs h)
   more-items (token.AsciiConstant value line ∷ front) es fs h =
-      more-written (item.Code value) (unmarked_items (front ++ es)) (unmarked_items (front ++ fs)) (more-items front es fs h)
+      more-written (item.Code value) (unmarked_items (front ++ es))
+      (unmarked_items (front ++ fs)) (more-items front es fs h)
   more-items (token.White ∷ front) es fs h =
       more-written item.Blank (unmarked_items (front ++ es)) (unmarked_items (front ++ fs)) (more-items front es fs h)
   more-items (_ ∷ front) es fs h = more-items front es fs h
@@ -137,23 +160,28 @@ module _ (texts : List (List ℕ)) where
   more-tokens false e es fs h = more-items (e ∷ []) es fs h
 
   -- a token before tokens of which some are written
-  written-before : (e : Token) (es fs : List Token) → next_item es ≡ next_item fs → AreWritten es fs → AreWritten (e ∷ es) (e ∷ fs)
+  written-before : (e : Token) (es fs : List Token)
+      → next_item es ≡ next_item fs → AreWritten es fs → AreWritten (e ∷ es) (e ∷ fs)
   written-before token.White es fs next h in_name before white = h in_name before true
   written-before (token.LineEnd line) es fs next h in_name before white =
       rw next
-      (more-tokens (has_blank_at_line_end texts in_name before (next_item fs)) (token.LineEnd line) (macro_blanks texts false None false es)
+      (more-tokens (has_blank_at_line_end texts in_name before (next_item fs))
+      (token.LineEnd line) (macro_blanks texts false None false es)
       (macro_blanks texts false None false fs) (h false None false))
   written-before e es fs next h in_name before white =
       let after : Bool = in_name && not white && is_name_part e in
-      more-tokens (is_some before && white) e (macro_blanks texts after (Some e) false es) (macro_blanks texts after (Some e) false fs)
+      more-tokens (is_some before && white) e (macro_blanks texts after (Some e) false es)
+      (macro_blanks texts after (Some e) false fs)
       (h after (Some e) false)
 
-  next_item-before : (e : Token) (es fs : List Token) → next_item es ≡ next_item fs → next_item (e ∷ es) ≡ next_item (e ∷ fs)
+  next_item-before : (e : Token) (es fs : List Token)
+      → next_item es ≡ next_item fs → next_item (e ∷ es) ≡ next_item (e ∷ fs)
   next_item-before token.White es fs h = h
   next_item-before (token.LineEnd line) es fs h = h
   next_item-before _ es fs h = refl
 
-  next_item-kept : (e : Token) (es : List Token) → is_dropped_token texts e ≡ false → next_item (e ∷ es) ≡ next_item (e ∷ [])
+  next_item-kept : (e : Token) (es : List Token)
+      → is_dropped_token texts e ≡ false → next_item (e ∷ es) ≡ next_item (e ∷ [])
   next_item-kept token.White es h = cc
   next_item-kept (token.LineEnd line) es h = cc
   next_item-kept _ es h = refl
@@ -164,19 +192,23 @@ module _ (texts : List (List ℕ)) where
     where
       last : AreDropped es → (b : Bool) → is_dropped_token texts e ≡ b → written_tokens texts es ≡ [] → Written (e ∷ es)
       last dropped true is none = NoToken (rw (none, is) refl) (dropped-before e es is dropped)
-      last dropped false is none = SomeTokens e [] (rw (none, is) refl) (next_item-kept e es is) (written-last e es is dropped)
+      last dropped false is none =
+          SomeTokens e [] (rw (none, is) refl) (next_item-kept e es is) (written-last e es is dropped)
 
       by : Written es → Written (e ∷ es)
       by (NoToken none dropped) = last dropped (is_dropped_token texts e) refl none
       by (SomeTokens f fs are next some) =
-          SomeTokens e (f ∷ fs) (rw are refl) (next_item-before e es (f ∷ fs) next) (written-before e es (f ∷ fs) next some)
+          SomeTokens e (f ∷ fs) (rw are refl) (next_item-before e es (f ∷ fs) next)
+          (written-before e es (f ∷ fs) next some)
 
   -- the written items of a macro are the items of its written tokens
   pub end-items : (es : List Token) (in_name : Bool) (before : Option Token) (white : Bool) →
       without_end texts (items_from in_name before white es) ≡ items_from in_name before white (written_tokens texts es)
   end-items es in_name before white = by (written es)
     where
-      by : Written es → without_end texts (items_from in_name before white es) ≡ items_from in_name before white (written_tokens texts es)
+      by : Written es
+          → without_end texts (items_from in_name before white es)
+          ≡ items_from in_name before white (written_tokens texts es)
       by (NoToken none dropped) = rw none (dropped in_name before white)
       by (SomeTokens f fs are next some) = let h = some in_name before white in rw are (h.is ∙ sym h.some)
 
@@ -187,8 +219,9 @@ module _ (texts : List (List ℕ)) where
   EndsInItem [] (Some e) = is_dropped_token texts e ≡ false
   EndsInItem (e ∷ es) before = EndsInItem es (Some e)
 
-  pub ends-before : (e : Token) (es : List Token) (before : Option Token) → is_dropped_token texts e ≡ true → EndsInItem es (Some e) →
-      EndsInItem es before
+  pub ends-before : (e : Token) (es : List Token) (before : Option Token)
+      → is_dropped_token texts e ≡ true → EndsInItem es (Some e)
+      → EndsInItem es before
   ends-before e [] before dropped h = absurd cc
   ends-before e (f ∷ es) before dropped h = h
 

@@ -1,6 +1,7 @@
 -- Rules 1 to 5 for a C part, in one pass over its tokens.
-use Rattle.std.proofs.Common.{◌≡◌, ℕ, Bool, true, false, ◌||◌, ◌&&◌, not, if◌then◌else◌, refl, ap, Option, None, Some, is_some}
-use Rattle.std.proofs.Common.{List, [], ◌∷◌, ◌++◌, sym, ◌∙◌, append_assoc, append-nil}
+use Rattle.std.proofs.Common.{◌≡◌, ℕ, Bool, true, false, ◌||◌, ◌&&◌, not, if◌then◌else◌, refl, ap, Option, None, Some}
+use Rattle.std.proofs.Common.{is_some, List, [], ◌∷◌, ◌++◌, sym, ◌∙◌, append_assoc, append-nil}
+use Rattle.std.proofs.Math.Bool.{or-false}
 use Rattle.tangle_lexer.specs.declared.tokens.Token.{Token}
 use Rattle.tangle_lexer.specs.declared.tokens.SpanKind.TheVariants as span_kind
 use Rattle.tangle_lexer.specs.declared.tokens.Token.TheVariants as token
@@ -14,9 +15,12 @@ use Rattle.tangle_scan.specs.declared.spacing.Stage.TheVariants as stage
 use Rattle.tangle_scan.specs.Rules.{without_faults, with_spaces, would_merge, is_constant}
 use Rattle.tangle_scan.specs.Rules.{is_word_token, without_joins, left_of_run, is_gap}
 use Rattle.tangle_scan.specs.Rules.{is_join, has_join, texts_of, is_continued, at_line_front, ends_in_backslash}
-use Rattle.tangle_scan.specs.Rules.{blanks, items_by_origin, line_item, counted_after_line_end, part_items}
+use Rattle.tangle_scan.specs.Rules.{blanks, part_items}
+use Rattle.tangle_scan.specs.LineTruth.{counted_after_line_end}
 use Rattle.tangle_scan.specs.Passes.{joins_ahead, touches, needs_blank, last_after_white, last_after_line_end, last_of}
-use Rattle.tangle_scan.specs.Passes.{is_joined, continues_after, rare_items_ahead, items_at, counted_after_token, with_white_space}
+use Rattle.tangle_scan.specs.Passes.{is_joined, continues_after, rare_items_ahead, with_white_space}
+use Rattle.tangle_scan.specs.Passes.{line_item, items_at, counted_after_token}
+use Rattle.tangle_scan.proofs.lemmas.ItemsByOrigin.{items_by_origin, part_items-by_origin}
 use Rattle.tangle_scan.proofs.lemmas.RuleLemmas.{without_joins-item, has_join-push}
 use Rattle.tangle_scan.proofs.lemmas.SpacingLemmas.{after-line, after-join, spaced-inside}
 use Rattle.tangle_scan.proofs.lemmas.PlainPartLemmas.{items_by_origin-blank}
@@ -172,7 +176,8 @@ blanks-front texts (token.White ∷ es) = refl
 blanks-front texts (token.LineEnd line ∷ es) = refl
 blanks-front texts (e ∷ es) = refl
 
-blanks-at-front : (texts : List (List ℕ)) (b : Option Token) (es : List Token) → is_some b ≡ false → blanks texts b false es ≡ blanks texts b true es
+blanks-at-front : (texts : List (List ℕ)) (b : Option Token) (es : List Token)
+    → is_some b ≡ false → blanks texts b false es ≡ blanks texts b true es
 blanks-at-front texts None es h = blanks-front texts es
 blanks-at-front texts (Some x) es h = cc
 
@@ -189,8 +194,9 @@ is_white last.White joins = not joins
 is_white last.ContinuedWhite joins = not joins
 is_white _ joins = false
 
-step-white : (texts : List (List ℕ)) (b : Option Token) (at : Last) (j : Bool) (x : Bool → List Token) → is_some b ≡ keeps_white at →
-    let next = last_after_white at in
+step-white : (texts : List (List ℕ)) (b : Option Token) (at : Last) (j : Bool) (x : Bool → List Token)
+    → is_some b ≡ keeps_white at
+    → let next = last_after_white at in
     blanks texts b (is_white next j) (x (is_joined next))
     ≡ blanks texts b (is_white at j)
     (unless (is_joined at || j) (token.White ∷ []) ++ x (is_joined at))
@@ -204,8 +210,10 @@ step-line : (lines : List SourceLine) (b : Option Token) (counted : Origin) (lin
     (x : Bool → List Token) (joined front : List Item) →
     let continued : Bool = is_continued (texts_of lines) b in
     (j ≡ true → x false ≡ x true) →
-    joined ≡ items_by_origin lines b counted (blanks (texts_of lines) b false (x true)) →
-    front ≡ items_by_origin lines (at_line_front (texts_of lines) b line) (counted_after_line_end lines continued counted line)
+    joined ≡ items_by_origin lines b counted (blanks (texts_of lines) b false (x true))
+    → front
+    ≡ items_by_origin lines (at_line_front (texts_of lines) b line)
+    (counted_after_line_end lines continued counted line)
     (blanks (texts_of lines) (at_line_front (texts_of lines) b line) false (x false)) →
     (if is_joined at || j then joined else line_item lines continued counted line ∷ front)
     ≡ items_by_origin lines b counted (blanks (texts_of lines) b (is_white at j)
@@ -217,7 +225,9 @@ step-line lines b counted line at true x joined front same is is_front =
     ∙ after-line at)
   where
     after-line : (at : Last) → items_by_origin lines b counted (blanks (texts_of lines) b false (x false))
-        ≡ items_by_origin lines b counted (blanks (texts_of lines) b (is_white at true) (unless (is_joined at || true) (token.LineEnd line ∷ []) ++ x false))
+        ≡ items_by_origin lines b counted
+        (blanks (texts_of lines) b (is_white at true)
+        (unless (is_joined at || true) (token.LineEnd line ∷ []) ++ x false))
     after-line last.Front = refl
     after-line last.Joined = refl
     after-line last.White = refl
@@ -226,13 +236,15 @@ step-line lines b counted line at true x joined front same is is_front =
 step-line lines b counted line _ false x joined front same is is_front =
     ap (λ t. line_item lines (is_continued (texts_of lines) b) counted line ∷ t) is_front
 
-step-touch : (texts : List (List ℕ)) (b : Option Token) (e : Token) (x : List Token) (t : Bool) → is_some b ≡ true → is_solid e ≡ true →
-    blanks texts b false (white_if t ++ e ∷ x) ≡ white_if t ++ e ∷ blanks texts (Some e) false x
+step-touch : (texts : List (List ℕ)) (b : Option Token) (e : Token) (x : List Token) (t : Bool)
+    → is_some b ≡ true → is_solid e ≡ true
+    → blanks texts b false (white_if t ++ e ∷ x) ≡ white_if t ++ e ∷ blanks texts (Some e) false x
 step-touch texts b e x true some h = blanks-solid texts b true e x h ∙ rw some refl
 step-touch texts b e x false some h = blanks-solid texts b false e x h ∙ rw some refl
 
-step-blank : (texts : List (List ℕ)) (b : Option Token) (at : Last) (e : Token) (x : List Token) → is_some b ≡ keeps_white at → is_solid e ≡ true →
-    blanks texts b (is_white at false) (white_if (touches at e) ++ e ∷ x)
+step-blank : (texts : List (List ℕ)) (b : Option Token) (at : Last) (e : Token) (x : List Token)
+    → is_some b ≡ keeps_white at → is_solid e ≡ true
+    → blanks texts b (is_white at false) (white_if (touches at e) ++ e ∷ x)
     ≡ white_if (needs_blank at e) ++ e ∷ blanks texts (Some e) false x
 step-blank texts b last.Front e x some h = blanks-solid texts b false e x h ∙ rw some refl
 step-blank texts b last.Joined e x some h = blanks-solid texts b false e x h ∙ rw some refl
@@ -244,9 +256,10 @@ step-blank texts b last.AsciiConstant e x some h = step-touch texts b e x (is_co
 step-blank texts b last.White e x some h = blanks-solid texts b true e x h ∙ rw some refl
 
 step-item : (lines : List SourceLine) (b : Option Token) (at : Last) (counted : Origin) (e : Token) (x : List Token)
-    (rest : List Item) (merges : Bool) → is_some b ≡ keeps_white at → is_solid e ≡ true → merges ≡ touches at e →
-    rest ≡ items_by_origin lines (Some e) (counted_after_token lines counted e) (blanks (texts_of lines) (Some e) false x) →
-    (if needs_blank at e then item.Blank ∷ [] else []) ++ (items_at lines e ++ rest)
+    (rest : List Item) (merges : Bool) → is_some b ≡ keeps_white at → is_solid e ≡ true → merges ≡ touches at e
+    → rest
+    ≡ items_by_origin lines (Some e) (counted_after_token lines counted e) (blanks (texts_of lines) (Some e) false x)
+    → (if needs_blank at e then item.Blank ∷ [] else []) ++ (items_at lines e ++ rest)
     ≡ items_by_origin lines b counted
     (blanks (texts_of lines) b (is_white at false) (white_if merges ++ e ∷ x))
 step-item lines b at counted e x rest merges some h is is_rest =
@@ -257,10 +270,6 @@ step-item lines b at counted e x rest merges some h is is_rest =
       items_by_origin-solid lines b counted e (blanks (texts_of lines) (Some e) false x) h,
       is_rest,
     ) refl
-
-or-false : (a : Bool) → (a || false) ≡ a
-or-false true = refl
-or-false false = refl
 
 last-touches : (e f : Token) → would_merge e f ≡ touches (last_of e) f
 last-touches (token.Span span_kind.Word s) f = refl
@@ -284,7 +293,8 @@ white-keeps last.Continued = refl
 white-keeps last.ContinuedWhite = refl
 white-keeps _ = refl
 
-white-continues : (texts : List (List ℕ)) (at : Last) (e : Token) → continues_after texts at e ≡ continues_after texts (last_after_white at) e
+white-continues : (texts : List (List ℕ)) (at : Last) (e : Token)
+    → continues_after texts at e ≡ continues_after texts (last_after_white at) e
 white-continues texts last.Front e = refl
 white-continues texts last.Joined e = refl
 white-continues texts last.Continued e = refl
@@ -302,7 +312,8 @@ end-touches : (continued : Bool) (e : Token) → would_merge token.White e ≡ t
 end-touches true e = refl
 end-touches false e = refl
 
-end-continues : (texts : List (List ℕ)) (continued : Bool) (e : Token) → false ≡ continues_after texts (last_after_line_end continued) e
+end-continues : (texts : List (List ℕ)) (continued : Bool) (e : Token)
+    → false ≡ continues_after texts (last_after_line_end continued) e
 end-continues texts true e = refl
 end-continues texts false e = refl
 
@@ -314,15 +325,17 @@ front-keeps texts b line = by (is_continued texts b)
     by true = refl
     by false = refl
 
-front-continues : (texts : List (List ℕ)) (b : Option Token) (line : ℕ) → is_continued texts (at_line_front texts b line) ≡ false
+front-continues : (texts : List (List ℕ)) (b : Option Token) (line : ℕ)
+    → is_continued texts (at_line_front texts b line) ≡ false
 front-continues texts b line = by (is_continued texts b)
   where
     by : (c : Bool) → is_continued texts (if c then Some (token.LineEnd line) else None) ≡ false
     by true = refl
     by false = refl
 
-end-blanks : (texts : List (List ℕ)) (b : Option Token) (continued j : Bool) (es : List Token) →
-    blanks texts b (is_white (last_after_line_end continued) j) (left (is_joined (last_after_line_end continued)) token.White es)
+end-blanks : (texts : List (List ℕ)) (b : Option Token) (continued j : Bool) (es : List Token)
+    → blanks texts b (is_white (last_after_line_end continued) j)
+    (left (is_joined (last_after_line_end continued)) token.White es)
     ≡ blanks texts b false (left false token.White es)
 end-blanks texts b true j es = refl
 end-blanks texts b false j es = refl
@@ -332,9 +345,10 @@ white-gone last.White = refl
 white-gone last.ContinuedWhite = refl
 white-gone _ = refl
 
--- rules 1 to 5 give the items of the one pass, if the token before has the flags that belong to what is last
-rare-left : (lines : List SourceLine) (b : Option Token) (at : Last) (item : Token) (counted : Origin) (before : Token) (es : List Token) →
-    is_some b ≡ keeps_white at → is_continued (texts_of lines) b ≡ continues_after (texts_of lines) at item →
+-- the one pass gives the items of rules 1 to 5, if `at` and `item` have the flags of the tokens `b` and `before`
+rare-left : (lines : List SourceLine) (b : Option Token) (at : Last)
+    (item : Token) (counted : Origin) (before : Token) (es : List Token)
+    → is_some b ≡ keeps_white at → is_continued (texts_of lines) b ≡ continues_after (texts_of lines) at item →
     ((e : Token) → would_merge before e ≡ touches at e) →
     rare_items_ahead lines at item counted es
     ≡ items_by_origin lines b counted
@@ -345,11 +359,13 @@ rare-left lines b at item counted before (token.Fault kind line ∷ es) some so 
 rare-left lines b at item counted before (token.Join ∷ es) some so h =
     rare-left lines None last.Joined item counted token.White es refl refl (λ e. refl)
     ∙ (sym (after-join-items lines b counted es)
-    ∙ ap (λ w. items_by_origin lines b counted (blanks (texts_of lines) b w (left true token.White es))) (white-gone at))
+    ∙ ap (λ w. items_by_origin lines b counted (blanks (texts_of lines) b w (left true token.White es)))
+    (white-gone at))
 rare-left lines b at item counted before (token.White ∷ es) some so h =
     rare-left lines b (last_after_white at) item counted token.White es (some ∙ white-keeps at)
     (so ∙ white-continues (texts_of lines) at item) (white-touches at)
-    ∙ ap (items_by_origin lines b counted) (step-white (texts_of lines) b at (joins_ahead es) (λ k. left k token.White es) some)
+    ∙ ap (items_by_origin lines b counted)
+    (step-white (texts_of lines) b at (joins_ahead es) (λ k. left k token.White es) some)
 rare-left lines b at item counted before (token.LineEnd line ∷ es) some so h =
     let continued = is_continued (texts_of lines) b in
     let removed = rare-left lines None last.Joined item counted token.White es refl refl (λ e. refl) in
@@ -362,15 +378,18 @@ rare-left lines b at item counted before (token.LineEnd line ∷ es) some so h =
     (front-keeps (texts_of lines) b line)
     (front-continues (texts_of lines) b line ∙ end-continues (texts_of lines) continued item)
     (end-touches continued)
-    ∙ ap (items_by_origin lines (at_line_front (texts_of lines) b line) (counted_after_line_end lines continued counted line))
+    ∙ ap (items_by_origin lines (at_line_front (texts_of lines) b line)
+    (counted_after_line_end lines continued counted line))
     (end-blanks (texts_of lines) (at_line_front (texts_of lines) b line) continued (joins_ahead es) es)))
 rare-left lines b at item counted before (token.Span span_kind.Word s ∷ es) some so h =
     let e = token.Span span_kind.Word s in
     step-item lines b at counted e (left false e es) _ (would_merge before e) some refl (h e)
-    (rare-left lines (Some e) (last_of e) e (counted_after_token lines counted e) e es (last-keeps e) (last-continues (texts_of lines) e) (last-touches e))
+    (rare-left lines (Some e) (last_of e) e (counted_after_token lines counted e)
+    e es (last-keeps e) (last-continues (texts_of lines) e) (last-touches e))
 rare-left lines b at item counted before (e ∷ es) some so h =
     step-item lines b at counted e (left false e es) _ (would_merge before e) some refl (h e)
-    (rare-left lines (Some e) (last_of e) e (counted_after_token lines counted e) e es (last-keeps e) (last-continues (texts_of lines) e) (last-touches e))
+    (rare-left lines (Some e) (last_of e) e (counted_after_token lines counted e)
+    e es (last-keeps e) (last-continues (texts_of lines) e) (last-touches e))
 
 -- the one pass gives the items of a whole C part
 pub part-rare : (lines : List SourceLine) (line : ℕ) (item : Token) (es : List Token) →
@@ -378,4 +397,5 @@ pub part-rare : (lines : List SourceLine) (line : ℕ) (item : Token) (es : List
 part-rare lines line item es =
     let origin = origin_at lines line in
     rare-left lines None last.Front item origin token.White es refl refl (λ e. refl)
-    ∙ ap (λ t. items_by_origin lines None origin (blanks (texts_of lines) None false t)) (sym (spaced-left es))
+    ∙ (ap (λ t. items_by_origin lines None origin (blanks (texts_of lines) None false t)) (sym (spaced-left es))
+    ∙ sym (part_items-by_origin lines line es))

@@ -1,8 +1,8 @@
 -- The items that the one pass adds for each token of a C part with rare tokens.
-use Rattle.std.proofs.Common.{◌≡◌, ◌≤◌, ℕ, Bool, true, false, ◌&&◌, ◌||◌, if◌then◌else◌, Option, Some, is_some, refl, ap}
-use Rattle.std.proofs.Common.{List, [], ◌∷◌, ◌++◌, length, take, append_assoc, append-nil}
-use Rattle.std.proofs.Common.{sym, ◌∙◌, arith}
+use Rattle.std.proofs.Common.{◌≡◌, ◌≤◌, ℕ, Bool, true, false, ◌&&◌, if◌then◌else◌, Option, Some, is_some, refl, ap}
+use Rattle.std.proofs.Common.{List, [], ◌∷◌, ◌++◌, length, take, append_assoc, append-nil, sym, ◌∙◌, arith}
 use Rattle.std.proofs.lemmas.List.{take_all, take-append-le}
+use Rattle.std.proofs.Math.Bool.{and-false, or-true}
 use Rattle.tangle_lexer.specs.declared.tokens.Token.{Token}
 use Rattle.tangle_lexer.specs.declared.tokens.Token.TheVariants as token
 use Rattle.tangle_lexer.specs.declared.tokens.SpanKind.TheVariants as span_kind
@@ -15,10 +15,13 @@ use Rattle.tangle_scan.specs.declared.plain_parts.CountedOrigin.{CountedOrigin}
 use Rattle.tangle_scan.specs.declared.rare_parts.Last.{Last}
 use Rattle.tangle_scan.specs.declared.rare_parts.Last.TheVariants as last
 use Rattle.tangle_scan.specs.declared.rare_parts.RarePartState.{RarePartState}
-use Rattle.tangle_scan.specs.Rules.{texts_of, blanks, items_by_origin, line_item, counted_after_line_end}
-use Rattle.tangle_scan.specs.Passes.{origin_of, items_at, counted_after_token, all_items, rare_items_ahead, takes_back}
+use Rattle.tangle_scan.specs.Rules.{texts_of, blanks}
+use Rattle.tangle_scan.specs.LineTruth.{counted_after_line_end}
+use Rattle.tangle_scan.specs.Passes.{origin_of, all_items, rare_items_ahead, takes_back}
+use Rattle.tangle_scan.specs.Passes.{line_item, items_at, counted_after_token}
 use Rattle.tangle_scan.specs.Passes.{joins_ahead, is_joined, needs_blank, last_after_white, last_after_line_end}
 use Rattle.tangle_scan.specs.Passes.{last_of, is_after_line_end, continues_after}
+use Rattle.tangle_scan.proofs.lemmas.ItemsByOrigin.{items_by_origin}
 use Rattle.tangle_scan.proofs.lemmas.PlainPartLemmas.{pushed-twice}
 
 -- a token other than white space, a line end, a join and a fault
@@ -39,16 +42,18 @@ solid token.Join white end join fault = absurd (join refl)
 solid (token.Fault kind line) white end join fault = absurd (fault kind line refl)
 solid _ white end join fault = refl
 
-pub items_by_origin-solid : (lines : List SourceLine) (before : Option Token) (counted : Origin) (e : Token) (es : List Token) →
-    is_solid e ≡ true →
+pub items_by_origin-solid : (lines : List SourceLine)
+    (before : Option Token) (counted : Origin) (e : Token) (es : List Token)
+    → is_solid e ≡ true →
     items_by_origin lines before counted (e ∷ es)
     ≡ items_at lines e ++ items_by_origin lines (Some e) (counted_after_token lines counted e) es
 items_by_origin-solid lines before counted token.White es h = cc
 items_by_origin-solid lines before counted (token.LineEnd line) es h = cc
 items_by_origin-solid lines before counted _ es h = refl
 
-pub blanks-solid : (texts : List (List ℕ)) (before : Option Token) (white : Bool) (e : Token) (es : List Token) → is_solid e ≡ true →
-    blanks texts before white (e ∷ es)
+pub blanks-solid : (texts : List (List ℕ)) (before : Option Token) (white : Bool) (e : Token) (es : List Token)
+    → is_solid e ≡ true
+    → blanks texts before white (e ∷ es)
     ≡ (if is_some before && white then token.White ∷ [] else []) ++ e ∷ blanks texts (Some e) false es
 blanks-solid texts before white token.White es h = cc
 blanks-solid texts before white (token.LineEnd line) es h = cc
@@ -63,22 +68,26 @@ items_from lines items many back at e counted es =
 
 -- the items that are added for the next token
 
-from-white : (lines : List SourceLine) (items : List Item) (many : ℕ) (back : Origin) (at : Last) (e : Token) (counted : Origin) (es : List Token) →
-    items_from lines items many back (last_after_white at) e counted es ≡ items_from lines items many back at e counted (token.White ∷ es)
+from-white : (lines : List SourceLine) (items : List Item) (many : ℕ)
+    (back : Origin) (at : Last) (e : Token) (counted : Origin) (es : List Token)
+    → items_from lines items many back (last_after_white at) e counted es
+    ≡ items_from lines items many back at e counted (token.White ∷ es)
 from-white lines items many back last.Front e counted es = refl
 from-white lines items many back last.Joined e counted es = refl
 from-white lines items many back last.Continued e counted es = refl
 from-white lines items many back last.ContinuedWhite e counted es = refl
 from-white lines items many back _ e counted es = refl
 
-pub rare-white : (lines : List SourceLine) (items : List Item) (at : RarePartState) (es : List Token) →
-    all_items lines items (record at { last = last_after_white at.last }) es ≡ all_items lines items at (token.White ∷ es)
+pub rare-white : (lines : List SourceLine) (items : List Item) (at : RarePartState) (es : List Token)
+    → all_items lines items (record at { last = last_after_white at.last }) es
+    ≡ all_items lines items at (token.White ∷ es)
 unfolding all_items
 rare-white lines items at es =
     from-white lines items at.start.items (origin_of at.start.counted) at.last at.item.now (origin_of at.counted) es
 
-pub rare-fault : (lines : List SourceLine) (items : List Item) (at : RarePartState) (kind : FaultKind) (line : ℕ) (es : List Token) →
-    all_items lines items at es ≡ all_items lines items at (token.Fault kind line ∷ es)
+pub rare-fault : (lines : List SourceLine) (items : List Item)
+    (at : RarePartState) (kind : FaultKind) (line : ℕ) (es : List Token)
+    → all_items lines items at es ≡ all_items lines items at (token.Fault kind line ∷ es)
 unfolding all_items
 rare-fault lines items at kind line es = refl
 
@@ -113,8 +122,9 @@ unjoined last.Joined h = absurd (h refl)
 unjoined _ h = refl
 
 -- a line end that is not after a join: its run began before, or begins here
-pub rare-line : (lines : List SourceLine) (items new : List Item) (at : RarePartState) (line many : ℕ) (counted : CountedOrigin) (es : List Token) →
-    (at.last ≡ last.Joined → ⊥) → at.start.items ≤ length items → many ≡ length items →
+pub rare-line : (lines : List SourceLine) (items new : List Item)
+    (at : RarePartState) (line many : ℕ) (counted : CountedOrigin) (es : List Token)
+    → (at.last ≡ last.Joined → ⊥) → at.start.items ≤ length items → many ≡ length items →
     let continued : Bool = continues_after (texts_of lines) at.last at.item.now in
     new ≡ items ++ line_item lines continued (origin_of at.counted) line ∷ [] →
     origin_of counted ≡ counted_after_line_end lines continued (origin_of at.counted) line →
@@ -129,15 +139,21 @@ pub rare-line : (lines : List SourceLine) (items new : List Item) (at : RarePart
 unfolding all_items
 rare-line lines items new at line many counted es other within long is is_counted =
     rw (after-end (continues_after (texts_of lines) at.last at.item.now), unjoined at.last other, is, is_counted, long)
-    (settled (is_after_line_end at.last) (joins_ahead es) _ (rare_items_ahead lines last.Joined at.item.now (origin_of at.start.counted) es)
+    (settled (is_after_line_end at.last) (joins_ahead es) _
+    (rare_items_ahead lines last.Joined at.item.now (origin_of at.start.counted) es)
     (rare_items_ahead lines last.Joined at.item.now (origin_of at.counted) es) _)
   where
-    settled : (a j : Bool) (i : Item) (back joined front : List Item) →
-        (if j then take (if a then at.start else record { items = length items; counted = at.counted }).items (items ++ i ∷ [])
-        ++ rare_items_ahead lines last.Joined at.item.now (origin_of (if a then at.start else record { items = length items; counted = at.counted }).counted) es
+    settled : (a j : Bool) (i : Item) (back joined front : List Item)
+        → (if j
+        then take (if a then at.start else record { items = length items; counted = at.counted }).items
+        (items ++ i ∷ [])
+        ++ rare_items_ahead lines last.Joined at.item.now
+        (origin_of (if a then at.start else record { items = length items; counted = at.counted }).counted) es
         else (items ++ i ∷ []) ++ front)
-        ≡ (if a && j then take at.start.items items ++ rare_items_ahead lines last.Joined at.item.now (origin_of at.start.counted) es
-        else items ++ (if j then rare_items_ahead lines last.Joined at.item.now (origin_of at.counted) es else i ∷ front))
+        ≡ (if a && j
+        then take at.start.items items ++ rare_items_ahead lines last.Joined at.item.now (origin_of at.start.counted) es
+        else items
+        ++ (if j then rare_items_ahead lines last.Joined at.item.now (origin_of at.counted) es else i ∷ front))
     settled true true i back joined front = rw (take-append-le at.start.items items (i ∷ []) within) refl
     settled true false i back joined front = append_assoc items (i ∷ []) front
     settled false true i back joined front =
@@ -156,10 +172,6 @@ rare-solid lines at before counted token.Join es h = cc
 rare-solid lines at before counted (token.Fault kind line) es h = cc
 rare-solid lines at before counted _ es h = refl
 
-and-false : (a : Bool) → (a && false) ≡ false
-and-false true = refl
-and-false false = refl
-
 no-join : (e : Token) (es : List Token) → is_solid e ≡ true → joins_ahead (e ∷ es) ≡ false
 no-join token.White es h = cc
 no-join (token.LineEnd line) es h = cc
@@ -175,8 +187,9 @@ last-stays _ es = refl
 solid-stays : (at : Last) (e : Token) (es : List Token) → is_solid e ≡ true → takes_back at (e ∷ es) ≡ false
 solid-stays at e es h = ap (λ j. is_after_line_end at && j) (no-join e es h) ∙ and-false (is_after_line_end at)
 
-pub rare-item : (lines : List SourceLine) (old middle new : List Item) (at next : RarePartState) (e : Token) (es : List Token) →
-    is_solid e ≡ true → next.last ≡ last_of e → next.item.now ≡ e →
+pub rare-item : (lines : List SourceLine) (old middle new : List Item)
+    (at next : RarePartState) (e : Token) (es : List Token)
+    → is_solid e ≡ true → next.last ≡ last_of e → next.item.now ≡ e →
     middle ≡ old ++ (if needs_blank at.last e then item.Blank ∷ [] else []) →
     new ≡ middle ++ items_at lines e → origin_of next.counted ≡ counted_after_token lines (origin_of at.counted) e →
     all_items lines new next es ≡ all_items lines old at (e ∷ es)
@@ -194,10 +207,6 @@ joined-ahead lines at e counted (token.Fault kind line ∷ es) h = joined-ahead 
 joined-ahead lines at e counted (token.Join ∷ es) h = refl
 joined-ahead lines at e counted (token.White ∷ es) h = joined-ahead lines (last_after_white at) e counted es h
 joined-ahead lines at e counted (token.LineEnd line ∷ es) h = rw (h, or-true (is_joined at)) refl
-  where
-    or-true : (b : Bool) → (b || true) ≡ true
-    or-true true = refl
-    or-true false = refl
 joined-ahead lines at e counted (f ∷ es) h = cc
 
 -- at the beginning no token was read

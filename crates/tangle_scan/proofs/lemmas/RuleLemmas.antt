@@ -1,4 +1,5 @@
-use Rattle.std.proofs.Common.{◌≡◌, ℕ, ◌≤◌, Bool, true, false, ◌||◌, List, [], ◌∷◌, ◌++◌, length, take, drop, refl, ap, sym, ◌∙◌, arith, append_assoc, append-nil, if◌then◌else◌}
+use Rattle.std.proofs.Common.{◌≡◌, ℕ, ◌≤◌, Bool, true, false, ◌||◌, List, [], ◌∷◌, ◌++◌, length, take, drop, refl, ap}
+use Rattle.std.proofs.Common.{sym, ◌∙◌, arith, append_assoc, append-nil, if◌then◌else◌}
 use Rattle.std.proofs.Math.Seq.{drop-length}
 use Rattle.std.proofs.lemmas.List.{take_all, take-append-le, drop-append-le, take-append-drop}
 use Rattle.tangle_lexer.specs.declared.tokens.Token.{Token}
@@ -6,13 +7,15 @@ use Rattle.tangle_lexer.specs.declared.tokens.Token.TheVariants as token
 use Rattle.tangle_scan.specs.Rules.{without_joins, left_of_run, has_join, is_gap, is_join}
 use Rattle.tangle_scan.specs.Passes.{without_joins_from}
 
-pub without_joins-gap : (run : List Token) (e : Token) (es : List Token) → is_gap e ≡ true → without_joins run (e ∷ es) ≡ without_joins (run ++ e ∷ []) es
+pub without_joins-gap : (run : List Token) (e : Token) (es : List Token)
+    → is_gap e ≡ true → without_joins run (e ∷ es) ≡ without_joins (run ++ e ∷ []) es
 without_joins-gap run token.Join es h = refl
 without_joins-gap run token.White es h = refl
 without_joins-gap run (token.LineEnd line) es h = refl
 without_joins-gap run _ es h = cc
 
-pub without_joins-item : (run : List Token) (e : Token) (es : List Token) → is_gap e ≡ false → without_joins run (e ∷ es) ≡ left_of_run run ++ e ∷ without_joins [] es
+pub without_joins-item : (run : List Token) (e : Token) (es : List Token)
+    → is_gap e ≡ false → without_joins run (e ∷ es) ≡ left_of_run run ++ e ∷ without_joins [] es
 without_joins-item run token.Join es h = cc
 without_joins-item run token.White es h = cc
 without_joins-item run (token.LineEnd line) es h = cc
@@ -25,28 +28,41 @@ has_join-push (token.Join ∷ es) e = refl
 has_join-push (_ ∷ es) e = has_join-push es e
 
 -- a join, white space or a line end continues the run that begins at `start`
-pub run-gap : (start : ℕ) (spaced : List Token) (e : Token) (es : List Token) → start ≤ length spaced → is_gap e ≡ true →
-    without_joins_from (spaced ++ e ∷ []) start es ≡ without_joins_from spaced start (e ∷ es)
+pub run-gap : (start : ℕ) (spaced : List Token) (e : Token) (es : List Token) → start ≤ length spaced → is_gap e ≡ true
+    → without_joins_from (spaced ++ e ∷ []) start es ≡ without_joins_from spaced start (e ∷ es)
 unfolding without_joins_from
 run-gap start spaced e es h gap =
-    rw (take-append-le start spaced (e ∷ []) h, drop-append-le start spaced (e ∷ []) h) (ap (λ t. take start spaced ++ t) (sym (without_joins-gap (drop start spaced) e es gap)))
+    rw (take-append-le start spaced (e ∷ []) h, drop-append-le start spaced (e ∷ []) h)
+    (ap (λ t. take start spaced ++ t) (sym (without_joins-gap (drop start spaced) e es gap)))
 
 -- an item ends the run that begins at `start`
-pub run-item : (start : ℕ) (spaced : List Token) (e : Token) (es : List Token) → is_gap e ≡ false → (closed : List Token) →
-    closed ≡ (if has_join (drop start spaced) then take start spaced else spaced) ++ e ∷ [] →
+pub run-item : (start : ℕ) (spaced : List Token) (e : Token) (es : List Token)
+    → is_gap e ≡ false → (closed : List Token)
+    → closed ≡ (if has_join (drop start spaced) then take start spaced else spaced) ++ e ∷ [] →
     without_joins_from closed (length closed) es ≡ without_joins_from spaced start (e ∷ es)
 unfolding without_joins_from
 run-item start spaced e es gap closed is =
-    rw (take_all (length closed) closed (omega arith), drop-length closed, without_joins-item (drop start spaced) e es gap) (rw is (settled (has_join (drop start spaced))))
+    rw (
+      take_all (length closed) closed (omega arith),
+      drop-length closed,
+      without_joins-item (drop start spaced) e es gap,
+    ) (rw is (settled (has_join (drop start spaced))))
   where
-    settled : (b : Bool) → ((if b then take start spaced else spaced) ++ e ∷ []) ++ without_joins [] es ≡ take start spaced ++ ((if b then [] else drop start spaced) ++ e ∷ without_joins [] es)
+    settled : (b : Bool)
+        → ((if b then take start spaced else spaced) ++ e ∷ []) ++ without_joins [] es
+        ≡ take start spaced ++ ((if b then [] else drop start spaced) ++ e ∷ without_joins [] es)
     settled true = append_assoc (take start spaced) (e ∷ []) (without_joins [] es)
-    settled false = append_assoc spaced (e ∷ []) (without_joins [] es) ∙ (ap (λ t. t ++ e ∷ without_joins [] es) (sym (take-append-drop start spaced)) ∙ append_assoc (take start spaced) (drop start spaced) (e ∷ without_joins [] es))
+    settled false =
+        append_assoc spaced (e ∷ []) (without_joins [] es)
+        ∙ (ap (λ t. t ++ e ∷ without_joins [] es) (sym (take-append-drop start spaced))
+        ∙ append_assoc (take start spaced) (drop start spaced) (e ∷ without_joins [] es))
 
-pub run-end : (start : ℕ) (spaced : List Token) → without_joins_from spaced start [] ≡ (if has_join (drop start spaced) then take start spaced else spaced)
+pub run-end : (start : ℕ) (spaced : List Token)
+    → without_joins_from spaced start [] ≡ (if has_join (drop start spaced) then take start spaced else spaced)
 unfolding without_joins_from
 run-end start spaced = settled (has_join (drop start spaced))
   where
-    settled : (b : Bool) → take start spaced ++ (if b then [] else drop start spaced) ≡ (if b then take start spaced else spaced)
+    settled : (b : Bool)
+        → take start spaced ++ (if b then [] else drop start spaced) ≡ (if b then take start spaced else spaced)
     settled true = append-nil (take start spaced)
     settled false = take-append-drop start spaced

@@ -1,5 +1,6 @@
 -- Gathering a web block by block.
-use Rattle.std.proofs.Common.{◌≡◌, ◌≤◌, ◌<◌, ◌+◌, true, List, [], ◌∷◌, ◌++◌, length, map, refl, ap, sym, ◌∙◌, arith, Option, None, Some, option_to_list}
+use Rattle.std.proofs.Common.{◌≡◌, ◌≤◌, ◌<◌, ◌+◌, true, List, [], ◌∷◌, ◌++◌, length, map, refl, ap, sym, ◌∙◌, arith}
+use Rattle.std.proofs.Common.{Option, None, Some, option_to_list}
 use Rattle.std.specs.Option.{IfSome, IfNone}
 use Rattle.tangle_lines.specs.Reading.{SourceRead}
 use Rattle.tangle_lexer.specs.declared.tokens.Token.{Token}
@@ -21,36 +22,48 @@ unfolding occurrences_from
 occurrences-end s = refl
 
 -- the tokens after a block begin with a head, or there are none
-ends-body : (s : LexerState) (next_head : Option Token) (rest : List Cell) → IfSome next_head (λ head. is_head head ≡ true) → IfNone next_head (rest ≡ []) →
-    body (option_to_list next_head ++ tokens_from s rest) ≡ []
+ends-body : (s : LexerState) (next_head : Option Token) (rest : List Cell)
+    → IfSome next_head (λ head. is_head head ≡ true) → IfNone next_head (rest ≡ [])
+    → body (option_to_list next_head ++ tokens_from s rest) ≡ []
 ends-body s None rest head end = ap body (ap (tokens_from s) end ∙ tokens-end s)
 ends-body s (Some e) rest head end = rw head refl
 
 -- gathering a block, and then the tokens after it, gathers all of them
-pub block-gathering : (source : SourceRead) (before : GatheringRead) (head : Token) (s after : LexerState) (text rest : List Cell) (block : List Token) (next_head : Option Token) →
-    tokens_from s text ≡ block ++ (option_to_list next_head ++ tokens_from after rest) → IfSome next_head (λ head. is_head head ≡ true) → IfNone next_head (rest ≡ []) →
-    gathering_with source (gathering_with source before (head ∷ block)) (option_to_list next_head ++ tokens_from after rest) ≡ gathering_with source before (head ∷ tokens_from s text)
+pub block-gathering : (source : SourceRead) (before : GatheringRead) (head : Token)
+    (s after : LexerState) (text rest : List Cell) (block : List Token) (next_head : Option Token)
+    → tokens_from s text ≡ block ++ (option_to_list next_head ++ tokens_from after rest)
+    → IfSome next_head (λ head. is_head head ≡ true) → IfNone next_head (rest ≡ [])
+    → gathering_with source (gathering_with source before (head ∷ block))
+    (option_to_list next_head ++ tokens_from after rest)
+    ≡ gathering_with source before (head ∷ tokens_from s text)
 block-gathering source before head s after text rest block next_head all some end =
-    gathering-cut source before (head ∷ block) (option_to_list next_head ++ tokens_from after rest) (ends-body after next_head rest some end)
+    gathering-cut source before (head ∷ block)
+    (option_to_list next_head ++ tokens_from after rest) (ends-body after next_head rest some end)
     ∙ ap (λ es. gathering_with source before (head ∷ es)) (sym all)
 
 -- gathering the tokens before the first head, and then those from it on, gathers all of them
-pub front-gathering : (source : SourceRead) (before : GatheringRead) (s after : LexerState) (text rest : List Cell) (block : List Token) (next_head : Option Token) →
-    tokens_from s text ≡ block ++ (option_to_list next_head ++ tokens_from after rest) → IfSome next_head (λ head. is_head head ≡ true) → IfNone next_head (rest ≡ []) →
-    gathering_with source (gathering_with source before block) (option_to_list next_head ++ tokens_from after rest) ≡ gathering_with source before (tokens_from s text)
+pub front-gathering : (source : SourceRead) (before : GatheringRead) (s after : LexerState)
+    (text rest : List Cell) (block : List Token) (next_head : Option Token)
+    → tokens_from s text ≡ block ++ (option_to_list next_head ++ tokens_from after rest)
+    → IfSome next_head (λ head. is_head head ≡ true) → IfNone next_head (rest ≡ [])
+    → gathering_with source (gathering_with source before block) (option_to_list next_head ++ tokens_from after rest)
+    ≡ gathering_with source before (tokens_from s text)
 front-gathering source before s after text rest block next_head all some end =
-    gathering-cut source before block (option_to_list next_head ++ tokens_from after rest) (ends-body after next_head rest some end)
+    gathering-cut source before block (option_to_list next_head ++ tokens_from after rest)
+    (ends-body after next_head rest some end)
     ∙ ap (gathering_with source before) (sym all)
 
 -- each head has at least one cell
-pub block-shorter : (text rest : List Cell) (next_head : Option Token) → IfSome next_head (λ head. length rest < length text) → IfNone next_head (rest ≡ []) →
-    length (option_to_list next_head) + length rest ≤ length text
+pub block-shorter : (text rest : List Cell) (next_head : Option Token)
+    → IfSome next_head (λ head. length rest < length text) → IfNone next_head (rest ≡ [])
+    → length (option_to_list next_head) + length rest ≤ length text
 block-shorter text rest None some end = omega (arith, ap length end)
 block-shorter text rest (Some head) some end = omega (arith, some)
 
 -- the web of all that was gathered is the web of the source
-pub web-whole : (source : SourceRead) (all : GatheringRead) (occurrences : List OccurrenceRead) → all ≡ gathering_with source nothing (all_tokens source.lines) →
-    occurrences ≡ map (occurrence_of source.lines) (all_occurrences source.lines) →
+pub web-whole : (source : SourceRead) (all : GatheringRead) (occurrences : List OccurrenceRead)
+    → all ≡ gathering_with source nothing (all_tokens source.lines)
+    → occurrences ≡ map (occurrence_of source.lines) (all_occurrences source.lines) →
     web_from source all occurrences ≡ web_of source
 unfolding gathering_with
 web-whole source all occurrences a b = rw (a, b) refl

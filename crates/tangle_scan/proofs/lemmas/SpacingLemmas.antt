@@ -1,27 +1,35 @@
-use Rattle.std.proofs.Common.{◌≡◌, ℕ, Bool, true, false, ◌||◌, not, List, [], ◌∷◌, ◌++◌, take, drop, refl, ap, sym, ◌∙◌, if◌then◌else◌, append_assoc, append-nil}
+use Rattle.std.proofs.Common.{◌≡◌, ℕ, Bool, true, false, ◌||◌, not, List, [], ◌∷◌, ◌++◌, take, drop, refl, ap, sym, ◌∙◌}
+use Rattle.std.proofs.Common.{if◌then◌else◌, append_assoc, append-nil}
 use Rattle.std.specs.List.{list_any}
+use Rattle.std.proofs.lemmas.Bool.{or_parts}
 use Rattle.tangle_lexer.specs.declared.tokens.Token.{Token}
 use Rattle.tangle_lexer.specs.declared.tokens.SpanKind.TheVariants as span_kind
 use Rattle.tangle_lexer.specs.declared.tokens.Token.TheVariants as token
 use Rattle.tangle_scan.specs.declared.spacing.Stage.{Stage}
 use Rattle.tangle_scan.specs.declared.spacing.Spacing.{Spacing}
 use Rattle.tangle_scan.specs.declared.spacing.Stage.TheVariants as stage
-use Rattle.tangle_scan.specs.Rules.{without_joins, has_join, without_faults, without_front_gaps, with_spaces, with_name_space, with_space_after, may_follow_name, would_merge}
+use Rattle.tangle_scan.specs.Rules.{without_joins, has_join, without_faults, without_front_gaps, with_spaces}
+use Rattle.tangle_scan.specs.Rules.{with_name_space, with_space_after, may_follow_name, would_merge}
 use Rattle.tangle_scan.proofs.lemmas.RuleLemmas.{run-end, has_join-push}
-use Rattle.tangle_scan.specs.Passes.{without_joins_from, spacing_from, with_white_space, is_rare, after_front, is_name_spaced, is_skipped, without_skipped, stage_after, needs_space}
+use Rattle.tangle_scan.specs.Passes.{without_joins_from, spacing_from, with_white_space, is_rare, after_front}
+use Rattle.tangle_scan.specs.Passes.{is_name_spaced, is_skipped, without_skipped, stage_after, needs_space}
 
 -- rule 1, token by token
 
-inside-spaced : (texts : List (List ℕ)) (e : Token) (es : List Token) → with_spaces (e ∷ es) ≡ e ∷ with_white_space texts stage.Inside e es
+inside-spaced : (texts : List (List ℕ)) (e : Token) (es : List Token)
+    → with_spaces (e ∷ es) ≡ e ∷ with_white_space texts stage.Inside e es
 inside-spaced texts e [] = refl
-inside-spaced texts e (f ∷ es) = ap (λ t. e ∷ (if would_merge e f then token.White ∷ [] else []) ++ t) (inside-spaced texts f es)
+inside-spaced texts e (f ∷ es) =
+    ap (λ t. e ∷ (if would_merge e f then token.White ∷ [] else []) ++ t) (inside-spaced texts f es)
 
-pub spaced-inside : (texts : List (List ℕ)) (es : List Token) → with_white_space texts stage.Inside token.White es ≡ with_spaces es
+pub spaced-inside : (texts : List (List ℕ)) (es : List Token)
+    → with_white_space texts stage.Inside token.White es ≡ with_spaces es
 spaced-inside texts [] = refl
 spaced-inside texts (e ∷ es) = sym (inside-spaced texts e es)
 
 -- a token that is skipped is removed
-pub without_skipped-gone : (at : Stage) (e : Token) (es : List Token) → is_skipped at e ≡ true → without_skipped at (e ∷ es) ≡ without_skipped at es
+pub without_skipped-gone : (at : Stage) (e : Token) (es : List Token)
+    → is_skipped at e ≡ true → without_skipped at (e ∷ es) ≡ without_skipped at es
 without_skipped-gone stage.Front (token.Fault kind line) es h = refl
 without_skipped-gone _ (token.Fault kind line) es h = refl
 without_skipped-gone stage.Front token.White es h = refl
@@ -30,7 +38,8 @@ without_skipped-gone stage.Front _ es h = cc
 without_skipped-gone _ _ es h = cc
 
 -- a token that is not skipped is kept
-pub without_skipped-stays : (at : Stage) (e : Token) (es : List Token) → is_skipped at e ≡ false → without_skipped at (e ∷ es) ≡ e ∷ without_skipped (stage_after at e) es
+pub without_skipped-stays : (at : Stage) (e : Token) (es : List Token)
+    → is_skipped at e ≡ false → without_skipped at (e ∷ es) ≡ e ∷ without_skipped (stage_after at e) es
 without_skipped-stays at (token.Fault kind line) es h = cc
 without_skipped-stays stage.Front token.White es h = cc
 without_skipped-stays stage.Front (token.LineEnd line) es h = cc
@@ -41,11 +50,13 @@ without_skipped-stays stage.Inside _ es h = refl
 
 -- after a line end or a join rule 1 adds white space in the same cases as after white space
 
-space-line : (texts : List (List ℕ)) (at : Stage) (line : ℕ) (e : Token) → needs_space texts at (token.LineEnd line) e ≡ needs_space texts at token.White e
+space-line : (texts : List (List ℕ)) (at : Stage) (line : ℕ) (e : Token)
+    → needs_space texts at (token.LineEnd line) e ≡ needs_space texts at token.White e
 space-line texts stage.AfterName line e = refl
 space-line texts _ line e = refl
 
-space-join : (texts : List (List ℕ)) (at : Stage) (e : Token) → needs_space texts at token.Join e ≡ needs_space texts at token.White e
+space-join : (texts : List (List ℕ)) (at : Stage) (e : Token)
+    → needs_space texts at token.Join e ≡ needs_space texts at token.White e
 space-join texts stage.AfterName e = refl
 space-join texts _ e = refl
 
@@ -54,45 +65,59 @@ pub after-line : (texts : List (List ℕ)) (at : Stage) (line : ℕ) (es : List 
     ≡ with_white_space texts at token.White es
 after-line texts at line [] = refl
 after-line texts at line (e ∷ es) =
-    ap (λ b. (if b then token.White ∷ [] else []) ++ e ∷ with_white_space texts (stage_after at e) e es) (space-line texts at line e)
+    ap (λ b. (if b then token.White ∷ [] else []) ++ e ∷ with_white_space texts (stage_after at e) e es)
+    (space-line texts at line e)
 
 pub after-join : (texts : List (List ℕ)) (at : Stage) (es : List Token) →
     with_white_space texts at token.Join es ≡ with_white_space texts at token.White es
 after-join texts at [] = refl
 after-join texts at (e ∷ es) =
-    ap (λ b. (if b then token.White ∷ [] else []) ++ e ∷ with_white_space texts (stage_after at e) e es) (space-join texts at e)
+    ap (λ b. (if b then token.White ∷ [] else []) ++ e ∷ with_white_space texts (stage_after at e) e es)
+    (space-join texts at e)
 
 -- the white space of rule 1 after the name of a macro
-after-name : (texts : List (List ℕ)) (e f : Token) (es : List Token) (touching following : Bool) → may_follow_name texts f ≡ following →
-    with_space_after texts e ((if touching then token.White ∷ [] else []) ++ f ∷ es) ≡ e ∷ (if touching || not following then token.White ∷ [] else []) ++ f ∷ es
+after-name : (texts : List (List ℕ)) (e f : Token) (es : List Token) (touching following : Bool)
+    → may_follow_name texts f ≡ following
+    → with_space_after texts e ((if touching then token.White ∷ [] else []) ++ f ∷ es)
+    ≡ e ∷ (if touching || not following then token.White ∷ [] else []) ++ f ∷ es
 after-name texts e f es true following is = refl
 after-name texts e f es false true is = rw is refl
 after-name texts e f es false false is = rw is refl
 
-name-after : (texts : List (List ℕ)) (e : Token) (es : List Token) →
-    with_space_after texts e (with_white_space texts stage.Inside e es) ≡ e ∷ with_white_space texts stage.AfterName e es
+name-after : (texts : List (List ℕ)) (e : Token) (es : List Token)
+    → with_space_after texts e (with_white_space texts stage.Inside e es)
+    ≡ e ∷ with_white_space texts stage.AfterName e es
 name-after texts e [] = refl
-name-after texts e (f ∷ es) = after-name texts e f (with_white_space texts stage.Inside f es) (would_merge e f) (may_follow_name texts f) refl
+name-after texts e (f ∷ es) =
+    after-name texts e f (with_white_space texts stage.Inside f es) (would_merge e f) (may_follow_name texts f) refl
 
-name-spaced : (texts : List (List ℕ)) (es : List Token) →
-    with_name_space texts (with_white_space texts stage.Inside token.White es) ≡ with_white_space texts stage.BeforeName token.White es
+name-spaced : (texts : List (List ℕ)) (es : List Token)
+    → with_name_space texts (with_white_space texts stage.Inside token.White es)
+    ≡ with_white_space texts stage.BeforeName token.White es
 name-spaced texts [] = refl
 name-spaced texts (token.White ∷ es) = ap (λ t. token.White ∷ t) (name-spaced texts es)
 name-spaced texts (token.LineEnd line ∷ es) =
-    rw (after-line texts stage.Inside line es, after-line texts stage.BeforeName line es) (ap (λ t. token.LineEnd line ∷ t) (name-spaced texts es))
+    rw (after-line texts stage.Inside line es, after-line texts stage.BeforeName line es)
+    (ap (λ t. token.LineEnd line ∷ t) (name-spaced texts es))
 name-spaced texts (token.Join ∷ es) =
-    rw (after-join texts stage.Inside es, after-join texts stage.BeforeName es) (ap (λ t. token.Join ∷ t) (name-spaced texts es))
+    rw (after-join texts stage.Inside es, after-join texts stage.BeforeName es)
+    (ap (λ t. token.Join ∷ t) (name-spaced texts es))
 name-spaced texts (e ∷ es) = name-after texts e es
 
-front-spaced : (texts : List (List ℕ)) (es : List Token) → with_white_space texts stage.Front token.White es ≡ with_white_space texts stage.BeforeName token.White es
+front-spaced : (texts : List (List ℕ)) (es : List Token)
+    → with_white_space texts stage.Front token.White es ≡ with_white_space texts stage.BeforeName token.White es
 front-spaced texts [] = refl
 front-spaced texts (e ∷ es) = refl
 
-pub spaced-front : (texts : List (List ℕ)) (es : List Token) → with_white_space texts stage.Front token.White es ≡ with_name_space texts (with_spaces es)
-spaced-front texts es = front-spaced texts es ∙ (sym (name-spaced texts es) ∙ ap (with_name_space texts) (spaced-inside texts es))
+pub spaced-front : (texts : List (List ℕ)) (es : List Token)
+    → with_white_space texts stage.Front token.White es ≡ with_name_space texts (with_spaces es)
+spaced-front texts es =
+    front-spaced texts es ∙ (sym (name-spaced texts es) ∙ ap (with_name_space texts) (spaced-inside texts es))
 
 -- at the end of the tokens only the last run may still be removed
-pub spaced-end : (texts : List (List ℕ)) (spaced : List Token) (at : Spacing) → spacing_from texts spaced at [] ≡ (if has_join (drop at.run.start spaced) then take at.run.start spaced else spaced)
+pub spaced-end : (texts : List (List ℕ)) (spaced : List Token) (at : Spacing)
+    → spacing_from texts spaced at []
+    ≡ (if has_join (drop at.run.start spaced) then take at.run.start spaced else spaced)
 unfolding spacing_from
 spaced-end texts spaced at = rw nothing (run-end at.run.start spaced)
   where
@@ -104,22 +129,19 @@ spaced-end texts spaced at = rw nothing (run-end at.run.start spaced)
     nothing = ap (with_white_space texts at.stage at.before) (gone at.stage)
 
 -- at the beginning no token was read
-pub spaced-begin : (texts : List (List ℕ)) (spaced : List Token) (at : Stage) (es : List Token) → spaced ≡ [] →
-    spacing_from texts spaced (record { run = record { start = 0; has_join = false }; stage = at; before = token.White }) es
+pub spaced-begin : (texts : List (List ℕ)) (spaced : List Token) (at : Stage) (es : List Token) → spaced ≡ []
+    → spacing_from texts spaced
+    (record { run = record { start = 0; has_join = false }; stage = at; before = token.White }) es
     ≡ without_joins [] (with_white_space texts at token.White (without_skipped at es))
 unfolding spacing_from without_joins_from
 spaced-begin texts spaced at es is = rw is refl
 
 -- tokens that need no white space and have no joins are unchanged
 
-or-false : (a b : Bool) → (a || b) ≡ false → (a ≡ false) × (b ≡ false)
-or-false true b h = cc
-or-false false b h = (refl, h)
-
 unchanged-faults : (es : List Token) → list_any is_rare es ≡ false → without_faults es ≡ es
 unchanged-faults [] h = refl
 unchanged-faults (token.Fault kind line ∷ es) h = cc
-unchanged-faults (e ∷ es) h = ap (λ t. e ∷ t) (unchanged-faults es (or-false (is_rare e) (list_any is_rare es) h).1)
+unchanged-faults (e ∷ es) h = ap (λ t. e ∷ t) (unchanged-faults es (or_parts (is_rare e) (list_any is_rare es) h).1)
 
 unchanged-merge : (e f : Token) → is_rare e ≡ false → is_rare f ≡ false → would_merge e f ≡ false
 unchanged-merge (token.AsciiConstant value line) f h k = cc
@@ -131,21 +153,27 @@ unchanged-spaces : (es : List Token) → list_any is_rare es ≡ false → with_
 unchanged-spaces [] h = refl
 unchanged-spaces (e ∷ []) h = refl
 unchanged-spaces (e ∷ f ∷ es) h =
-    let first = or-false (is_rare e) (list_any is_rare (f ∷ es)) h in
-    let second = or-false (is_rare f) (list_any is_rare es) first.1 in
+    let first = or_parts (is_rare e) (list_any is_rare (f ∷ es)) h in
+    let second = or_parts (is_rare f) (list_any is_rare es) first.1 in
     rw (unchanged-merge e f first.0 second.0) (ap (λ t. e ∷ t) (unchanged-spaces (f ∷ es) first.1))
 
-unchanged-without_joins : (run es : List Token) → has_join run ≡ false → list_any is_rare es ≡ false → without_joins run es ≡ run ++ es
+unchanged-without_joins : (run es : List Token)
+    → has_join run ≡ false → list_any is_rare es ≡ false → without_joins run es ≡ run ++ es
 unchanged-without_joins run [] h k = rw h (sym (append-nil run))
 unchanged-without_joins run (token.Join ∷ es) h k = cc
 unchanged-without_joins run (token.White ∷ es) h k =
-    unchanged-without_joins (run ++ token.White ∷ []) es (has_join-push run token.White ∙ rw h refl) k ∙ append_assoc run (token.White ∷ []) es
+    unchanged-without_joins (run ++ token.White ∷ []) es (has_join-push run token.White ∙ rw h refl) k
+    ∙ append_assoc run (token.White ∷ []) es
 unchanged-without_joins run (token.LineEnd line ∷ es) h k =
-    unchanged-without_joins (run ++ token.LineEnd line ∷ []) es (has_join-push run (token.LineEnd line) ∙ rw h refl) k ∙ append_assoc run (token.LineEnd line ∷ []) es
-unchanged-without_joins run (e ∷ es) h k = rw h (ap (λ t. run ++ e ∷ t) (unchanged-without_joins [] es refl (or-false (is_rare e) (list_any is_rare es) k).1))
+    unchanged-without_joins (run ++ token.LineEnd line ∷ []) es (has_join-push run (token.LineEnd line) ∙ rw h refl) k
+    ∙ append_assoc run (token.LineEnd line ∷ []) es
+unchanged-without_joins run (e ∷ es) h k =
+    rw h (ap (λ t. run ++ e ∷ t) (unchanged-without_joins [] es refl (or_parts (is_rare e) (list_any is_rare es) k).1))
 
-pub unchanged-stays : (es : List Token) → list_any is_rare es ≡ false → es ≡ without_joins [] (with_spaces (without_faults es))
-unchanged-stays es h = sym (ap (λ t. without_joins [] (with_spaces t)) (unchanged-faults es h) ∙ (ap (without_joins []) (unchanged-spaces es h) ∙ unchanged-without_joins [] es refl h))
+pub unchanged-stays : (es : List Token)
+    → list_any is_rare es ≡ false → es ≡ without_joins [] (with_spaces (without_faults es))
+unchanged-stays es h = sym (ap (λ t. without_joins [] (with_spaces t)) (unchanged-faults es h)
+    ∙ (ap (without_joins []) (unchanged-spaces es h) ∙ unchanged-without_joins [] es refl h))
 
 -- a macro without rare tokens, whose name needs no white space after it
 
@@ -161,20 +189,23 @@ after-rare (token.White ∷ es) h = after-rare es h
 after-rare (token.LineEnd line ∷ es) h = after-rare es h
 after-rare (e ∷ es) h = h
 
-name-stays : (texts : List (List ℕ)) (e : Token) (es : List Token) → is_name_spaced texts (e ∷ es) ≡ true → with_space_after texts e es ≡ e ∷ es
+name-stays : (texts : List (List ℕ)) (e : Token) (es : List Token)
+    → is_name_spaced texts (e ∷ es) ≡ true → with_space_after texts e es ≡ e ∷ es
 name-stays texts e [] h = refl
 name-stays texts e (f ∷ es) h = rw h refl
 
-named-stays : (texts : List (List ℕ)) (es : List Token) → list_any is_rare (after_front es) ≡ false → is_name_spaced texts (after_front es) ≡ true →
-    with_name_space texts (after_front es) ≡ after_front es
+named-stays : (texts : List (List ℕ)) (es : List Token)
+    → list_any is_rare (after_front es) ≡ false → is_name_spaced texts (after_front es) ≡ true
+    → with_name_space texts (after_front es) ≡ after_front es
 named-stays texts [] h k = refl
 named-stays texts (token.White ∷ es) h k = named-stays texts es h k
 named-stays texts (token.LineEnd line ∷ es) h k = named-stays texts es h k
 named-stays texts (token.Join ∷ es) h k = cc
 named-stays texts (e ∷ es) h k = name-stays texts e es k
 
-pub unchanged-macro : (texts : List (List ℕ)) (es : List Token) → list_any is_rare es ≡ false → is_name_spaced texts (after_front es) ≡ true →
-    after_front es ≡ without_joins [] (with_name_space texts (with_spaces (without_front_gaps (without_faults es))))
+pub unchanged-macro : (texts : List (List ℕ)) (es : List Token)
+    → list_any is_rare es ≡ false → is_name_spaced texts (after_front es) ≡ true
+    → after_front es ≡ without_joins [] (with_name_space texts (with_spaces (without_front_gaps (without_faults es))))
 unchanged-macro texts es h k =
     let rest = after_front es in
     let rare = after-rare es h in

@@ -8,7 +8,8 @@ line_text-length : (line column : ℕ) (bytes : List ℕ) → length (line_text 
 line_text-length line column [] = refl
 line_text-length line column (b ∷ bs) = omega (arith, line_text-length line (column + 1) bs)
 
-pub text-more : (line : ℕ) (ls : List SourceLine) (l : SourceLine) → length (text_from line (ls ++ l ∷ [])) ≡ length (text_from line ls) + (length l.bytes + 1)
+pub text-more : (line : ℕ) (ls : List SourceLine) (l : SourceLine)
+    → length (text_from line (ls ++ l ∷ [])) ≡ length (text_from line ls) + (length l.bytes + 1)
 text-more line [] l = omega (arith, length-append (line_text line 0 l.bytes) [], line_text-length line 0 l.bytes)
 text-more line (k ∷ ls) l =
     omega (

@@ -1,5 +1,6 @@
 -- What a C compiler reads, and bytes of macros and pieces that are not read apart.
-use Rattle.std.proofs.Common.{◌≡◌, ℕ, Bool, true, false, List, [], ◌∷◌, ◌++◌, Some, None, refl, codes, ◌==◌, ◌||◌, sym, ◌∙◌}
+use Rattle.std.proofs.Common.{◌≡◌, ℕ, Bool, true, false, List, [], ◌∷◌, ◌++◌, Some, None, refl, codes, ◌==◌, ◌||◌, sym}
+use Rattle.std.proofs.Common.{◌∙◌}
 use Rattle.tangle_files.specs.Bytes.{line_feed}
 use Rattle.tangle_lines.specs.Bytes.{is_white}
 use Rattle.tangle_text.specs.Bytes.{backslash}
@@ -9,7 +10,8 @@ use Rattle.tangle_lexer.specs.declared.tokens.Token.TheVariants as token
 use Rattle.tangle_lexer.specs.declared.tokens.SpanKind.TheVariants as span_kind
 use Rattle.tangle_scan.specs.Rules.{macro_blanks, unmarked_items}
 use Rattle.tangle_scan.specs.MacroBytes.{macro_bytes}
-use Rattle.tangle_scan.specs.Apart.{as_read, read_after, is_gap_read, read_tokens, written_tokens, needs_white, after_backslash}
+use Rattle.tangle_scan.specs.Apart.{as_read, read_after, is_gap_read, read_tokens, written_tokens, needs_white}
+use Rattle.tangle_scan.specs.Apart.{after_backslash}
 use Rattle.tangle_scan.specs.Apart.{EndsMacro, IsMacroReadApart}
 
 -- A backslash is taken out with the line feed directly after it, and no other byte.
@@ -34,7 +36,8 @@ after_item = refl
 after_item_twice : read_after true (codes "\n\nb") ≡ codes "\nb"
 after_item_twice = refl
 
--- The items of the examples: a word, another one, a parenthesis, a backslash, and verbatim text that ends in a backslash.
+-- The items of the examples: a word, another one, a parenthesis,
+-- a backslash, and verbatim text that ends in a backslash.
 
 abbrev texts : List (List ℕ)
 texts = codes "hex if ( \\" ∷ []
@@ -57,7 +60,8 @@ backslash_sign = token.Span span_kind.Sign (from_to 9 10)
 abbrev verbatim : Token
 verbatim = token.Span span_kind.Verbatim (from_to 7 10)
 
--- whether these bytes may be between two items, by whether the first ends the name of a macro and whether the source keeps the two apart
+-- whether these bytes may be between two items, by whether the first
+-- ends the name of a macro and whether the source keeps the two apart
 abbrev may_be_between : Bool → Bool → Token → List ℕ → Token → Bool
 may_be_between in_name apart e between f =
     is_gap_read (needs_white texts in_name apart (Some e) f) (read_after (after_backslash texts (Some e)) between)
@@ -99,7 +103,7 @@ verbatim_apart = refl
 
 -- The end of a macro.
 
--- its last line feed is not taken out
+-- the line feed that ends a macro is not taken out
 no_line_feed_left : EndsMacro texts (Some name) (codes "\\\n") → ⊥
 no_line_feed_left h = let is = h.line_feed in absurd cc
 
@@ -115,17 +119,19 @@ ends_in_verbatim = record { line_feed = refl; stays = λ is. tt }
 
 -- white space, line ends and backslashes at the end are not written, nor are tokens there that are no items
 written :
-    written_tokens texts (name ∷ backslash_sign ∷ token.White ∷ word ∷ token.LineEnd 0 ∷ token.Join ∷ backslash_sign ∷ token.White ∷ [])
+    written_tokens texts
+    (name ∷ backslash_sign ∷ token.White ∷ word ∷ token.LineEnd 0 ∷ token.Join ∷ backslash_sign ∷ token.White ∷ [])
     ≡ name ∷ backslash_sign ∷ token.White ∷ word ∷ []
 written = refl
 
 -- Continued lines of a C part.
 
 -- the backslash and the line end are taken out, and so is white space between them
-continued : read_tokens texts false (name ∷ backslash_sign ∷ token.White ∷ token.LineEnd 0 ∷ word ∷ []) ≡ name ∷ word ∷ []
+continued : read_tokens texts false (name ∷ backslash_sign ∷ token.White ∷ token.LineEnd 0 ∷ word ∷ [])
+    ≡ name ∷ word ∷ []
 continued = refl
 
--- but white space before the backslash or after the line end keeps the two apart
+-- white space before the backslash or after the line end keeps the two items apart
 continued_apart :
     read_tokens texts false (name ∷ token.White ∷ backslash_sign ∷ token.LineEnd 0 ∷ token.White ∷ word ∷ [])
     ≡ name ∷ token.White ∷ token.White ∷ word ∷ []
@@ -136,41 +142,49 @@ continued_mark : may_be_between false false name (codes "\\\n#line 4\n") word �
 continued_mark = refl
 
 -- verbatim text is read, and the line end after it is taken out
-continued_verbatim : read_tokens texts false (verbatim ∷ token.LineEnd 0 ∷ token.LineEnd 1 ∷ word ∷ []) ≡ verbatim ∷ token.LineEnd 1 ∷ word ∷ []
+continued_verbatim : read_tokens texts false (verbatim ∷ token.LineEnd 0 ∷ token.LineEnd 1 ∷ word ∷ [])
+    ≡ verbatim ∷ token.LineEnd 1 ∷ word ∷ []
 continued_verbatim = refl
 
 -- a backslash that is not before a line end is an item
-other_backslash : read_tokens texts false (backslash_sign ∷ token.White ∷ word ∷ []) ≡ backslash_sign ∷ token.White ∷ word ∷ []
+other_backslash : read_tokens texts false (backslash_sign ∷ token.White ∷ word ∷ [])
+    ≡ backslash_sign ∷ token.White ∷ word ∷ []
 other_backslash = refl
 
 -- A macro whose text is on the line after its name: a blank keeps the two apart.
 written_macro :
-    macro_bytes texts (unmarked_items (macro_blanks texts true None false (name ∷ token.LineEnd 0 ∷ word ∷ []))) ≡ codes "#define hex \\\nif\n"
+    macro_bytes texts (unmarked_items (macro_blanks texts true None false (name ∷ token.LineEnd 0 ∷ word ∷ [])))
+    ≡ codes "#define hex \\\nif\n"
 written_macro = refl
 
 -- The bytes without the blank are refused, however they are divided into those of the two items and others: a C
 -- compiler would read one name, hexif.
 
-other-read : (is_needed : Bool) (b : ℕ) (bytes : List ℕ) → (b == backslash) ≡ false → (is_white b || b == line_feed) ≡ false →
-    is_gap_read is_needed (as_read (b ∷ bytes)) ≡ true → ⊥
+other-read : (is_needed : Bool) (b : ℕ) (bytes : List ℕ)
+    → (b == backslash) ≡ false → (is_white b || b == line_feed) ≡ false
+    → is_gap_read is_needed (as_read (b ∷ bytes)) ≡ true → ⊥
 other-read is_needed b [] other black read = absurd cc
 other-read is_needed b (c ∷ bytes) other black read = let wrong = rw other at read in absurd cc
 
-refused_text : (between rest : List ℕ) → codes "\\\nif\n" ≡ between ++ (codes "if" ++ rest) → is_gap_read true (as_read between) ≡ true → ⊥
+refused_text : (between rest : List ℕ)
+    → codes "\\\nif\n" ≡ between ++ (codes "if" ++ rest) → is_gap_read true (as_read between) ≡ true → ⊥
 refused_text [] rest is read = absurd cc
 refused_text (b ∷ []) rest is read = let e : b ≡ backslash = cc in let wrong : false ≡ true = rw e at read in absurd cc
 refused_text (b ∷ c ∷ []) rest is read =
-    let e : b ≡ backslash = cc in let f : c ≡ line_feed = cc in let wrong : false ≡ true = rw (e, f) at read in absurd cc
+    let e : b ≡ backslash = cc in
+    let f : c ≡ line_feed = cc in let wrong : false ≡ true = rw (e, f) at read in absurd cc
 refused_text (b ∷ c ∷ d ∷ between) rest is read =
     let e : b ≡ backslash = cc in
     let f : c ≡ line_feed = cc in
     let g : d ≡ 105 = cc in
     other-read true d between (rw g refl) (rw g refl) (rw (e, f) at read)
 
-refused_rest : (between rest : List ℕ) → codes "hex\\\nif\n" ≡ between ++ (codes "hex" ++ rest) → is_gap_read false (as_read between) ≡ true →
-    rest ≡ codes "\\\nif\n"
+refused_rest : (between rest : List ℕ)
+    → codes "hex\\\nif\n" ≡ between ++ (codes "hex" ++ rest) → is_gap_read false (as_read between) ≡ true
+    → rest ≡ codes "\\\nif\n"
 refused_rest [] rest is read = cc
-refused_rest (b ∷ between) rest is read = let e : b ≡ 104 = cc in absurd (other-read false b between (rw e refl) (rw e refl) read)
+refused_rest (b ∷ between) rest is read =
+    let e : b ≡ 104 = cc in absurd (other-read false b between (rw e refl) (rw e refl) read)
 
 refused : IsMacroReadApart texts (name ∷ token.LineEnd 0 ∷ word ∷ []) (codes "#define hex\\\nif\n") → ⊥
 refused h =

@@ -7,19 +7,22 @@ use Rattle.tangle_scan.specs.declared.items.Item.TheVariants as item
 use Rattle.tangle_lexer.specs.declared.tokens.Token.{Token}
 use Rattle.tangle_lexer.specs.declared.tokens.SpanKind.TheVariants as span_kind
 use Rattle.tangle_lexer.specs.declared.tokens.Token.TheVariants as token
-use Rattle.tangle_scan.specs.Rules.{part_items}
+use Rattle.tangle_scan.specs.Rules.{with_all_marks, with_needed_marks, part_items}
 use Rattle.tangle_scan.specs.LineTruth.{counted_items, Location, tokens_and_joins, locations, part_locations}
 
 abbrev origin : ℕ → Origin
 origin line = record { file = 0; line = line }
 
--- the source: a line with one byte, a line that is a backslash, so that the next line continues it, and two more lines with one byte
+-- the source: a line with one byte, a line that is a backslash, so
+-- that the next line continues it, and two more lines with one byte
 abbrev line : List ℕ → Origin → SourceLine
 line bytes origin = record { bytes = bytes; origin = origin; changed = false }
 
 -- the origin of the third line is an argument
 abbrev source : Origin → List SourceLine
-source third = line (codes "a") (origin 0) ∷ line (codes "\\") (origin 1) ∷ line (codes "b") third ∷ line (codes "c") (origin 3) ∷ []
+source third =
+    line (codes "a") (origin 0) ∷ line (codes "\\") (origin 1)
+    ∷ line (codes "b") third ∷ line (codes "c") (origin 3) ∷ []
 
 -- the byte of a line
 abbrev at : ℕ → Span
@@ -39,14 +42,18 @@ sign_location line in_stretch = record { item = item.Sign (at line); line = line
 
 -- a join is left of a run with a join and a line end, nothing of one with a join only, and all of one with no join
 abbrev joins : List Token
-joins = word 1 ∷ token.White ∷ token.Join ∷ token.LineEnd 1 ∷ word 2 ∷ token.Join ∷ word 2 ∷ token.White ∷ token.LineEnd 2 ∷ word 3 ∷ []
+joins =
+    word 1 ∷ token.White ∷ token.Join ∷ token.LineEnd 1 ∷ word 2
+    ∷ token.Join ∷ word 2 ∷ token.White ∷ token.LineEnd 2 ∷ word 3 ∷ []
 
-runs_with_joins : tokens_and_joins joins ≡ word 1 ∷ token.Join ∷ word 2 ∷ word 2 ∷ token.White ∷ token.LineEnd 2 ∷ word 3 ∷ []
+runs_with_joins : tokens_and_joins joins
+    ≡ word 1 ∷ token.Join ∷ word 2 ∷ word 2 ∷ token.White ∷ token.LineEnd 2 ∷ word 3 ∷ []
 runs_with_joins = refl
 
 -- the join removes a line end: the items after it are in a stretch, up to the next line end
 removed_line_end :
-    part_locations (source (origin 2)) 1 joins ≡ word_location 1 false ∷ word_location 2 true ∷ word_location 2 true ∷ word_location 3 false ∷ []
+    part_locations (source (origin 2)) 1 joins
+    ≡ word_location 1 false ∷ word_location 2 true ∷ word_location 2 true ∷ word_location 3 false ∷ []
 removed_line_end = refl
 
 -- the items after a line end in a quoted text are in a stretch, up to a mark
@@ -59,7 +66,8 @@ quote_break = refl
 abbrev continued : List Token
 continued = sign 1 ∷ token.White ∷ token.LineEnd 1 ∷ word 2 ∷ token.LineEnd 2 ∷ word 3 ∷ []
 
-expected_line : part_locations (source (origin 2)) 1 continued ≡ sign_location 1 false ∷ word_location 2 false ∷ word_location 3 false ∷ []
+expected_line : part_locations (source (origin 2)) 1 continued
+    ≡ sign_location 1 false ∷ word_location 2 false ∷ word_location 3 false ∷ []
 expected_line = refl
 
 -- if the next source line is another, as one of a change file, no mark is put, and the line is in a stretch, up to the
@@ -67,7 +75,8 @@ expected_line = refl
 abbrev other : Origin
 other = record { file = 1; line = 7 }
 
-other_line : part_locations (source other) 1 continued ≡ sign_location 1 false ∷ word_location 2 true ∷ word_location 3 false ∷ []
+other_line : part_locations (source other) 1 continued
+    ≡ sign_location 1 false ∷ word_location 2 true ∷ word_location 3 false ∷ []
 other_line = refl
 
 other_line_counted :
@@ -93,9 +102,27 @@ constant_line = refl
 -- the counted origin: each line end adds a line, a mark sets it, and after a use it is not known
 counted_lines :
     counted_items (Some (origin 4))
-    (item.LineEnd ∷ item.Word (at 1) ∷ item.UseOf 0 ∷ item.Word (at 2) ∷ item.LineMark (origin 9) ∷ item.QuoteBreak ∷ item.Word (at 3) ∷ [])
+    (item.LineEnd ∷ item.Word (at 1) ∷ item.UseOf 0 ∷ item.Word (at 2)
+    ∷ item.LineMark (origin 9) ∷ item.QuoteBreak ∷ item.Word (at 3) ∷ [])
     ≡ record { item = item.Word (at 1); origin = Some (origin 5) }
     ∷ record { item = item.Word (at 2); origin = None }
     ∷ record { item = item.Word (at 3); origin = Some (origin 10) }
     ∷ []
 counted_lines = refl
+
+-- a mark follows the end of a line that is not continued
+all_marks :
+    with_all_marks (source other) None (sign 1 ∷ token.LineEnd 1 ∷ word 2 ∷ token.LineEnd 2 ∷ word 3 ∷ [])
+    ≡ item.Sign (at 1) ∷ item.LineEnd ∷ item.Word (at 2) ∷ item.LineEnd ∷ item.LineMark (origin 3)
+    ∷ item.Word (at 3)
+    ∷ []
+all_marks = refl
+
+-- the first mark has the origin that is counted, the second has not
+needed_marks :
+    with_needed_marks (origin 1)
+    (item.LineEnd ∷ item.LineMark (origin 2) ∷ item.Word (at 1) ∷ item.LineEnd ∷ item.LineMark other
+    ∷ item.Word (at 2)
+    ∷ [])
+    ≡ item.LineEnd ∷ item.Word (at 1) ∷ item.LineMark other ∷ item.Word (at 2) ∷ []
+needed_marks = refl

@@ -12,7 +12,7 @@ cells_from n (b ∷ bs) = record { line = 0; column = n; byte = Some b } ∷ cel
 abbrev cells : List ℕ → List Cell
 cells bytes = cells_from 0 bytes
 
--- the end of that line
+-- the line end after nine bytes of line 0
 abbrev line_end : List Cell
 line_end = record { line = 0; column = 9; byte = None } ∷ []
 

@@ -1,5 +1,6 @@
 -- Worked webs: the pieces, macros, occurrences and faults of each.
-use Rattle.std.specs.Prelude.{◌≡◌, ℕ, ◌+◌, List, [], ◌∷◌, ◌++◌, map, flat_map, refl, codes, take, ◌/◌, ◌%◌, ◌==◌, if◌then◌else◌, true, false}
+use Rattle.std.specs.Prelude.{◌≡◌, ℕ, ◌+◌, List, [], ◌∷◌, ◌++◌, map, flat_map, refl, codes, take, ◌/◌, ◌%◌, ◌==◌}
+use Rattle.std.specs.Prelude.{if◌then◌else◌, true, false}
 use Rattle.tangle_faults.specs.declared.faults.FaultKind.{FaultKind}
 use Rattle.tangle_faults.specs.declared.faults.FaultKind.TheVariants as fault
 use Rattle.tangle_faults.specs.Faults.{FaultRead, fault_at}
@@ -9,7 +10,8 @@ use Rattle.tangle_scan.specs.declared.items.Item.TheVariants as item
 use Rattle.tangle_lexer.specs.declared.occurrences.OccurrenceRole.TheVariants as role
 use Rattle.tangle_lexer.specs.Steps.{lexeme, tokens_from, occurrences_from}
 use Rattle.tangle_lexer.specs.Segments.{SegmentKind, all_segments}
-use Rattle.tangle_lexer.specs.Segments.SegmentKind.{Kept, SecondAtSign, LineEnd, WhiteSpace, Comment, ControlText, ControlBytes, SectionName, AsciiConstant, Outside}
+use Rattle.tangle_lexer.specs.Segments.SegmentKind.{Kept, SecondAtSign, LineEnd, WhiteSpace, Comment, ControlText}
+use Rattle.tangle_lexer.specs.Segments.SegmentKind.{ControlBytes, SectionName, AsciiConstant, Outside}
 use Rattle.tangle_scan.specs.Rules.{span_text}
 use Rattle.tangle_scan.specs.Web.{WebRead, web_of}
 
@@ -55,7 +57,9 @@ shown texts item.Defs = 72 ∷ []
 
 -- the pieces, each with its section and the line of its opening mark
 abbrev shown_pieces : WebRead → List ℕ
-shown_pieces w = flat_map (λ p. digits p.section ++ 58 ∷ digits p.origin.line ++ flat_map (shown w.texts) p.items ++ 10 ∷ []) w.pieces
+shown_pieces w =
+    flat_map (λ p. digits p.section ++ 58 ∷ digits p.origin.line ++ flat_map (shown w.texts) p.items ++ 10 ∷ [])
+    w.pieces
 
 abbrev shown_macros : WebRead → List ℕ
 shown_macros w = flat_map (λ m. flat_map (shown w.texts) m ++ 10 ∷ []) w.macros
@@ -88,7 +92,9 @@ one_part_sections = refl
 abbrev one_use : List (List ℕ)
 one_use = codes "@ A." ∷ codes "@c" ∷ codes "int x=@<v@>;" ∷ codes "@ @<v@>=" ∷ codes "1" ∷ []
 
-pub one_use_pieces : shown_pieces (web one_use) ≡ lines (codes "1:2" ∷ codes "int x=<0>" ∷ codes "#3" ∷ codes ";" ∷ codes "" ∷ codes "2:4" ∷ codes "1" ∷ codes "" ∷ [])
+pub one_use_pieces : shown_pieces (web one_use)
+    ≡ lines
+    (codes "1:2" ∷ codes "int x=<0>" ∷ codes "#3" ∷ codes ";" ∷ codes "" ∷ codes "2:4" ∷ codes "1" ∷ codes "" ∷ [])
 unfolding lexeme tokens_from occurrences_from
 one_use_pieces = refl
 
@@ -110,9 +116,12 @@ one_use_sections = refl
 
 -- an abbreviation that begins two names
 abbrev abbreviated : List (List ℕ)
-abbreviated = codes "@ A." ∷ codes "@c" ∷ codes "@<Ini...@>" ∷ codes "@ @<Initialize@>=" ∷ codes "x=0;" ∷ codes "@ @<Init table@>=" ∷ []
+abbreviated =
+    codes "@ A." ∷ codes "@c" ∷ codes "@<Ini...@>" ∷ codes "@ @<Initialize@>="
+    ∷ codes "x=0;" ∷ codes "@ @<Init table@>=" ∷ []
 
-pub abbreviated_pieces : shown_pieces (web abbreviated) ≡ lines (codes "1:2" ∷ codes "<0>" ∷ codes "#3" ∷ codes "" ∷ codes "" ∷ codes "2:4" ∷ codes "x=0;" ∷ codes "" ∷ codes "3:6" ∷ codes "" ∷ [])
+pub abbreviated_pieces : shown_pieces (web abbreviated) ≡ lines (codes "1:2" ∷ codes "<0>" ∷ codes "#3"
+    ∷ codes "" ∷ codes "" ∷ codes "2:4" ∷ codes "x=0;" ∷ codes "" ∷ codes "3:6" ∷ codes "" ∷ [])
 unfolding lexeme tokens_from occurrences_from
 abbreviated_pieces = refl
 
@@ -124,7 +133,8 @@ pub abbreviated_faults : (web abbreviated).faults ≡ []
 unfolding lexeme tokens_from occurrences_from
 abbreviated_faults = refl
 
-pub abbreviated_texts : map (λ o. o.text) (web abbreviated).occurrences ≡ codes "Ini..." ∷ codes "Initialize" ∷ codes "Init table" ∷ []
+pub abbreviated_texts : map (λ o. o.text) (web abbreviated).occurrences
+    ≡ codes "Ini..." ∷ codes "Initialize" ∷ codes "Init table" ∷ []
 unfolding lexeme tokens_from occurrences_from
 abbreviated_texts = refl
 
@@ -132,7 +142,8 @@ abbreviated_texts = refl
 abbrev macros_in_text : List (List ℕ)
 macros_in_text = codes "@ A." ∷ codes "@d N 10" ∷ codes "@c" ∷ codes "@h" ∷ codes "int x=N;" ∷ []
 
-pub macros_in_text_pieces : shown_pieces (web macros_in_text) ≡ lines (codes "1:3" ∷ codes "H" ∷ codes "#4" ∷ codes "" ∷ codes "int x=N;" ∷ codes "" ∷ [])
+pub macros_in_text_pieces : shown_pieces (web macros_in_text)
+    ≡ lines (codes "1:3" ∷ codes "H" ∷ codes "#4" ∷ codes "" ∷ codes "int x=N;" ∷ codes "" ∷ [])
 unfolding lexeme tokens_from occurrences_from
 macros_in_text_pieces = refl
 
@@ -152,7 +163,8 @@ macros_in_text_has_all_macros = refl
 abbrev join_over_line : List (List ℕ)
 join_over_line = codes "@ A." ∷ codes "@c" ∷ codes "a@&" ∷ codes "b;" ∷ codes "c;" ∷ []
 
-pub join_over_line_pieces : shown_pieces (web join_over_line) ≡ lines (codes "1:2" ∷ codes "ab;" ∷ codes "#5" ∷ codes "c;" ∷ codes "" ∷ [])
+pub join_over_line_pieces : shown_pieces (web join_over_line)
+    ≡ lines (codes "1:2" ∷ codes "ab;" ∷ codes "#5" ∷ codes "c;" ∷ codes "" ∷ [])
 unfolding lexeme tokens_from occurrences_from
 join_over_line_pieces = refl
 
@@ -168,7 +180,8 @@ join_over_line_faults = refl
 abbrev quote_to_line_end : List (List ℕ)
 quote_to_line_end = codes "@ A." ∷ codes "@c" ∷ codes "s=\"a@b" ∷ codes "t;" ∷ []
 
-pub quote_to_line_end_pieces : shown_pieces (web quote_to_line_end) ≡ lines (codes "1:2" ∷ codes "s=\"a@b" ∷ codes "t;" ∷ codes "" ∷ [])
+pub quote_to_line_end_pieces : shown_pieces (web quote_to_line_end)
+    ≡ lines (codes "1:2" ∷ codes "s=\"a@b" ∷ codes "t;" ∷ codes "" ∷ [])
 unfolding lexeme tokens_from occurrences_from
 quote_to_line_end_pieces = refl
 
@@ -182,9 +195,12 @@ quote_to_line_end_faults = refl
 
 -- comments, a control code that is white space, a constant, control texts and a verbatim text
 abbrev kinds_of_tokens : List (List ℕ)
-kinds_of_tokens = codes "@ A." ∷ codes "@c" ∷ codes "a /* b */ c // d" ∷ codes "return@,x+@'A';@^idx@>" ∷ codes "\"q@@\"@=v@> @t\\TeX@>z" ∷ []
+kinds_of_tokens =
+    codes "@ A." ∷ codes "@c" ∷ codes "a /* b */ c // d"
+    ∷ codes "return@,x+@'A';@^idx@>" ∷ codes "\"q@@\"@=v@> @t\\TeX@>z" ∷ []
 
-pub kinds_of_tokens_pieces : shown_pieces (web kinds_of_tokens) ≡ lines (codes "1:2" ∷ codes "a c" ∷ codes "return x+65;" ∷ codes "\"q@\"v z" ∷ codes "" ∷ [])
+pub kinds_of_tokens_pieces : shown_pieces (web kinds_of_tokens)
+    ≡ lines (codes "1:2" ∷ codes "a c" ∷ codes "return x+65;" ∷ codes "\"q@\"v z" ∷ codes "" ∷ [])
 unfolding lexeme tokens_from occurrences_from
 kinds_of_tokens_pieces = refl
 
@@ -196,7 +212,7 @@ pub kinds_of_tokens_faults : (web kinds_of_tokens).faults ≡ []
 unfolding lexeme tokens_from occurrences_from
 kinds_of_tokens_faults = refl
 
--- a macro over lines, and one that is dropped
+-- a macro over several lines, and one that is dropped
 abbrev macro_lines : List (List ℕ)
 macro_lines = codes "@ A." ∷ codes "@d F(x) x" ∷ codes "  +1" ∷ codes "" ∷ codes "@d 3" ∷ codes "@c" ∷ codes "y" ∷ []
 
@@ -216,7 +232,8 @@ macro_lines_faults = refl
 abbrev two_uses : List (List ℕ)
 two_uses = codes "@ A." ∷ codes "@c" ∷ codes "@<u@>@<u@>" ∷ []
 
-pub two_uses_pieces : shown_pieces (web two_uses) ≡ lines (codes "1:2" ∷ codes "<0>" ∷ codes "#3" ∷ codes "<1>" ∷ codes "#3" ∷ codes "" ∷ codes "" ∷ [])
+pub two_uses_pieces : shown_pieces (web two_uses)
+    ≡ lines (codes "1:2" ∷ codes "<0>" ∷ codes "#3" ∷ codes "<1>" ∷ codes "#3" ∷ codes "" ∷ codes "" ∷ [])
 unfolding lexeme tokens_from occurrences_from
 two_uses_pieces = refl
 
@@ -234,9 +251,12 @@ two_uses_texts = refl
 
 -- faults of control codes, constants, control texts, verbatim texts and comments
 abbrev many_faults : List (List ℕ)
-many_faults = codes "@ A." ∷ codes "@d M @h 1" ∷ codes "@c" ∷ codes "@d x @'ab' y" ∷ codes "@^q@,z" ∷ codes "@=v" ∷ codes "/* w" ∷ codes "@ B." ∷ []
+many_faults =
+    codes "@ A." ∷ codes "@d M @h 1" ∷ codes "@c" ∷ codes "@d x @'ab' y"
+    ∷ codes "@^q@,z" ∷ codes "@=v" ∷ codes "/* w" ∷ codes "@ B." ∷ []
 
-pub many_faults_pieces : shown_pieces (web many_faults) ≡ lines (codes "1:3" ∷ codes "x y" ∷ codes "z" ∷ codes "v" ∷ codes "" ∷ codes "" ∷ [])
+pub many_faults_pieces : shown_pieces (web many_faults)
+    ≡ lines (codes "1:3" ∷ codes "x y" ∷ codes "z" ∷ codes "v" ∷ codes "" ∷ codes "" ∷ [])
 unfolding lexeme tokens_from occurrences_from
 many_faults_pieces = refl
 
@@ -244,7 +264,9 @@ pub many_faults_macros : shown_macros (web many_faults) ≡ lines (codes "M 1" �
 unfolding lexeme tokens_from occurrences_from
 many_faults_macros = refl
 
-pub many_faults_faults : (web many_faults).faults ≡ on fault.MisplacedH 2 ∷ on fault.CodeInC 4 ∷ on fault.AsciiBad 4 ∷ on fault.ControlText 5 ∷ on fault.VerbatimEnd 6 ∷ on fault.CommentEnd 8 ∷ []
+pub many_faults_faults : (web many_faults).faults
+    ≡ on fault.MisplacedH 2 ∷ on fault.CodeInC 4 ∷ on fault.AsciiBad 4
+    ∷ on fault.ControlText 5 ∷ on fault.VerbatimEnd 6 ∷ on fault.CommentEnd 8 ∷ []
 unfolding lexeme tokens_from occurrences_from
 many_faults_faults = refl
 
@@ -256,7 +278,8 @@ many_faults_has_all_macros = refl
 abbrev cut_texts : List (List ℕ)
 cut_texts = codes "@ A." ∷ codes "@c" ∷ codes "s=\"a\\" ∷ codes "b\";@=u@@v@>" ∷ codes "#include <p@@q>" ∷ []
 
-pub cut_texts_pieces : shown_pieces (web cut_texts) ≡ lines (codes "1:2" ∷ codes "s=\"a\\" ∷ codes "b\";u@v" ∷ codes "#include <p@q>" ∷ codes "" ∷ [])
+pub cut_texts_pieces : shown_pieces (web cut_texts)
+    ≡ lines (codes "1:2" ∷ codes "s=\"a\\" ∷ codes "b\";u@v" ∷ codes "#include <p@q>" ∷ codes "" ∷ [])
 unfolding lexeme tokens_from occurrences_from
 cut_texts_pieces = refl
 
@@ -270,9 +293,13 @@ cut_texts_faults = refl
 
 -- a mention, uses, and a name that does not end
 abbrev occurrences_and_faults : List (List ℕ)
-occurrences_and_faults = codes "@ A @<In it@>." ∷ codes "@c" ∷ codes "@<  In   @>@<Zz...@>" ∷ codes "@<b@>=" ∷ codes "@<q" ∷ codes "@ B." ∷ []
+occurrences_and_faults =
+    codes "@ A @<In it@>." ∷ codes "@c" ∷ codes "@<  In   @>@<Zz...@>"
+    ∷ codes "@<b@>=" ∷ codes "@<q" ∷ codes "@ B." ∷ []
 
-pub occurrences_and_faults_pieces : shown_pieces (web occurrences_and_faults) ≡ lines (codes "1:2" ∷ codes "<1>" ∷ codes "#3" ∷ codes "<2>" ∷ codes "#3" ∷ codes "" ∷ codes "<3>" ∷ codes "#4" ∷ codes "=" ∷ codes "<4>" ∷ codes "#6" ∷ codes "" ∷ [])
+pub occurrences_and_faults_pieces : shown_pieces (web occurrences_and_faults)
+    ≡ lines (codes "1:2" ∷ codes "<1>" ∷ codes "#3" ∷ codes "<2>" ∷ codes "#3" ∷ codes ""
+    ∷ codes "<3>" ∷ codes "#4" ∷ codes "=" ∷ codes "<4>" ∷ codes "#6" ∷ codes "" ∷ [])
 unfolding lexeme tokens_from occurrences_from
 occurrences_and_faults_pieces = refl
 
@@ -280,11 +307,13 @@ pub occurrences_and_faults_macros : shown_macros (web occurrences_and_faults) �
 unfolding lexeme tokens_from occurrences_from
 occurrences_and_faults_macros = refl
 
-pub occurrences_and_faults_faults : (web occurrences_and_faults).faults ≡ on fault.NameEquals 4 ∷ on fault.NameEnd 6 ∷ []
+pub occurrences_and_faults_faults : (web occurrences_and_faults).faults
+    ≡ on fault.NameEquals 4 ∷ on fault.NameEnd 6 ∷ []
 unfolding lexeme tokens_from occurrences_from
 occurrences_and_faults_faults = refl
 
-pub occurrences_and_faults_texts : map (λ o. o.text) (web occurrences_and_faults).occurrences ≡ codes "In it" ∷ codes "In" ∷ codes "Zz..." ∷ codes "b" ∷ codes "q" ∷ []
+pub occurrences_and_faults_texts : map (λ o. o.text) (web occurrences_and_faults).occurrences
+    ≡ codes "In it" ∷ codes "In" ∷ codes "Zz..." ∷ codes "b" ∷ codes "q" ∷ []
 unfolding lexeme tokens_from occurrences_from
 occurrences_and_faults_texts = refl
 
@@ -324,7 +353,8 @@ constants_faults = refl
 abbrev spaced_include : List (List ℕ)
 spaced_include = codes "@ A." ∷ codes "@c" ∷ codes " # include <a b@@c>" ∷ codes "x" ∷ []
 
-pub spaced_include_pieces : shown_pieces (web spaced_include) ≡ lines (codes "1:2" ∷ codes "# include <a b@c>" ∷ codes "x" ∷ codes "" ∷ [])
+pub spaced_include_pieces : shown_pieces (web spaced_include)
+    ≡ lines (codes "1:2" ∷ codes "# include <a b@c>" ∷ codes "x" ∷ codes "" ∷ [])
 unfolding lexeme tokens_from occurrences_from
 spaced_include_pieces = refl
 
@@ -336,11 +366,12 @@ pub spaced_include_faults : (web spaced_include).faults ≡ []
 unfolding lexeme tokens_from occurrences_from
 spaced_include_faults = refl
 
--- a comment over lines
+-- a comment over several lines
 abbrev comment_over_lines : List (List ℕ)
 comment_over_lines = codes "@ A." ∷ codes "@c" ∷ codes "a /* x" ∷ codes "y */ b" ∷ []
 
-pub comment_over_lines_pieces : shown_pieces (web comment_over_lines) ≡ lines (codes "1:2" ∷ codes "a" ∷ codes "b" ∷ codes "" ∷ [])
+pub comment_over_lines_pieces : shown_pieces (web comment_over_lines)
+    ≡ lines (codes "1:2" ∷ codes "a" ∷ codes "b" ∷ codes "" ∷ [])
 unfolding lexeme tokens_from occurrences_from
 comment_over_lines_pieces = refl
 
@@ -360,7 +391,8 @@ pub macro_names_pieces : shown_pieces (web macro_names) ≡ lines (codes "1:4" �
 unfolding lexeme tokens_from occurrences_from
 macro_names_pieces = refl
 
-pub macro_names_macros : shown_macros (web macro_names) ≡ lines (codes "N 97" ∷ codes "" ∷ codes "M \"x\"" ∷ codes "" ∷ [])
+pub macro_names_macros : shown_macros (web macro_names)
+    ≡ lines (codes "N 97" ∷ codes "" ∷ codes "M \"x\"" ∷ codes "" ∷ [])
 unfolding lexeme tokens_from occurrences_from
 macro_names_macros = refl
 
@@ -368,11 +400,12 @@ pub macro_names_faults : (web macro_names).faults ≡ []
 unfolding lexeme tokens_from occurrences_from
 macro_names_faults = refl
 
--- a name over lines with control codes, and a head with + and ==
+-- a name over two lines, with control codes in it, and a head with + and ==
 abbrev name_over_lines : List (List ℕ)
 name_over_lines = codes "@ A." ∷ codes "@<a@@b@xc" ∷ codes " d @> + ==" ∷ codes "x@<a...@>y" ∷ []
 
-pub name_over_lines_pieces : shown_pieces (web name_over_lines) ≡ lines (codes "1:3" ∷ codes "x<1>" ∷ codes "#4" ∷ codes "y" ∷ codes "" ∷ [])
+pub name_over_lines_pieces : shown_pieces (web name_over_lines)
+    ≡ lines (codes "1:3" ∷ codes "x<1>" ∷ codes "#4" ∷ codes "y" ∷ codes "" ∷ [])
 unfolding lexeme tokens_from occurrences_from
 name_over_lines_pieces = refl
 
@@ -393,24 +426,46 @@ abbrev other_bytes : List (List ℕ)
 other_bytes = codes "@ A." ∷ codes "@c" ∷ (99 ∷ 97 ∷ 102 ∷ 233 ∷ 0 ∷ 61 ∷ 49 ∷ 32 ∷ 9 ∷ 13 ∷ []) ∷ []
 
 pub other_bytes_items : map (λ p. p.items) (web other_bytes).pieces
-    ≡ (item.LineEnd ∷ item.Word (record { line = 2; start = 0; end = 4 }) ∷ item.Sign (record { line = 2; start = 4; end = 5 })
-    ∷ item.Sign (record { line = 2; start = 5; end = 6 }) ∷ item.Word (record { line = 2; start = 6; end = 7 }) ∷ item.LineEnd ∷ []) ∷ []
+    ≡ (item.LineEnd ∷ item.Word (record { line = 2; start = 0; end = 4 })
+    ∷ item.Sign (record { line = 2; start = 4; end = 5 })
+    ∷ item.Sign (record { line = 2; start = 5; end = 6 })
+    ∷ item.Word (record { line = 2; start = 6; end = 7 }) ∷ item.LineEnd ∷ []) ∷ []
 unfolding lexeme tokens_from occurrences_from
 other_bytes_items = refl
 
 -- the first quoted text of the cut ones: an item, a break and an item
 pub cut_texts_items : flat_map (λ p. take 8 p.items) (web cut_texts).pieces
-    ≡ item.LineEnd ∷ item.Word (record { line = 2; start = 0; end = 1 }) ∷ item.Sign (record { line = 2; start = 1; end = 2 })
-    ∷ item.Quoted (record { line = 2; start = 2; end = 5 }) ∷ item.QuoteBreak ∷ item.Quoted (record { line = 3; start = 0; end = 2 })
+    ≡ item.LineEnd ∷ item.Word (record { line = 2; start = 0; end = 1 })
+    ∷ item.Sign (record { line = 2; start = 1; end = 2 })
+    ∷ item.Quoted (record { line = 2; start = 2; end = 5 })
+    ∷ item.QuoteBreak ∷ item.Quoted (record { line = 3; start = 0; end = 2 })
     ∷ item.Sign (record { line = 3; start = 2; end = 3 }) ∷ item.Verbatim (record { line = 3; start = 5; end = 7 }) ∷ []
 unfolding lexeme tokens_from occurrences_from
 cut_texts_items = refl
 
 -- the occurrences of names: abbreviated or not, in which role, and where
 pub abbreviated_occurrences : (web abbreviated).occurrences
-    ≡ record { text = codes "Ini..."; is_abbreviation = true; is_file = false; role = role.Use; origin = record { file = 0; line = 3 } }
-    ∷ record { text = codes "Initialize"; is_abbreviation = false; is_file = false; role = role.Definition; origin = record { file = 0; line = 4 } }
-    ∷ record { text = codes "Init table"; is_abbreviation = false; is_file = false; role = role.Definition; origin = record { file = 0; line = 6 } } ∷ []
+    ≡ record {
+      text = codes "Ini...";
+      is_abbreviation = true;
+      is_file = false;
+      role = role.Use;
+      origin = record { file = 0; line = 3 };
+    }
+    ∷ record {
+      text = codes "Initialize";
+      is_abbreviation = false;
+      is_file = false;
+      role = role.Definition;
+      origin = record { file = 0; line = 4 };
+    }
+    ∷ record {
+      text = codes "Init table";
+      is_abbreviation = false;
+      is_file = false;
+      role = role.Definition;
+      origin = record { file = 0; line = 6 };
+    } ∷ []
 unfolding lexeme tokens_from occurrences_from
 abbreviated_occurrences = refl
 
@@ -429,7 +484,8 @@ kind_letter AsciiConstant = codes "a"
 kind_letter Outside = codes "."
 
 pub kinds_of_bytes :
-    flat_map (λ s. flat_map (λ c. kind_letter s.kind) s.cells) (all_segments (lines_from 1 (codes "@ A." ∷ codes "@c a@@b/*c*/ \"x@@y\"" ∷ codes "@<N@>@'x'@^i@>@=v@>" ∷ [])))
+    flat_map (λ s. flat_map (λ c. kind_letter s.kind) s.cells)
+    (all_segments (lines_from 1 (codes "@ A." ∷ codes "@c a@@b/*c*/ \"x@@y\"" ∷ codes "@<N@>@'x'@^i@>@=v@>" ∷ [])))
     ≡ codes "....." ++ codes "..wkkskcccccwkkkskkl" ++ codes "nnnnnaaaattttt@@k@@l"
 unfolding lexeme
 kinds_of_bytes = refl

@@ -5,10 +5,16 @@ use Rattle.ctangle_cli.proofs.conversation.cancel.Goals as goal
 
 pub returns-then-is_some : goal.returns-then-is_some
 returns-then-is_some g c = λ session.
-    let now = g.S.Sink.stream c.args.sink.now in
-    (codes "ok\n", cancelled session c.args.draft.now (sym c.is_some.ensures ∙ c.if-is_some.true), c.say.ensures now [] (TakesAll-none now))
+    let now = g.S.Sink.stream c.args.sink.now in (
+      codes "ok\n",
+      cancelled session c.args.draft.now (sym c.is_some.ensures ∙ c.if-is_some.true),
+      c.say.ensures now [] (TakesAll-none now),
+    )
 
 pub returns : goal.returns
 returns g c = λ session.
-    let now = g.S.Sink.stream c.args.sink.now in
-    (codes "no BadCommand\n", bad_cancel session c.args.draft.now (sym c.is_some.ensures ∙ c.if-is_some.false), c.say-2.ensures now [] (TakesAll-none now))
+    let now = g.S.Sink.stream c.args.sink.now in (
+      codes "no BadCommand\n",
+      bad_cancel session c.args.draft.now (sym c.is_some.ensures ∙ c.if-is_some.false),
+      c.say-2.ensures now [] (TakesAll-none now),
+    )

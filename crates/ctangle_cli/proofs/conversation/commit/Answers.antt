@@ -6,15 +6,20 @@ use Rattle.ctangle_cli.proofs.conversation.commit.Goals as goal
 
 pub returns-in-None : goal.returns-in-None
 returns-in-None g c =
-    let now = g.S.Sink.stream c.args.sink.now in
-    (codes "no BadCommand\n", rw c.in-None.ensures.after (bad_commit c.args.session.now c.args.draft.now (sym c.in-None.ensures.value)), c.say.ensures now [] (TakesAll-none now))
+    let now = g.S.Sink.stream c.args.sink.now in (
+      codes "no BadCommand\n",
+      rw c.in-None.ensures.after (bad_commit c.args.session.now c.args.draft.now (sym c.in-None.ensures.value)),
+      c.say.ensures now [] (TakesAll-none now),
+    )
 
 pub returns-in-Some : goal.returns-in-Some
 returns-in-Some g c =
     let done = rw c.deref.ensures.value at c.apply_all-done.ensures in (
       list_line c.apply_all-done.result,
       rw c.in-Some.ensures.after
-          (committed c.args.session.now c.apply_all-done.new.self c.args.draft.now c.in-Some.held (list_line c.apply_all-done.result) (sym c.in-Some.ensures.value)
-          (list_answered c.args.session.now c.apply_all-done.new.self c.in-Some.held.items c.apply_all-done.result done.files done.roles done.work done.refused done.only done.err)),
+          (committed c.args.session.now c.apply_all-done.new.self c.args.draft.now
+          c.in-Some.held (list_line c.apply_all-done.result) (sym c.in-Some.ensures.value)
+          (list_answered c.args.session.now c.apply_all-done.new.self c.in-Some.held.items
+          c.apply_all-done.result done.files done.roles done.work done.refused done.only done.err)),
       c.write_list_answer.ensures,
     )

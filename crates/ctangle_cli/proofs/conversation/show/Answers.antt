@@ -6,7 +6,8 @@ use Rattle.ctangle_cli.proofs.conversation.show.Goals as goal
 pub returns-in-None : goal.returns-in-None
 returns-in-None g c =
     let now = g.S.Sink.stream c.args.sink.now in
-    rw (none_is_shown c.args.name.now _ (sym c.in-None.is ∙ c.output_size.ensures)) (c.say.ensures now [] (TakesAll-none now))
+    rw (none_is_shown c.args.name.now _ (sym c.in-None.is ∙ c.output_size.ensures))
+    (c.say.ensures now [] (TakesAll-none now))
 
 pub returns-in-Some : goal.returns-in-Some
 returns-in-Some g c =

@@ -10,4 +10,5 @@ returns-in-Ok-write_output g c = λ old output bytes found h.
 pub returns-in-Err-write_output : goal.returns-in-Err-write_output
 returns-in-Err-write_output g c = λ old output bytes found h.
     let cut = rw found at c.in-Err-write_output.ensures.written in
-    then_front old _ _ output bytes c.args.so_far _ c.in-Ok.is h (output_is_cut _ _ bytes c.in-Err-write_output.field-0 cut)
+    then_front old _ _ output bytes c.args.so_far _ c.in-Ok.is h
+    (output_is_cut _ _ bytes c.in-Err-write_output.field-0 cut)

@@ -4,4 +4,5 @@ use Rattle.ctangle_cli.proofs.conversation.write_lines.Goals as goal
 
 pub returns-in-Err-write_faults : goal.returns-in-Err-write_faults
 returns-in-Err-write_faults g c = λ old output h.
-    then_front old _ _ output (fault_lines c.args.faults.now) c.args.so_far _ c.in-Ok.is h c.in-Err-write_faults.ensures.cut
+    then_front old _ _ output (fault_lines c.args.faults.now)
+    c.args.so_far _ c.in-Ok.is h c.in-Err-write_faults.ensures.cut

@@ -3,7 +3,8 @@ use Rattle.ctangle_cli.proofs.RunLemmas.{TakesAll-none}
 use Rattle.ctangle_cli.proofs.conversation.write_list_answer.Goals as goal
 
 pub returns-in-Ok : goal.returns-in-Ok
-returns-in-Ok g c = let now = g.S.Sink.stream c.args.sink.now in rw c.in-Ok.is (c.say.ensures now [] (TakesAll-none now))
+returns-in-Ok g c =
+    let now = g.S.Sink.stream c.args.sink.now in rw c.in-Ok.is (c.say.ensures now [] (TakesAll-none now))
 
 pub returns-in-Err : goal.returns-in-Err
 returns-in-Err g c =
@@ -12,4 +13,5 @@ returns-in-Err g c =
     let name = c.say-name.ensures now _ no in
     let space = c.say-space.ensures now _ name in
     let number = c.say-number.ensures now _ space in
-    rw (c.in-Err.is, ← c.name_of.ensures, ← c.edit_number.ensures, ← c.format.ensures.text, ← c.as_bytes.ensures.value) (c.say-in-Err.ensures now _ number)
+    rw (c.in-Err.is, ← c.name_of.ensures, ← c.edit_number.ensures, ← c.format.ensures.text, ← c.as_bytes.ensures.value)
+    (c.say-in-Err.ensures now _ number)

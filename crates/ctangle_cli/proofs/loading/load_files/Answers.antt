@@ -1,65 +1,77 @@
-use Rattle.std.proofs.Common.{[]}
+use Rattle.std.proofs.Common.{◌∙◌, [], sym}
 use Rattle.std.proofs.lemmas.Result.{err_from_is_err_and}
-use Rattle.ctangle_cli.specs.Loading.{ending_of}
-use Rattle.ctangle_cli.specs.Tries.{tried}
-use Rattle.ctangle_cli.proofs.AskLemmas.{asked_once, first_stops, roles_asked, second_stops}
-use Rattle.ctangle_cli.proofs.LoadLemmas.{fits_both, grows_there}
-use Rattle.ctangle_cli.proofs.OrderLemmas.{all_asked, begins_rounds, until_first, until_rounds, until_second}
+use Rattle.ctangle_cli.specs.Loading.{ending_of, missed_in}
+use Rattle.ctangle_cli.specs.Steps.{progress}
+use Rattle.ctangle_cli.proofs.LoadLemmas.{fits_both, grows_fits, grows_there}
+use Rattle.ctangle_cli.proofs.RoundLemmas.{change_stops, rounds_begin, rounds_end, rounds_next, rounds_short}
+use Rattle.ctangle_cli.proofs.RoundLemmas.{rounds_stop, web_stops}
 use Rattle.ctangle_cli.proofs.loading.load_files.Goals as goal
 
-pub read_rounds-requires : goal.read_rounds-requires
-read_rounds-requires g c =
-    fits_both c.read_change.new.files c.args.roles.now
-    (grows_there c.read_needed.new.files c.read_change.new.files c.args.roles.now.web c.in_ok-read_change.ensures.grows (rw c.web.ensures at c.in_ok-read_needed.ensures.has_file))
-    (rw c.change.ensures at c.in_ok-read_change.ensures.has_file)
-
-pub returns-in_err-read_needed-clause-once : goal.returns-in_err-read_needed-clause-once
-returns-in_err-read_needed-clause-once g c = first_stops _ _ (rw c.new-files.ensures at c.in_err-read_needed.ensures.stops)
-
-pub returns-in_err-read_change-clause-once : goal.returns-in_err-read_change-clause-once
-returns-in_err-read_change-clause-once g c =
-    second_stops _ _ _ c.args.roles.now.web (rw (c.new-files.ensures, c.web.ensures) at c.in_ok-read_needed.ensures.asks) c.in_err-read_change.ensures.stops
-
-pub returns-in_err-read_rounds-clause-once : goal.returns-in_err-read_rounds-clause-once
-returns-in_err-read_rounds-clause-once g c = c.in_err-read_rounds.ensures.stops _
-    (roles_asked _ _ _ c.args.roles.now (rw (c.new-files.ensures, c.web.ensures) at c.in_ok-read_needed.ensures.asks) (rw c.change.ensures at c.in_ok-read_change.ensures.asks))
-
-pub returns-clause-asks : goal.returns-clause-asks
-returns-clause-asks g c = c.in_ok-read_rounds.ensures.asks _
-    (roles_asked _ _ _ c.args.roles.now (rw (c.new-files.ensures, c.web.ensures) at c.in_ok-read_needed.ensures.asks) (rw c.change.ensures at c.in_ok-read_change.ensures.asks))
-
-pub returns-clause-once : goal.returns-clause-once
-returns-clause-once g c = asked_once _ _ _ _ (c.in_ok-read_rounds.ensures.asks _
-    (roles_asked _ _ _ c.args.roles.now (rw (c.new-files.ensures, c.web.ensures) at c.in_ok-read_needed.ensures.asks) (rw c.change.ensures at c.in_ok-read_change.ensures.asks)))
-
-pub returns-in_err-read_needed-clause-ends : goal.returns-in_err-read_needed-clause-ends
-returns-in_err-read_needed-clause-ends g c =
+pub returns-in_err-read_needed-clause-err : goal.returns-in_err-read_needed-clause-err
+returns-in_err-read_needed-clause-err g c =
     let left = err_from_is_err_and c.from_residual.result c.from_residual.ensures.1 in
-    rw (left.1, left.2) (until_first (g.F.Folder.state c.args.folder.now).files (g.F.Folder.state c.args.folder.now).asked (g.F.Folder.state c.read_needed.new.folder).asked c.args.roles.now (ending_of c.in_err-read_needed.field-0.0)
-    (rw (c.new-files.ensures, c.web.ensures) at c.in_err-read_needed.ensures.ends))
+    rw (left.1, left.2) (web_stops c.args.roles.now (g.F.Folder.state c.args.folder.now)
+    (g.F.Folder.state c.read_needed.new.folder) (ending_of c.in_err-read_needed.field-0.0) c.requires
+    (rw (c.new-files.ensures, c.web.ensures) at c.in_err-read_needed.ensures.step))
 
-pub returns-in_err-read_change-clause-ends : goal.returns-in_err-read_change-clause-ends
-returns-in_err-read_change-clause-ends g c =
-    let left = err_from_is_err_and c.from_residual-in_err-read_change.result c.from_residual-in_err-read_change.ensures.1 in
-    let mid = tried (g.F.Folder.state c.read_needed.new.folder).asked c.read_needed.new.files [] in
-    rw (left.1, left.2) (until_second (g.F.Folder.state c.args.folder.now).files (g.F.Folder.state c.args.folder.now).asked (g.F.Folder.state c.read_change.new.folder).asked c.args.roles.now mid (ending_of c.in_err-read_change.field-0.0)
-    (rw (c.new-files.ensures, c.web.ensures) at c.in_ok-read_needed.ensures.order) (rw (c.in_ok-read_needed.ensures.files_stay, c.change.ensures) at c.in_err-read_change.ensures.ends))
+pub returns-in_err-read_change-clause-err : goal.returns-in_err-read_change-clause-err
+returns-in_err-read_change-clause-err g c =
+    let left =
+    err_from_is_err_and c.from_residual-in_err-read_change.result c.from_residual-in_err-read_change.ensures.1 in
+    rw (left.1, left.2) (change_stops c.args.roles.now (g.F.Folder.state c.args.folder.now)
+    (progress (g.F.Folder.state c.read_needed.new.folder) c.read_needed.new.files [])
+    (g.F.Folder.state c.read_change.new.folder) (ending_of c.in_err-read_change.field-0.0) c.requires
+    (rw (c.new-files.ensures, c.web.ensures) at c.in_ok-read_needed.ensures.step)
+    (rw c.change.ensures at c.in_err-read_change.ensures.step))
 
-pub returns-in_err-read_rounds-clause-ends : goal.returns-in_err-read_rounds-clause-ends
-returns-in_err-read_rounds-clause-ends g c =
-    let left = err_from_is_err_and c.from_residual-in_err-read_rounds.result c.from_residual-in_err-read_rounds.ensures.1 in
-    let mid = tried (g.F.Folder.state c.read_needed.new.folder).asked c.read_needed.new.files [] in
-    let now = tried (g.F.Folder.state c.read_change.new.folder).asked c.read_change.new.files [] in
-    let begun = begins_rounds (g.F.Folder.state c.args.folder.now).files (g.F.Folder.state c.args.folder.now).asked c.args.roles.now mid now (rw (c.new-files.ensures, c.web.ensures) at c.in_ok-read_needed.ensures.order)
-    (rw (c.in_ok-read_needed.ensures.files_stay, c.change.ensures) at c.in_ok-read_change.ensures.order) in
-    rw (left.1, left.2) (until_rounds (g.F.Folder.state c.args.folder.now).files (g.F.Folder.state c.args.folder.now).asked (g.F.Folder.state c.read_rounds.new.folder).asked c.args.roles.now now (ending_of c.in_err-read_rounds.field-0.0) begun
-    (rw (c.in_ok-read_change.ensures.files_stay, c.in_ok-read_needed.ensures.files_stay) at c.in_err-read_rounds.ensures.ends))
+pub loop-absent-init : goal.loop-absent-init
+loop-absent-init g c =
+    let mid = progress (g.F.Folder.state c.read_needed.new.folder) c.read_needed.new.files [] in
+    let change = rw c.change.ensures at c.in_ok-read_change.ensures.step in
+    rw c.new-absent.ensures (rounds_begin c.args.roles.now (g.F.Folder.state c.args.folder.now) mid
+    (progress (g.F.Folder.state c.read_change.new.folder) c.read_change.new.files []) c.requires
+    (fits_both c.read_change.new.files c.args.roles.now
+    (grows_there c.read_needed.new.files c.read_change.new.files c.args.roles.now.web
+    change.grows (rw c.web.ensures at c.in_ok-read_needed.ensures.has_file))
+    (rw c.change.ensures at c.in_ok-read_change.ensures.has_file))
+    (rw (c.new-files.ensures, c.web.ensures) at c.in_ok-read_needed.ensures.step) change)
 
-pub returns-clause-order : goal.returns-clause-order
-returns-clause-order g c =
-    let mid = tried (g.F.Folder.state c.read_needed.new.folder).asked c.read_needed.new.files [] in
-    let now = tried (g.F.Folder.state c.read_change.new.folder).asked c.read_change.new.files [] in
-    let begun = begins_rounds (g.F.Folder.state c.args.folder.now).files (g.F.Folder.state c.args.folder.now).asked c.args.roles.now mid now (rw (c.new-files.ensures, c.web.ensures) at c.in_ok-read_needed.ensures.order)
-    (rw (c.in_ok-read_needed.ensures.files_stay, c.change.ensures) at c.in_ok-read_change.ensures.order) in
-    all_asked (g.F.Folder.state c.args.folder.now).files (g.F.Folder.state c.args.folder.now).asked (g.F.Folder.state c.read_rounds.new.folder).asked c.args.roles.now now begun
-    (rw (c.in_ok-read_change.ensures.files_stay, c.in_ok-read_needed.ensures.files_stay) at c.in_ok-read_rounds.ensures.order)
+pub loop-absent-preserved : goal.loop-absent-preserved
+loop-absent-preserved g c =
+    rounds_next c.args.roles.now (g.F.Folder.state c.args.folder.now)
+    (progress (g.F.Folder.state c.loop-absent.folder) c.loop-absent.files c.loop-absent.absent)
+    (progress (g.F.Folder.state c.read_inclusions.new.folder) c.read_inclusions.new.files c.read_inclusions.new.absent)
+    (missed_in c.as_slice.result.now)
+    (rw c.as_slice.ensures.value c.in_ok-faults.ensures) c.loop-absent.invariant c.in_ok-read_inclusions.ensures
+    (λ e. c.if-count.false (c.count.ensures.count ∙ e ∙ sym c.count-count.ensures.count))
+
+pub returns-then-count-clause-ok : goal.returns-then-count-clause-ok
+returns-then-count-clause-ok g c =
+    rounds_end c.args.roles.now (g.F.Folder.state c.args.folder.now)
+    (progress (g.F.Folder.state c.loop-absent.folder) c.loop-absent.files c.loop-absent.absent)
+    (progress (g.F.Folder.state c.read_inclusions.new.folder) c.read_inclusions.new.files c.read_inclusions.new.absent)
+    (missed_in c.as_slice.result.now)
+    (rw c.as_slice.ensures.value c.in_ok-faults.ensures) c.loop-absent.invariant
+    c.in_ok-read_inclusions.ensures (sym c.count.ensures.count ∙ c.if-count.true ∙ c.count-count.ensures.count)
+
+pub returns-then-count-clause-fits : goal.returns-then-count-clause-fits
+returns-then-count-clause-fits g c = grows_fits c.loop-absent.files c.read_inclusions.new.files
+    c.args.roles.now c.in_ok-read_inclusions.ensures.grows c.loop-absent.invariant.has_roles
+
+pub returns-in_err-faults-clause-err : goal.returns-in_err-faults-clause-err
+returns-in_err-faults-clause-err g c =
+    let left = err_from_is_err_and c.from_residual-in_err-faults.result c.from_residual-in_err-faults.ensures.1 in
+    rw (left.1, left.2)
+    (rounds_short c.args.roles.now (g.F.Folder.state c.args.folder.now)
+    (progress (g.F.Folder.state c.loop-absent.folder) c.loop-absent.files c.loop-absent.absent)
+    c.requires c.loop-absent.invariant)
+
+pub returns-in_err-read_inclusions-clause-err : goal.returns-in_err-read_inclusions-clause-err
+returns-in_err-read_inclusions-clause-err g c =
+    let left = err_from_is_err_and c.from_residual-in_err-read_inclusions.result
+    c.from_residual-in_err-read_inclusions.ensures.1 in
+    rw (left.1, left.2) (rounds_stop c.args.roles.now (g.F.Folder.state c.args.folder.now)
+    (progress (g.F.Folder.state c.loop-absent.folder) c.loop-absent.files c.loop-absent.absent)
+    (missed_in c.as_slice.result.now) (g.F.Folder.state c.read_inclusions.new.folder)
+    (ending_of c.in_err-read_inclusions.field-0.0) c.requires
+    (rw c.as_slice.ensures.value c.in_ok-faults.ensures) c.loop-absent.invariant c.in_err-read_inclusions.ensures)

@@ -8,12 +8,14 @@ pub returns-in_err-matches-clause-accepted : goal.returns-in_err-matches-clause-
 returns-in_err-matches-clause-accepted g c =
     let arguments : List Text = map g.S.AsStr.text c.args.arguments.now in
     err_gives c.from_residual-in_err-matches.result _ _ c.from_residual-in_err-matches.ensures.1
-    (λ fault gives accepted. gives (c.in_err-matches.ensures.passes (takes_is c.in_ok-command.command retangle_app arguments c.in_ok-command.ensures.app accepted)))
+    (λ fault gives accepted. gives (c.in_err-matches.ensures.passes
+    (takes_is c.in_ok-command.command retangle_app arguments c.in_ok-command.ensures.app accepted)))
 
 pub returns-clause-ok : goal.returns-clause-ok
 returns-clause-ok g c =
     let arguments : List Text = map g.S.AsStr.text c.args.arguments.now in
-    let value = λ (id : Text). value_is c.in_ok-command.command retangle_app c.in_ok-matches.matches arguments id c.in_ok-command.ensures.app refl c.in_ok-matches.ensures.matches in
+    let value = λ (id : Text). value_is c.in_ok-command.command retangle_app c.in_ok-matches.matches
+    arguments id c.in_ok-command.ensures.app refl c.in_ok-matches.ensures.matches in
     record {
       web = value (codes "WEB") ∙ (sym c.get_str.ensures ∙ ap (option_map (λ s. s.now)) c.unwrap-web.ensures);
       change = value (codes "change") ∙ sym c.get_str-change.ensures;

@@ -6,7 +6,8 @@ use Rattle.ctangle_cli.proofs.writing.create_outputs.Given as goal
 
 abbrev pub invariant-loop-index : goal.invariant-loop-index
 invariant-loop-index g l = record {
-  written : HasWritten (outputs_of l.session.files l.session.roles) (g.F.Folder.state l.initial.folder).created (g.F.Folder.state l.folder).created (enumerate_source l.index-iterator);
+  written : HasWritten (outputs_of l.session.files l.session.roles) (g.F.Folder.state l.initial.folder).created
+      (g.F.Folder.state l.folder).created (enumerate_source l.index-iterator);
   unfailed : (g.F.Folder.state l.folder).failures ≡ (g.F.Folder.state l.initial.folder).failures;
   asked_stay : (g.F.Folder.state l.folder).asked ≡ (g.F.Folder.state l.initial.folder).asked;
   failed_stay : (g.F.Folder.state l.folder).failed ≡ (g.F.Folder.state l.initial.folder).failed;

@@ -1,4 +1,5 @@
-use Rattle.std.proofs.Common.{◌≡◌, ◌<◌, ◌∙◌, ℕ, List, Bool, true, false, length, set, replicate, get_or-set_same, sym, ap, subst, arith, rules}
+use Rattle.std.proofs.Common.{◌≡◌, ◌<◌, ◌∙◌, ℕ, List, Bool, true, false, length, set, replicate, get_or-set_same, sym}
+use Rattle.std.proofs.Common.{ap, subst, arith, rules}
 use Rattle.std.proofs.lemmas.List.{length-replicate}
 use Rattle.digraph.specs.Flags.{IsFlagged}
 use Rattle.digraph.proofs.CycleLemmas.{flagged_alone, search_says}
@@ -9,9 +10,15 @@ returns c =
     let size : ℕ = length c.args.uses.now in
     let none : c.in_ok-flags.flags.items ≡ replicate size false = search rules in
     let flags : List Bool = c.deref.result.now in
-    let alone : flags ≡ set (replicate size false) c.args.n true = c.deref.ensures.value ∙ ap (λ (xs : List Bool). set xs c.args.n true) none in
+    let alone : flags ≡ set (replicate size false) c.args.n true =
+    c.deref.ensures.value ∙ ap (λ (xs : List Bool). set xs c.args.n true) none in
     let room : c.args.n < length (replicate size false) = omega (arith, length-replicate size false, c.requires.node) in
-    let flagged : IsFlagged flags c.args.n = subst (λ (xs : List Bool). IsFlagged xs c.args.n) (sym alone) (get_or-set_same (replicate size false) c.args.n true false room) in
-    search_says c.args.uses.now flags c.in_ok-found.found.items c.args.n c.index-uses-n.result c.any_flagged.result c.requires.range c.requires.node c.index-uses-n.is
-    (λ m f. flagged_alone size c.args.n m (subst (λ (xs : List Bool). IsFlagged xs m) alone f)) flagged c.in_ok-found.ensures.flags
-    (rw (c.deref-2.ensures.value, c.deref-3.ensures.value) at c.any_flagged.ensures.one) (rw (c.deref-2.ensures.value, c.deref-3.ensures.value) at c.any_flagged.ensures.none)
+    let flagged : IsFlagged flags c.args.n =
+    subst (λ (xs : List Bool). IsFlagged xs c.args.n) (sym alone)
+    (get_or-set_same (replicate size false) c.args.n true false room) in
+    search_says c.args.uses.now flags c.in_ok-found.found.items c.args.n c.index-uses-n.result
+    c.any_flagged.result c.requires.range c.requires.node c.index-uses-n.is
+    (λ m f. flagged_alone size c.args.n m (subst (λ (xs : List Bool). IsFlagged xs m) alone f)) flagged
+    c.in_ok-found.ensures.flags
+    (rw (c.deref-2.ensures.value, c.deref-3.ensures.value) at c.any_flagged.ensures.one)
+    (rw (c.deref-2.ensures.value, c.deref-3.ensures.value) at c.any_flagged.ensures.none)

@@ -9,5 +9,6 @@ pub loop-n-preserved : goal.loop-n-preserved
 loop-n-preserved c =
     rw c.in_ok-push.ensures.items (record {
       size = omega (arith, length_push c.loop-n.flags.items c.in_ok-flag.flag, c.loop-n.invariant.size);
-      flags = flags_more (ContainsItself (HasUse c.args.uses.now)) c.loop-n.flags.items c.loop-n.n c.in_ok-flag.flag c.loop-n.invariant.size c.loop-n.invariant.flags c.in_ok-flag.ensures;
+      flags = flags_more (ContainsItself (HasUse c.args.uses.now)) c.loop-n.flags.items c.loop-n.n
+          c.in_ok-flag.flag c.loop-n.invariant.size c.loop-n.invariant.flags c.in_ok-flag.ensures;
     })

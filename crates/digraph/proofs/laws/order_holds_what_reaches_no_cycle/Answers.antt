@@ -6,4 +6,5 @@ pub returns-clause-held : goal.returns-clause-held
 returns-clause-held c = λ graph order n is range. held graph range order n is
 
 pub returns-clause-left_out : goal.returns-clause-left_out
-returns-clause-left_out c = λ graph order n is range h out. (left_out_cycles graph range order n is h out, λ steps. left_out_paths graph order n steps is range h out)
+returns-clause-left_out c = λ graph order n is range h out.
+    (left_out_cycles graph range order n is h out, λ steps. left_out_paths graph order n steps is range h out)

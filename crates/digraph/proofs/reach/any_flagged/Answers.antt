@@ -2,7 +2,9 @@ use Rattle.std.proofs.Common.{◌≡◌, ◌<◌, ℕ, Bool, true, false, List, 
 use Rattle.digraph.specs.Flags.{IsFlagged}
 use Rattle.digraph.proofs.reach.any_flagged.Goals as goal
 
-none_flagged : (flags : List Bool) (row : List ℕ) (size : ℕ) → size ≡ length row → ((k d : ℕ) → k < size → get_or flags (get_or row k d) false ≡ false) → (m : ℕ) → Contains row m → IsFlagged flags m → ⊥
+none_flagged : (flags : List Bool) (row : List ℕ) (size : ℕ)
+    → size ≡ length row → ((k d : ℕ) → k < size → get_or flags (get_or row k d) false ≡ false) → (m : ℕ)
+    → Contains row m → IsFlagged flags m → ⊥
 none_flagged flags row size e h m c f =
     let low : c.0 < size = omega (arith, c.1, e) in
     let here : get_or flags (get_or row c.0 m) false ≡ false = h c.0 m low in

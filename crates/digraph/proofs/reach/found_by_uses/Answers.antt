@@ -6,6 +6,9 @@ use Rattle.digraph.proofs.reach.found_by_uses.Goals as goal
 
 pub returns-clause-flags : goal.returns-clause-flags
 returns-clause-flags c =
-    let size : length c.find_each.new.found ≡ c.loop.found.len = omega (arith, c.find_each.ensures.finding.size, c.loop.invariant.size, c.loop.found.ok.0) in
-    subst (λ (found : List Bool). FlagsJust c.args.uses.now found (ReachesFlagged c.args.uses.now c.args.flags.now)) (sym (with_items_is c.loop.found c.find_each.new.found size))
-    (all_decided c.args.uses.now c.args.flags.now c.find_each.new.found c.requires.size c.find_each.ensures.finding (c.find_each.ensures.none c.loop-test.false))
+    let size : length c.find_each.new.found ≡ c.loop.found.len =
+    omega (arith, c.find_each.ensures.finding.size, c.loop.invariant.size, c.loop.found.ok.0) in
+    subst (λ (found : List Bool). FlagsJust c.args.uses.now found (ReachesFlagged c.args.uses.now c.args.flags.now))
+    (sym (with_items_is c.loop.found c.find_each.new.found size))
+    (all_decided c.args.uses.now c.args.flags.now c.find_each.new.found c.requires.size
+    c.find_each.ensures.finding (c.find_each.ensures.none c.loop-test.false))

@@ -6,8 +6,10 @@ use Rattle.digraph.proofs.roots.flag_from_root.Goals.{then-root-n, else-root-n}
 pub returns-then-flags-n : goal.returns-then-flags-n
 returns-then-flags-n c =
     let so_far : FromRoots c.args.uses.now c.args.roots.now c.if-root-n.flags = elim c.if-root-n.branch [
-      | then-root-n w ↦ rw w.flags-is (from_roots_set c.args.uses.now c.args.roots.now c.args.flags.now c.args.n c.requires.flags w.if-root-n.true)
+      | then-root-n w ↦ rw w.flags-is
+          (from_roots_set c.args.uses.now c.args.roots.now c.args.flags.now c.args.n c.requires.flags w.if-root-n.true)
       | else-root-n w ↦ rw w.flags-is c.requires.flags
     ] in
-    from_roots_row c.args.uses.now c.args.roots.now c.if-root-n.flags c.flag_row.new.flags c.args.n c.index-uses-n.result so_far c.requires.node c.index-uses-n.is c.if-flags-n.true c.flag_row.auto.flags
+    from_roots_row c.args.uses.now c.args.roots.now c.if-root-n.flags c.flag_row.new.flags c.args.n
+    c.index-uses-n.result so_far c.requires.node c.index-uses-n.is c.if-flags-n.true c.flag_row.auto.flags
     (rw c.deref.ensures.value at c.flag_row.ensures)

@@ -3,14 +3,17 @@ use Rattle.digraph.specs.Graph.{HasUse}
 use Rattle.digraph.specs.Reach.{Reaches, here}
 use Rattle.digraph.proofs.RootLemmas.{to_roots_set, root_is_reached}
 use Rattle.digraph.proofs.roots.flag_to_root.Goals as goal
-use Rattle.digraph.proofs.roots.flag_to_root.Goals.{then-root-n-via-then-root-n, then-root-n-via-else-root-n+then-leads_to_root}
+use Rattle.digraph.proofs.roots.flag_to_root.Goals.{then-root-n-via-then-root-n}
+use Rattle.digraph.proofs.roots.flag_to_root.Goals.{then-root-n-via-else-root-n+then-leads_to_root}
 
 pub returns-then-root-n : goal.returns-then-root-n
 returns-then-root-n c =
     elim c.then-root-n.branch [
       | then-root-n-via-then-root-n w ↦
-          to_roots_set c.args.uses.now c.args.roots.now _ c.args.n c.requires.flags (subst (λ (r : ℕ). Reaches (HasUse c.args.uses.now) c.args.n r) (sym w.if-root-n.true) here)
+          to_roots_set c.args.uses.now c.args.roots.now _ c.args.n c.requires.flags
+          (subst (λ (r : ℕ). Reaches (HasUse c.args.uses.now) c.args.n r) (sym w.if-root-n.true) here)
       | then-root-n-via-else-root-n+then-leads_to_root w ↦
-          to_roots_set _ _ _ c.args.n c.requires.flags (root_is_reached _ _ _ c.args.n w.index-uses-n.result c.requires.flags c.requires.node w.index-uses-n.is
+          to_roots_set _ _ _ c.args.n c.requires.flags
+          (root_is_reached _ _ _ c.args.n w.index-uses-n.result c.requires.flags c.requires.node w.index-uses-n.is
           (rw w.deref.ensures.value at (w.leads_to_root.ensures w.if-leads_to_root.true)))
     ]

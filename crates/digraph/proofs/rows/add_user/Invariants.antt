@@ -5,4 +5,5 @@ use Rattle.digraph.specs.Rows.{GrowsBy}
 use Rattle.digraph.proofs.rows.add_user.Given as goal
 
 abbrev pub invariant-loop-m : goal.invariant-loop-m
-invariant-loop-m l = GrowsBy (λ m. cond (list_any (λ x. eqb x m) (take l.m-index l.row)) (l.user ∷ []) []) (rows_of l.fn.users.items) (rows_of l.users.items)
+invariant-loop-m l = GrowsBy (λ m. cond (list_any (λ x. eqb x m) (take l.m-index l.row)) (l.user ∷ []) [])
+    (rows_of l.fn.users.items) (rows_of l.users.items)

@@ -4,4 +4,5 @@ use Rattle.digraph.proofs.rows.users.Goals as goal
 
 pub returns-clause-reversed : goal.returns-clause-reversed
 returns-clause-reversed c =
-    IfOk-weaker c.reversed.result _ _ (λ users reported. is_reversed c.args.uses.now users.items c.requires.range reported) c.reversed.ensures
+    IfOk-weaker c.reversed.result _ _
+    (λ users reported. is_reversed c.args.uses.now users.items c.requires.range reported) c.reversed.ensures

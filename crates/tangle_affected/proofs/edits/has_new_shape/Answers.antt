@@ -10,8 +10,11 @@ returns-in-Some c = λ old_shapes new_shapes old_is new_is.
     let new = c.args.new.now in
     let before = c.in-Some.before in
     let node = c.args.node in
-    differ (shape_in_store old old_shapes before) (shape_in_store new new_shapes node) (old_shapes (title_in_store new node)) (new_shapes (title_in_store new node)) c.same_shape.result
-    (c.same_shape.ensures old_shapes new_shapes old_is new_is) (shape_inside old_shapes old.names before c.in-Some.ensures.some.0 ∙ ap old_shapes c.in-Some.ensures.some.1) (shape_inside new_shapes new.names node c.requires.node)
+    differ (shape_in_store old old_shapes before) (shape_in_store new new_shapes node)
+    (old_shapes (title_in_store new node)) (new_shapes (title_in_store new node)) c.same_shape.result
+    (c.same_shape.ensures old_shapes new_shapes old_is new_is)
+    (shape_inside old_shapes old.names before c.in-Some.ensures.some.0 ∙ ap old_shapes c.in-Some.ensures.some.1)
+    (shape_inside new_shapes new.names node c.requires.node)
 
 pub returns-in-None : goal.returns-in-None
 returns-in-None c = λ old_shapes new_shapes old_is new_is.

@@ -14,7 +14,12 @@ expand_next-requires c =
     let kept = c.loop-node.invariant.kept shapes ready in
     record {
       expandable = next_expandable shapes store list ready.store_is ready.list_is i c.loop-node-test.true;
-      used = (shapes, ready.store_is, next_kept shapes store list ready.store_is ready.list_is i c.loop-node.kept c.loop-node-test.true kept c.used_names_are_expandable.ensures);
+      used = (
+        shapes,
+        ready.store_is,
+        next_kept shapes store list ready.store_is ready.list_is i c.loop-node.kept
+            c.loop-node-test.true kept c.used_names_are_expandable.ensures,
+      );
     }
 
 pub loop-node-preserved : goal.loop-node-preserved
@@ -26,12 +31,16 @@ loop-node-preserved c =
     record {
       kept = λ shapes ready.
           let kept = c.loop-node.invariant.kept shapes ready in
-          let used = next_kept shapes store list ready.store_is ready.list_is i c.loop-node.kept c.loop-node-test.true kept law in
-          done_more shapes store list ready.store_is ready.list_is i c.loop-node.kept c.expand_next.new.kept c.loop-node-test.true kept (c.in_ok-expand_next.ensures.kept shapes ready.store_is used);
+          let used =
+          next_kept shapes store list ready.store_is ready.list_is i c.loop-node.kept c.loop-node-test.true kept law in
+          done_more shapes store list ready.store_is ready.list_is i c.loop-node.kept c.expand_next.new.kept
+          c.loop-node-test.true kept (c.in_ok-expand_next.ensures.kept shapes ready.store_is used);
       work = c.in_ok-expand_next.ensures.listed ∙ ap (λ l. l ++ get_or list i Program ∷ []) c.loop-node.invariant.work
-          ∙ append_assoc c.args.work.now (take i list) (get_or list i Program ∷ []) ∙ ap (λ l. c.args.work.now ++ l) (sym (take_more list i Program c.loop-node-test.true));
+          ∙ append_assoc c.args.work.now (take i list) (get_or list i Program ∷ [])
+          ∙ ap (λ l. c.args.work.now ++ l) (sym (take_more list i Program c.loop-node-test.true));
     }
 
 pub returns-clause-kept : goal.returns-clause-kept
 returns-clause-kept c = λ shapes ready.
-    done_all shapes c.args.store.now c.args.list.now ready.store_is ready.list_is c.loop-node.node-index c.loop-node.kept (omega arith) (c.loop-node.invariant.kept shapes ready)
+    done_all shapes c.args.store.now c.args.list.now ready.store_is ready.list_is
+    c.loop-node.node-index c.loop-node.kept (omega arith) (c.loop-node.invariant.kept shapes ready)

@@ -9,8 +9,10 @@ expand_one-requires-clause-kept c = λ id h.
     let store = c.args.store.now in
     let node = c.args.node in
     let used = c.requires.used in
-    plan_kept used.0 store c.args.kept.now node id used.2 (used.1.plan_uses node id (expandable_in store node c.requires.expandable) h)
+    plan_kept used.0 store c.args.kept.now node id used.2
+    (used.1.plan_uses node id (expandable_in store node c.requires.expandable) h)
 
 pub returns-clause-kept : goal.returns-clause-kept
 returns-clause-kept c = λ shapes is keeps.
-    subst (λ symbols. OnOk c.put.result (PutsKept c.args.kept.now c.put.new.self c.args.node symbols)) (c.in_ok-expansion.ensures.right shapes is keeps) c.put.ensures.ok
+    subst (λ symbols. OnOk c.put.result (PutsKept c.args.kept.now c.put.new.self c.args.node symbols))
+    (c.in_ok-expansion.ensures.right shapes is keeps) c.put.ensures.ok

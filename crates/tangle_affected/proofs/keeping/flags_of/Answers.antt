@@ -15,12 +15,16 @@ loop-node-preserved c =
     let flags = c.loop-node.flags.items in
     let there = c.requires (get_or list i Program) (Contains-get_or list i Program c.loop-node-test.true) in
     record {
-      size = ap length c.set_flag.ensures ∙ flag_size store flags (get_or list i Program) true ∙ c.loop-node.invariant.size;
+      size =
+          ap length c.set_flag.ensures ∙ flag_size store flags (get_or list i Program) true
+          ∙ c.loop-node.invariant.size;
       listed = subst (λ fs. FlagsJustListed store fs (take (i + 1) list)) (sym c.set_flag.ensures)
-          (listed_next store list flags i c.loop-node-test.true c.loop-node.invariant.size there c.loop-node.invariant.listed);
+          (listed_next store list flags i c.loop-node-test.true
+          c.loop-node.invariant.size there c.loop-node.invariant.listed);
     }
 
 pub returns : goal.returns
 returns c =
-    let whole : take c.loop-node.node-index c.args.list.now ≡ c.args.list.now = take_all c.loop-node.node-index c.args.list.now (omega arith) in
+    let whole : take c.loop-node.node-index c.args.list.now ≡ c.args.list.now =
+    take_all c.loop-node.node-index c.args.list.now (omega arith) in
     subst (FlagsJustListed c.args.store.now c.loop-node.flags.items) whole c.loop-node.invariant.listed

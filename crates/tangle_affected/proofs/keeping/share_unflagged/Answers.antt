@@ -1,10 +1,16 @@
 use Rattle.std.proofs.Common.{◌∙◌, get_or, sym}
+use Rattle.std.proofs.lemmas.Bool.{both_ways}
 use Rattle.tangle_plans.specs.declared.nodes.Node.TheVariants.{Program}
 use Rattle.tangle_graph.specs.Stores.{flag_at}
-use Rattle.tangle_affected.proofs.KeepLemmas.{true_false, unflagged_more, unflagged_same}
+use Rattle.tangle_affected.proofs.KeepLemmas.{unflagged_more, unflagged_same}
 use Rattle.tangle_affected.proofs.FlagLemmas.{at_position}
 use Rattle.tangle_affected.proofs.keeping.share_unflagged.Goals as goal
-use Rattle.tangle_affected.proofs.keeping.share_unflagged.Goals.{then-expandable+then-not-is_flagged+in_ok-keep_share, else-expandable, else-expandable-via-then-expandable+else-not-is_flagged, else-expandable-via-else-expandable}
+use Rattle.tangle_affected.proofs.keeping.share_unflagged.Goals.{
+  then-expandable+then-not-is_flagged+in_ok-keep_share,
+  else-expandable,
+  else-expandable-via-then-expandable+else-not-is_flagged,
+  else-expandable-via-else-expandable,
+}
 
 pub keep_share-requires : goal.keep_share-requires
 keep_share-requires c =
@@ -25,7 +31,8 @@ keep_share-requires c =
         is,
         (
           (is.after.expandable node inside).0 (sym c.expandable.ensures ∙ c.if-expandable.true),
-          λ affected. true_false (flag_at new c.args.flags.now node) (c.requires.flags shapes is node inside affected) unflagged,
+          λ affected.
+              both_ways (flag_at new c.args.flags.now node) unflagged (c.requires.flags shapes is node inside affected),
         ),
       );
     }
@@ -44,10 +51,19 @@ loop-node-preserved c =
           let flag = sym c.expandable.ensures ∙ w.if-expandable.true in
           let unflagged = sym w.is_flagged.ensures ∙ w.if-not-is_flagged.true in
           let inside = at_position new order ordered i h in
-          unflagged_more shapes.new new order ordered flagged i c.loop-node.kept _ h flag (c.loop-node.invariant shapes is)
-          (w.in_ok-keep_share.ensures shapes is ((is.after.expandable node inside).0 flag, λ affected. true_false (flag_at new c.args.flags.now node) (c.requires.flags shapes is node inside affected) unflagged)))
-      | else-expandable w ↦ rw w.kept-is (λ shapes is. unflagged_same shapes.new new order ordered flagged i c.loop-node.kept h (λ e m. elim w.else-expandable.branch [
-        | else-expandable-via-then-expandable+else-not-is_flagged v ↦ true_false (flag_at new c.args.flags.now (get_or order i Program)) (sym v.is_flagged.ensures ∙ v.if-not-is_flagged.false) m
-        | else-expandable-via-else-expandable v ↦ true_false c.expandable.result (c.expandable.ensures ∙ e) v.if-expandable.false
-      ]) (c.loop-node.invariant shapes is))
+          unflagged_more shapes.new new order ordered flagged i
+          c.loop-node.kept _ h flag (c.loop-node.invariant shapes is)
+          (w.in_ok-keep_share.ensures shapes is (
+            (is.after.expandable node inside).0 flag,
+            λ affected. both_ways (flag_at new c.args.flags.now node)
+                unflagged (c.requires.flags shapes is node inside affected),
+          )))
+      | else-expandable w ↦ rw w.kept-is (λ shapes is. unflagged_same shapes.new new order
+          ordered flagged i c.loop-node.kept h (λ e m. elim w.else-expandable.branch [
+            | else-expandable-via-then-expandable+else-not-is_flagged v ↦
+                both_ways (flag_at new c.args.flags.now (get_or order i Program))
+                m (sym v.is_flagged.ensures ∙ v.if-not-is_flagged.false)
+            | else-expandable-via-else-expandable v ↦
+                both_ways c.expandable.result v.if-expandable.false (c.expandable.ensures ∙ e)
+          ]) (c.loop-node.invariant shapes is))
     ]

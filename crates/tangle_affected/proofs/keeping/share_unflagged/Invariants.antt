@@ -5,4 +5,6 @@ use Rattle.tangle_affected.specs.Keeping.{IsEditOf, KeepsUnflagged}
 use Rattle.tangle_affected.proofs.keeping.share_unflagged.Given as goal
 
 abbrev pub invariant-loop-node : goal.invariant-loop-node
-invariant-loop-node l = (shapes : EditedShapes) → IsEditOf l.old l.new l.old_kept shapes → KeepsUnflagged shapes.new l.new (flag_at l.new l.flags) (take l.node-index l.order) l.kept
+invariant-loop-node l =
+    (shapes : EditedShapes) → IsEditOf l.old l.new l.old_kept shapes
+    → KeepsUnflagged shapes.new l.new (flag_at l.new l.flags) (take l.node-index l.order) l.kept

@@ -5,6 +5,7 @@ use Rattle.tangle_expansion.proofs.building.mark_origins.Given as goal
 
 abbrev pub invariant-loop-item : goal.invariant-loop-item
 invariant-loop-item l = record {
-  origins : l.origins.items ++ flat_map item_origins (drop l.item-index l.piece.items) ≡ flat_map item_origins l.piece.items;
+  origins : l.origins.items ++ flat_map item_origins (drop l.item-index l.piece.items)
+      ≡ flat_map item_origins l.piece.items;
   low : All IsLow l.origins.items;
 }

@@ -1,6 +1,7 @@
 use Rattle.std.proofs.Common.{◌≡◌, ◌∙◌, ◌<◌, ℕ, List, [], map, length, ap, sym, subst, arith, All}
 use Rattle.std.specs.Prelude.{slice_index_or}
 use Rattle.std.proofs.lemmas.List.Elements.{All-push}
+use Rattle.std.proofs.lemmas.List.{take_all}
 use Rattle.tangle_names.specs.NameTable.{table_of}
 use Rattle.tangle_plans.specs.Shapes.{Named}
 use Rattle.tangle_plans.specs.WebShapes.{pieces_of}
@@ -8,7 +9,7 @@ use Rattle.tangle_plans.specs.ItemSlots.{pieces_at}
 use Rattle.tangle_expansion.specs.Numbers.{numbers_of_piece}
 use Rattle.tangle_expansion.specs.SymbolLimits.{IsShort}
 use Rattle.tangle_plans.specs.declared.nodes.Node.TheVariants.{Name}
-use Rattle.tangle_expansion.proofs.BuildLemmas.{rows_next, take_whole}
+use Rattle.tangle_expansion.proofs.BuildLemmas.{rows_next}
 use Rattle.tangle_expansion.proofs.building.numbers_of_names.Goals as goal
 
 pub loop-id-preserved : goal.loop-id-preserved
@@ -21,7 +22,8 @@ loop-id-preserved g c =
     let row = c.in_ok-numbers_of_pieces.field-0 in
     let rows = c.loop-id.rows.items in
     let given = g.S.PiecesByNode.names c.args.store.now in
-    let below : id < length given = omega (arith, c.loop-id-test.true, c.count-count.ensures, ap length c.full_names.ensures) in
+    let below : id < length given =
+    omega (arith, c.loop-id-test.true, c.count-count.ensures, ap length c.full_names.ensures) in
     let low : id < length names = omega (arith, below, ap length c.requires.same_names) in
     let is : row ≡ numbers (slice_index_or names id [])
     = c.in_ok-numbers_of_pieces.ensures.numbers
@@ -40,4 +42,10 @@ returns-clause-rows g c =
     let table = table_of web in
     c.loop-id.invariant.rows
     ∙ ap (map (λ name. map numbers_of_piece (pieces_of web table (Named name))))
-    (take_whole table.names c.loop-id.id (omega (arith, c.loop-id-test.false, c.count-count.ensures, ap length c.full_names.ensures, ap length c.requires.same_names)))
+    (take_all c.loop-id.id table.names (omega (
+      arith,
+      c.loop-id-test.false,
+      c.count-count.ensures,
+      ap length c.full_names.ensures,
+      ap length c.requires.same_names,
+    )))

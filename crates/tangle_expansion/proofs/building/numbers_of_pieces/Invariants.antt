@@ -6,6 +6,7 @@ use Rattle.tangle_expansion.proofs.building.numbers_of_pieces.Given as goal
 
 abbrev pub invariant-loop-piece : goal.invariant-loop-piece
 invariant-loop-piece l = record {
-  numbers : l.all.items ++ map numbers_of_piece (pieces_at l.web.pieces (drop l.piece-index l.pieces)) ≡ map numbers_of_piece (pieces_at l.web.pieces l.pieces);
+  numbers : l.all.items ++ map numbers_of_piece (pieces_at l.web.pieces (drop l.piece-index l.pieces))
+      ≡ map numbers_of_piece (pieces_at l.web.pieces l.pieces);
   short : All IsShort l.all.items;
 }

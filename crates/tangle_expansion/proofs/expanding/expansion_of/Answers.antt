@@ -8,14 +8,18 @@ use Rattle.tangle_expansion.proofs.expanding.expansion_of.Goals as goal
 
 pub share_used-requires : goal.share_used-requires
 share_used-requires c = λ id u.
-    c.requires id (used_in_plan c.args.body.now.value.plan.items c.deref-step-items.result.now c.loop-step.step-index Open id
-    (c.deref-step-items.ensures.value ∙ ap (λ (b : NodeBody). b.plan.items) c.deref-stored.ensures) c.loop-step-test.true u)
+    c.requires id
+    (used_in_plan c.args.body.now.value.plan.items c.deref-step-items.result.now c.loop-step.step-index Open id
+    (c.deref-step-items.ensures.value ∙ ap (λ (b : NodeBody). b.plan.items) c.deref-stored.ensures)
+    c.loop-step-test.true u)
 
 pub returns-in-Ok-new : goal.returns-in-Ok-new
 returns-in-Ok-new c =
     let body = c.args.body.now.value in
-    let done = uses_end (used_symbols c.args.kept.now) body.plan.items c.deref-step-items.result.now c.loop-step.step-index c.loop-step.used.items
-    (c.deref-step-items.ensures.value ∙ ap (λ (b : NodeBody). b.plan.items) c.deref-stored.ensures) (omega arith) c.loop-step.invariant in
+    let done = uses_end (used_symbols c.args.kept.now) body.plan.items
+    c.deref-step-items.result.now c.loop-step.step-index c.loop-step.used.items
+    (c.deref-step-items.ensures.value ∙ ap (λ (b : NodeBody). b.plan.items) c.deref-stored.ensures) (omega arith)
+    c.loop-step.invariant in
     rw (c.in-Ok-new.ensures.ok, c.in-Ok.ensures.cases)
     (ap (plan_flat (title_of body.name) body.bytes.items 0 0 0 body.plan.items) done
     ∙ plan_filled (used_symbols c.args.kept.now) (title_of body.name) body.bytes.items 0 0 0 body.plan.items)

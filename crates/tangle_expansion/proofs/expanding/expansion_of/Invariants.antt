@@ -5,4 +5,5 @@ use Rattle.tangle_expansion.proofs.expanding.expansion_of.Given as goal
 
 abbrev pub invariant-loop-step : goal.invariant-loop-step
 invariant-loop-step l =
-    l.used.items ++ map (used_symbols l.kept) (uses_of (drop l.step-index l.body.value.plan.items)) ≡ map (used_symbols l.kept) (uses_of l.body.value.plan.items)
+    l.used.items ++ map (used_symbols l.kept) (uses_of (drop l.step-index l.body.value.plan.items))
+    ≡ map (used_symbols l.kept) (uses_of l.body.value.plan.items)

@@ -5,11 +5,15 @@ use Rattle.tangle_expansion.proofs.files.write_file.Goals as goal
 
 pub returns-then-not-has_piece : goal.returns-then-not-has_piece
 returns-then-not-has_piece g c =
-    front_written _ _ _ c.args.numbers.now c.args.output.now.has_macros c.args.output.now.has_piece _ c.front_of.result.now c.symbols_are_short.ensures
+    front_written _ _ _ c.args.numbers.now c.args.output.now.has_macros
+    c.args.output.now.has_piece _ c.front_of.result.now c.symbols_are_short.ensures
     (sym c.has_piece.ensures ∙ c.if-not-has_piece.true) c.front_of.ensures c.write_after-begun.ensures
 
 pub returns : goal.returns
 returns g c =
-    file_written _ _ _ _ _ _ _ c.args.numbers.now c.args.output.now.has_macros c.args.output.now.has_piece c.kept_expansion-expansion.result.now
-    (node_symbols c.args.kept.now c.args.output.now.node) c.front_of.result.now c.symbols_are_short.ensures (sym c.has_piece.ensures ∙ c.if-not-has_piece.false) c.front_of.ensures
-    (c.kept_expansion-expansion.ensures ∙ ap (node_symbols c.args.kept.now) c.node.ensures) c.requires.light c.write_after-begun.ensures c.write_text_after-written.ensures c.write_after.ensures
+    file_written _ _ _ _ _ _ _ c.args.numbers.now c.args.output.now.has_macros
+    c.args.output.now.has_piece c.kept_expansion-expansion.result.now
+    (node_symbols c.args.kept.now c.args.output.now.node) c.front_of.result.now
+    c.symbols_are_short.ensures (sym c.has_piece.ensures ∙ c.if-not-has_piece.false) c.front_of.ensures
+    (c.kept_expansion-expansion.ensures ∙ ap (node_symbols c.args.kept.now) c.node.ensures) c.requires.light
+    c.write_after-begun.ensures c.write_text_after-written.ensures c.write_after.ensures

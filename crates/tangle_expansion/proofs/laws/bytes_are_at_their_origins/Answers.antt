@@ -7,4 +7,5 @@ pub returns-clause-symbols : goal.returns-clause-symbols
 returns-clause-symbols c = without_classes
 
 pub returns-clause-origins : goal.returns-clause-origins
-returns-clause-origins c = λ source web fuel node origin own. node_is_located source web (table_of web) (c.names_resolve_inside.ensures web) own fuel node origin
+returns-clause-origins c = λ source web fuel node origin own.
+    node_is_located source web (table_of web) (c.names_resolve_inside.ensures web) own fuel node origin

@@ -10,11 +10,14 @@ use Rattle.tangle_expansion.proofs.laws.nodes_are_written_by_pieces.Goals as goa
 
 pub returns-clause-pieces : goal.returns-clause-pieces
 returns-clause-pieces c = λ web table marks used node inside.
-    pieces_written (numbers_of web table marks) web.texts table used node 0 (pieces_of web table node) (node_numbers_of web table marks inside node)
+    pieces_written (numbers_of web table marks) web.texts table used node 0
+    (pieces_of web table node) (node_numbers_of web table marks inside node)
 
 pub returns-clause-expandable : goal.returns-clause-expandable
 returns-clause-expandable c = λ web marks node e.
     let table = table_of web in
-    ap (expansion_bytes (numbers_of web table marks)) (c.nodes_expand_by_uses.ensures.symbols levels (shapes web table) node e.shallow)
-    ∙ pieces_written (numbers_of web table marks) web.texts table (λ name. flat_of (shapes web table) (Named name)) node 0 (pieces_of web table node)
+    ap (expansion_bytes (numbers_of web table marks))
+    (c.nodes_expand_by_uses.ensures.symbols levels (shapes web table) node e.shallow)
+    ∙ pieces_written (numbers_of web table marks) web.texts table
+    (λ name. flat_of (shapes web table) (Named name)) node 0 (pieces_of web table node)
     (node_numbers_of web table marks (c.names_resolve_inside.ensures web) node)

@@ -6,7 +6,8 @@ use Rattle.tangle_expansion.specs.Numbers.{numbers_of}
 use Rattle.tangle_expansion.specs.PieceBytes.{bytes_after_mark, used_bytes}
 use Rattle.tangle_expansion.proofs.laws.what_is_apart_is_written_apart.Goals as goal
 
-all_zip : {A B : Type 0} {P Q : A → B → Type 0} (xs : List A) (ys : List B) → ((x : A) (y : B) → P x y → Q x y) → AllZip P xs ys → AllZip Q xs ys
+all_zip : {A B : Type 0} {P Q : A → B → Type 0} (xs : List A) (ys : List B)
+    → ((x : A) (y : B) → P x y → Q x y) → AllZip P xs ys → AllZip Q xs ys
 all_zip [] [] f h = h
 all_zip [] (y ∷ ys) f h = h
 all_zip (x ∷ xs) [] f h = h
@@ -20,5 +21,7 @@ returns c = λ source marks used.
     record {
       macros_written = refl;
       macros = apart.macros;
-      pieces = all_zip web.pieces _ (λ piece tokens h. h (used_bytes numbers (table_of web) used) (bytes_after_mark numbers) numbers.macros) apart.pieces;
+      pieces = all_zip web.pieces _
+          (λ piece tokens h. h (used_bytes numbers (table_of web) used) (bytes_after_mark numbers) numbers.macros)
+          apart.pieces;
     }

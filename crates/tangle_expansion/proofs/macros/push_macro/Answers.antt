@@ -8,4 +8,5 @@ push_macro_item-requires c =
     let texts = c.args.web.now.texts in
     let all = All-without_end texts (IsInRange texts) c.args.items.now c.requires in
     let written = subst (All (IsInRange texts)) (sym c.without_end-item-items.ensures) all in
-    subst (IsInRange texts) (sym c.item-item.is) (written c.loop-item.item-index c.item-item.result c.loop-item-test.true)
+    subst (IsInRange texts) (sym c.item-item.is)
+    (written c.loop-item.item-index c.item-item.result c.loop-item-test.true)

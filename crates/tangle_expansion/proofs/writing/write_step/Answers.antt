@@ -17,7 +17,8 @@ pub returns-in-Mark : goal.returns-in-Mark
 returns-in-Mark g c =
     rw c.in-Mark.is
     (writes_same _ _ _ _ _ _
-    (mark_written c.args.numbers.now (title_of c.args.body.now.name) c.args.pieces.now c.args.at.piece _ c.mark_origin_at-in-Mark.result c.requires.ours c.mark_origin_at-in-Mark.ensures)
+    (mark_written c.args.numbers.now (title_of c.args.body.now.name) c.args.pieces.now c.args.at.piece
+    _ c.mark_origin_at-in-Mark.result c.requires.ours c.mark_origin_at-in-Mark.ensures)
     c.write_mark-in-Mark.ensures)
 
 pub returns-in-AllMacros : goal.returns-in-AllMacros
@@ -30,7 +31,8 @@ pub returns-in-Close : goal.returns-in-Close
 returns-in-Close g c =
     rw c.in-Close.is
     (writes_same _ _ _ _ _ _
-    (closing_written c.args.numbers.now (title_of c.args.body.now.name) c.args.pieces.now c.args.at.piece c.section_at-in-Close.result c.requires.ours c.section_at-in-Close.ensures)
+    (closing_written c.args.numbers.now (title_of c.args.body.now.name) c.args.pieces.now
+    c.args.at.piece c.section_at-in-Close.result c.requires.ours c.section_at-in-Close.ensures)
     c.write_closing.ensures)
 
 pub returns-in-Space : goal.returns-in-Space

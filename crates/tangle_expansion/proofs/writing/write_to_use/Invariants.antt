@@ -13,7 +13,8 @@ invariant-loop-at g l =
     record {
       wrote : Wrote (t l.fn.sink) (t l.sink) l.fn.so_far l.so_far
           (expansion_bytes l.numbers (before_use node bytes l.at.piece l.at.marks l.at.start (drop l.at.step plan)))
-          (expansion_bytes l.numbers (before_use node bytes l.fn.from.piece l.fn.from.marks l.fn.from.start (drop l.fn.from.step plan)));
+          (expansion_bytes l.numbers
+          (before_use node bytes l.fn.from.piece l.fn.from.marks l.fn.from.start (drop l.fn.from.step plan)));
       rest : after_use l.fn.from.piece l.fn.from.marks l.fn.from.start (drop l.fn.from.step plan)
           ≡ after_use l.at.piece l.at.marks l.at.start (drop l.at.step plan);
     }

@@ -7,7 +7,8 @@ pub returns-in-Count-clause-written : goal.returns-in-Count-clause-written
 returns-in-Count-clause-written g c = rw (c.in-Count.is, ← c.count.ensures) c.write_count.ensures.written
 
 pub returns-in-SectionName-clause-written : goal.returns-in-SectionName-clause-written
-returns-in-SectionName-clause-written g c = rw (c.in-SectionName.is, ← c.subject-in-SectionName.ensures) c.write_bracketed.ensures
+returns-in-SectionName-clause-written g c =
+    rw (c.in-SectionName.is, ← c.subject-in-SectionName.ensures) c.write_bracketed.ensures
 
 pub returns-in-None-clause-written : goal.returns-in-None-clause-written
 returns-in-None-clause-written g c = rw (c.in-NameOrProgram.is, ← c.in-None.ensures) c.write_after-in-None.ensures

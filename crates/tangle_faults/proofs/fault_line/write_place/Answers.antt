@@ -17,4 +17,5 @@ pub returns-clause-short : goal.returns-clause-short
 returns-clause-short g c =
     let file_len = c.file.type_inv in
     let line_len = c.as_bytes.type_inv in
-    rw (← c.file.ensures, ← c.line.ensures, ← c.format.ensures.text, ← c.as_bytes.ensures.value) (omega (arith, length-append {A = ℕ}))
+    rw (← c.file.ensures, ← c.line.ensures, ← c.format.ensures.text, ← c.as_bytes.ensures.value)
+    (omega (arith, length-append {A = ℕ}))

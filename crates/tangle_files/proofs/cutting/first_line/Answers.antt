@@ -9,7 +9,8 @@ pub returns-in-Some-clause-lines : goal.returns-in-Some-clause-lines
 returns-in-Some-clause-lines c =
     let h = c.in-Some.ensures in
     rw (take_rest, add-one)
-    (raw_lines_at c.args.bytes.now c.in-Some.end h.0.high (λ k l. false_from_ne_true _ (h.0.before k (omega arith) l)) h.1)
+    (raw_lines_at c.args.bytes.now c.in-Some.end h.0.high
+    (λ k l. false_from_ne_true _ (h.0.before k (omega arith) l)) h.1)
 
 pub returns-in-None-clause-lines : goal.returns-in-None-clause-lines
 returns-in-None-clause-lines c =

@@ -6,7 +6,9 @@ pub add_line-requires-clause-within : goal.add_line-requires-clause-within
 add_line-requires-clause-within c =
     let bytes = c.bytes_of-bytes.result.now in
     let end = c.end_of_line-end in
-    rw (← c.bytes_of-bytes.ensures) (line_fits bytes c.without_trailing_spaces-line.result.now c.loop-start.start end.result c.without_trailing_spaces-line.ensures end.ensures.low end.ensures.high)
+    rw (← c.bytes_of-bytes.ensures)
+    (line_fits bytes c.without_trailing_spaces-line.result.now c.loop-start.start
+    end.result c.without_trailing_spaces-line.ensures end.ensures.low end.ensures.high)
 
 pub loop-start-preserved : goal.loop-start-preserved
 loop-start-preserved c =

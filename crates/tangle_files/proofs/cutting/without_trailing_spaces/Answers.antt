@@ -12,7 +12,8 @@ returns-then-line-end-ne32 c =
     let other : (get_or line last 0 == 32) ≡ false = ne_eqb _ 32 c.if-line-end-ne32.true in
     let spaces = c.loop-end.invariant.spaces in
     subst (λ n. take n line ≡ trimmed line) next
-    (sym (trimmed_at line last (omega (arith, c.loop-end-test.true, c.loop-end.invariant.within)) other (λ k l m. spaces k (omega arith) m)))
+    (sym (trimmed_at line last (omega (arith, c.loop-end-test.true, c.loop-end.invariant.within))
+    other (λ k l m. spaces k (omega arith) m)))
 
 pub returns : goal.returns
 returns c =

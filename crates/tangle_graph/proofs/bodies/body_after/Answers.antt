@@ -24,13 +24,17 @@ returns-in-Ok-clause-body c =
     let yes = c.if-has_items_of.true in
     let same : c.in-Ok.body.value ≡ old = c.in-Ok.ensures.cases ∙ sym c.deref.ensures in
     let planned : IsPlanned has old =
-    subst (IsPlanned has) (sym c.deref.ensures) (subst (λ o. IfSome o (λ body. IsPlanned has body.now.value)) c.in-Some.is c.requires.planned) in
+    subst (IsPlanned has) (sym c.deref.ensures)
+    (subst (λ o. IfSome o (λ body. IsPlanned has body.now.value)) c.in-Some.is c.requires.planned) in
     let title : body_title old ≡ title_at table.names c.args.n =
-    ap body_title c.deref.ensures ∙ subst (λ o. IfSome o (λ body. body_title body.now.value ≡ title_at table.names c.args.n)) c.in-Some.is c.requires.title in
+    ap body_title c.deref.ensures
+    ∙ subst (λ o. IfSome o (λ body. body_title body.now.value ≡ title_at table.names c.args.n))
+    c.in-Some.is c.requires.title in
     let plan = c.has_items_of.ensures.plan yes has planned in
     subst (IsBodyAt web table has c.args.n numbers) (sym same) (record {
       slots = plan ∙ ap (λ (t : Title). pieces_slots web.texts table has t 0 pieces) title;
-      is_body = is_body_of web table has (body_title old) numbers old (c.has_items_of.ensures.shape yes) (c.has_items_of.ensures.same.0 yes).uses plan;
+      is_body = is_body_of web table has (body_title old) numbers old
+          (c.has_items_of.ensures.shape yes) (c.has_items_of.ensures.same.0 yes).uses plan;
       uses = c.has_items_of.ensures.plan_uses yes has planned;
       title = title;
       planned = planned;

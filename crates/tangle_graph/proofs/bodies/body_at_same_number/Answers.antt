@@ -11,14 +11,16 @@ pub returns-clause-title : goal.returns-clause-title
 returns-clause-title c =
     let old = c.args.old in
     let has : ℕ → Bool = λ id. get_or old.has_piece.now id false in
-    subst (λ (ns : List (List ℕ)). IfSome c.get.result (λ body. body_title body.now.value ≡ title_at ns c.args.n)) c.requires.same_names_and_flags.names
+    subst (λ (ns : List (List ℕ)). IfSome c.get.result (λ body. body_title body.now.value ≡ title_at ns c.args.n))
+    c.requires.same_names_and_flags.names
     (title_read old.names.now has old.bodies.now c.args.n c.requires.old c.get.result c.get.ensures.lookup)
 
 pub returns-clause-planned : goal.returns-clause-planned
 returns-clause-planned c =
     let old = c.args.old in
     let has : ℕ → Bool = λ id. get_or old.has_piece.now id false in
-    subst (λ (fs : List Bool). IfSome c.get.result (λ body. IsPlanned (λ id. get_or fs id false) body.now.value)) c.requires.same_names_and_flags.flags
+    subst (λ (fs : List Bool). IfSome c.get.result (λ body. IsPlanned (λ id. get_or fs id false) body.now.value))
+    c.requires.same_names_and_flags.flags
     (planned_read old.names.now has old.bodies.now c.args.n c.requires.old c.get.result c.get.ensures.lookup)
 
 pub returns-clause-before : goal.returns-clause-before

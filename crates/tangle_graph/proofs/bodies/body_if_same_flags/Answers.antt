@@ -23,9 +23,12 @@ returns-then-agree_on-clause-planned c =
     let body = c.in-Some.body.now.value in
     let planned = subst (λ o. IfSome o (λ body. IsPlanned has body.now.value)) c.in-Some.is
     (planned_read names has c.args.old.bodies.now c.args.n c.requires c.get.result c.get.ensures.lookup) in
-    planned_over has has' body (subst (All (λ id. has id ≡ has' id)) (c.uses.ensures ∙ ap body_uses c.deref.ensures) (c.agree_on.ensures c.if-agree_on.true)) planned
+    planned_over has has' body
+    (subst (All (λ id. has id ≡ has' id)) (c.uses.ensures ∙ ap body_uses c.deref.ensures)
+    (c.agree_on.ensures c.if-agree_on.true)) planned
 
 pub returns-then-agree_on-clause-before : goal.returns-then-agree_on-clause-before
 returns-then-agree_on-clause-before c =
-    subst (λ o. IfSome o (λ body. slice_get (node_bodies c.args.old.bodies.now) c.args.n ≡ Some body.now.value)) c.in-Some.is
+    subst (λ o. IfSome o (λ body. slice_get (node_bodies c.args.old.bodies.now) c.args.n ≡ Some body.now.value))
+    c.in-Some.is
     (body_read c.args.old.bodies.now c.args.n c.get.result c.get.ensures.lookup)

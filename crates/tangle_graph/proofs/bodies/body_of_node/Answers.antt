@@ -17,7 +17,8 @@ returns-in-Ok c =
     let body = c.in_ok-body.body in
     subst (IsBodyAt web table has c.args.n numbers) (sym c.in-Ok.ensures.ok) (record {
       slots = reported.plan ∙ ap (λ (t : Title). pieces_slots web.texts table has t 0 pieces) c.in_ok-name.ensures;
-      is_body = is_body_of web table has (title_of c.in_ok-name.name) numbers body reported.shape reported.uses reported.plan;
+      is_body =
+          is_body_of web table has (title_of c.in_ok-name.name) numbers body reported.shape reported.uses reported.plan;
       uses = reported.plan_uses;
       title = reported.title ∙ c.in_ok-name.ensures;
       planned = record {

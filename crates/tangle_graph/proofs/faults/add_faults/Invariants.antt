@@ -6,4 +6,7 @@ use Rattle.tangle_graph.proofs.faults.add_faults.Given as goal
 abbrev pub invariant-loop-id : goal.invariant-loop-id
 invariant-loop-id l =
     l.faults.items ≡ l.fn.faults.items
-    ++ flat_map (λ id. fault_of l.web l.table l.kind id (fault_occurrence l.web l.table l.out (flag_of_number l.flags.self_containing.now) (flag_of_number l.flags.reaching_cycles.now) l.kind id)) (take l.id-index l.names)
+    ++ flat_map
+    (λ id. fault_of l.web l.table l.kind id
+    (fault_occurrence l.web l.table l.out (flag_of_number l.flags.self_containing.now)
+    (flag_of_number l.flags.reaching_cycles.now) l.kind id)) (take l.id-index l.names)

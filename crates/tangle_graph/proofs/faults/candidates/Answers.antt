@@ -1,4 +1,5 @@
-use Rattle.std.proofs.Common.{◌≡◌, ◌∙◌, ◌<◌, arith, ◌∷◌, [], ℕ, List, Bool, true, false, ap, cond, flat_map, length, subst, sym}
+use Rattle.std.proofs.Common.{◌≡◌, ◌∙◌, ◌<◌, arith, ◌∷◌, [], ℕ, List, Bool, true, false, ap, cond, flat_map, length}
+use Rattle.std.proofs.Common.{subst, sym}
 use Rattle.std.specs.Prelude.{All}
 use Rattle.std.specs.List.{range_with_len}
 use Rattle.std.proofs.lemmas.List.Elements.{All-append, All-cons, All-nil}
@@ -22,12 +23,17 @@ loop-id-preserved c =
     let count = length table.names in
     let low : id < count = omega arith in
     let g : List ℕ → FaultKind → ℕ → List FaultRead =
-    (λ out kind id. fault_of web table kind id (fault_occurrence web table out (flag_of_number flags.self_containing.now) (flag_of_number flags.reaching_cycles.now) kind id)) in
+    (λ out kind id. fault_of web table kind id
+    (fault_occurrence web table out (flag_of_number flags.self_containing.now)
+    (flag_of_number flags.reaching_cycles.now) kind id)) in
     record {
       names = subst (All (λ m. m < count)) (sym c.in_ok-push_where.ensures)
-          (All-append (λ m. m < count) c.loop-id.names.items (cond c.may_have_fault-needed.result (id ∷ []) []) c.loop-id.invariant.names (all_where count id c.may_have_fault-needed.result low));
+          (All-append (λ m. m < count) c.loop-id.names.items (cond c.may_have_fault-needed.result (id ∷ []) [])
+          c.loop-id.invariant.names (all_where count id c.may_have_fault-needed.result low));
       faults = λ out kind. ap (flat_map (g out kind)) c.in_ok-push_where.ensures
-          ∙ candidates_step (g out kind) id c.loop-id.names.items c.may_have_fault-needed.result (λ e. ap (fault_of web table kind id) (c.may_have_fault-needed.ensures e out kind)) (c.loop-id.invariant.faults out kind);
+          ∙ candidates_step (g out kind) id c.loop-id.names.items c.may_have_fault-needed.result
+          (λ e. ap (fault_of web table kind id) (c.may_have_fault-needed.ensures e out kind))
+          (c.loop-id.invariant.faults out kind);
     }
 
 pub returns-clause-faults : goal.returns-clause-faults
@@ -37,4 +43,8 @@ returns-clause-faults c = λ out kind.
     let flags = c.args.flags.now in
     let end : c.loop-id.id ≡ length table.names = omega arith in
     c.loop-id.invariant.faults out kind
-    ∙ ap (λ n. flat_map (λ id. fault_of web table kind id (fault_occurrence web table out (flag_of_number flags.self_containing.now) (flag_of_number flags.reaching_cycles.now) kind id)) (range_with_len 0 n)) end
+    ∙ ap
+    (λ n. flat_map
+    (λ id. fault_of web table kind id
+    (fault_occurrence web table out (flag_of_number flags.self_containing.now)
+    (flag_of_number flags.reaching_cycles.now) kind id)) (range_with_len 0 n)) end

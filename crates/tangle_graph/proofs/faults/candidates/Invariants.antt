@@ -10,6 +10,12 @@ abbrev pub invariant-loop-id : goal.invariant-loop-id
 invariant-loop-id l = record {
   names : All (λ id. id < length l.table.names) l.names.items;
   faults : (out : List ℕ) (kind : FaultKind)
-      → flat_map (λ id. fault_of l.web l.table kind id (fault_occurrence l.web l.table out (flag_of_number l.flags.self_containing.now) (flag_of_number l.flags.reaching_cycles.now) kind id)) l.names.items
-      ≡ flat_map (λ id. fault_of l.web l.table kind id (fault_occurrence l.web l.table out (flag_of_number l.flags.self_containing.now) (flag_of_number l.flags.reaching_cycles.now) kind id)) (range_with_len 0 l.id);
+      → flat_map
+      (λ id. fault_of l.web l.table kind id
+      (fault_occurrence l.web l.table out (flag_of_number l.flags.self_containing.now)
+      (flag_of_number l.flags.reaching_cycles.now) kind id)) l.names.items
+      ≡ flat_map
+      (λ id. fault_of l.web l.table kind id
+      (fault_occurrence l.web l.table out (flag_of_number l.flags.self_containing.now)
+      (flag_of_number l.flags.reaching_cycles.now) kind id)) (range_with_len 0 l.id);
 }

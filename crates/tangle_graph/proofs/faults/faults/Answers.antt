@@ -10,21 +10,29 @@ use Rattle.tangle_graph.proofs.faults.faults.Goals as goal
 
 pub candidates-requires-clause-numbers : goal.candidates-requires-clause-numbers
 candidates-requires-clause-numbers c =
-    uses_of_web c.args.web.now c.args.table.now c.occurrences.result.now c.in_ok-first_uses.first_uses.items c.deref.result.now c.requires.table c.occurrences.ensures.occurrences c.deref.ensures.value c.in_ok-first_uses.ensures.numbers
+    uses_of_web c.args.web.now c.args.table.now c.occurrences.result.now
+    c.in_ok-first_uses.first_uses.items c.deref.result.now c.requires.table
+    c.occurrences.ensures.occurrences c.deref.ensures.value c.in_ok-first_uses.ensures.numbers
 
 pub add_faults-requires-clause-numbers : goal.add_faults-requires-clause-numbers
 add_faults-requires-clause-numbers c =
-    uses_of_web c.args.web.now c.args.table.now c.occurrences.result.now c.in_ok-first_uses.first_uses.items c.deref-in-loop-kind.result.now c.requires.table c.occurrences.ensures.occurrences c.deref-in-loop-kind.ensures.value c.in_ok-first_uses.ensures.numbers
+    uses_of_web c.args.web.now c.args.table.now c.occurrences.result.now
+    c.in_ok-first_uses.first_uses.items c.deref-in-loop-kind.result.now c.requires.table
+    c.occurrences.ensures.occurrences c.deref-in-loop-kind.ensures.value c.in_ok-first_uses.ensures.numbers
 
 pub add_faults-requires-2-clause-numbers : goal.add_faults-requires-2-clause-numbers
 add_faults-requires-2-clause-numbers c =
-    uses_of_web c.args.web.now c.args.table.now c.occurrences.result.now c.in_ok-first_uses.first_uses.items c.deref-2.result.now c.requires.table c.occurrences.ensures.occurrences c.deref-2.ensures.value c.in_ok-first_uses.ensures.numbers
+    uses_of_web c.args.web.now c.args.table.now c.occurrences.result.now
+    c.in_ok-first_uses.first_uses.items c.deref-2.result.now c.requires.table
+    c.occurrences.ensures.occurrences c.deref-2.ensures.value c.in_ok-first_uses.ensures.numbers
 
 pub loop-kind-preserved : goal.loop-kind-preserved
 loop-kind-preserved c =
-    let of_kind = faults_of_names c.args.web.now c.args.table.now c.args.out.now (flag_of_number c.args.flags.now.self_containing.now) (flag_of_number c.args.flags.now.reaching_cycles.now) in
+    let of_kind = faults_of_names c.args.web.now c.args.table.now c.args.out.now
+    (flag_of_number c.args.flags.now.self_containing.now) (flag_of_number c.args.flags.now.reaching_cycles.now) in
     let kinds : List FaultKind = kind.Undefined ∷ kind.Unused ∷ kind.SelfContaining ∷ kind.TooLarge ∷ [] in
-    kinds_step of_kind kinds c.loop-kind.kind-index _ c.loop-kind.faults.items c.add_faults.new.faults.items c.loop-kind-test.true c.loop-kind.invariant c.in_ok-add_faults.ensures
+    kinds_step of_kind kinds c.loop-kind.kind-index _ c.loop-kind.faults.items
+    c.add_faults.new.faults.items c.loop-kind-test.true c.loop-kind.invariant c.in_ok-add_faults.ensures
 
 pub returns : goal.returns
 returns c =
@@ -37,20 +45,29 @@ returns c =
     let program : n ≡ length table.names = c.count-program.ensures in
     let room : n < length flags.has_piece.now = omega (arith, program, reported.has_piece_size) in
     let low : n ≤ length table.names = omega (arith, program) in
-    let is_large = c.is_too_large-is_large.ensures ∙ ap (is_too_large web table (flag_of_number flags.reaching_cycles.now)) program in
-    let has_piece = get_or_default flags.has_piece.now n _ _ room ∙ reported.has_piece n low ∙ ap (has_piece_by_number web table) program in
-    let of_kind = faults_of_names web table out (flag_of_number flags.self_containing.now) (flag_of_number flags.reaching_cycles.now) in
+    let is_large =
+    c.is_too_large-is_large.ensures ∙ ap (is_too_large web table (flag_of_number flags.reaching_cycles.now)) program in
+    let has_piece = get_or_default flags.has_piece.now n _ _ room
+    ∙ reported.has_piece n low ∙ ap (has_piece_by_number web table) program in
+    let of_kind = faults_of_names web table out (flag_of_number flags.self_containing.now)
+    (flag_of_number flags.reaching_cycles.now) in
     let kinds : List FaultKind = kind.Undefined ∷ kind.Unused ∷ kind.SelfContaining ∷ kind.TooLarge ∷ [] in
     record {
       contains_itself = flag_of_number flags.self_containing.now;
       reaches_cycle = flag_of_number flags.reaching_cycles.now;
       self_containing = reported.containing;
       reaching_cycles = reported.reaching;
-      list = joined c.add_unplaced-2.new.faults.items (of_kind kind.Undefined) (of_kind kind.Unused) (of_kind kind.SelfContaining) (of_kind kind.TooLarge)
-          _ (of_kind kind.FileClash) _ c.loop-kind.faults.items c.add_unplaced.new.faults.items c.add_faults-2.new.faults.items
-          (kinds_whole of_kind kinds c.loop-kind.kind-index c.loop-kind.faults.items (omega (arith, c.loop-kind-test.false)) c.loop-kind.invariant)
-          (c.in_ok-add_unplaced.ensures ∙ ap (λ b. c.loop-kind.faults.items ++ cond b (fault_unplaced kind.TooLarge ∷ []) []) is_large)
+      list = joined c.add_unplaced-2.new.faults.items (of_kind kind.Undefined)
+          (of_kind kind.Unused) (of_kind kind.SelfContaining) (of_kind kind.TooLarge)
+          _ (of_kind kind.FileClash) _ c.loop-kind.faults.items
+          c.add_unplaced.new.faults.items c.add_faults-2.new.faults.items
+          (kinds_whole of_kind kinds c.loop-kind.kind-index c.loop-kind.faults.items
+          (omega (arith, c.loop-kind-test.false)) c.loop-kind.invariant)
+          (c.in_ok-add_unplaced.ensures
+          ∙ ap (λ b. c.loop-kind.faults.items ++ cond b (fault_unplaced kind.TooLarge ∷ []) []) is_large)
           c.in_ok-add_faults-2.ensures
-          (c.in_ok-add_unplaced-2.ensures ∙ ap (λ b. c.add_faults-2.new.faults.items ++ cond (not b) (fault_unplaced kind.NoProgram ∷ []) []) has_piece
-          ∙ ap (λ l. c.add_faults-2.new.faults.items ++ l) (unless (has_piece_by_number web table (length table.names)) (fault_unplaced kind.NoProgram ∷ [])));
+          (c.in_ok-add_unplaced-2.ensures
+          ∙ ap (λ b. c.add_faults-2.new.faults.items ++ cond (not b) (fault_unplaced kind.NoProgram ∷ []) []) has_piece
+          ∙ ap (λ l. c.add_faults-2.new.faults.items ++ l)
+          (unless (has_piece_by_number web table (length table.names)) (fault_unplaced kind.NoProgram ∷ [])));
     }

@@ -5,4 +5,7 @@ use Rattle.tangle_graph.proofs.faults.faults.Given as goal
 
 abbrev pub invariant-loop-kind : goal.invariant-loop-kind
 invariant-loop-kind l =
-    l.faults.items ≡ flat_map (faults_of_names l.web l.table l.out (flag_of_number l.flags.self_containing.now) (flag_of_number l.flags.reaching_cycles.now)) (take l.kind-index l.kind-items)
+    l.faults.items
+    ≡ flat_map
+    (faults_of_names l.web l.table l.out (flag_of_number l.flags.self_containing.now)
+    (flag_of_number l.flags.reaching_cycles.now)) (take l.kind-index l.kind-items)

@@ -8,4 +8,5 @@ use Rattle.tangle_graph.proofs.measures.depths.Given as goal
 abbrev pub invariant-loop-n : goal.invariant-loop-n
 invariant-loop-n l =
     (length l.depths.items ≡ length l.uses)
-    × AreMeasured (λ n. depth_of (shapes l.web l.table) (title_at l.table.names n)) levels l.depths.items (take l.n-index l.order)
+    × AreMeasured (λ n. depth_of (shapes l.web l.table) (title_at l.table.names n))
+    levels l.depths.items (take l.n-index l.order)

@@ -21,19 +21,26 @@ loop-m-preserved c =
     let i = c.loop-m.m-index in
     let v = get_or c.args.depths.now (get_or c.args.nodes.now i 0) 0 in
     let is : c.max-greatest.result ≡ ord_max nat_cmp c.loop-m.greatest v = c.max-greatest.ensures in
-    let two : ((c.max-greatest.result ≡ c.loop-m.greatest) × (v ≤ c.loop-m.greatest)) ⊎ ((c.max-greatest.result ≡ v) × (c.loop-m.greatest ≤ v)) = greatest_of c.loop-m.greatest v c.max-greatest.result is in
+    let two : ((c.max-greatest.result ≡ c.loop-m.greatest) × (v ≤ c.loop-m.greatest))
+    ⊎ ((c.max-greatest.result ≡ v) × (c.loop-m.greatest ≤ v)) =
+    greatest_of c.loop-m.greatest v c.max-greatest.result is in
     elim two [
       | inl w ↦ (
         λ k h. elim (ℕ_discrete k i) [
-          | yes e ↦ (let same : slice_index c.args.depths.now (get_or c.args.nodes.now k 0) ≡ v = ap (λ j. slice_index c.args.depths.now (get_or c.args.nodes.now j 0)) e in omega (arith, same, w.0, w.1))
+          | yes e ↦ (let same : slice_index c.args.depths.now (get_or c.args.nodes.now k 0) ≡ v =
+              ap (λ j. slice_index c.args.depths.now (get_or c.args.nodes.now j 0)) e in
+              omega (arith, same, w.0, w.1))
           | no other ↦ (let before = c.loop-m.invariant.0 k (omega (arith, h, other)) in omega (arith, before, w.0))
         ],
         subst (IsFound c.args.depths.now c.args.nodes.now) (sym w.0) c.loop-m.invariant.1,
       )
       | inr w ↦ (
         λ k h. elim (ℕ_discrete k i) [
-          | yes e ↦ (let same : slice_index c.args.depths.now (get_or c.args.nodes.now k 0) ≡ v = ap (λ j. slice_index c.args.depths.now (get_or c.args.nodes.now j 0)) e in omega (arith, same, w.0))
-          | no other ↦ (let before = c.loop-m.invariant.0 k (omega (arith, h, other)) in omega (arith, before, w.0, w.1))
+          | yes e ↦ (let same : slice_index c.args.depths.now (get_or c.args.nodes.now k 0) ≡ v =
+              ap (λ j. slice_index c.args.depths.now (get_or c.args.nodes.now j 0)) e in
+              omega (arith, same, w.0))
+          | no other ↦
+              (let before = c.loop-m.invariant.0 k (omega (arith, h, other)) in omega (arith, before, w.0, w.1))
         ],
         inr (get_or c.args.nodes.now i 0, Contains-get_or c.args.nodes.now i 0 c.loop-m-test.true, w.0),
       )
@@ -42,5 +49,6 @@ loop-m-preserved c =
 pub returns-clause-least : goal.returns-clause-least
 returns-clause-least c = λ k d h.
     let e = get_or_default c.args.nodes.now k d 0 h in
-    let same : slice_index c.args.depths.now (get_or c.args.nodes.now k d) ≡ slice_index c.args.depths.now (get_or c.args.nodes.now k 0) = ap (slice_index c.args.depths.now) e in
+    let same : slice_index c.args.depths.now (get_or c.args.nodes.now k d)
+    ≡ slice_index c.args.depths.now (get_or c.args.nodes.now k 0) = ap (slice_index c.args.depths.now) e in
     omega (arith, same, c.loop-m.invariant.0 k (omega (arith, h, c.loop-m-test.false)))

@@ -5,4 +5,7 @@ use Rattle.tangle_plans.specs.NodeBodies.{body_uses, plan_slots}
 use Rattle.tangle_graph.proofs.measures.weight_of_node.Given as goal
 
 abbrev pub invariant-loop-id : goal.invariant-loop-id
-invariant-loop-id l = l.weight ≡ min weight_cap (length (plan_slots l.body) + sum_by (λ id. slice_index l.weights id) (take l.id-index (body_uses l.body)))
+invariant-loop-id l =
+    l.weight
+    ≡ min weight_cap
+    (length (plan_slots l.body) + sum_by (λ id. slice_index l.weights id) (take l.id-index (body_uses l.body)))

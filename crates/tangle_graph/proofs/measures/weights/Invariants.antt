@@ -8,4 +8,5 @@ use Rattle.tangle_graph.proofs.measures.weights.Given as goal
 abbrev pub invariant-loop-n : goal.invariant-loop-n
 invariant-loop-n l =
     (length l.weights.items ≡ length l.uses)
-    × AreMeasured (λ n. weight_of (shapes l.web l.table) (title_at l.table.names n)) weight_cap l.weights.items (take l.n-index l.order)
+    × AreMeasured (λ n. weight_of (shapes l.web l.table) (title_at l.table.names n))
+    weight_cap l.weights.items (take l.n-index l.order)

@@ -10,7 +10,8 @@ loop-id-preserved c =
     let others = c.args.table.now.names in
     let low : id < length names = omega arith in
     let same : get_or names id [] ≡ get_or others id [] =
-    sym c.text.ensures ∙ same_by_test c.text.result.now c.text-in-loop-id.result.now (sym c.ne.ensures ∙ c.if-ne.false) ∙ c.text-in-loop-id.ensures in
+    sym c.text.ensures ∙ same_by_test c.text.result.now c.text-in-loop-id.result.now (sym c.ne.ensures ∙ c.if-ne.false)
+    ∙ c.text-in-loop-id.ensures in
     take_more names id [] low
     ∙ (λ i. c.loop-id.invariant i ++ same i ∷ [])
     ∙ sym (take_more others id [] (omega arith))

@@ -7,6 +7,8 @@ use Rattle.tangle_graph.proofs.outputs.file_names.Goals as goal
 pub names_of-requires-clause-occurrences : goal.names_of-requires-clause-occurrences
 names_of-requires-clause-occurrences c =
     let occurrences = c.args.web.now.occurrences in
-    let below = positions_below (λ o. o.is_file) 0 (length c.args.table.now.resolved) occurrences (omega (arith, c.requires.ours)) in
+    let below = positions_below (λ o. o.is_file) 0 (length c.args.table.now.resolved)
+    occurrences (omega (arith, c.requires.ours)) in
     subst (λ l. All (λ k. k < length c.args.table.now.resolved) l)
-    (sym (c.deref.ensures.value ∙ c.in_ok-occurrences.ensures ∙ ap (λ os. positions (λ o. o.is_file) 0 os) c.occurrences.ensures.occurrences)) below
+    (sym (c.deref.ensures.value ∙ c.in_ok-occurrences.ensures
+    ∙ ap (λ os. positions (λ o. o.is_file) 0 os) c.occurrences.ensures.occurrences)) below

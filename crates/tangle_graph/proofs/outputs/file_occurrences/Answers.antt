@@ -10,4 +10,6 @@ loop-i-preserved c =
     c.in_ok-push_where.ensures
     ∙ ap (λ l. l ++ cond c.is_file.result (c.loop-i.i ∷ []) []) c.loop-i.invariant
     ∙ sym (positions_more (λ o. o.is_file) 0 c.args.occurrences.now c.loop-i.i d c.loop-i-test.true
-    ∙ (λ i. before ++ cond ((ap (λ o. o.is_file) (sym c.index-occurrences-i.is) ∙ sym c.is_file.ensures) i) (zero-add c.loop-i.i i ∷ []) []))
+    ∙ (λ i. before
+    ++ cond ((ap (λ o. o.is_file) (sym c.index-occurrences-i.is) ∙ sym c.is_file.ensures) i)
+    (zero-add c.loop-i.i i ∷ []) []))

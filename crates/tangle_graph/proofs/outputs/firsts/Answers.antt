@@ -20,10 +20,15 @@ loop-n-preserved c =
     let n = get_or numbers i 0 in
     let low : n < c.args.count = c.requires i 0 c.loop-n-test.true in
     let room : n < length c.loop-n.seen.items = omega (arith, low, c.loop-n.invariant.0.size) in
-    let read : c.index.result.now ≡ list_any (eqb n) (take i numbers) = c.index.ensures ∙ get_or_default c.loop-n.seen.items n c.index.result.now false room ∙ c.loop-n.invariant.0.flag n low in (
+    let read : c.index.result.now ≡ list_any (eqb n) (take i numbers) =
+    c.index.ensures ∙ get_or_default c.loop-n.seen.items n c.index.result.now false room
+    ∙ c.loop-n.invariant.0.flag n low in (
       seen_more c.args.count c.loop-n.seen.items numbers i c.loop-n-test.true low c.loop-n.invariant.0,
       c.in_ok-push_where.ensures ∙ ap (λ b. c.loop-n.firsts.items ++ (if not b then n ∷ [] else [])) read
-          ∙ ap (λ l. l ++ (if not (list_any (eqb n) (take i numbers)) then n ∷ [] else [])) c.loop-n.invariant.1 ∙ sym (firsts_more numbers i c.loop-n-test.true),
-      all_is c.args.count c.push_where.new.numbers.items (c.loop-n.firsts.items ++ (if not c.index.result.now then n ∷ [] else [])) c.in_ok-push_where.ensures
-          (All-append (λ m. m < c.args.count) c.loop-n.firsts.items (if not c.index.result.now then n ∷ [] else []) c.loop-n.invariant.2 (all_where c.args.count n (not c.index.result.now) low)),
+          ∙ ap (λ l. l ++ (if not (list_any (eqb n) (take i numbers)) then n ∷ [] else [])) c.loop-n.invariant.1
+          ∙ sym (firsts_more numbers i c.loop-n-test.true),
+      all_is c.args.count c.push_where.new.numbers.items
+          (c.loop-n.firsts.items ++ (if not c.index.result.now then n ∷ [] else [])) c.in_ok-push_where.ensures
+          (All-append (λ m. m < c.args.count) c.loop-n.firsts.items (if not c.index.result.now then n ∷ [] else [])
+          c.loop-n.invariant.2 (all_where c.args.count n (not c.index.result.now) low)),
     )

@@ -4,4 +4,6 @@ use Rattle.tangle_graph.proofs.outputs.outputs.Given as goal
 
 abbrev pub invariant-loop-id : goal.invariant-loop-id
 invariant-loop-id l =
-    l.files.items ≡ main_file l.web l.table l.out ++ map (named_file l.table) (filter (is_written l.web l.table l.out) (take l.id-index l.id-items))
+    l.files.items
+    ≡ main_file l.web l.table l.out
+    ++ map (named_file l.table) (filter (is_written l.web l.table l.out) (take l.id-index l.id-items))

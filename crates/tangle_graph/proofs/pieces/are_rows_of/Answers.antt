@@ -19,7 +19,11 @@ loop-i-preserved c =
           ∙ ap (λ l. l ++ cond (has_number_in n c.number_of_piece.result) (i ∷ []) []) (c.loop-i.invariant.rows n h)
           ∙ sym (positions_more (is_piece_of_number table n) 0 pieces i d c.loop-i-test.true
           ∙ (λ j. positions_of table (take i pieces) n
-          ++ cond (has_number_in n ((ap (λ p. number_of_piece table p.occurrence) (sym c.index-pieces-i.is) ∙ ap (number_of_piece table) (sym c.occurrence.ensures) ∙ sym c.number_of_piece.ensures.number) j)) (zero-add i j ∷ []) []));
+          ++ cond
+          (has_number_in n
+          ((ap (λ p. number_of_piece table p.occurrence) (sym c.index-pieces-i.is)
+          ∙ ap (number_of_piece table) (sym c.occurrence.ensures)
+          ∙ sym c.number_of_piece.ensures.number) j)) (zero-add i j ∷ []) []));
     }
 
 pub returns : goal.returns
@@ -27,7 +31,8 @@ returns c = λ yes.
     let rows = c.args.rows.now in
     let pieces = c.args.pieces.now in
     let table = c.args.table.now in
-    let count : length rows ≡ length table.names + 1 = omega (arith, c.if-rows-count.false, c.if-rows-count-ne1.false, c.count-count.ensures) in
+    let count : length rows ≡ length table.names + 1 =
+    omega (arith, c.if-rows-count.false, c.if-rows-count-ne1.false, c.count-count.ensures) in
     record {
       size = rows_size rows ∙ count;
       row = λ n h.

@@ -7,7 +7,12 @@ use Rattle.tangle_graph.proofs.pieces.pieces_by_node.Goals as goal
 pub loop-i-preserved : goal.loop-i-preserved
 loop-i-preserved c =
     let d = c.index-pieces-i.result in
-    rows_grow (length c.args.table.now.names + 1) (positions_of c.args.table.now (take c.loop-i.i c.args.pieces.now)) _ _ _ _ c.loop-i.invariant c.in_ok-push_at.ensures
+    rows_grow (length c.args.table.now.names + 1) (positions_of c.args.table.now (take c.loop-i.i c.args.pieces.now))
+    _ _ _ _ c.loop-i.invariant c.in_ok-push_at.ensures
     (λ n _. positions_more (is_piece_of_number c.args.table.now n) 0 c.args.pieces.now c.loop-i.i d c.loop-i-test.true
     ∙ (λ i. positions_of c.args.table.now (take c.loop-i.i c.args.pieces.now) n
-    ++ cond (has_number_in n ((ap (λ p. number_of_piece c.args.table.now p.occurrence) (sym c.index-pieces-i.is) ∙ ap (number_of_piece c.args.table.now) (sym c.occurrence.ensures) ∙ sym c.number_of_piece.ensures.number) i)) (zero-add c.loop-i.i i ∷ []) []))
+    ++ cond
+    (has_number_in n
+    ((ap (λ p. number_of_piece c.args.table.now p.occurrence) (sym c.index-pieces-i.is)
+    ∙ ap (number_of_piece c.args.table.now) (sym c.occurrence.ensures) ∙ sym c.number_of_piece.ensures.number) i))
+    (zero-add c.loop-i.i i ∷ []) []))

@@ -5,16 +5,21 @@ use Rattle.tangle_graph.proofs.shapes.same_shape.Goals as goal
 
 pub returns-in-Some-body : goal.returns-in-Some-body
 returns-in-Some-body c = λ old_shapes new_shapes old_is new_is.
-    c.same_shape.ensures (shape_in_store c.args.old.now old_shapes c.args.old_node) (shape_in_store c.args.new.now new_shapes c.args.new_node)
+    c.same_shape.ensures (shape_in_store c.args.old.now old_shapes c.args.old_node)
+    (shape_in_store c.args.new.now new_shapes c.args.new_node)
     (body_decides old_shapes c.args.old.now old_is c.args.old_node c.in-Some.body.now c.in-Some.ensures.body)
     (body_decides new_shapes c.args.new.now new_is c.args.new_node c.in-Some-body.other.now c.in-Some-body.ensures.body)
 
 pub returns-in-None-body : goal.returns-in-None-body
 returns-in-None-body c = λ old_shapes new_shapes old_is new_is.
-    (no_piece old_shapes c.args.old.now old_is c.args.old_node (shape_in_store c.args.new.now new_shapes c.args.new_node) c.has_piece.result (not c.has_piece.result)
+    (no_piece old_shapes c.args.old.now old_is c.args.old_node
+    (shape_in_store c.args.new.now new_shapes c.args.new_node) c.has_piece.result (not c.has_piece.result)
     (no_body new_shapes c.args.new.now new_is c.args.new_node c.in-None-body.ensures.body) c.has_piece.ensures refl).0
 
 pub returns-in-None : goal.returns-in-None
 returns-in-None c = λ old_shapes new_shapes old_is new_is.
-    (no_piece new_shapes c.args.new.now new_is c.args.new_node (shape_in_store c.args.old.now old_shapes c.args.old_node) c.has_piece-in-None.result (not c.has_piece-in-None.result)
-    (no_body old_shapes c.args.old.now old_is c.args.old_node c.in-None.ensures.body) c.has_piece-in-None.ensures refl).1
+    (no_piece new_shapes c.args.new.now new_is c.args.new_node
+    (shape_in_store c.args.old.now old_shapes c.args.old_node)
+    c.has_piece-in-None.result (not c.has_piece-in-None.result)
+    (no_body old_shapes c.args.old.now old_is c.args.old_node c.in-None.ensures.body) c.has_piece-in-None.ensures
+    refl).1

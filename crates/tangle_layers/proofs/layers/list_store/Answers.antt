@@ -13,5 +13,7 @@ list_outputs-requires g c =
     let store = c.in_ok-store.ensures in
     let kept = c.in_ok-kept.ensures.kept (shapes web table) store.store in
     let inside = subst (λ (t : TableRead). ResolvesInside t) (sym c.requires) (c.names_resolve_inside.ensures web) in
-    let ready = outputs_ready web table c.out.result.now c.in_ok-store.store c.in_ok-kept.kept store kept inside c.expandable_nodes_are_light.ensures in
-    subst (λ outputs. All (λ (output : OutputRead). IsReady output c.in_ok-kept.kept) outputs) (sym c.outputs.ensures) ready
+    let ready = outputs_ready web table c.out.result.now c.in_ok-store.store
+    c.in_ok-kept.kept store kept inside c.expandable_nodes_are_light.ensures in
+    subst (λ outputs. All (λ (output : OutputRead). IsReady output c.in_ok-kept.kept) outputs)
+    (sym c.outputs.ensures) ready

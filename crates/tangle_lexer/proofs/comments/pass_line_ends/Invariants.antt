@@ -8,7 +8,8 @@ abbrev pub invariant-loop-front : goal.invariant-loop-front
 invariant-loop-front l = record {
   end : region_end l.region l.ahead ≡ region_end l.region l.fn.ahead;
   tokens : l.tokens.items ++ line_ends l.region l.ahead ≡ l.fn.tokens.items ++ line_ends l.region l.fn.ahead;
-  include : include_over (line_ends l.region l.ahead) l.include ≡ include_over (line_ends l.region l.fn.ahead) l.state.include;
+  include : include_over (line_ends l.region l.ahead) l.include
+      ≡ include_over (line_ends l.region l.fn.ahead) l.state.include;
 }
 
 abbrev pub decreases-loop-front : goal.decreases-loop-front

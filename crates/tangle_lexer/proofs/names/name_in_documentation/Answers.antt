@@ -1,10 +1,11 @@
 use Rattle.std.proofs.Common.{◌++◌, ◌∷◌, [], drop, ap, sym, ◌∙◌, subst}
+use Rattle.std.proofs.lemmas.Bool.{not-false}
 use Rattle.tangle_lexer.specs.declared.occurrences.OccurrenceRole.TheVariants as role
 use Rattle.tangle_lexer.specs.declared.tokens.Token.TheVariants as token
 use Rattle.tangle_lexer.specs.Reads.{AddsOccurrence}
 use Rattle.tangle_lexer.specs.Names.{definition_or_mention}
 use Rattle.tangle_lexer.specs.Occurrences.{occurrence_of}
-use Rattle.tangle_lexer.proofs.lemmas.NameLemmas.{definition-found, not-false}
+use Rattle.tangle_lexer.proofs.lemmas.NameLemmas.{definition-found}
 use Rattle.tangle_lexer.proofs.names.name_in_documentation.Goals as goal
 
 pub returns : goal.returns
@@ -14,16 +15,24 @@ returns c =
     let lines = c.args.source.now.lines in
     let old = c.args.buffers.now.occurrences.items in
     let name = c.in_ok-name.ensures in
-    let found = definition-found s.last_line c.in-Some.line c.pass_equals.result text c.read_name.new.ahead c.pass_equals.new.ahead
+    let found =
+    definition-found s.last_line c.in-Some.line c.pass_equals.result text c.read_name.new.ahead c.pass_equals.new.ahead
     (sym name.is_ended ∙ not-false _ c.if-not-name.false) name.ahead c.in-Some.is c.pass_equals.ensures in
     record {
       read = record {
-        tokens = c.in_ok-after-3.ensures.tokens ∙ (ap (λ l. c.args.buffers.now.tokens.items ++ token.NamedPart s.occurrences l ∷ []) found.3
+        tokens =
+            c.in_ok-after-3.ensures.tokens
+            ∙ (ap (λ l. c.args.buffers.now.tokens.items ++ token.NamedPart s.occurrences l ∷ []) found.3
             ∙ ap (λ h. c.args.buffers.now.tokens.items ++ (definition_or_mention h s text).tokens) (sym found.1));
         ahead = found.2 ∙ ap (λ h. drop (definition_or_mention h s text).more (drop 1 text)) (sym found.1);
         state = c.in_ok-after-3.ensures.state ∙ ap (λ h. (definition_or_mention h s text).after) (sym found.1);
       };
-      occurrences = subst (λ h. AddsOccurrence lines old c.push_definition.new.buffers.occurrences.items (definition_or_mention h s text).occurrence) (sym found.1)
+      occurrences = subst
+          (λ h. AddsOccurrence lines old c.push_definition.new.buffers.occurrences.items
+          (definition_or_mention h s text).occurrence) (sym found.1)
           (c.in_ok-after-3.ensures.occurrences
-          ∙ (λ i. old ++ occurrence_of lines (record { text = name.text i; is_file = name.is_file i; role = role.Definition; line = name.line i }) ∷ []));
+          ∙ (λ i. old
+          ++ occurrence_of lines
+          (record { text = name.text i; is_file = name.is_file i; role = role.Definition; line = name.line i })
+          ∷ []));
     }

@@ -1,15 +1,14 @@
-use Rattle.std.proofs.Common.{◌≡◌, ◌++◌, length, false}
+use Rattle.std.proofs.Common.{◌≡◌, ◌++◌, ℕ, List, length}
 use Rattle.tangle_text.specs.declared.regions.Region.TheVariants as region
 use Rattle.tangle_text.specs.Regions.{region_end}
-use Rattle.tangle_lexer.specs.Names.{with_single_spaces, has_begun}
+use Rattle.tangle_lexer.specs.Names.{IsNameSoFar}
 use Rattle.tangle_text.specs.NameBytes.{name_bytes}
 use Rattle.tangle_lexer.proofs.names.read_text.Given as goal
 
 abbrev pub invariant-loop-front : goal.invariant-loop-front
 invariant-loop-front l = record {
   end : region_end region.Name l.ahead ≡ region_end region.Name l.fn.ahead;
-  name : l.name.items ++ with_single_spaces (has_begun l.name.items) l.white (name_bytes l.ahead)
-      ≡ with_single_spaces false false (name_bytes l.fn.ahead);
+  name : (read : List ℕ) × IsNameSoFar read l.name.items l.white × (name_bytes l.fn.ahead ≡ read ++ name_bytes l.ahead);
 }
 
 abbrev pub decreases-loop-front : goal.decreases-loop-front

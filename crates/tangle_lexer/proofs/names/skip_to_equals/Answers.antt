@@ -8,10 +8,14 @@ use Rattle.tangle_lexer.proofs.names.skip_to_equals.Goals as goal
 
 pub returns-then-holds : goal.returns-then-holds
 returns-then-holds c =
-    let plus = ap (λ t. holds plus_sign (byte_at 0 t)) (sym c.skip_to_end.ensures) ∙ (ap (holds plus_sign) (sym c.byte.ensures) ∙ (sym c.holds.ensures ∙ c.if-holds.true)) in
-    c.skip_to_end-then-holds.ensures ∙ (ap (region_end region.White) (c.advance.ensures ∙ ap (drop 1) c.skip_to_end.ensures) ∙ plus-further c.args.ahead.now plus)
+    let plus = ap (λ t. holds plus_sign (byte_at 0 t)) (sym c.skip_to_end.ensures)
+    ∙ (ap (holds plus_sign) (sym c.byte.ensures) ∙ (sym c.holds.ensures ∙ c.if-holds.true)) in
+    c.skip_to_end-then-holds.ensures
+    ∙ (ap (region_end region.White) (c.advance.ensures ∙ ap (drop 1) c.skip_to_end.ensures)
+    ∙ plus-further c.args.ahead.now plus)
 
 pub returns-else-holds : goal.returns-else-holds
 returns-else-holds c =
-    let plus = ap (λ t. holds plus_sign (byte_at 0 t)) (sym c.skip_to_end.ensures) ∙ (ap (holds plus_sign) (sym c.byte.ensures) ∙ (sym c.holds.ensures ∙ c.if-holds.false)) in
+    let plus = ap (λ t. holds plus_sign (byte_at 0 t)) (sym c.skip_to_end.ensures)
+    ∙ (ap (holds plus_sign) (sym c.byte.ensures) ∙ (sym c.holds.ensures ∙ c.if-holds.false)) in
     c.skip_to_end.ensures ∙ no_plus-further c.args.ahead.now plus

@@ -9,12 +9,14 @@ use Rattle.tangle_lexer.proofs.quoted.cut.Goals as goal
 
 pub returns-in-Stop-clause-ahead : goal.returns-in-Stop-clause-ahead
 returns-in-Stop-clause-ahead c =
-    let here = unit_at-front c.args.region c.loop-front.ahead c.in-Some.front _ c.in-Some.ensures.front c.unit_of-unit.ensures in
+    let here =
+    unit_at-front c.args.region c.loop-front.ahead c.in-Some.front _ c.in-Some.ensures.front c.unit_of-unit.ensures in
     sym (region_end-stop c.args.region c.loop-front.ahead (here ∙ c.in-Stop.is)) ∙ c.loop-front.invariant.end
 
 pub returns-in-Stop-clause-tokens : goal.returns-in-Stop-clause-tokens
 returns-in-Stop-clause-tokens c = λ ends.
-    let here = unit_at-front c.args.region c.loop-front.ahead c.in-Some.front _ c.in-Some.ensures.front c.unit_of-unit.ensures in
+    let here =
+    unit_at-front c.args.region c.loop-front.ahead c.in-Some.front _ c.in-Some.ensures.front c.unit_of-unit.ensures in
     let stop = cut-stop ends c.args.region c.loop-front.start c.loop-front.ahead (here ∙ c.in-Stop.is) in
     ap (λ ts. c.loop-front.tokens.items ++ ts) (sym stop) ∙ c.loop-front.invariant.tokens ends
 
@@ -25,7 +27,8 @@ loop-front-init c =
     record {
       end = ap (region_end c.args.region) skip.1 ∙ region_end-ordinary c.args.region is skip.0 c.args.ahead.now skip.2;
       tokens = λ ends. ap (λ ts. c.args.tokens.now.items ++ ts)
-          (ap (cut_tokens ends c.args.region 0 c.args.first) skip.1 ∙ cut-ordinary ends c.args.region is skip.0 c.args.first c.args.ahead.now skip.2);
+          (ap (cut_tokens ends c.args.region 0 c.args.first) skip.1
+          ∙ cut-ordinary ends c.args.region is skip.0 c.args.first c.args.ahead.now skip.2);
     }
 
 pub loop-front-preserved : goal.loop-front-preserved
@@ -37,18 +40,31 @@ loop-front-preserved c =
     record {
       end = ap (region_end c.args.region) skip.1 ∙ (region_end-ordinary c.args.region is skip.0 c.pass.new.self skip.2
           ∙ (ap (region_end c.args.region) c.pass.ensures
-          ∙ (sym (region_end-go c.args.region c.loop-front.ahead c.unit_of-unit.result here c.in_default-unit.not-Stop) ∙ c.loop-front.invariant.end)));
+          ∙ (sym (region_end-go c.args.region c.loop-front.ahead c.unit_of-unit.result here c.in_default-unit.not-Stop)
+          ∙ c.loop-front.invariant.end)));
       tokens = λ ends.
-          let given = cut-go ends c.args.region c.loop-front.start c.args.last c.loop-front.ahead c.unit_of-unit.result front.inside here c.in_default-unit.not-Stop in
-          let same = ap (cut_tokens ends c.args.region 0 c.in_ok-start.start) skip.1 ∙ cut-ordinary ends c.args.region is skip.0 c.in_ok-start.start c.pass.new.self skip.2 in
+          let given = cut-go ends c.args.region c.loop-front.start c.args.last c.loop-front.ahead
+          c.unit_of-unit.result front.inside here c.in_default-unit.not-Stop in
+          let same = ap (cut_tokens ends c.args.region 0 c.in_ok-start.start) skip.1
+          ∙ cut-ordinary ends c.args.region is skip.0 c.in_ok-start.start c.pass.new.self skip.2 in
           ap (λ ts. c.push_quoted_unit.new.tokens.items ++ ts) same
-          ∙ rw (c.pass.ensures, c.in_ok-start.ensures.tokens c.args.last c.line.ensures, c.in_ok-start.ensures.start c.args.last, append_assoc, ← given) (c.loop-front.invariant.tokens ends);
+          ∙ rw (
+            c.pass.ensures,
+            c.in_ok-start.ensures.tokens c.args.last c.line.ensures,
+            c.in_ok-start.ensures.start c.args.last,
+            append_assoc,
+            ← given,
+          ) (c.loop-front.invariant.tokens ends);
     }
 
 pub returns-clause-ahead : goal.returns-clause-ahead
 returns-clause-ahead c =
-    c.in_default.ensures.end ∙ (sym (region_end-nothing c.args.region) ∙ (sym (ap (region_end c.args.region) c.in_default.ensures.end) ∙ c.loop-front.invariant.end))
+    c.in_default.ensures.end
+    ∙ (sym (region_end-nothing c.args.region)
+    ∙ (sym (ap (region_end c.args.region) c.in_default.ensures.end) ∙ c.loop-front.invariant.end))
 
 pub returns-clause-tokens : goal.returns-clause-tokens
 returns-clause-tokens c = λ ends.
-    ap (λ ts. c.loop-front.tokens.items ++ ts) (sym (cut-nothing ends c.args.region c.loop-front.start c.loop-front.ahead c.in_default.ensures.end)) ∙ c.loop-front.invariant.tokens ends
+    ap (λ ts. c.loop-front.tokens.items ++ ts)
+    (sym (cut-nothing ends c.args.region c.loop-front.start c.loop-front.ahead c.in_default.ensures.end))
+    ∙ c.loop-front.invariant.tokens ends

@@ -11,7 +11,12 @@ returns c =
     let ends = quote_end c.args.region c.args.close c.args.state.last_line in
     let end = c.in_ok-start.ensures.ahead ∙ ap (region_end c.args.region) c.advance.ensures in
     record {
-      tokens = rw (c.in_ok-end_quote.ensures.tokens, c.in_ok-start.ensures.tokens ends, c.advance.ensures, c.column-opening.ensures.column) refl;
+      tokens = rw (
+        c.in_ok-end_quote.ensures.tokens,
+        c.in_ok-start.ensures.tokens ends,
+        c.advance.ensures,
+        c.column-opening.ensures.column,
+      ) refl;
       ahead = c.in_ok-end_quote.ensures.ahead ∙ (ap (λ t. drop (one_if (holds c.args.close (byte_at 0 t))) t) end
           ∙ drop-end c.args.region (drop 1 c.args.ahead.now) (λ t. holds c.args.close (byte_at 0 t)));
       state = refl;

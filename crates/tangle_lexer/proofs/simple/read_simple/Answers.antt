@@ -12,13 +12,17 @@ loop-simple-preserved c =
     let before = c.loop-simple.invariant in
     let here = c.in-Some.ensures in
     let state = with_include c.loop-simple.include c.args.from in
-    let simple = simple-again _ _ c.loop-simple.include c.args.from _ _ c.loop-simple.here _ c.in-Some.simple c.with_include-state.ensures c.in_ok-include.ensures in
+    let simple = simple-again _ _ c.loop-simple.include c.args.from _ _ c.loop-simple.here
+    _ c.in-Some.simple c.with_include-state.ensures c.in_ok-include.ensures in
     let read = simple-read _ _ state _ c.loop-simple.here _ c.in-Some.simple here before.mode simple in
     record {
       tokens = step-tokens _ _ state _ c.loop-simple.here _ here.inside read ∙ before.tokens;
       no_head = λ none. ap (list_any is_head) simple.tokens
-          ∙ no_head-append c.loop-simple.tokens.items _ (before.no_head none) (simple-no_head c.in-Some.simple state c.loop-simple.here);
-      occurrences = simple-occurrences_from _ _ state _ c.loop-simple.here _ c.in-Some.simple here before.mode simple ∙ before.occurrences;
+          ∙ no_head-append c.loop-simple.tokens.items _ (before.no_head none)
+          (simple-no_head c.in-Some.simple state c.loop-simple.here);
+      occurrences =
+          simple-occurrences_from _ _ state _ c.loop-simple.here _ c.in-Some.simple here before.mode simple
+          ∙ before.occurrences;
       shorter = omega (arith, step-shorter _ _ state _ c.loop-simple.here _ here.inside read, before.shorter);
       mode = before.mode;
     }

@@ -5,8 +5,10 @@ use Rattle.tangle_lines.proofs.reading.read_on.Given as goal
 abbrev pub invariant-loop-line : goal.invariant-loop-line
 invariant-loop-line l = record {
   read :
-      before_reads (record { lines = l.lines.items; faults = l.faults.items }) (reads_from l.files l.change_file (record { waiting = l.waiting; changes = l.changes; taken = l.taken }))
-      ≡ before_reads (record { lines = []; faults = l.fn.faults.items }) (reads_from l.files l.change_file (record { waiting = l.fn.waiting; changes = l.fn.changes; taken = 0 }));
+      before_reads (record { lines = l.lines.items; faults = l.faults.items })
+      (reads_from l.files l.change_file (record { waiting = l.waiting; changes = l.changes; taken = l.taken }))
+      ≡ before_reads (record { lines = []; faults = l.fn.faults.items })
+      (reads_from l.files l.change_file (record { waiting = l.fn.waiting; changes = l.fn.changes; taken = 0 }));
   few : length l.lines.items ≤ l.taken;
   limit : length l.lines.items ≤ source_line_limit;
 }

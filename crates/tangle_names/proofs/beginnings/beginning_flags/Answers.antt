@@ -8,7 +8,9 @@ use Rattle.tangle_names.proofs.beginnings.beginning_flags.Goals as goal
 pub loop-position-preserved : goal.loop-position-preserved
 loop-position-preserved c = record {
   size = c.flag_beginning.ensures.size ∙ c.loop-position.invariant.size;
-  begins = λ id h. beginning_step (borrowed_names c.args.sorted.now) (key_texts c.args.names.now.keys) c.loop-position.position id c.loop-position.begins.items _
-      (inside_texts c.args.sorted.now c.loop-position.position c.loop-position-test.true) (omega (arith, c.loop-position.invariant.size, h))
+  begins = λ id h. beginning_step (borrowed_names c.args.sorted.now)
+      (key_texts c.args.names.now.keys) c.loop-position.position id c.loop-position.begins.items _
+      (inside_texts c.args.sorted.now c.loop-position.position c.loop-position-test.true)
+      (omega (arith, c.loop-position.invariant.size, h))
       (c.loop-position.invariant.begins id h) c.flag_beginning.ensures;
 }

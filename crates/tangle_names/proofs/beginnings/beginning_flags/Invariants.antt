@@ -11,5 +11,7 @@ abbrev pub invariant-loop-position : goal.invariant-loop-position
 invariant-loop-position l = record {
   size : length l.begins.items ≡ length l.names.keys;
   begins : (id : ℕ) → id < length l.names.keys → get_or l.begins.items id false
-      ≡ list_any (λ (t : NameText). begins_another (borrowed_names l.sorted) t && is_number id (resolved_meaning (key_texts l.names.keys) (One t))) (take l.position (borrowed_names l.sorted));
+      ≡ list_any
+      (λ (t : NameText). begins_another (borrowed_names l.sorted) t
+      && is_number id (resolved_meaning (key_texts l.names.keys) (One t))) (take l.position (borrowed_names l.sorted));
 }

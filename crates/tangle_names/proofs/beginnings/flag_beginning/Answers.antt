@@ -10,8 +10,11 @@ use Rattle.tangle_names.proofs.beginnings.flag_beginning.Goals as goal
 pub returns-then-begins_at : goal.returns-then-begins_at
 returns-then-begins_at c =
     flags-made _ _ _ _ _ c.flag.ensures
-    (begins_another-read c.args.sorted.now c.args.position _ c.requires.order c.requires.inside (c.begins_at.ensures.0 c.if-begins_at.true))
-    (ap Name c.number.ensures ∙ ap (λ (t : NameText). resolved_meaning (key_texts c.args.names.now.keys) (One t)) (sym (at_text c.args.sorted.now c.args.position _ c.requires.inside)))
+    (begins_another-read c.args.sorted.now c.args.position _ c.requires.order
+    c.requires.inside (c.begins_at.ensures.0 c.if-begins_at.true))
+    (ap Name c.number.ensures
+    ∙ ap (λ (t : NameText). resolved_meaning (key_texts c.args.names.now.keys) (One t))
+    (sym (at_text c.args.sorted.now c.args.position _ c.requires.inside)))
 
 pub returns-else-begins_at : goal.returns-else-begins_at
 returns-else-begins_at c =

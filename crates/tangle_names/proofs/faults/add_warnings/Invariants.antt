@@ -4,4 +4,6 @@ use Rattle.tangle_names.proofs.faults.add_warnings.Given as goal
 
 abbrev pub invariant-loop-id : goal.invariant-loop-id
 invariant-loop-id l =
-    l.faults.items ≡ l.fn.faults.items ++ flat_map (warning_of_number l.web (key_texts l.names) l.first_occurrences) (take l.id-index l.ids)
+    l.faults.items
+    ≡ l.fn.faults.items
+    ++ flat_map (warning_of_number l.web (key_texts l.names) l.first_occurrences) (take l.id-index l.ids)

@@ -8,7 +8,8 @@ abbrev pub invariant-loop-i : goal.invariant-loop-i
 invariant-loop-i l = record {
   within : l.i ≤ length l.occurrences;
   size : length l.numbers.items ≡ l.count;
-  numbers : (f : OccurrenceRead → Resolved) → l.resolved ≡ map f l.occurrences → (id : ℕ) → id < l.count → get_or l.numbers.items id 0 ≡ l.i + first_by_number f l.counted (drop l.i l.occurrences) id;
+  numbers : (f : OccurrenceRead → Resolved) → l.resolved ≡ map f l.occurrences → (id : ℕ)
+      → id < l.count → get_or l.numbers.items id 0 ≡ l.i + first_by_number f l.counted (drop l.i l.occurrences) id;
 }
 
 abbrev pub decreases-loop-i : goal.decreases-loop-i

@@ -3,4 +3,6 @@ use Rattle.tangle_names.proofs.KeyLemmas.{number_is}
 use Rattle.tangle_names.proofs.numbers.number.Goals as goal
 
 pub returns : goal.returns
-returns c = c.unwrap_or.ensures ∙ number_is c.args.names.now.keys c.args.text.now _ _ c.get_index_of.ensures.index c.len.ensures.len
+returns c =
+    c.unwrap_or.ensures
+    ∙ number_is c.args.names.now.keys c.args.text.now _ _ c.get_index_of.ensures.index c.len.ensures.len

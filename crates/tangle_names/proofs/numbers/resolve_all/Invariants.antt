@@ -7,5 +7,7 @@ use Rattle.tangle_names.proofs.numbers.resolve_all.Given as goal
 abbrev pub invariant-loop-meaning : goal.invariant-loop-meaning
 invariant-loop-meaning l = record {
   names : key_texts l.names.keys ≡ names_of (map meaning_of (take l.meaning-index l.meanings));
-  resolved : l.resolved.items ≡ map (resolved_meaning (names_of (map meaning_of (take l.meaning-index l.meanings)))) (map meaning_of (take l.meaning-index l.meanings));
+  resolved : l.resolved.items
+      ≡ map (resolved_meaning (names_of (map meaning_of (take l.meaning-index l.meanings))))
+      (map meaning_of (take l.meaning-index l.meanings));
 }

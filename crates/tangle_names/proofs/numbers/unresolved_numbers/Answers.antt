@@ -8,4 +8,6 @@ use Rattle.tangle_names.proofs.numbers.unresolved_numbers.Goals as goal
 pub loop-number-preserved : goal.loop-number-preserved
 loop-number-preserved c =
     listed-step is_unresolved c.args.resolved.now c.loop-number.number NoFullName _ _ _ c.loop-number-test.true
-    (c.is_unresolved.ensures ∙ ap is_unresolved (get_or_default c.args.resolved.now c.loop-number.number _ NoFullName c.loop-number-test.true)) c.loop-number.invariant c.in_ok-push_if.ensures
+    (c.is_unresolved.ensures
+    ∙ ap is_unresolved (get_or_default c.args.resolved.now c.loop-number.number _ NoFullName c.loop-number-test.true))
+    c.loop-number.invariant c.in_ok-push_if.ensures

@@ -6,7 +6,8 @@ pub returns-then-not-is_written_alike : goal.returns-then-not-is_written_alike
 returns-then-not-is_written_alike c = (
   (λ never. absurd (cc)),
   (λ alike.
-      let written = alike-at c.args.old.now c.args.new.now c.loop-i.i _ _ alike c.loop-i-test.true (omega (arith, c.loop-i-test.true, c.if-old-new.false)) c.index-old-i.is c.index-new-i.is in
+      let written = alike-at c.args.old.now c.args.new.now c.loop-i.i _ _ alike c.loop-i-test.true
+      (omega (arith, c.loop-i-test.true, c.if-old-new.false)) c.index-old-i.is c.index-new-i.is in
       let clash : true ≡ false = sym (c.is_written_alike.ensures.1 written) ∙ c.if-not-is_written_alike.true in
       sym clash),
 )

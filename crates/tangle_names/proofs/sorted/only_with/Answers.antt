@@ -9,16 +9,29 @@ use Rattle.tangle_names.proofs.sorted.only_with.Goals as goal
 
 pub returns-then-not-begins_at : goal.returns-then-not-begins_at
 returns-then-not-begins_at c = λ full same.
-    let point = IsPartitionPoint-from_clause (λ (b : Bor (List ℕ)). is_lt (slice_cmp nat_cmp b.now c.args.prefix.now)) c.args.sorted.now _ c.partition_point-first.ensures.partitioned (is_parted c.args.sorted.now c.args.prefix.now c.requires) (λ a r q k. search rules) in
-    nothing_found full (borrowed_names c.args.sorted.now) c.args.prefix.now _ same (gathers_from c.args.sorted.now c.args.prefix.now _ c.args.prefix c.requires point)
+    let point = IsPartitionPoint-from_clause (λ (b : Bor (List ℕ)). is_lt (slice_cmp nat_cmp b.now c.args.prefix.now))
+    c.args.sorted.now _ c.partition_point-first.ensures.partitioned
+    (is_parted c.args.sorted.now c.args.prefix.now c.requires) (λ a r q k. search rules) in
+    nothing_found full (borrowed_names c.args.sorted.now) c.args.prefix.now _ same
+    (gathers_from c.args.sorted.now c.args.prefix.now _ c.args.prefix c.requires point)
     (λ begun. let clash : true ≡ false = sym (c.begins_at.ensures.1 begun) ∙ c.if-not-begins_at.true in cc)
 
 pub returns-then-begins_at : goal.returns-then-begins_at
 returns-then-begins_at c = λ full same.
-    several_found full (borrowed_names c.args.sorted.now) c.args.prefix.now c.partition_point-first.result same c.requires (c.begins_at.ensures.0 c.if-not-begins_at.false) (c.begins_at-else-not-begins_at.ensures.0 c.if-begins_at.true)
+    several_found full (borrowed_names c.args.sorted.now) c.args.prefix.now
+    c.partition_point-first.result same c.requires (c.begins_at.ensures.0 c.if-not-begins_at.false)
+    (c.begins_at-else-not-begins_at.ensures.0 c.if-begins_at.true)
 
 pub returns-else-begins_at : goal.returns-else-begins_at
 returns-else-begins_at c = λ full same.
-    let point = IsPartitionPoint-from_clause (λ (b : Bor (List ℕ)). is_lt (slice_cmp nat_cmp b.now c.args.prefix.now)) c.args.sorted.now _ c.partition_point-first.ensures.partitioned (is_parted c.args.sorted.now c.args.prefix.now c.requires) (λ a r q k. search rules) in
-    ap One (at_begun c.args.sorted.now c.args.prefix.now c.partition_point-first.result _ (c.begins_at.ensures.0 c.if-not-begins_at.false)) ∙ one_found full (borrowed_names c.args.sorted.now) c.args.prefix.now c.partition_point-first.result same (gathers_from c.args.sorted.now c.args.prefix.now _ c.args.prefix c.requires point) (c.begins_at.ensures.0 c.if-not-begins_at.false)
-    (λ begun. let clash : true ≡ false = sym (c.begins_at-else-not-begins_at.ensures.1 begun) ∙ c.if-begins_at.false in cc)
+    let point = IsPartitionPoint-from_clause (λ (b : Bor (List ℕ)). is_lt (slice_cmp nat_cmp b.now c.args.prefix.now))
+    c.args.sorted.now _ c.partition_point-first.ensures.partitioned
+    (is_parted c.args.sorted.now c.args.prefix.now c.requires) (λ a r q k. search rules) in
+    ap One
+    (at_begun c.args.sorted.now c.args.prefix.now c.partition_point-first.result
+    _ (c.begins_at.ensures.0 c.if-not-begins_at.false))
+    ∙ one_found full (borrowed_names c.args.sorted.now) c.args.prefix.now c.partition_point-first.result
+    same (gathers_from c.args.sorted.now c.args.prefix.now _ c.args.prefix c.requires point)
+    (c.begins_at.ensures.0 c.if-not-begins_at.false)
+    (λ begun. let clash : true ≡ false = sym (c.begins_at-else-not-begins_at.ensures.1 begun) ∙ c.if-begins_at.false in
+    cc)

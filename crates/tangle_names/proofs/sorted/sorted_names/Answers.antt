@@ -7,4 +7,5 @@ pub returns-clause-order : goal.returns-clause-order
 returns-clause-order c = order_of _ _ c.sort_unstable.ensures.sorted (dedup_is _ _ _ c.dedup.ensures.filtered)
 
 pub returns-clause-same : goal.returns-clause-same
-returns-clause-same c = same_of (full_names c.args.occurrences.now) _ _ _ c.in_ok-names.ensures c.sort_unstable.ensures.permutation (dedup_is _ _ _ c.dedup.ensures.filtered)
+returns-clause-same c = same_of (full_names c.args.occurrences.now) _ _ _ c.in_ok-names.ensures
+    c.sort_unstable.ensures.permutation (dedup_is _ _ _ c.dedup.ensures.filtered)

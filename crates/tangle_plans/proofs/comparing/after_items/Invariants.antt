@@ -7,7 +7,8 @@ abbrev pub invariant-loop-i : goal.invariant-loop-i
 invariant-loop-i l = record {
   within : l.i ≤ length l.items;
   range : IsRangeOfSource l.web.texts l.position.range;
-  position : GoOnAs (lists_left l.fn.left) (with_items l.web.texts l.table l.items) (lists_at (drop l.i l.tags) l.position)
+  position : GoOnAs (lists_left l.fn.left) (with_items l.web.texts l.table l.items)
+      (lists_at (drop l.i l.tags) l.position)
       (λ more. with_range l.position (with_items l.web.texts l.table (drop l.i l.items) more));
 }
 

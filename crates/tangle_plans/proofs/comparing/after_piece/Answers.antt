@@ -16,7 +16,8 @@ pub returns-in_err-bytes : goal.returns-in_err-bytes
 returns-in_err-bytes c =
     let position = c.in_ok-position.position in
     rw c.from_residual-in_err-bytes.ensures
-    (and_not (lists_left c.args.left) (lists_at (drop (length c.args.items.now) c.args.left.tags.now) position) (with_items c.args.web.now.texts c.args.table.now c.args.items.now)
+    (and_not (lists_left c.args.left) (lists_at (drop (length c.args.items.now) c.args.left.tags.now) position)
+    (with_items c.args.web.now.texts c.args.table.now c.args.items.now)
     (λ more. with_range position (with_tag piece_end more)) c.in_ok-position.ensures.position
     (λ more e. c.in_err-bytes.ensures more.bytes (ap (λ (m : Lists). m.bytes) e)))
 
@@ -33,7 +34,10 @@ returns c =
     let whole = with_items c.args.web.now.texts c.args.table.now items in
     let rest : take (length tags - (n + 1)) (drop (n + 1) tags) ≡ drop (n + 1) tags
     = take_all (length tags - (n + 1)) (drop (n + 1) tags) (omega (arith, length-drop (n + 1) tags)) in
-    subst (λ l. GoOnAs first whole (record { tags = l; bytes = left; uses = position.uses.now }) (λ more. more)) (sym rest)
-    (and_then first (lists_at (drop n tags) position) (record { tags = drop (n + 1) tags; bytes = left; uses = position.uses.now }) whole
+    subst (λ l. GoOnAs first whole (record { tags = l; bytes = left; uses = position.uses.now }) (λ more. more))
+    (sym rest)
+    (and_then first (lists_at (drop n tags) position)
+    (record { tags = drop (n + 1) tags; bytes = left; uses = position.uses.now }) whole
     (λ more. with_range position (with_tag piece_end more)) (λ more. more) c.in_ok-position.ensures.position
-    (end_after c.args.web.now.texts c.args.table.now tags n (get_or tags n no_tag) no_tag (range_bytes position.range) left position (omega arith) refl same refl c.in_ok-bytes.ensures))
+    (end_after c.args.web.now.texts c.args.table.now tags n (get_or tags n no_tag) no_tag
+    (range_bytes position.range) left position (omega arith) refl same refl c.in_ok-bytes.ensures))

@@ -14,6 +14,8 @@ returns-clause-position c =
     let same = c.same_tag.ensures.0 c.if-not-same_tag.false ∙ c.tag_of_span.ensures in
     let first = range_bytes position.range in
     let next = range_bytes c.range_of-range.result in
-    λ tags. front_same _ _ (λ more. with_all expected first [] (with_bytes next more)) (λ more. with_bytes first (with_span texts c.args.kind s more)) (with_bytes next)
+    λ tags. front_same _ _ (λ more. with_all expected first [] (with_bytes next more))
+    (λ more. with_bytes first (with_span texts c.args.kind s more)) (with_bytes next)
     (span_cut texts first next c.args.kind s c.range_of-range.ensures.bytes)
-    (λ more. all_after expected c.args.tag first [] (lists_at (c.args.tag ∷ tags) position) tags c.in_ok-bytes.bytes.now position.uses.now same refl c.in_ok-bytes.ensures refl (with_bytes next more))
+    (λ more. all_after expected c.args.tag first [] (lists_at (c.args.tag ∷ tags) position) tags
+    c.in_ok-bytes.bytes.now position.uses.now same refl c.in_ok-bytes.ensures refl (with_bytes next more))

@@ -13,12 +13,21 @@ loop-i-preserved-in-Some c =
     let i = c.loop-i.i in
     let x = c.index-items-i.result in
     let after = c.in_ok-after.after in
-    let adds = span_added texts table has x c.in-Some.kind c.in-Some.span c.loop-i.range after c.loop-i.planning c.add_span.new.planning c.in-Some.ensures c.in_ok-after.ensures.added in
-    let added = goes_on texts table has c.args.planning.now items i x x c.loop-i.range after c.loop-i.planning c.add_span.new.planning c.loop-i-test.true c.index-items-i.is adds c.loop-i.invariant.added in
+    let adds = span_added texts table has x c.in-Some.kind c.in-Some.span c.loop-i.range after
+    c.loop-i.planning c.add_span.new.planning c.in-Some.ensures c.in_ok-after.ensures.added in
+    let added = goes_on texts table has c.args.planning.now items i x x c.loop-i.range after c.loop-i.planning
+    c.add_span.new.planning c.loop-i-test.true c.index-items-i.is adds c.loop-i.invariant.added in
     record {
-      within = omega (arith, c.pass-end.ensures.few, ap length (take_rest items (i + 1)), length-drop (i + 1) items, c.loop-i-test.true);
+      within = omega (
+        arith,
+        c.pass-end.ensures.few,
+        ap length (take_rest items (i + 1)),
+        length-drop (i + 1) items,
+        c.loop-i-test.true,
+      );
       range = c.pass-end.ensures.range.range;
-      added = goes_over texts table has c.args.planning.now items _ (i + 1) c.pass-end.result.1 after (record after { end = c.pass-end.result.0 }) c.add_span.new.planning c.pass-end.new.self
+      added = goes_over texts table has c.args.planning.now items _ (i + 1) c.pass-end.result.1 after
+          (record after { end = c.pass-end.result.0 }) c.add_span.new.planning c.pass-end.new.self
           (take_rest items (i + 1)) c.pass-end.ensures.range (c.pass-end.ensures.tags table) added;
     }
 
@@ -29,6 +38,7 @@ loop-i-preserved c =
     record {
       within = omega arith;
       range = c.in_ok-range.ensures.range;
-      added = goes_on c.args.web.now.texts c.args.table.now has c.args.planning.now c.args.items.now c.loop-i.i x x c.loop-i.range _ c.loop-i.planning c.add_other.new.planning
+      added = goes_on c.args.web.now.texts c.args.table.now has c.args.planning.now c.args.items.now
+          c.loop-i.i x x c.loop-i.range _ c.loop-i.planning c.add_other.new.planning
           c.loop-i-test.true c.index-items-i.is c.in_ok-range.ensures.added c.loop-i.invariant.added;
     }

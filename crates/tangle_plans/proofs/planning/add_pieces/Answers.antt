@@ -23,16 +23,26 @@ loop-number-preserved c =
     let is = c.index-pieces-number.is ∙ ap (λ l. slice_index_or l n p) c.pieces-pieces.ensures.pieces in
     rw c.in_ok-add_piece.ensures (record {
       node = inv.node;
-      made = piece_made web.texts table (λ (id : ℕ). slice_index_or c.args.has_piece.now id false) c.args.planning.now.node old.node
-          old.piece web.pieces numbers i n p c.items.result.now old.made _ inv.node c.loop-number-test.true refl low is c.items.ensures inv.made;
-      bytes = rw c.items.ensures (pieces_next (λ (q : PieceRead). flat_map (bytes_in web.texts) q.items) web.pieces numbers i n p old.bytes _ c.loop-number-test.true refl low is inv.bytes);
-      tags = rw c.items.ensures (pieces_next (λ (q : PieceRead). piece_tags table q.items) web.pieces numbers i n p old.tags _ c.loop-number-test.true refl low is inv.tags);
-      uses = rw c.items.ensures (pieces_next (λ (q : PieceRead). flat_map (uses_in table) q.items) web.pieces numbers i n p old.uses _ c.loop-number-test.true refl low is inv.uses);
+      made = piece_made web.texts table (λ (id : ℕ). slice_index_or c.args.has_piece.now id false)
+          c.args.planning.now.node old.node
+          old.piece web.pieces numbers i n p c.items.result.now old.made _
+          inv.node c.loop-number-test.true refl low is c.items.ensures inv.made;
+      bytes = rw c.items.ensures
+          (pieces_next (λ (q : PieceRead). flat_map (bytes_in web.texts) q.items) web.pieces
+          numbers i n p old.bytes _ c.loop-number-test.true refl low is inv.bytes);
+      tags = rw c.items.ensures
+          (pieces_next (λ (q : PieceRead). piece_tags table q.items) web.pieces
+          numbers i n p old.tags _ c.loop-number-test.true refl low is inv.tags);
+      uses = rw c.items.ensures
+          (pieces_next (λ (q : PieceRead). flat_map (uses_in table) q.items) web.pieces
+          numbers i n p old.uses _ c.loop-number-test.true refl low is inv.uses);
     })
 
 pub returns-clause-tags : goal.returns-clause-tags
 returns-clause-tags c =
     let web = c.args.web.now in
-    let done = pieces_done (λ (q : PieceRead). piece_tags c.args.table.now q.items) web.pieces c.args.numbers.now c.loop-number.number-index c.loop-number.planning.tags _ (omega arith) c.loop-number.invariant.tags in
+    let done = pieces_done (λ (q : PieceRead). piece_tags c.args.table.now q.items) web.pieces c.args.numbers.now
+    c.loop-number.number-index c.loop-number.planning.tags _ (omega arith) c.loop-number.invariant.tags in
     done ∙ tags_held web.texts c.args.table.now (pieces_at web.pieces c.args.numbers.now)
-    (all_at (λ (p : PieceRead). All (IsInRange web.texts) p.items) web.pieces c.args.numbers.now c.pieces-pieces.ensures.well_formed.spans.pieces c.requires.numbers)
+    (all_at (λ (p : PieceRead). All (IsInRange web.texts) p.items) web.pieces
+    c.args.numbers.now c.pieces-pieces.ensures.well_formed.spans.pieces c.requires.numbers)

@@ -11,7 +11,8 @@ invariant-loop-number l =
     let whole = pieces_at l.web.pieces l.numbers in
     record {
       node : l.planning.node ≡ l.fn.planning.node;
-      made : l.planning.made ++ pieces_slots l.web.texts l.table has l.fn.planning.node l.planning.piece left ≡ pieces_slots l.web.texts l.table has l.fn.planning.node 0 whole;
+      made : l.planning.made ++ pieces_slots l.web.texts l.table has l.fn.planning.node l.planning.piece left
+          ≡ pieces_slots l.web.texts l.table has l.fn.planning.node 0 whole;
       bytes : l.planning.bytes ++ pieces_bytes l.web.texts left ≡ pieces_bytes l.web.texts whole;
       tags : l.planning.tags ++ pieces_tags l.table left ≡ pieces_tags l.table whole;
       uses : l.planning.uses ++ pieces_uses l.table left ≡ pieces_uses l.table whole;

@@ -19,13 +19,17 @@ loop-passed-preserved c =
     let tags = c.args.tags.now in
     let i = c.loop-passed.passed in
     let x = c.index-items-passed.result in
-    let inside : IsInRange texts x = subst (IsInRange texts) (sym c.index-items-passed.is) (All-get_or (IsInRange texts) items i x (omega arith) c.requires.spans) in
+    let inside : IsInRange texts x =
+    subst (IsInRange texts) (sym c.index-items-passed.is)
+    (All-get_or (IsInRange texts) items i x (omega arith) c.requires.spans) in
     let same : get_or tags i no_tag ≡ c.in-Some.tag = c.same_tag.ensures.0 c.if-same_tag.true in
     record {
       few = omega arith;
       tagged = omega arith;
-      range = over_next texts c.args.range (record c.args.range { end = c.loop-passed.end }) (record c.args.range { end = c.in-Some.more }) items i x x c.in-Some.tag
+      range = over_next texts c.args.range (record c.args.range { end = c.loop-passed.end })
+          (record c.args.range { end = c.in-Some.more }) items i x x c.in-Some.tag
           (omega arith) c.index-items-passed.is inside c.loop-passed.invariant.range c.in-Some.ensures;
       tags = λ table. take_more tags i no_tag (omega arith) ∙ ap (λ t. take i tags ++ t ∷ []) same
-          ∙ tags_over table items i x x c.in-Some.tag [] (take i tags) (omega arith) c.index-items-passed.is (c.in-Some.ensures.item_tag table) (c.loop-passed.invariant.tags table);
+          ∙ tags_over table items i x x c.in-Some.tag [] (take i tags) (omega arith)
+          c.index-items-passed.is (c.in-Some.ensures.item_tag table) (c.loop-passed.invariant.tags table);
     }

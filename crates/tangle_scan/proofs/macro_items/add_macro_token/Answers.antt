@@ -9,11 +9,18 @@ use Rattle.tangle_scan.proofs.macro_items.add_macro_token.Goals as goal
 pub returns-in-White : goal.returns-in-White
 returns-in-White c =
     rw c.in-White.is
-    (ap (λ t. c.args.items.now.items ++ t) (unmarked-white (texts_of c.args.source.now.lines) c.args.at c.args.rest.now))
+    (ap (λ t. c.args.items.now.items ++ t)
+    (unmarked-white (texts_of c.args.source.now.lines) c.args.at c.args.rest.now))
 
 pub returns-in_ok-push_macro_line_end-in-LineEnd : goal.returns-in_ok-push_macro_line_end-in-LineEnd
 returns-in_ok-push_macro_line_end-in-LineEnd c =
-    rw (c.in-LineEnd.is, c.in_ok-push_macro_line_end-in-LineEnd.ensures, c.has_blank_at_line_end.ensures, append_assoc, append_assoc)
+    rw (
+      c.in-LineEnd.is,
+      c.in_ok-push_macro_line_end-in-LineEnd.ensures,
+      c.has_blank_at_line_end.ensures,
+      append_assoc,
+      append_assoc,
+    )
     (ap (λ t. c.args.items.now.items ++ t)
     (unmarked-line (texts_of c.args.source.now.lines) c.args.at _ _ c.args.rest.now refl refl refl))
 
@@ -21,11 +28,13 @@ pub returns-in_ok-push-in-Span : goal.returns-in_ok-push-in-Span
 returns-in_ok-push-in-Span c =
     let e = c.args.token.now in
     let is = c.in-Span.is in
-    let white : e ≡ token.White → ⊥ = λ h. (let k : token.Span c.in-Span.kind c.in-Span.span ≡ token.White = sym is ∙ h in cc) in
+    let white : e ≡ token.White → ⊥ =
+    λ h. (let k : token.Span c.in-Span.kind c.in-Span.span ≡ token.White = sym is ∙ h in cc) in
     let end : (line : ℕ) → e ≡ token.LineEnd line → ⊥ =
     λ line h. (let k : token.Span c.in-Span.kind c.in-Span.span ≡ token.LineEnd line = sym is ∙ h in cc) in
     let item : span_item c.in-Span.kind c.in-Span.span ∷ [] ≡ option_to_list (item_of e) = rw is refl in
-    let pushed = ap (λ i. c.push_blank.new.items.items ++ i ∷ []) c.span_item.ensures ∙ ap (λ i. c.push_blank.new.items.items ++ i) item in
+    let pushed = ap (λ i. c.push_blank.new.items.items ++ i ∷ []) c.span_item.ensures
+    ∙ ap (λ i. c.push_blank.new.items.items ++ i) item in
     rw c.after_item.ensures
     (pushed-twice _ _ _ _ _ _ c.in_ok-push_blank-in-Span.ensures (c.in_ok-push-in-Span.ensures.items ∙ pushed)
     ∙ ap (λ t. c.args.items.now.items ++ t)
@@ -33,7 +42,8 @@ returns-in_ok-push-in-Span c =
 
 pub returns-in_ok-push_some-in_default : goal.returns-in_ok-push_some-in_default
 returns-in_ok-push_some-in_default c =
-    let pushed = c.in_ok-push_some-in_default.ensures ∙ ap (λ i. c.push_blank-in_default.new.items.items ++ option_to_list i) c.item_of.ensures in
+    let pushed = c.in_ok-push_some-in_default.ensures
+    ∙ ap (λ i. c.push_blank-in_default.new.items.items ++ option_to_list i) c.item_of.ensures in
     rw c.after_item-in_default.ensures
     (pushed-twice _ _ _ _ _ _ c.in_ok-push_blank-in_default.ensures pushed
     ∙ ap (λ t. c.args.items.now.items ++ t)

@@ -3,8 +3,9 @@ use Rattle.std.proofs.lemmas.List.{drop_all}
 use Rattle.std.specs.List.{list_any}
 use Rattle.tangle_lines.specs.Reading.{origin_at}
 use Rattle.tangle_scan.specs.declared.plain_parts.PartState.{PartState}
-use Rattle.tangle_scan.specs.Rules.{texts_of, items_by_origin, blanks}
+use Rattle.tangle_scan.specs.Rules.{texts_of, blanks}
 use Rattle.tangle_scan.specs.Passes.{is_rare, items_ahead}
+use Rattle.tangle_scan.proofs.lemmas.ItemsByOrigin.{items_by_origin, part_items-by_origin}
 use Rattle.tangle_scan.proofs.lemmas.PlainPartLemmas.{plain-end, plain-rules}
 use Rattle.tangle_scan.proofs.lemmas.SpacingLemmas.{unchanged-stays}
 use Rattle.tangle_scan.proofs.plain_parts.fill_plain_part.Goals as goal
@@ -21,6 +22,8 @@ returns-clause-items c = λ rare.
     ∙ (ap (λ is. is ++ items_ahead lines c.part_state-at.result is tokens) c.clear.ensures.items
     ∙ (ap (λ (s : PartState). items_ahead lines s [] tokens) c.part_state-at.ensures
     ∙ (plain-rules lines None false _ tokens
-    ∙ (ap (λ origin. items_by_origin lines None origin (blanks (texts_of lines) None false tokens)) c.counted_on.ensures.origin
-    ∙ ap (λ es. items_by_origin lines None (origin_at lines c.args.line) (blanks (texts_of lines) None false es))
-    (unchanged-stays tokens none)))))
+    ∙ (ap (λ origin. items_by_origin lines None origin (blanks (texts_of lines) None false tokens))
+    c.counted_on.ensures.origin
+    ∙ (ap (λ es. items_by_origin lines None (origin_at lines c.args.line) (blanks (texts_of lines) None false es))
+    (unchanged-stays tokens none)
+    ∙ sym (part_items-by_origin lines c.args.line tokens))))))

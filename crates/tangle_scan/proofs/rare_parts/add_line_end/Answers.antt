@@ -14,5 +14,6 @@ returns-clause-items c = λ es.
     let new = rw continued at pushed.items in
     let counted = rw continued at pushed.counted in
     rw (c.rare_state.ensures, c.last_after_line_end-last.ensures, c.start_of_run-start.ensures, continued)
-    (rare-line c.args.source.now.lines c.args.items.now.items _ c.args.at c.args.line c.len.result c.in_ok-counted.counted es
+    (rare-line c.args.source.now.lines c.args.items.now.items _
+    c.args.at c.args.line c.len.result c.in_ok-counted.counted es
     c.in_default.not-Joined c.requires.start len new counted)

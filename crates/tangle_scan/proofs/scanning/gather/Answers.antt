@@ -1,4 +1,5 @@
-use Rattle.std.proofs.Common.{◌≡◌, ◌∷◌, [], ◌++◌, ◌∙◌, sym, ap, arith, map, length, append_assoc, append-nil, option_to_list, List, Option, None, Some}
+use Rattle.std.proofs.Common.{◌≡◌, ◌∷◌, [], ◌++◌, ◌∙◌, sym, ap, arith, map, length, append_assoc, append-nil}
+use Rattle.std.proofs.Common.{option_to_list, List, Option, None, Some}
 use Rattle.std.specs.Option.{IfNone}
 use Rattle.tangle_lexer.specs.declared.tokens.Token.{Token}
 use Rattle.tangle_text.specs.Text.{Cell}
@@ -6,7 +7,8 @@ use Rattle.tangle_lexer.specs.Steps.{tokens_from, occurrences_from, first_state}
 use Rattle.tangle_lexer.specs.Occurrences.{occurrence_of}
 use Rattle.tangle_scan.specs.Gathering.{nothing, gathering_with}
 use Rattle.tangle_scan.proofs.lemmas.GatheringLemmas.{gathering-nothing}
-use Rattle.tangle_scan.proofs.lemmas.ScanLemmas.{tokens-end, occurrences-end, block-gathering, front-gathering, block-shorter}
+use Rattle.tangle_scan.proofs.lemmas.ScanLemmas.{tokens-end, occurrences-end, block-gathering, front-gathering}
+use Rattle.tangle_scan.proofs.lemmas.ScanLemmas.{block-shorter}
 use Rattle.tangle_scan.proofs.scanning.gather.Goals as goal
 
 pub loop-next_head-init : goal.loop-next_head-init
@@ -16,20 +18,29 @@ loop-next_head-init c =
     let read = next.ensures in
     let first = c.first_state-first.ensures in
     let ahead = option_to_list next.next_head ++ tokens_from next.state c.next_block.new.ahead in
-    let all = read.tokens ∙ append_assoc c.next_block.new.buffers.tokens.items (option_to_list next.next_head) (tokens_from next.state c.next_block.new.ahead) in
-    let front = front-gathering source nothing c.first_state-first.result next.state c.new-ahead.result c.next_block.new.ahead _ _ all read.head read.end in
+    let all = read.tokens
+    ∙ append_assoc c.next_block.new.buffers.tokens.items
+    (option_to_list next.next_head) (tokens_from next.state c.next_block.new.ahead) in
+    let front = front-gathering source nothing c.first_state-first.result next.state
+    c.new-ahead.result c.next_block.new.ahead _ _ all read.head read.end in
     let added = c.in_ok-add_front.ensures.gathering
-    ∙ (ap (λ g. gathering_with source g c.deref.result.now) c.new-gathering.ensures ∙ ap (gathering_with source nothing) c.deref.ensures.value) in
+    ∙ (ap (λ g. gathering_with source g c.deref.result.now) c.new-gathering.ensures
+    ∙ ap (gathering_with source nothing) c.deref.ensures.value) in
     record {
       count = read.count;
       head = read.head;
       end = read.end;
       gathering = ap (λ g. gathering_with source g ahead) added ∙ (front
           ∙ (ap (λ s. gathering_with source nothing (tokens_from s c.new-ahead.result)) first
-          ∙ ap (λ text. gathering_with source nothing (tokens_from (first_state (length source.lines)) text)) c.new-ahead.ensures));
-      occurrences = read.occurrences ∙ (ap (λ ns. ns ++ map (occurrence_of source.lines) (occurrences_from c.first_state-first.result c.new-ahead.result)) c.new-2.ensures.items
+          ∙ ap (λ text. gathering_with source nothing (tokens_from (first_state (length source.lines)) text))
+          c.new-ahead.ensures));
+      occurrences = read.occurrences ∙ (ap
+          (λ ns. ns
+          ++ map (occurrence_of source.lines) (occurrences_from c.first_state-first.result c.new-ahead.result))
+          c.new-2.ensures.items
           ∙ (ap (λ s. map (occurrence_of source.lines) (occurrences_from s c.new-ahead.result)) first
-          ∙ ap (λ text. map (occurrence_of source.lines) (occurrences_from (first_state (length source.lines)) text)) c.new-ahead.ensures));
+          ∙ ap (λ text. map (occurrence_of source.lines) (occurrences_from (first_state (length source.lines)) text))
+          c.new-ahead.ensures));
       limit = omega (
         arith,
         c.in_ok-add_front.ensures.sections,
@@ -47,15 +58,22 @@ loop-next_head-preserved c =
     let read = next.ensures in
     let rest = c.next_block-in-Some.new.ahead in
     let ahead = option_to_list next.field-0-1 ++ tokens_from next.field-0-0 rest in
-    let all = read.tokens ∙ append_assoc c.next_block-in-Some.new.buffers.tokens.items (option_to_list next.field-0-1) (tokens_from next.field-0-0 rest) in
-    let block = block-gathering source before.gathering c.in-Some.head before.state next.field-0-0 before.ahead rest _ _ all read.head read.end in
-    let added = c.in_ok-add_block.ensures.gathering ∙ ap (λ es. gathering_with source before.gathering (c.in-Some.head ∷ es)) c.deref-in-Some.ensures.value in
+    let all = read.tokens
+    ∙ append_assoc c.next_block-in-Some.new.buffers.tokens.items
+    (option_to_list next.field-0-1) (tokens_from next.field-0-0 rest) in
+    let block = block-gathering source before.gathering c.in-Some.head
+    before.state next.field-0-0 before.ahead rest _ _ all read.head read.end in
+    let added = c.in_ok-add_block.ensures.gathering
+    ∙ ap (λ es. gathering_with source before.gathering (c.in-Some.head ∷ es)) c.deref-in-Some.ensures.value in
     record {
       count = read.count;
       head = read.head;
       end = read.end;
       gathering = ap (λ g. gathering_with source g ahead) added ∙ (block
-          ∙ (ap (λ f. gathering_with source before.gathering (option_to_list f ++ tokens_from before.state before.ahead)) (sym c.in-Some.is) ∙ before.invariant.gathering));
+          ∙
+          (ap (λ f. gathering_with source before.gathering (option_to_list f ++ tokens_from before.state before.ahead))
+          (sym c.in-Some.is)
+          ∙ before.invariant.gathering));
       occurrences = read.occurrences ∙ before.invariant.occurrences;
       limit = omega (
         arith,
@@ -66,7 +84,8 @@ loop-next_head-preserved c =
       );
     }
 
-nothing-ahead : (next_head : Option Token) (ahead : List Cell) → IfNone next_head (ahead ≡ []) → next_head ≡ None → ahead ≡ []
+nothing-ahead : (next_head : Option Token) (ahead : List Cell)
+    → IfNone next_head (ahead ≡ []) → next_head ≡ None → ahead ≡ []
 nothing-ahead None ahead end is = end
 nothing-ahead (Some head) ahead end is = cc
 
@@ -75,7 +94,8 @@ returns-clause-gathering c =
     let source = c.args.source.now in
     let end = c.loop-next_head in
     let ahead = nothing-ahead end.next_head end.ahead end.invariant.end c.in_default.is in
-    sym (ap (λ f. gathering_with source end.gathering (option_to_list f ++ tokens_from end.state end.ahead)) c.in_default.is
+    sym
+    (ap (λ f. gathering_with source end.gathering (option_to_list f ++ tokens_from end.state end.ahead)) c.in_default.is
     ∙ (ap (λ text. gathering_with source end.gathering (tokens_from end.state text)) ahead
     ∙ (ap (gathering_with source end.gathering) (tokens-end end.state) ∙ gathering-nothing source end.gathering)))
     ∙ end.invariant.gathering
@@ -86,5 +106,7 @@ returns-clause-occurrences c =
     let end = c.loop-next_head in
     let ahead = nothing-ahead end.next_head end.ahead end.invariant.end c.in_default.is in
     let none : map (occurrence_of lines) (occurrences_from end.state end.ahead) ≡ [] =
-    ap (λ text. map (occurrence_of lines) (occurrences_from end.state text)) ahead ∙ ap (map (occurrence_of lines)) (occurrences-end end.state) in
-    sym (append-nil end.buffers.occurrences.items) ∙ (ap (λ ns. end.buffers.occurrences.items ++ ns) (sym none) ∙ end.invariant.occurrences)
+    ap (λ text. map (occurrence_of lines) (occurrences_from end.state text)) ahead
+    ∙ ap (map (occurrence_of lines)) (occurrences-end end.state) in
+    sym (append-nil end.buffers.occurrences.items)
+    ∙ (ap (λ ns. end.buffers.occurrences.items ++ ns) (sym none) ∙ end.invariant.occurrences)

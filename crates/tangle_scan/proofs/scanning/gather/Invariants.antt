@@ -12,9 +12,12 @@ invariant-loop-next_head l = record {
   count : l.state.occurrences ≡ length l.buffers.occurrences.items;
   head : IfSome l.next_head (λ head. is_head head ≡ true);
   end : IfNone l.next_head (l.ahead ≡ []);
-  gathering : gathering_with l.source l.gathering (option_to_list l.next_head ++ tokens_from l.state l.ahead) ≡ gathering_with l.source nothing (all_tokens l.source.lines);
-  occurrences : l.buffers.occurrences.items ++ map (occurrence_of l.source.lines) (occurrences_from l.state l.ahead) ≡ map (occurrence_of l.source.lines) (all_occurrences l.source.lines);
-  limit : l.gathering.sections + (length (option_to_list l.next_head) + length l.ahead) ≤ length (text_from 0 l.source.lines);
+  gathering : gathering_with l.source l.gathering (option_to_list l.next_head ++ tokens_from l.state l.ahead)
+      ≡ gathering_with l.source nothing (all_tokens l.source.lines);
+  occurrences : l.buffers.occurrences.items ++ map (occurrence_of l.source.lines) (occurrences_from l.state l.ahead)
+      ≡ map (occurrence_of l.source.lines) (all_occurrences l.source.lines);
+  limit : l.gathering.sections + (length (option_to_list l.next_head) + length l.ahead)
+      ≤ length (text_from 0 l.source.lines);
 }
 
 abbrev pub decreases-loop-next_head : goal.decreases-loop-next_head

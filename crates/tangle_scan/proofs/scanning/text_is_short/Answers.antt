@@ -11,7 +11,8 @@ loop-number-preserved c =
     let number = c.loop-number.number in
     let line = get_or lines number no_line in
     let next : number + 1 ≡ suc number = omega arith in
-    let taken : take (number + 1) lines ≡ take number lines ++ line ∷ [] = ap (λ i. take i lines) next ∙ take-suc lines number no_line (omega arith) in
+    let taken : take (number + 1) lines ≡ take number lines ++ line ∷ [] =
+    ap (λ i. take i lines) next ∙ take-suc lines number no_line (omega arith) in
     omega (
       arith,
       ap (λ ls. length (text_from 0 ls)) taken,

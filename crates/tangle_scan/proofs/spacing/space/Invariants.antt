@@ -6,5 +6,6 @@ use Rattle.tangle_scan.proofs.spacing.space.Given as goal
 abbrev pub invariant-loop-token : goal.invariant-loop-token
 invariant-loop-token l = record {
   run : IsRun l.spaced.items l.at.run;
-  rest : spacing_from (texts_of l.source.lines) l.spaced.items l.at (drop l.token-index l.tokens) ≡ spacing_from (texts_of l.source.lines) l.initial.spaced.items l.initial.at l.tokens;
+  rest : spacing_from (texts_of l.source.lines) l.spaced.items l.at (drop l.token-index l.tokens)
+      ≡ spacing_from (texts_of l.source.lines) l.initial.spaced.items l.initial.at l.tokens;
 }

@@ -8,5 +8,6 @@ use Rattle.tangle_session.proofs.analysis.name_table.Goals as goal
 
 pub rebuild-requires : goal.rebuild-requires
 rebuild-requires c =
-    table_before c.in-Some.old.now (subst (λ before. IfSome before (λ (g : Bor Analysis). IsAnalysis g.now)) c.in-Some.is c.requires)
+    table_before c.in-Some.old.now
+    (subst (λ before. IfSome before (λ (g : Bor Analysis). IsAnalysis g.now)) c.in-Some.is c.requires)
     ∙ ap (λ os. table_over os c.in-Some.old.now.table.faults) (sym c.deref.ensures.value)

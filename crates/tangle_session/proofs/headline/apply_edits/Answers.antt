@@ -5,4 +5,5 @@ pub returns-in-Err : goal.returns-in-Err
 returns-in-Err c =
     let is = c.in-Err.ensures in
     rw c.in-Single.is
-    (one_refused c.args.session.now c.apply.new.self c.in-Single.edit c.in-Err.refusal c.apply.result c.in-Err.is c.apply.ensures.refused c.apply.ensures.only is.err)
+    (one_refused c.args.session.now c.apply.new.self c.in-Single.edit c.in-Err.refusal
+    c.apply.result c.in-Err.is c.apply.ensures.refused c.apply.ensures.only is.err)

@@ -5,7 +5,8 @@ use Rattle.tangle_session.proofs.headline.ask_all.Goals as goal
 pub returns-clause-state : goal.returns-clause-state
 returns-clause-state g c =
     let s : SessionRead = c.args.session.now in
-    shows c.args.name.now (g.S.Sink.stream c.args.sink.now) (g.S.Sink.stream c.write_output-written.new.sink) _ s (record {
+    shows c.args.name.now (g.S.Sink.stream c.args.sink.now)
+    (g.S.Sink.stream c.write_output-written.new.sink) _ s (record {
       files_are = c.files.ensures;
       roles_are = c.roles.ensures;
       names = c.output_names.ensures;
@@ -18,4 +19,5 @@ returns-clause-state g c =
     })
 
 pub returns-clause-work : goal.returns-clause-work
-returns-clause-work g c = shows_work c.args.name.now (g.S.Sink.stream c.args.sink.now) (g.S.Sink.stream c.write_output-written.new.sink) _ c.args.session.now c.last_work.ensures
+returns-clause-work g c = shows_work c.args.name.now (g.S.Sink.stream c.args.sink.now)
+    (g.S.Sink.stream c.write_output-written.new.sink) _ c.args.session.now c.last_work.ensures

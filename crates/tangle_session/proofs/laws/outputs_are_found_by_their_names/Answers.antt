@@ -4,9 +4,11 @@ use Rattle.tangle_session.proofs.laws.outputs_are_found_by_their_names.Goals as 
 
 pub returns-clause-distinct : goal.returns-clause-distinct
 returns-clause-distinct c = λ files roles.
-    names_distinct (web_at files roles) (c.names_resolve_inside.ensures (web_at files roles)) (c.names_are_the_full_names.ensures.once (web_at files roles).occurrences) roles.marks roles.out
+    names_distinct (web_at files roles) (c.names_resolve_inside.ensures (web_at files roles))
+    (c.names_are_the_full_names.ensures.once (web_at files roles).occurrences) roles.marks roles.out
 
 pub returns-clause-found : goal.returns-clause-found
 returns-clause-found c = λ files roles.
     found_by_name files roles
-    (names_distinct (web_at files roles) (c.names_resolve_inside.ensures (web_at files roles)) (c.names_are_the_full_names.ensures.once (web_at files roles).occurrences) roles.marks roles.out)
+    (names_distinct (web_at files roles) (c.names_resolve_inside.ensures (web_at files roles))
+    (c.names_are_the_full_names.ensures.once (web_at files roles).occurrences) roles.marks roles.out)

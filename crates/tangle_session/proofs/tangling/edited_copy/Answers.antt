@@ -21,11 +21,17 @@ returns-in-Err-clause-refused c =
     let at = c.loop-at.at in
     let edit : Edit = c.index-edits-at.result in
     let refusal = c.in-Err.refusal in
-    let next : refused_from at c.loop-at.copy c.args.roles.now (drop at edits) ≡ refused_from at c.loop-at.copy c.args.roles.now (edit ∷ drop (at + 1) edits) =
+    let next : refused_from at c.loop-at.copy c.args.roles.now (drop at edits)
+    ≡ refused_from at c.loop-at.copy c.args.roles.now (edit ∷ drop (at + 1) edits) =
     at_drop_more (λ es. refused_from at c.loop-at.copy c.args.roles.now es) edits at edit c.loop-at-test.true
-    ∙ ap (λ (e : Edit). refused_from at c.loop-at.copy c.args.roles.now (e ∷ drop (at + 1) edits)) (sym c.index-edits-at.is) in
-    let whole : refused_from at c.loop-at.copy c.args.roles.now (edit ∷ drop (at + 1) edits) ≡ list_refusal c.args.files.now c.args.roles.now edits =
+    ∙ ap (λ (e : Edit). refused_from at c.loop-at.copy c.args.roles.now (e ∷ drop (at + 1) edits))
+    (sym c.index-edits-at.is) in
+    let whole : refused_from at c.loop-at.copy c.args.roles.now (edit ∷ drop (at + 1) edits)
+    ≡ list_refusal c.args.files.now c.args.roles.now edits =
     sym next ∙ c.loop-at.invariant.refused in
-    let by = numbered_refusal _ at (session_refusal c.loop-at.copy c.args.roles.now edit) _ refusal c.in-Err.ensures.refused c.in-Err.ensures.only in
-    subst (λ (r : ListRefusal). (list_refusal c.args.files.now c.args.roles.now edits ≡ Some r) ⊎ (r ≡ list_memory)) (sym c.of_edit.ensures)
-    (subst (λ (o : Option ListRefusal). (o ≡ Some (numbered at refusal)) ⊎ (numbered at refusal ≡ list_memory)) whole by)
+    let by = numbered_refusal _ at (session_refusal c.loop-at.copy c.args.roles.now edit)
+    _ refusal c.in-Err.ensures.refused c.in-Err.ensures.only in
+    subst (λ (r : ListRefusal). (list_refusal c.args.files.now c.args.roles.now edits ≡ Some r) ⊎ (r ≡ list_memory))
+    (sym c.of_edit.ensures)
+    (subst (λ (o : Option ListRefusal). (o ≡ Some (numbered at refusal)) ⊎ (numbered at refusal ≡ list_memory))
+    whole by)

@@ -1,7 +1,8 @@
 use Rattle.std.proofs.Common.{arith, ◌≡◌, ◌<◌, ◌+◌, length, sym}
 use Rattle.std.proofs.lemmas.Bool.{eqb-true, eqb-false}
-use Rattle.std.proofs.lemmas.List.{take_rest}
-use Rattle.tangle_streams.proofs.StreamLemmas.{halfway_at_first, halfway_more, halfway_at_end, halfway_fault, Keeps-none, failed_at_none, count_and_rest, empty_list}
+use Rattle.std.proofs.lemmas.List.{take_rest, nil_from_length}
+use Rattle.tangle_streams.proofs.StreamLemmas.{halfway_at_first, halfway_more, halfway_at_end, halfway_fault}
+use Rattle.tangle_streams.proofs.StreamLemmas.{Keeps-none, failed_at_none, count_and_rest}
 use Rattle.tangle_streams.proofs.writing.write_after.Goals as goal
 
 pub loop-rest-init : goal.loop-rest-init
@@ -20,7 +21,8 @@ loop-rest-preserved g c = λ old output h fits.
 pub returns-in-None : goal.returns-in-None
 returns-in-None g c = λ old output h fits.
     let some : 0 < length c.loop-rest.rest.now = omega (arith, eqb-false _ 0 (sym c.loop-rest-test.ensures)) in
-    halfway_fault _ _ _ _ _ _ _ (c.loop-rest.invariant old output h fits) some c.in-None.ensures.reported c.in-None.ensures.failed
+    halfway_fault _ _ _ _ _ _ _ (c.loop-rest.invariant old output h fits)
+    some c.in-None.ensures.reported c.in-None.ensures.failed
 
 pub returns-then-n-eq0 : goal.returns-then-n-eq0
 returns-then-n-eq0 g c = λ old output h fits.
@@ -31,4 +33,5 @@ returns-then-n-eq0 g c = λ old output h fits.
 
 pub returns : goal.returns
 returns g c = λ old output h fits.
-    halfway_at_end _ _ _ _ _ _ (c.loop-rest.invariant old output h fits) (empty_list c.loop-rest.rest.now (eqb-true _ 0 (sym c.loop-rest-test.ensures)))
+    halfway_at_end _ _ _ _ _ _ (c.loop-rest.invariant old output h fits)
+    (nil_from_length c.loop-rest.rest.now (eqb-true _ 0 (sym c.loop-rest-test.ensures)))

@@ -22,7 +22,11 @@ returns-in-Show g c =
 
 pub returns-in-Faults : goal.returns-in-Faults
 returns-in-Faults g c =
-    rw c.in-Faults.is (listed_faults c.faults.result.now, inl ((c.faults.result.now, c.faults.ensures, refl), refl), c.list_faults.ensures)
+    rw c.in-Faults.is (
+      listed_faults c.faults.result.now,
+      inl ((c.faults.result.now, c.faults.ensures, refl), refl),
+      c.list_faults.ensures,
+    )
 
 pub returns-in-Work : goal.returns-in-Work
 returns-in-Work g c =
@@ -37,4 +41,5 @@ returns-in-Quit g c =
 pub returns-in-BadCommand : goal.returns-in-BadCommand
 returns-in-BadCommand g c =
     let now = g.S.Sink.stream c.args.sink.now in
-    rw c.in-BadCommand.is (codes "no BadCommand\n", inl (refl, refl), c.say-in-BadCommand.ensures now [] (TakesAll-none now))
+    rw c.in-BadCommand.is
+    (codes "no BadCommand\n", inl (refl, refl), c.say-in-BadCommand.ensures now [] (TakesAll-none now))

@@ -6,4 +6,5 @@ use Rattle.ctangle_cli.proofs.loading.Absent.contains.Goals as goal
 
 pub returns : goal.returns
 returns c =
-    c.contains.ensures ∙ sym (list_any-map (λ k. k.items) (bytes_eq c.args.name.now) c.self.inside.names.keys) ∙ ap (list_any (bytes_eq c.args.name.now)) c.self.view_is
+    c.contains.ensures ∙ sym (list_any-map (λ k. k.items) (bytes_eq c.args.name.now) c.self.inside.names.keys)
+    ∙ ap (list_any (bytes_eq c.args.name.now)) c.self.view_is

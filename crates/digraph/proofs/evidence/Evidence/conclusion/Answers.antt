@@ -14,11 +14,16 @@ returns-then-leads_to_root c =
     let n = c.args.n in
     let in_roots : n < length roots = omega (arith, given.roots, c.requires.node) in
     let in_flags : n < length flags = omega (arith, given.from_root.size, c.requires.node) in
-    let is_root : c.index-then-index.result.now ≡ get_or roots n 0 = get_or_read roots n _ in_roots c.index-then-index.ensures 0 in
+    let is_root : c.index-then-index.result.now ≡ get_or roots n 0 =
+    get_or_read roots n _ in_roots c.index-then-index.ensures 0 in
     let flagged : IsFlagged flags n = sym (get_or_read flags n _ in_flags c.index.ensures false) ∙ c.if-index.true in
     let leads : LeadsTo roots c.args.self.now.to_root.items c.index-uses-n.result.items (get_or roots n 0) =
-    rw (c.deref.ensures.value, c.deref-then-index.ensures.value, c.deref-then-index-2.ensures.value, is_root) at (c.leads_to_root.ensures c.if-leads_to_root.true) in
-    (λ _. by_root _ _ _ _ n c.index-uses-n.result given.from_root given.to_root c.requires.node c.index-uses-n.is flagged leads, λ _. refl)
+    rw (c.deref.ensures.value, c.deref-then-index.ensures.value, c.deref-then-index-2.ensures.value, is_root)
+    at (c.leads_to_root.ensures c.if-leads_to_root.true) in (
+      λ _. by_root _ _ _ _ n c.index-uses-n.result given.from_root
+          given.to_root c.requires.node c.index-uses-n.is flagged leads,
+      λ _. refl,
+    )
 
 pub returns-then-lowest-index : goal.returns-then-lowest-index
 returns-then-lowest-index c =
@@ -26,9 +31,11 @@ returns-then-lowest-index c =
     let ranks = c.args.self.now.ranks.items in
     let n = c.args.n in
     let in_ranks : n < length ranks = omega (arith, given.ranks, c.requires.node) in
-    let is_rank : c.index-then-self.result.now ≡ get_or ranks n 0 = get_or_read ranks n _ in_ranks c.index-then-self.ensures 0 in
+    let is_rank : c.index-then-self.result.now ≡ get_or ranks n 0 =
+    get_or_read ranks n _ in_ranks c.index-then-self.ensures 0 in
     let above = rw (c.deref-then-self.ensures.value, c.deref-then-self-2.ensures.value) at c.lowest.ensures in
     let less : get_or ranks n 0 < c.lowest.result = omega (arith, is_rank, c.if-lowest-index.true) in (
       λ e. absurd (let no : false ≡ true = e in cc),
-      λ itself. absurd (not_itself _ ranks n c.lowest.result c.index-uses-n.result (given.never_falls c.if-self.true) c.requires.node c.index-uses-n.is above less itself),
+      λ itself. absurd (not_itself _ ranks n c.lowest.result c.index-uses-n.result
+          (given.never_falls c.if-self.true) c.requires.node c.index-uses-n.is above less itself),
     )

@@ -23,7 +23,8 @@ loop-used-preserved g t c =
     let body = c.deref-body.result.now in
     let at = c.loop-used.at in
     let next = c.write_to_use-before.result.0 in
-    let left = written_with c.args.numbers.now (title_of body.name) body.bytes.items at.piece at.marks at.start (drop at.step body.plan.items)
+    let left = written_with c.args.numbers.now (title_of body.name)
+    body.bytes.items at.piece at.marks at.start (drop at.step body.plan.items)
     c.deref-used-items.result.now c.deref-used-items.result.now c.loop-used.used-index c.used-item.result
     (record { piece = next.piece; marks = next.marks; start = next.start; plan = drop next.step body.plan.items })
     refl c.loop-used-test.true c.used-item.is c.write_to_use-before.ensures.rest in
@@ -37,6 +38,7 @@ pub returns : goal.returns
 returns g t c =
     let body = c.deref-body.result.now in
     let at = c.loop-used.at in
-    let left = written_without c.args.numbers.now (title_of body.name) body.bytes.items at.piece at.marks at.start (drop at.step body.plan.items)
+    let left = written_without c.args.numbers.now (title_of body.name)
+    body.bytes.items at.piece at.marks at.start (drop at.step body.plan.items)
     c.deref-used-items.result.now c.deref-used-items.result.now c.loop-used.used-index refl (omega arith) in
     wrote_all _ _ _ _ _ _ _ _ _ c.loop-used.invariant left c.write_to_use-all.ensures.writes

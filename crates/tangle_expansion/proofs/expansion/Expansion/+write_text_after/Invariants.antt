@@ -11,5 +11,7 @@ abbrev pub invariant-loop-used : goal.invariant-loop-used
 invariant-loop-used g l =
     let t = g.S.Sink.stream in
     Wrote (t l.fn.sink) (t l.sink) l.fn.so_far l.so_far
-    (expansion_bytes l.numbers (plan_flat (title_of l.body.name) l.body.bytes.items l.at.piece l.at.marks l.at.start (drop l.at.step l.body.plan.items) (drop l.used-index l.used-items)))
+    (expansion_bytes l.numbers
+    (plan_flat (title_of l.body.name) l.body.bytes.items l.at.piece l.at.marks
+    l.at.start (drop l.at.step l.body.plan.items) (drop l.used-index l.used-items)))
     (expansion_bytes l.numbers l.fn.self)

@@ -10,7 +10,8 @@ use Rattle.tangle_expansion.proofs.LookupLemmas.{zip_made}
 use Rattle.tangle_expansion.proofs.numbers.Numbers.build.Goals as goal
 
 -- numbers with equal fields are equal
-same : (a b : NumbersRead) → a.file_names ≡ b.file_names → a.program ≡ b.program → a.names ≡ b.names → a.macros ≡ b.macros → a.marks ≡ b.marks → a ≡ b
+same : (a b : NumbersRead) → a.file_names ≡ b.file_names → a.program ≡ b.program
+    → a.names ≡ b.names → a.macros ≡ b.macros → a.marks ≡ b.marks → a ≡ b
 same a b files program names macros marks =
     ap (λ l. record a { file_names = l }) files
     ∙ ap (λ l. record b { program = l; names = a.names; macros = a.macros; marks = a.marks }) program
@@ -25,7 +26,9 @@ returns g c =
     let of_name = λ (name : List ℕ). map numbers_of_piece (pieces_of web table (Named name)) in
     let rows = c.in_ok-of_names.of_names.items in
     let program : c.in_ok-program.program ≡ map numbers_of_piece (pieces_of web table Program)
-    = c.in_ok-program.ensures.numbers ∙ ap (λ l. map numbers_of_piece (pieces_at web.pieces l)) c.piece_numbers.ensures ∙ ap (map numbers_of_piece) (c.requires.right node.Program tt) in
+    = c.in_ok-program.ensures.numbers ∙ ap (λ l. map numbers_of_piece (pieces_at web.pieces l)) c.piece_numbers.ensures
+    ∙ ap (map numbers_of_piece) (c.requires.right node.Program tt) in
     let names : zip c.in_ok-names.names rows ≡ map (λ name. (name, of_name name)) table.names
-    = ap (λ ns. zip ns rows) (c.in_ok-names.ensures ∙ c.full_names.ensures ∙ c.requires.same_names) ∙ ap (zip table.names) c.in_ok-of_names.ensures.rows ∙ zip_made of_name table.names in
+    = ap (λ ns. zip ns rows) (c.in_ok-names.ensures ∙ c.full_names.ensures ∙ c.requires.same_names)
+    ∙ ap (zip table.names) c.in_ok-of_names.ensures.rows ∙ zip_made of_name table.names in
     c.new.ensures ∙ same _ _ c.in_ok-file_names.ensures.names program names c.in_ok-macros.ensures refl

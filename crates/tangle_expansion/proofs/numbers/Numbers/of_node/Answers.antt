@@ -11,4 +11,6 @@ returns-in-Some c =
     let found = found_row c.in-Some.name.items inside.names rows c.self.invariant.rows in
     rw (← c.self.view_is, c.in-Some.is)
     (c.row_at.ensures ∙ ap (λ rs. row_found rs c.find.result) c.deref.ensures.value
-    ∙ ap (row_found rows) (c.find.ensures ∙ ap (λ q. position (bytes_eq q) inside.names) c.as_slice-in-Some.ensures.value) ∙ found)
+    ∙ ap (row_found rows)
+    (c.find.ensures ∙ ap (λ q. position (bytes_eq q) inside.names) c.as_slice-in-Some.ensures.value)
+    ∙ found)

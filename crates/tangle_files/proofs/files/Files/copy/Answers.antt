@@ -9,4 +9,5 @@ invariant_of-result c =
     subst IsWithinLimits (sym same) c.self.invariant
 
 pub returns : goal.returns
-returns c = files_of-clone c.self.inside.table.entries c.in_ok-table.table.entries c.in_ok-table.ensures.cases ∙ c.self.view_is
+returns c =
+    files_of-clone c.self.inside.table.entries c.in_ok-table.table.entries c.in_ok-table.ensures.cases ∙ c.self.view_is

@@ -11,5 +11,8 @@ returns-clause-expandable c =
     let depths = c.in_ok-depths.depths.items in
     let flags = c.in_ok-expandable.expandable.items in
     let within : AreWithin (rows_of rows) weights depths flags =
-    subst (λ ds. AreWithin (rows_of rows) weights ds flags) c.deref-2.ensures.value (subst (λ ws. AreWithin (rows_of rows) ws c.deref-2.result.now flags) c.deref.ensures.value c.in_ok-expandable.ensures) in
-    limited c.args.web.now c.args.table.now rows c.args.uses.now c.requires.graph weights depths flags within c.in_ok-weights.ensures.weights c.in_ok-depths.ensures.depths
+    subst (λ ds. AreWithin (rows_of rows) weights ds flags) c.deref-2.ensures.value
+    (subst (λ ws. AreWithin (rows_of rows) ws c.deref-2.result.now flags)
+    c.deref.ensures.value c.in_ok-expandable.ensures) in
+    limited c.args.web.now c.args.table.now rows c.args.uses.now c.requires.graph weights
+    depths flags within c.in_ok-weights.ensures.weights c.in_ok-depths.ensures.depths

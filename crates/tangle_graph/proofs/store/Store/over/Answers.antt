@@ -1,4 +1,5 @@
-use Rattle.std.proofs.Common.{◌≡◌, ◌∙◌, ◌<◌, ◌+◌, ℕ, Bool, List, length, map, get_or, ap, refl, sym, subst, arith, false, Vec}
+use Rattle.std.proofs.Common.{◌≡◌, ◌∙◌, ◌<◌, ◌+◌, ℕ, Bool, List, length, map, get_or, ap, refl, sym, subst, arith}
+use Rattle.std.proofs.Common.{false, Vec}
 use Rattle.std.specs.Global.{Global}
 use Rattle.std.specs.declared.rc.Rc.{Rc}
 use Rattle.std.proofs.lemmas.List.{length-map}
@@ -34,15 +35,22 @@ build-requires-clause-graph c =
     let web = c.args.web.now in
     let table = c.args.table.now in
     let graph = graph_over web table c.args.pieces.value.items (node_bodies c.args.bodies.items) c.args.name_graph.value
-    (subst (λ (t : TableRead). IsDistinct bytes_eq t.names) (sym c.requires.table) (c.names_are_the_full_names.ensures.once web.occurrences))
-    (subst ResolvesInside (sym c.requires.table) (c.names_resolve_inside.ensures web)) c.requires.grouped c.requires.bodies c.requires.name_graph in
-    subst (λ (g : Graph). IsGraphOf web table g c.deref-uses.result.now) (sym (c.deref-rows.ensures.value ∙ ap (λ (v : Vec (Vec ℕ Global) Global). v.items) c.deref-all.ensures))
-    (subst (λ (g : Graph). IsGraphOf web table c.args.pieces.value.items g) (sym (c.deref-uses.ensures.value ∙ ap (λ (s : NameGraph). s.uses.items) c.deref-shared.ensures)) graph)
+    (subst (λ (t : TableRead). IsDistinct bytes_eq t.names) (sym c.requires.table)
+    (c.names_are_the_full_names.ensures.once web.occurrences))
+    (subst ResolvesInside (sym c.requires.table) (c.names_resolve_inside.ensures web)) c.requires.grouped
+    c.requires.bodies c.requires.name_graph in
+    subst (λ (g : Graph). IsGraphOf web table g c.deref-uses.result.now)
+    (sym (c.deref-rows.ensures.value ∙ ap (λ (v : Vec (Vec ℕ Global) Global). v.items) c.deref-all.ensures))
+    (subst (λ (g : Graph). IsGraphOf web table c.args.pieces.value.items g)
+    (sym (c.deref-uses.ensures.value ∙ ap (λ (s : NameGraph). s.uses.items) c.deref-shared.ensures)) graph)
 
 pub build-requires-clause-order : goal.build-requires-clause-order
 build-requires-clause-order c =
-    subst (λ (g : Graph). IsOrder g c.deref-order.result.now) (sym (c.deref-uses.ensures.value ∙ ap (λ (s : NameGraph). s.uses.items) c.deref-shared.ensures))
-    (subst (IsOrder c.args.name_graph.value.uses.items) (sym (c.deref-order.ensures.value ∙ ap (λ (s : NameGraph). s.order.items) c.deref-shared.ensures)) c.requires.name_graph.order)
+    subst (λ (g : Graph). IsOrder g c.deref-order.result.now)
+    (sym (c.deref-uses.ensures.value ∙ ap (λ (s : NameGraph). s.uses.items) c.deref-shared.ensures))
+    (subst (IsOrder c.args.name_graph.value.uses.items)
+    (sym (c.deref-order.ensures.value ∙ ap (λ (s : NameGraph). s.order.items) c.deref-shared.ensures))
+    c.requires.name_graph.order)
 
 pub returns-clause-store : goal.returns-clause-store
 returns-clause-store c =
@@ -53,15 +61,21 @@ returns-clause-store c =
     let name_graph = c.args.name_graph.value in
     let uses = name_graph.uses.items in
     let measures = c.in_ok-measures.measures in
-    let distinct = subst (λ (t : TableRead). IsDistinct bytes_eq t.names) (sym c.requires.table) (c.names_are_the_full_names.ensures.once web.occurrences) in
+    let distinct = subst (λ (t : TableRead). IsDistinct bytes_eq t.names)
+    (sym c.requires.table) (c.names_are_the_full_names.ensures.once web.occurrences) in
     let inside = subst ResolvesInside (sym c.requires.table) (c.names_resolve_inside.ensures web) in
-    let graph = graph_over web table pieces (node_bodies bodies) name_graph distinct inside c.requires.grouped c.requires.bodies c.requires.name_graph in
-    let same : length c.deref-uses.result.now ≡ length uses = ap length (c.deref-uses.ensures.value ∙ ap (λ (s : NameGraph). s.uses.items) c.deref-shared.ensures) in
-    let weighed : (n : ℕ) → n < length uses → get_or measures.weights.items n 0 ≡ weight_of (shapes web table) (title_at table.names n) =
+    let graph = graph_over web table pieces (node_bodies bodies) name_graph
+    distinct inside c.requires.grouped c.requires.bodies c.requires.name_graph in
+    let same : length c.deref-uses.result.now ≡ length uses =
+    ap length (c.deref-uses.ensures.value ∙ ap (λ (s : NameGraph). s.uses.items) c.deref-shared.ensures) in
+    let weighed : (n : ℕ)
+    → n < length uses → get_or measures.weights.items n 0 ≡ weight_of (shapes web table) (title_at table.names n) =
     (λ n room. c.in_ok-measures.ensures.weights n (omega (arith, room, same))) in
-    let measured : (n : ℕ) → n < length uses → get_or measures.depths.items n 0 ≡ depth_of (shapes web table) (title_at table.names n) =
+    let measured : (n : ℕ)
+    → n < length uses → get_or measures.depths.items n 0 ≡ depth_of (shapes web table) (title_at table.names n) =
     (λ n room. c.in_ok-measures.ensures.depths n (omega (arith, room, same))) in
-    let limited : (n : ℕ) → n < length uses → get_or measures.expandable.items n false ≡ is_expandable (shapes web table) (title_at table.names n) =
+    let limited : (n : ℕ) → n < length uses
+    → get_or measures.expandable.items n false ≡ is_expandable (shapes web table) (title_at table.names n) =
     (λ n room. c.in_ok-measures.ensures.expandable n (omega (arith, room, same))) in
     let has : ℕ → Bool = (λ id. get_or c.args.has_piece.items id false) in
     let has_is : (id : ℕ) → id < length table.names → has id ≡ row_has_piece (row_at (rows_of pieces) id) =
@@ -69,11 +83,15 @@ returns-clause-store c =
     let count : length name_graph.names ≡ length table.names = ap length c.requires.names in
     let is = c.requires.name_graph in
     record {
-      store = store_made web table pieces uses is.users name_graph.self_containing.items measures.weights.items measures.depths.items measures.expandable.items c.in_ok-outputs.outputs.items c.in_ok-faults.faults.items
-          (slots_of bodies) (uses_of_plans bodies) (node_bodies bodies) has distinct inside graph is.reversed is.increasing is.users_size is.containing weighed measured limited has_is c.requires.plans c.requires.bodies
+      store = store_made web table pieces uses is.users name_graph.self_containing.items measures.weights.items
+          measures.depths.items measures.expandable.items c.in_ok-outputs.outputs.items c.in_ok-faults.faults.items
+          (slots_of bodies) (uses_of_plans bodies) (node_bodies bodies) has distinct inside graph is.reversed
+          is.increasing is.users_size is.containing weighed measured limited has_is c.requires.plans c.requires.bodies
           (λ symbols node. c.filled_plans_are_right.ensures web table has symbols levels node inside)
-          name_graph.names (node_rows name_graph.used_nodes.items) (node_rows name_graph.user_nodes.items) c.requires.names
-          (is.used_nodes ∙ ap (λ k. map (map (node_at k)) (rows_of uses)) count) (is.user_nodes ∙ ap (λ k. map (map (node_at k)) (rows_of is.users)) count);
+          name_graph.names (node_rows name_graph.used_nodes.items)
+          (node_rows name_graph.user_nodes.items) c.requires.names
+          (is.used_nodes ∙ ap (λ k. map (map (node_at k)) (rows_of uses)) count)
+          (is.user_nodes ∙ ap (λ k. map (map (node_at k)) (rows_of is.users)) count);
       names = c.requires.names;
       outputs = c.in_ok-outputs.ensures;
       faults = c.in_ok-faults.ensures;
@@ -89,24 +107,36 @@ invariant_of-result c =
     let name_graph = c.args.name_graph.value in
     let uses = name_graph.uses.items in
     let measures = c.in_ok-measures.measures in
-    let distinct = subst (λ (t : TableRead). IsDistinct bytes_eq t.names) (sym c.requires.table) (c.names_are_the_full_names.ensures.once web.occurrences) in
+    let distinct = subst (λ (t : TableRead). IsDistinct bytes_eq t.names)
+    (sym c.requires.table) (c.names_are_the_full_names.ensures.once web.occurrences) in
     let inside = subst ResolvesInside (sym c.requires.table) (c.names_resolve_inside.ensures web) in
-    let graph = graph_over web table pieces (node_bodies bodies) name_graph distinct inside c.requires.grouped c.requires.bodies c.requires.name_graph in
-    let same : length c.deref-uses.result.now ≡ length uses = ap length (c.deref-uses.ensures.value ∙ ap (λ (s : NameGraph). s.uses.items) c.deref-shared.ensures) in
-    let measured : (n : ℕ) → n < length uses → get_or measures.depths.items n 0 ≡ depth_of (shapes web table) (title_at table.names n) =
+    let graph = graph_over web table pieces (node_bodies bodies) name_graph
+    distinct inside c.requires.grouped c.requires.bodies c.requires.name_graph in
+    let same : length c.deref-uses.result.now ≡ length uses =
+    ap length (c.deref-uses.ensures.value ∙ ap (λ (s : NameGraph). s.uses.items) c.deref-shared.ensures) in
+    let measured : (n : ℕ)
+    → n < length uses → get_or measures.depths.items n 0 ≡ depth_of (shapes web table) (title_at table.names n) =
     (λ n room. c.in_ok-measures.ensures.depths n (omega (arith, room, same))) in
     let within : AreWithin (rows_of pieces) measures.weights.items measures.depths.items measures.expandable.items =
-    subst (λ (g : Graph). AreWithin (rows_of g) measures.weights.items measures.depths.items measures.expandable.items) (c.deref-rows.ensures.value ∙ ap (λ (v : Vec (Vec ℕ Global) Global). v.items) c.deref-all.ensures) c.in_ok-measures.ensures.within in
+    subst (λ (g : Graph). AreWithin (rows_of g) measures.weights.items measures.depths.items measures.expandable.items)
+    (c.deref-rows.ensures.value ∙ ap (λ (v : Vec (Vec ℕ Global) Global). v.items) c.deref-all.ensures)
+    c.in_ok-measures.ensures.within in
     let count : length name_graph.names ≡ length table.names = ap length c.requires.names in
-    let used : node_rows name_graph.used_nodes.items ≡ map (map (node_at (length table.names))) (rows_of uses) = c.requires.name_graph.used_nodes ∙ ap (λ k. map (map (node_at k)) (rows_of uses)) count in
-    let nodes : name_graph.node_order.items ≡ map (node_at (length table.names)) name_graph.order.items = c.requires.name_graph.node_order ∙ ap (λ k. map (node_at k) name_graph.order.items) count in
+    let used : node_rows name_graph.used_nodes.items ≡ map (map (node_at (length table.names))) (rows_of uses) =
+    c.requires.name_graph.used_nodes ∙ ap (λ k. map (map (node_at k)) (rows_of uses)) count in
+    let nodes : name_graph.node_order.items ≡ map (node_at (length table.names)) name_graph.order.items =
+    c.requires.name_graph.node_order ∙ ap (λ k. map (node_at k) name_graph.order.items) count in
     record {
       sizes = sym (length-map bodies (λ (t : Rc NodeBody Global). t.value)) ∙ c.requires.bodies.size ∙ sym within.size;
       name_graph = c.requires.name_graph;
       order = subst (IsOrderIn _) (sym nodes)
-          (order_is web table pieces uses name_graph.order.items measures.weights.items measures.depths.items measures.expandable.items _ graph c.requires.name_graph.order within measured c.requires.names used refl);
-      uses = names_below web table (rows_of pieces) (node_bodies bodies) (length name_graph.names) inside c.requires.bodies (sym count);
-      planned = subst (λ (ns : List (List ℕ)). ArePlanned ns (λ id. get_or c.args.has_piece.items id false) (node_bodies bodies)) (sym c.requires.names) c.requires.planned;
+          (order_is web table pieces uses name_graph.order.items measures.weights.items measures.depths.items
+          measures.expandable.items _ graph c.requires.name_graph.order within measured c.requires.names used refl);
+      uses = names_below web table (rows_of pieces) (node_bodies bodies)
+          (length name_graph.names) inside c.requires.bodies (sym count);
+      planned = subst
+          (λ (ns : List (List ℕ)). ArePlanned ns (λ id. get_or c.args.has_piece.items id false) (node_bodies bodies))
+          (sym c.requires.names) c.requires.planned;
     }
 
 pub outputs-requires-clause-program : goal.outputs-requires-clause-program
@@ -116,9 +146,11 @@ outputs-requires-clause-program c =
     let pieces = c.args.pieces.value.items in
     let name_graph = c.args.name_graph.value in
     let uses = name_graph.uses.items in
-    let distinct = subst (λ (t : TableRead). IsDistinct bytes_eq t.names) (sym c.requires.table) (c.names_are_the_full_names.ensures.once web.occurrences) in
+    let distinct = subst (λ (t : TableRead). IsDistinct bytes_eq t.names)
+    (sym c.requires.table) (c.names_are_the_full_names.ensures.once web.occurrences) in
     let inside = subst ResolvesInside (sym c.requires.table) (c.names_resolve_inside.ensures web) in
-    let graph = graph_over web table pieces (node_bodies c.args.bodies.items) name_graph distinct inside c.requires.grouped c.requires.bodies c.requires.name_graph in
+    let graph = graph_over web table pieces (node_bodies c.args.bodies.items) name_graph
+    distinct inside c.requires.grouped c.requires.bodies c.requires.name_graph in
     ap (λ l. get_or l c.count.result false) c.deref-has_piece_by_node.ensures.value
     ∙ ap (λ n. get_or c.args.has_piece.items n false) c.count.ensures
     ∙ c.requires.has_piece.flag (length table.names) (omega (arith, graph.rows_size, rows_size pieces))
@@ -131,15 +163,24 @@ faults-requires-clause-flags c =
     let pieces = c.args.pieces.value.items in
     let name_graph = c.args.name_graph.value in
     let uses = name_graph.uses.items in
-    let distinct = subst (λ (t : TableRead). IsDistinct bytes_eq t.names) (sym c.requires.table) (c.names_are_the_full_names.ensures.once web.occurrences) in
+    let distinct = subst (λ (t : TableRead). IsDistinct bytes_eq t.names)
+    (sym c.requires.table) (c.names_are_the_full_names.ensures.once web.occurrences) in
     let inside = subst ResolvesInside (sym c.requires.table) (c.names_resolve_inside.ensures web) in
-    let graph = graph_over web table pieces (node_bodies c.args.bodies.items) name_graph distinct inside c.requires.grouped c.requires.bodies c.requires.name_graph in
+    let graph = graph_over web table pieces (node_bodies c.args.bodies.items) name_graph
+    distinct inside c.requires.grouped c.requires.bodies c.requires.name_graph in
     let is = c.requires.name_graph in
-    let have_piece : ArePieceFlags (rows_of pieces) c.deref-has_piece_by_node.result.now = subst (ArePieceFlags (rows_of pieces)) (sym c.deref-has_piece_by_node.ensures.value) c.requires.has_piece in
-    let same : length c.deref-uses.result.now ≡ length uses = ap length (c.deref-uses.ensures.value ∙ ap (λ (s : NameGraph). s.uses.items) c.deref-shared.ensures) in
-    let containing : c.deref-2.result.now ≡ name_graph.self_containing.items = c.deref-2.ensures.value ∙ ap (λ (s : NameGraph). s.self_containing.items) c.deref-shared.ensures in
-    let reaching : c.deref-3.result.now ≡ name_graph.reaching_cycles.items = c.deref-3.ensures.value ∙ ap (λ (s : NameGraph). s.reaching_cycles.items) c.deref-shared.ensures in
-    let rows_count : length (rows_of c.deref-rows.result.now) ≡ length table.names + 1 = ap (λ (g : Graph). length (rows_of g)) (c.deref-rows.ensures.value ∙ ap (λ (v : Vec (Vec ℕ Global) Global). v.items) c.deref-all.ensures) ∙ rows_size pieces ∙ graph.rows_size in
+    let have_piece : ArePieceFlags (rows_of pieces) c.deref-has_piece_by_node.result.now =
+    subst (ArePieceFlags (rows_of pieces)) (sym c.deref-has_piece_by_node.ensures.value) c.requires.has_piece in
+    let same : length c.deref-uses.result.now ≡ length uses =
+    ap length (c.deref-uses.ensures.value ∙ ap (λ (s : NameGraph). s.uses.items) c.deref-shared.ensures) in
+    let containing : c.deref-2.result.now ≡ name_graph.self_containing.items =
+    c.deref-2.ensures.value ∙ ap (λ (s : NameGraph). s.self_containing.items) c.deref-shared.ensures in
+    let reaching : c.deref-3.result.now ≡ name_graph.reaching_cycles.items =
+    c.deref-3.ensures.value ∙ ap (λ (s : NameGraph). s.reaching_cycles.items) c.deref-shared.ensures in
+    let rows_count : length (rows_of c.deref-rows.result.now) ≡ length table.names + 1 =
+    ap (λ (g : Graph). length (rows_of g))
+    (c.deref-rows.ensures.value ∙ ap (λ (v : Vec (Vec ℕ Global) Global). v.items) c.deref-all.ensures)
+    ∙ rows_size pieces ∙ graph.rows_size in
     record {
       has_piece_size = has_piece_size web table pieces uses graph c.deref-has_piece_by_node.result.now have_piece;
       containing_size = ap length containing ∙ is.containing_size ∙ graph.uses_size;
@@ -150,5 +191,6 @@ faults-requires-clause-flags c =
           (subst (λ flags. FlagsJust uses flags (ContainsItself (HasUse uses))) (sym containing) is.containing);
       reaching = reaching_flag web table pieces uses graph c.deref-3.result.now
           (subst (λ flags. FlagsJust uses flags (ReachesCycle (HasUse uses))) (sym reaching) is.reaching);
-      expandable = λ n low. ap (λ l. get_or l n false) c.deref-4.ensures.value ∙ c.in_ok-measures.ensures.expandable n (omega (arith, low, same, graph.uses_size));
+      expandable = λ n low. ap (λ l. get_or l n false) c.deref-4.ensures.value
+          ∙ c.in_ok-measures.ensures.expandable n (omega (arith, low, same, graph.uses_size));
     }

@@ -17,17 +17,25 @@ loop-line-init c =
 pub loop-line-preserved : goal.loop-line-preserved
 loop-line-preserved c =
     let next : c.in-Some.next ≡ c.loop-line.number + 1 = c.in-Some.ensures.line.0 in
-    let one : c.in-Some.next - c.in-OfFile.read ≡ (c.loop-line.number - c.in-OfFile.read) + 1 = omega (arith, next, c.loop-line.invariant.low) in
+    let one : c.in-Some.next - c.in-OfFile.read ≡ (c.loop-line.number - c.in-OfFile.read) + 1 =
+    omega (arith, next, c.loop-line.invariant.low) in
     record {
       low = omega (arith, next, c.loop-line.invariant.low);
       limit = omega (arith, one, c.if-number-read.false);
       count = omega (arith, one, c.loop-line.invariant.count, c.in_ok-push.ensures.len);
       passed = λ rest.
-          passes-next c.args.changes.now c.args.lines.now.items c.loop-line.lines.items c.push.new.self.items _ _ _ _ _ _
+          passes-next c.args.changes.now c.args.lines.now.items
+          c.loop-line.lines.items c.push.new.self.items _ _ _ _ _ _
           (c.loop-line.invariant.passed rest) one
-          (waiting-next c.self.inside.file c.self.inside.is_changed c.self.inside.depth c.loop-line.number c.in-Some.next c.in-OfFile.file_lines.now c.in-Some.line.now rest next c.in-Some.ensures.line.1)
+          (waiting-next c.self.inside.file c.self.inside.is_changed c.self.inside.depth c.loop-line.number
+          c.in-Some.next c.in-OfFile.file_lines.now c.in-Some.line.now rest next c.in-Some.ensures.line.1)
           (c.in_ok-push.ensures.items ∙ ap (λ l. c.loop-line.lines.items ++ l ∷ []) c.new.ensures)
-          (unawaited c.args.changes.now (record { bytes = c.in-Some.line.now; origin = record { file = c.self.inside.file; line = c.in-Some.next }; changed = c.self.inside.is_changed; depth = c.self.inside.depth })
+          (unawaited c.args.changes.now (record {
+            bytes = c.in-Some.line.now;
+            origin = record { file = c.self.inside.file; line = c.in-Some.next };
+            changed = c.self.inside.is_changed;
+            depth = c.self.inside.depth;
+          })
           (ap (λ b. is_awaited (awaited c.args.changes.now c.self.inside.is_changed) b) (sym c.bytes.ensures.value)
           ∙ ap (λ a. is_awaited a c.bytes.result.now) (sym c.awaited_line-awaited.ensures)
           ∙ (c.if-not-is_source_line.ensures refl).0))

@@ -10,9 +10,13 @@ invariant-loop-line l = record {
   count : length l.lines.items ≡ length l.fn.lines.items + (l.number - l.read);
   passed : (rest : List WaitingLine) →
       PassesOn l.changes l.fn.lines.items
-      (waiting_lines l.self-inside.file l.self-inside.is_changed l.self-inside.depth (l.read + 1) (drop l.read l.file_lines) ++ rest)
+      (waiting_lines l.self-inside.file l.self-inside.is_changed
+      l.self-inside.depth (l.read + 1) (drop l.read l.file_lines)
+      ++ rest)
       (l.number - l.read) l.lines.items
-      (waiting_lines l.self-inside.file l.self-inside.is_changed l.self-inside.depth (l.number + 1) (drop l.number l.file_lines) ++ rest);
+      (waiting_lines l.self-inside.file l.self-inside.is_changed
+      l.self-inside.depth (l.number + 1) (drop l.number l.file_lines)
+      ++ rest);
 }
 
 abbrev pub decreases-loop-line : goal.decreases-loop-line

@@ -5,4 +5,5 @@ use Rattle.tangle_lines.proofs.waiting.Waiting.open.Goals as goal
 
 pub returns : goal.returns
 returns c =
-    ap stacked c.in_ok-push.ensures.items ∙ stacked-push c.self.inside.files.items c.args.file ∙ ap (λ l. c.args.file ++ l) c.self.view_is
+    ap stacked c.in_ok-push.ensures.items ∙ stacked-push c.self.inside.files.items c.args.file
+    ∙ ap (λ l. c.args.file ++ l) c.self.view_is

@@ -9,7 +9,8 @@ pub returns-in-Some-clause-front : goal.returns-in-Some-clause-front
 returns-in-Some-clause-front c =
     let files = c.loop-self.self-inside.files in
     let n = c.len-last.result - 1 in
-    let len : length files.items ≡ n + 1 = omega (arith, files.ok.0, c.len-last.ensures, eqb-false _ 0 (sym c.loop-self-test.ensures)) in
+    let len : length files.items ≡ n + 1 =
+    omega (arith, files.ok.0, c.len-last.ensures, eqb-false _ 0 (sym c.loop-self-test.ensures)) in
     sym c.loop-self.invariant
     ∙ stacked-last files.items n c.index_mut-top.result.now len
     ∙ ap (λ l. l ++ stacked (take n files.items)) (sym c.index_mut-top.ensures.value ∙ c.in-Some.ensures.front)
@@ -19,9 +20,13 @@ pub loop-self-preserved : goal.loop-self-preserved
 loop-self-preserved c =
     let files = c.loop-self.self-inside.files in
     let n = c.len-last.result - 1 in
-    let len : length files.items ≡ n + 1 = omega (arith, files.ok.0, c.len-last.ensures, eqb-false _ 0 (sym c.loop-self-test.ensures)) in
-    let top = stacked-last files.items n c.index_mut-top.result.now len ∙ ap (λ l. l ++ stacked (take n files.items)) (sym c.index_mut-top.ensures.value ∙ c.in-None.ensures.none.0) in
+    let len : length files.items ≡ n + 1 =
+    omega (arith, files.ok.0, c.len-last.ensures, eqb-false _ 0 (sym c.loop-self-test.ensures)) in
+    let top = stacked-last files.items n c.index_mut-top.result.now len
+    ∙ ap (λ l. l ++ stacked (take n files.items)) (sym c.index_mut-top.ensures.value ∙ c.in-None.ensures.none.0) in
     let same : c.loop-self.self-inside.files.len - 1 ≡ n = omega (arith, c.len-last.ensures) in
-    ap stacked (c.pop.ensures.rest ∙ ap (λ m. take m (set files.items n c.take.new.self)) same ∙ take-set files.items n c.take.new.self)
+    ap stacked
+    (c.pop.ensures.rest ∙ ap (λ m. take m (set files.items n c.take.new.self)) same
+    ∙ take-set files.items n c.take.new.self)
     ∙ sym top
     ∙ c.loop-self.invariant

@@ -9,7 +9,8 @@ pub returns-clause-passed : goal.returns-clause-passed
 returns-clause-passed c =
     let files = c.self.inside.files in
     let n = c.len-last.result - 1 in
-    let len : length files.items ≡ n + 1 = omega (arith, files.ok.0, c.len-last.ensures, eqb-false _ 0 (sym c.if-is_empty.ensures)) in
+    let len : length files.items ≡ n + 1 =
+    omega (arith, files.ok.0, c.len-last.ensures, eqb-false _ 0 (sym c.if-is_empty.ensures)) in
     let after = stacked (take n files.items) in
     passes-same c.args.changes.now c.args.lines.now.items c.take_plain.new.lines.items _ _ _ _ _
     (sym c.self.view_is

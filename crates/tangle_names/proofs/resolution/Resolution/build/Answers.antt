@@ -20,17 +20,25 @@ returns c =
     let count : length resolved ≡ length os = ap length all ∙ length-map os (resolve os) in
     record {
       table = table_is os (key_texts keys) resolved c.in_ok-first_occurrences.first_occurrences.items _ [] named all
-          (first_occurrences_are os (key_texts keys) c.in_ok-first_occurrences.first_occurrences.items named (omega (arith, size, c.in_ok-first_occurrences.ensures.size, c.len.ensures.len))
-          (λ id h. c.in_ok-first_occurrences.ensures.numbers (resolve os) (c.deref-2.ensures.value ∙ all) id (omega (arith, h, size, c.len.ensures.len))))
-          (first_file_occurrences_are os (key_texts keys) c.in_ok-first_file_occurrences.first_file_occurrences.items (length resolved) named (omega (arith, size, c.in_ok-first_file_occurrences.ensures.size, c.len-2.ensures.len)) count
-          (λ id h. c.in_ok-first_file_occurrences.ensures.numbers (resolve os) (c.deref-3.ensures.value ∙ all) id (omega (arith, h, size, c.len-2.ensures.len))));
+          (first_occurrences_are os (key_texts keys) c.in_ok-first_occurrences.first_occurrences.items
+          named (omega (arith, size, c.in_ok-first_occurrences.ensures.size, c.len.ensures.len))
+          (λ id h. c.in_ok-first_occurrences.ensures.numbers (resolve os)
+          (c.deref-2.ensures.value ∙ all) id (omega (arith, h, size, c.len.ensures.len))))
+          (first_file_occurrences_are os (key_texts keys)
+          c.in_ok-first_file_occurrences.first_file_occurrences.items (length resolved) named
+          (omega (arith, size, c.in_ok-first_file_occurrences.ensures.size, c.len-2.ensures.len)) count
+          (λ id h. c.in_ok-first_file_occurrences.ensures.numbers (resolve os)
+          (c.deref-3.ensures.value ∙ all) id (omega (arith, h, size, c.len-2.ensures.len))));
       kept = record {
         first_occurrences = c.in_ok-first_occurrences.ensures.size ∙ c.len.ensures.len;
         first_file_occurrences = c.in_ok-first_file_occurrences.ensures.size ∙ c.len-2.ensures.len;
         unresolved = c.in_ok-unresolved.ensures ∙ ap (numbers_from is_unresolved 0) c.deref-4.ensures.value;
-        beginning_numbers = beginning_numbers_are os (borrowed_names c.deref-5.result.now) (key_texts keys) c.in_ok-flags.flags.items _
-            (subst (λ bs. SameTexts (full_names os) (borrowed_names bs)) (sym c.deref-5.ensures.value) c.in_ok-sorted.ensures.same) named
-            (omega (arith, size, c.in_ok-flags.ensures.size)) (λ id h. c.in_ok-flags.ensures.begins id (omega (arith, h, size)))
+        beginning_numbers =
+            beginning_numbers_are os (borrowed_names c.deref-5.result.now) (key_texts keys) c.in_ok-flags.flags.items _
+            (subst (λ bs. SameTexts (full_names os) (borrowed_names bs))
+            (sym c.deref-5.ensures.value) c.in_ok-sorted.ensures.same) named
+            (omega (arith, size, c.in_ok-flags.ensures.size))
+            (λ id h. c.in_ok-flags.ensures.begins id (omega (arith, h, size)))
             (c.in_ok-beginning_numbers.ensures ∙ ap (numbers_from (λ b. b) 0) c.deref-6.ensures.value);
       };
     }

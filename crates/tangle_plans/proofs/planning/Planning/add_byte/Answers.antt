@@ -9,5 +9,14 @@ pub returns : goal.returns
 returns c =
     let p = c.self.inside in
     rw (← c.self.view_is, c.in_ok-push.ensures.items)
-    (ap {B = Making} (λ (l : List Slot). record { node = title_of p.name; piece = p.piece; marks = p.marks; made = l; bytes = p.bytes.items ++ c.args.byte ∷ []; tags = p.tags.items; uses = p.uses.items })
-    (bytes_made (title_of p.name) p.bytes.items (c.args.byte ∷ []) p.plan.items p.piece p.marks p.start c.self.invariant))
+    (ap {B = Making} (λ (l : List Slot). record {
+      node = title_of p.name;
+      piece = p.piece;
+      marks = p.marks;
+      made = l;
+      bytes = p.bytes.items ++ c.args.byte ∷ [];
+      tags = p.tags.items;
+      uses = p.uses.items;
+    })
+    (bytes_made (title_of p.name) p.bytes.items (c.args.byte ∷ [])
+    p.plan.items p.piece p.marks p.start c.self.invariant))

@@ -14,23 +14,36 @@ invariant_of-self-in_err-push c =
     let end : c.len-end.result ≡ length p.bytes.items = omega arith in
     let run : c.end_run.new.plan.items ≡ p.plan.items ++ last_run p.start (length p.bytes.items)
     = c.in_ok-end_run.ensures.ok ∙ ap (λ n. p.plan.items ++ last_run p.start n) end in
-    rw (c.in_err-push.ensures.items, end) (with_run p.bytes.items p.plan.items c.end_run.new.plan.items p.piece p.marks p.start c.self.invariant run)
+    rw (c.in_err-push.ensures.items, end)
+    (with_run p.bytes.items p.plan.items c.end_run.new.plan.items p.piece p.marks p.start c.self.invariant run)
 
 pub invariant_of-self-2 : goal.invariant_of-self-2
 invariant_of-self-2 c =
     let p = c.self.inside in
     let end : c.len-end.result ≡ length p.bytes.items = omega arith in
     let run : c.push.new.self.items ≡ (p.plan.items ++ last_run p.start (length p.bytes.items)) ++ c.args.step ∷ []
-    = c.in_ok-push.ensures.items ∙ ap (λ l. l ++ c.args.step ∷ []) (c.in_ok-end_run.ensures.ok ∙ ap (λ n. p.plan.items ++ last_run p.start n) end) in
+    = c.in_ok-push.ensures.items
+    ∙ ap (λ l. l ++ c.args.step ∷ []) (c.in_ok-end_run.ensures.ok ∙ ap (λ n. p.plan.items ++ last_run p.start n) end) in
     rw (c.pieces_after_step-self-inside.ensures, c.marks_after_step-self-inside.ensures, end)
-    (more_steps p.bytes.items p.plan.items c.push.new.self.items p.piece p.marks p.start c.args.step c.self.invariant c.requires run)
+    (more_steps p.bytes.items p.plan.items c.push.new.self.items
+    p.piece p.marks p.start c.args.step c.self.invariant c.requires run)
 
 pub returns : goal.returns
 returns c =
     let p = c.self.inside in
     let end : c.len-end.result ≡ length p.bytes.items = omega arith in
     let run : c.push.new.self.items ≡ (p.plan.items ++ last_run p.start (length p.bytes.items)) ++ c.args.step ∷ []
-    = c.in_ok-push.ensures.items ∙ ap (λ l. l ++ c.args.step ∷ []) (c.in_ok-end_run.ensures.ok ∙ ap (λ n. p.plan.items ++ last_run p.start n) end) in
+    = c.in_ok-push.ensures.items
+    ∙ ap (λ l. l ++ c.args.step ∷ []) (c.in_ok-end_run.ensures.ok ∙ ap (λ n. p.plan.items ++ last_run p.start n) end) in
     rw (← c.self.view_is, c.pieces_after_step-self-inside.ensures, c.marks_after_step-self-inside.ensures, end)
-    (ap {B = Making} (λ (l : List Slot). record { node = title_of p.name; piece = pieces_after_step p.piece c.args.step; marks = marks_after_step p.marks c.args.step; made = l; bytes = p.bytes.items; tags = p.tags.items; uses = p.uses.items })
-    (step_made (title_of p.name) p.bytes.items p.plan.items c.push.new.self.items p.piece p.marks p.start c.args.step c.self.invariant c.requires run))
+    (ap {B = Making} (λ (l : List Slot). record {
+      node = title_of p.name;
+      piece = pieces_after_step p.piece c.args.step;
+      marks = marks_after_step p.marks c.args.step;
+      made = l;
+      bytes = p.bytes.items;
+      tags = p.tags.items;
+      uses = p.uses.items;
+    })
+    (step_made (title_of p.name) p.bytes.items p.plan.items c.push.new.self.items
+    p.piece p.marks p.start c.args.step c.self.invariant c.requires run))

@@ -8,9 +8,13 @@ pub returns-clause-made : goal.returns-clause-made
 returns-clause-made c =
     let p = c.self.inside in
     let end : c.len-2.result ≡ length p.bytes.items = omega arith in
-    let copied_bytes : c.in_ok-from_slice.field-0.items ≡ p.bytes.items = c.in_ok-from_slice.ensures.items ∙ c.deref-2.ensures.value in
+    let copied_bytes : c.in_ok-from_slice.field-0.items ≡ p.bytes.items =
+    c.in_ok-from_slice.ensures.items ∙ c.deref-2.ensures.value in
     let copied : c.extend_from_slice.new.self.items ≡ p.plan.items
-    = c.in_ok-extend_from_slice.ensures.items ∙ ap (λ l. l ++ c.deref.result.now) c.in_ok-plan.ensures.items ∙ c.deref.ensures.value in
+    = c.in_ok-extend_from_slice.ensures.items
+    ∙ ap (λ l. l ++ c.deref.result.now) c.in_ok-plan.ensures.items ∙ c.deref.ensures.value in
     let plan : c.end_run.new.plan.items ≡ p.plan.items ++ last_run p.start (length p.bytes.items)
-    = c.in_ok-end_run.ensures.ok ∙ ap (λ n. c.extend_from_slice.new.self.items ++ last_run p.start n) end ∙ ap (λ l. l ++ last_run p.start (length p.bytes.items)) copied in
-    rw (← c.self.view_is, copied_bytes, plan) (run_made (title_of p.name) p.bytes.items p.plan.items p.piece p.marks p.start c.self.invariant)
+    = c.in_ok-end_run.ensures.ok ∙ ap (λ n. c.extend_from_slice.new.self.items ++ last_run p.start n) end
+    ∙ ap (λ l. l ++ last_run p.start (length p.bytes.items)) copied in
+    rw (← c.self.view_is, copied_bytes, plan)
+    (run_made (title_of p.name) p.bytes.items p.plan.items p.piece p.marks p.start c.self.invariant)

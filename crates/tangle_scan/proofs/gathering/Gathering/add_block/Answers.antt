@@ -10,10 +10,16 @@ add_head-requires-clause-whole c = body-whole c.args.tokens.now c.requires.no_he
 pub returns-clause-gathering : goal.returns-clause-gathering
 returns-clause-gathering c =
     let source = c.args.source.now in
-    let noted : GatheringRead → GatheringRead = λ g. record g { faults = g.faults ++ flat_map (own_fault source.files source.lines) c.args.tokens.now } in
+    let noted : GatheringRead → GatheringRead =
+    λ g. record g { faults = g.faults ++ flat_map (own_fault source.files source.lines) c.args.tokens.now } in
     rw c.in_ok-add_faults.ensures
-    (ap noted (c.self.view_is ∙ c.in_ok-rare.ensures.head) ∙ block-whole source c.args.self.now c.args.head c.args.tokens.now c.requires.no_head)
+    (ap noted (c.self.view_is ∙ c.in_ok-rare.ensures.head)
+    ∙ block-whole source c.args.self.now c.args.head c.args.tokens.now c.requires.no_head)
 
 pub returns-clause-sections : goal.returns-clause-sections
 returns-clause-sections c =
-    omega (arith, ap (λ g. g.sections) (c.self.view_is ∙ c.in_ok-rare.ensures.head), section_after-limit c.args.self.now.sections c.args.head)
+    omega (
+      arith,
+      ap (λ g. g.sections) (c.self.view_is ∙ c.in_ok-rare.ensures.head),
+      section_after-limit c.args.self.now.sections c.args.head,
+    )

@@ -7,5 +7,7 @@ use Rattle.tangle_scan.proofs.gathering.Gathering.add_front.Goals as goal
 pub returns-clause-gathering : goal.returns-clause-gathering
 returns-clause-gathering c =
     let source = c.args.source.now in
-    let noted : GatheringRead → GatheringRead = λ g. record g { faults = g.faults ++ flat_map (own_fault source.files source.lines) c.args.tokens.now } in
-    rw c.in_ok-add_faults.ensures (ap noted c.self.view_is ∙ front-whole source c.args.self.now c.args.tokens.now c.requires)
+    let noted : GatheringRead → GatheringRead =
+    λ g. record g { faults = g.faults ++ flat_map (own_fault source.files source.lines) c.args.tokens.now } in
+    rw c.in_ok-add_faults.ensures
+    (ap noted c.self.view_is ∙ front-whole source c.args.self.now c.args.tokens.now c.requires)

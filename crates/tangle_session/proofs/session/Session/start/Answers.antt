@@ -5,16 +5,20 @@ use Rattle.tangle_session.proofs.session.Session.start.Goals as goal
 
 pub returns-in-Ok-expand_all-clause-work : goal.returns-in-Ok-expand_all-clause-work
 returns-in-Ok-expand_all-clause-work c =
-    let analysis = analysis_of c.args.files c.args.roles c.marks.result c.in-Ok.analysis c.marks.ensures c.in-Ok.ensures.made in
+    let analysis =
+    analysis_of c.args.files c.args.roles c.marks.result c.in-Ok.analysis c.marks.ensures c.in-Ok.ensures.made in
     let made = c.in-Ok-expand_all.ensures.work in
-    let lists = lists_nodes (web_at c.args.files c.args.roles) c.in-Ok.analysis.store made.0 analysis.store analysis.store_names made.2 in
+    let lists = lists_nodes (web_at c.args.files c.args.roles)
+    c.in-Ok.analysis.store made.0 analysis.store analysis.store_names made.2 in
     rw (made.1, c.new-work.ensures) lists
 
 pub invariant_of-result : goal.invariant_of-result
 invariant_of-result c =
-    let analysis = analysis_of c.args.files c.args.roles c.marks.result c.in-Ok.analysis c.marks.ensures c.in-Ok.ensures.made in
+    let analysis =
+    analysis_of c.args.files c.args.roles c.marks.result c.in-Ok.analysis c.marks.ensures c.in-Ok.ensures.made in
     record {
-      files_fit = fit_to_start c.args.files c.args.roles (let first = c.refusal_to_start.ensures in let second = c.in_default.is in cc);
+      files_fit = fit_to_start c.args.files c.args.roles
+          (let first = c.refusal_to_start.ensures in let second = c.in_default.is in cc);
       analysis = analysis;
       kept = c.in-Ok-expand_all.ensures.kept (shapes_of (web_at c.args.files c.args.roles)) analysis.store;
     }

@@ -11,5 +11,6 @@ returns-in-Some c =
     let name = c.args.name.now in
     find_here name c.outputs.result.now c.args.index c.in-Some.output.now
     (subst (λ os. IsDistinct bytes_eq (map (λ (o : OutputRead). o.name) os)) (sym c.outputs.ensures) c.requires)
-    c.in-Some.ensures.lookup.3.0 c.in-Some.ensures.lookup.1 (ap (bytes_eq name) (sym c.name.ensures) ∙ sym c.eq.ensures ∙ c.if-eq.true)
+    c.in-Some.ensures.lookup.3.0 c.in-Some.ensures.lookup.1
+    (ap (bytes_eq name) (sym c.name.ensures) ∙ sym c.eq.ensures ∙ c.if-eq.true)
     ∙ ap (find (λ (o : OutputRead). bytes_eq name o.name)) c.outputs.ensures

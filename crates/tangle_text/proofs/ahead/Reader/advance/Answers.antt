@@ -9,4 +9,7 @@ returns-then-self c =
     advance-byte r.source.now.lines r.bytes.now r.line r.column r.is_done lt ∙ ap (drop 1) c.self.view_is
 
 pub invariant_of-self-then-next-count : goal.invariant_of-self-then-next-count
-invariant_of-self-then-next-count c = (omega arith, (λ _. omega (arith, c.count.ensures.count), (omega (arith, c.count.ensures.limit), c.line-self-inside.ensures.short)))
+invariant_of-self-then-next-count c = (
+  omega arith,
+  (λ _. omega (arith, c.count.ensures.count), (omega (arith, c.count.ensures.limit), c.line-self-inside.ensures.short)),
+)

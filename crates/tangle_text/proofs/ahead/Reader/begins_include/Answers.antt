@@ -13,6 +13,7 @@ returns c =
     byte-inside r.source.now.lines r.bytes.now r.line r.column r.is_done (rw (← c.self.view_is) at c.requires) in
     let count = run-count region.Word is_word_byte word-run r.source.now.lines r.bytes.now r.line r.column here.1 in
     let n = 1 + run_length is_word_byte (drop (r.column + 1) r.bytes.now) in
-    let bytes = run-bytes r.source.now.lines r.bytes.now r.line r.column n (omega (arith, c.word_end-end.ensures.end, c.word_end-end.ensures.inside)) in
+    let bytes = run-bytes r.source.now.lines r.bytes.now r.line r.column n
+    (omega (arith, c.word_end-end.ensures.end, c.word_end-end.ensures.inside)) in
     let width : c.word_end-end.result - r.column ≡ n = omega (arith, c.word_end-end.ensures.end) in
     rw (← c.self.view_is, here.0, count, bytes) (rw (width, c.as_slice.ensures) at c.eq.ensures)

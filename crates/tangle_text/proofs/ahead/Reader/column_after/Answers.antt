@@ -8,7 +8,9 @@ returns-clause-column c =
     let r = c.self.inside in
     let here : (r.is_done ≡ false) × (r.column < length r.bytes.now) =
     byte-inside r.source.now.lines r.bytes.now r.line r.column r.is_done (rw (← c.self.view_is) at c.requires) in
-    ap (λ n. n + 1) (sym (ap front_column (sym c.self.view_is) ∙ front_column-rest r.source.now.lines r.bytes.now r.line r.column r.is_done here.0))
+    ap (λ n. n + 1)
+    (sym (ap front_column (sym c.self.view_is)
+    ∙ front_column-rest r.source.now.lines r.bytes.now r.line r.column r.is_done here.0))
 
 pub returns-clause-short : goal.returns-clause-short
 returns-clause-short c =

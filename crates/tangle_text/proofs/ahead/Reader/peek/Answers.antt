@@ -5,4 +5,6 @@ use Rattle.tangle_text.proofs.ahead.Reader.peek.Goals as goal
 
 pub returns : goal.returns
 returns c =
-    c.byte.ensures ∙ (ap (byte_at 0) (c.skip.ensures ∙ ap (drop c.args.distance) c.copy-further.ensures) ∙ sym (byte_at-drop c.args.distance c.args.self.now))
+    c.byte.ensures
+    ∙ (ap (byte_at 0) (c.skip.ensures ∙ ap (drop c.args.distance) c.copy-further.ensures)
+    ∙ sym (byte_at-drop c.args.distance c.args.self.now))

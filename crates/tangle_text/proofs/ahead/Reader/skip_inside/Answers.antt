@@ -6,7 +6,9 @@ use Rattle.tangle_text.proofs.ahead.Reader.skip_inside.Goals as goal
 pub returns-then-skips_ordinary-clause-same : goal.returns-then-skips_ordinary-clause-same
 returns-then-skips_ordinary-clause-same c =
     let skip = c.skip_ordinary.ensures in
-    ap (region_end c.args.region) skip.1 ∙ region_end-ordinary c.args.region (sym c.skips_ordinary.ensures ∙ c.if-skips_ordinary.true) skip.0 c.args.self.now skip.2
+    ap (region_end c.args.region) skip.1
+    ∙ region_end-ordinary c.args.region
+    (sym c.skips_ordinary.ensures ∙ c.if-skips_ordinary.true) skip.0 c.args.self.now skip.2
 
 pub returns-then-skips_ordinary-clause-shorter : goal.returns-then-skips_ordinary-clause-shorter
 returns-then-skips_ordinary-clause-shorter c =

@@ -12,7 +12,8 @@ returns-clause-same c =
     let count = found.result - r.column in
     let column : r.column + count ≡ found.result = omega (arith, found.ensures.low) in
     ap (λ k. region_end region.Prose (rest_of r.source.now.lines r.bytes.now r.line k r.is_done)) (sym column)
-    ∙ (prose-skip r.source.now.lines r.bytes.now r.line r.column count r.is_done (omega (arith, column, found.ensures.high))
+    ∙ (prose-skip r.source.now.lines r.bytes.now r.line r.column
+    count r.is_done (omega (arith, column, found.ensures.high))
     (λ k lt. found.ensures.before k (omega (arith, lt, column)))
     ∙ ap (region_end region.Prose) c.self.view_is)
 
@@ -23,5 +24,11 @@ returns-clause-shorter c =
     let count = found.result - r.column in
     let column : r.column + count ≡ found.result = omega (arith, found.ensures.low) in
     let further = ap (λ k. rest_of r.source.now.lines r.bytes.now r.line k r.is_done) (sym column)
-    ∙ (rest_of-further r.source.now.lines r.bytes.now r.line r.column count r.is_done (omega (arith, column, found.ensures.high))) in
-    omega (arith, ap length further, length-drop count (rest_of r.source.now.lines r.bytes.now r.line r.column r.is_done), ap length c.self.view_is)
+    ∙ (rest_of-further r.source.now.lines r.bytes.now r.line r.column
+    count r.is_done (omega (arith, column, found.ensures.high))) in
+    omega (
+      arith,
+      ap length further,
+      length-drop count (rest_of r.source.now.lines r.bytes.now r.line r.column r.is_done),
+      ap length c.self.view_is,
+    )

@@ -12,8 +12,10 @@ returns-clause-span c =
     let here : (r.is_done ≡ false) × (r.column < length r.bytes.now) =
     byte-inside r.source.now.lines r.bytes.now r.line r.column r.is_done (rw (← c.self.view_is) at c.requires) in
     let count = run-count region.Word is_word_byte word-run r.source.now.lines r.bytes.now r.line r.column here.1 in
-    let span = span_at-rest r.source.now.lines r.bytes.now r.line r.column (1 + run_length is_word_byte (drop (r.column + 1) r.bytes.now)) in
-    let end : c.word_end-end.result ≡ r.column + (1 + run_length is_word_byte (drop (r.column + 1) r.bytes.now)) = omega (arith, c.word_end-end.ensures.end) in
+    let span = span_at-rest r.source.now.lines r.bytes.now r.line r.column
+    (1 + run_length is_word_byte (drop (r.column + 1) r.bytes.now)) in
+    let end : c.word_end-end.result ≡ r.column + (1 + run_length is_word_byte (drop (r.column + 1) r.bytes.now)) =
+    omega (arith, c.word_end-end.ensures.end) in
     rw (← c.self.view_is, here.0, count, span) (ap (λ e. record { line = r.line; start = r.column; end = e }) end)
 
 pub returns-clause-ahead : goal.returns-clause-ahead

@@ -1,0 +1,280 @@
+-- How a name in normal form grows with the bytes that are read.
+use Rattle.std.proofs.Common.{◌≡◌, ◌<◌, ℕ, List, [], ◌∷◌, ◌++◌, Bool, true, false, ◌&&◌, subst, append_assoc}
+use Rattle.std.proofs.Common.{append-nil, length, length-append, Option, Some, None, refl, ap, sym, ◌∙◌, arith, cond}
+use Rattle.std.proofs.Common.{All, inl, inr, ◌⊎◌, if◌then◌else◌, filter}
+use Rattle.std.specs.List.{slice_split, onto_first, join_with_byte, last_or}
+use Rattle.std.proofs.lemmas.Bool.{ne_eqb}
+use Rattle.std.proofs.lemmas.List.Splits.{slice_split_none, slice_split-cons_yes, slice_split-cons_no}
+use Rattle.std.proofs.lemmas.List.Elements.{filter-append, All-nil, All-cons}
+use Rattle.tangle_files.specs.Bytes.{space}
+use Rattle.tangle_lines.specs.Bytes.{is_white}
+use Rattle.tangle_text.specs.Bytes.{holds_white}
+use Rattle.tangle_lexer.specs.Names.{has_bytes, name_words, normal_form, ends_in_white, IsNameSoFar}
+
+abbrev has_words : List (List ℕ) → Bool
+has_words [] = false
+has_words (word ∷ words) = true
+
+abbrev parts_of : List ℕ → List (List ℕ)
+parts_of bytes = slice_split is_white bytes
+
+-- the parts of a byte followed by other bytes, from whether it is white space and from the parts of those
+abbrev parts_by : ℕ → Bool → List (List ℕ) → List (List ℕ)
+parts_by b white parts = cond white ([] ∷ parts) (onto_first b parts)
+
+abbrev AreOther : List ℕ → Type 0
+AreOther bytes = All (λ b. is_white b ≡ false) bytes
+
+none-other : AreOther []
+none-other = All-nil (λ b. is_white b ≡ false)
+
+and-other : (b : ℕ) (bytes : List ℕ) → is_white b ≡ false → AreOther bytes → AreOther (b ∷ bytes)
+and-other b bytes = All-cons (λ b. is_white b ≡ false) b bytes
+
+-- bytes are none, or have a last one
+from-end : (bytes : List ℕ) → (bytes ≡ []) ⊎ ((front : List ℕ) × (b : ℕ) × (bytes ≡ front ++ b ∷ []))
+from-end [] = inl refl
+from-end (x ∷ bytes) = elim (from-end bytes) [
+  | inl none ↦ inr ([], x, ap (λ bs. x ∷ bs) none)
+  | inr ends ↦ inr (x ∷ ends.0, ends.1, ap (λ bs. x ∷ bs) ends.2)
+]
+
+last-append : (o : Option ℕ) (bytes : List ℕ) (b : ℕ) → last_or o (bytes ++ b ∷ []) ≡ Some b
+last-append o [] b = refl
+last-append o (x ∷ bytes) b = last-append (Some x) bytes b
+
+-- words that are joined
+
+join-append : (words : List (List ℕ)) (word : List ℕ)
+    → join_with_byte space (words ++ word ∷ [])
+    ≡ join_with_byte space words ++ (if has_words words then space ∷ word else word)
+join-append [] word = refl
+join-append (first ∷ []) word = refl
+join-append (first ∷ second ∷ words) word =
+    ap (λ bs. first ++ space ∷ bs) (join-append (second ∷ words) word)
+    ∙ sym (append_assoc first (space ∷ join_with_byte space (second ∷ words)) (space ∷ word))
+
+join-begins : (b : ℕ) (bytes : List ℕ) (words : List (List ℕ))
+    → has_bytes (join_with_byte space ((b ∷ bytes) ∷ words)) ≡ true
+join-begins b bytes [] = refl
+join-begins b bytes (word ∷ words) = refl
+
+-- the normal form has a byte if there is a word
+join-has : (parts : List (List ℕ))
+    → has_bytes (join_with_byte space (filter has_bytes parts)) ≡ has_words (filter has_bytes parts)
+join-has [] = refl
+join-has ([] ∷ parts) = join-has parts
+join-has ((b ∷ bytes) ∷ parts) = join-begins b bytes (filter has_bytes parts)
+
+-- parts and words
+
+by-append : (b : ℕ) (white : Bool) (parts more : List (List ℕ))
+    → 0 < length parts → parts_by b white (parts ++ more) ≡ parts_by b white parts ++ more
+by-append b white [] more any = absurd (omega (arith, any))
+by-append b true (part ∷ parts) more any = refl
+by-append b false (part ∷ parts) more any = refl
+
+parts-any : (bytes : List ℕ) → 0 < length (parts_of bytes)
+parts-any [] = omega arith
+parts-any (b ∷ bytes) = by (is_white b) (parts_of bytes)
+  where
+    by : (white : Bool) (parts : List (List ℕ)) → 0 < length (parts_by b white parts)
+    by true parts = omega arith
+    by false [] = omega arith
+    by false (part ∷ parts) = omega arith
+
+-- white space separates parts
+parts-white : (front : List ℕ) (b : ℕ) (rest : List ℕ)
+    → is_white b ≡ true → parts_of (front ++ b ∷ rest) ≡ parts_of front ++ parts_of rest
+parts-white [] b rest white = slice_split-cons_yes is_white b rest white
+parts-white (x ∷ front) b rest white =
+    ap (parts_by x (is_white x)) (parts-white front b rest white)
+    ∙ by-append x (is_white x) (parts_of front) (parts_of rest) (parts-any front)
+
+-- bytes that are not white space belong to the last part
+parts-other : (bytes : List ℕ)
+    → (front : List (List ℕ)) × (part : List ℕ)
+    × ((more : List ℕ) → AreOther more → parts_of (bytes ++ more) ≡ front ++ (part ++ more) ∷ [])
+parts-other [] = ([], [], λ more other. slice_split_none is_white more other)
+parts-other (b ∷ bytes) =
+    let last = parts-other bytes in
+    by (is_white b) last.0 last.1 (λ more other. ap (parts_by b (is_white b)) (last.2 more other))
+  where
+    by : (white : Bool) (front : List (List ℕ)) (part : List ℕ)
+        → ((more : List ℕ)
+        → AreOther more → parts_of (b ∷ (bytes ++ more)) ≡ parts_by b white (front ++ (part ++ more) ∷ []))
+        → (front : List (List ℕ)) × (part : List ℕ)
+        × ((more : List ℕ) → AreOther more → parts_of (b ∷ (bytes ++ more)) ≡ front ++ (part ++ more) ∷ [])
+    by true front part h = ([] ∷ front, part, h)
+    by false [] part h = ([], b ∷ part, h)
+    by false (first ∷ front) part h = ((b ∷ first) ∷ front, part, h)
+
+-- white space at the end adds no word
+words-white : (bytes : List ℕ) (b : ℕ) → is_white b ≡ true → name_words (bytes ++ b ∷ []) ≡ name_words bytes
+words-white bytes b white =
+    ap (filter has_bytes) (parts-white bytes b [] white)
+    ∙ filter-append has_bytes (parts_of bytes) ([] ∷ [])
+    ∙ append-nil (name_words bytes)
+
+-- a byte after white space begins a word
+words-new : (front : List ℕ) (a b : ℕ) → is_white a ≡ true → is_white b ≡ false
+    → name_words ((front ++ a ∷ []) ++ b ∷ []) ≡ name_words (front ++ a ∷ []) ++ (b ∷ []) ∷ []
+words-new front a b white other =
+    ap name_words (append_assoc front (a ∷ []) (b ∷ []))
+    ∙ ap (filter has_bytes) (parts-white front a (b ∷ []) white)
+    ∙ filter-append has_bytes (parts_of front) (parts_of (b ∷ []))
+    ∙ ap (λ parts. name_words front ++ filter has_bytes parts) (slice_split-cons_no is_white b [] other)
+    ∙ ap (λ words. words ++ (b ∷ []) ∷ []) (sym (words-white front a white))
+
+-- a byte after another one belongs to the same word
+words-more : (bytes : List ℕ) (a b : ℕ) → is_white a ≡ false → is_white b ≡ false
+    → (words : List (List ℕ)) × (word : List ℕ) × (name_words (bytes ++ a ∷ []) ≡ words ++ word ∷ [])
+    × (name_words ((bytes ++ a ∷ []) ++ b ∷ []) ≡ words ++ (word ++ b ∷ []) ∷ [])
+words-more bytes a b first second =
+    let last = parts-other bytes in
+    by (filter has_bytes last.0) last.1
+    (ap (filter has_bytes) (last.2 (a ∷ []) (and-other a [] first none-other))
+    ∙ filter-append has_bytes last.0 ((last.1 ++ a ∷ []) ∷ []))
+    (ap name_words (append_assoc bytes (a ∷ []) (b ∷ []))
+    ∙ ap (filter has_bytes) (last.2 (a ∷ b ∷ []) (and-other a (b ∷ []) first (and-other b [] second none-other)))
+    ∙ filter-append has_bytes last.0 ((last.1 ++ a ∷ b ∷ []) ∷ []))
+  where
+    by : {before after : List (List ℕ)} (words : List (List ℕ)) (part : List ℕ)
+        → before ≡ words ++ filter has_bytes ((part ++ a ∷ []) ∷ [])
+        → after ≡ words ++ filter has_bytes ((part ++ a ∷ b ∷ []) ∷ [])
+        → (words : List (List ℕ)) × (word : List ℕ) × (before ≡ words ++ word ∷ [])
+        × (after ≡ words ++ (word ++ b ∷ []) ∷ [])
+    by words [] e f = (words, a ∷ [], e, f)
+    by words (x ∷ part) e f = (
+      words,
+      x ∷ part ++ a ∷ [],
+      e,
+      f ∙ ap (λ bs. words ++ (x ∷ bs) ∷ []) (sym (append_assoc part (a ∷ []) (b ∷ []))),
+    )
+
+-- the normal form
+
+space-append : (after : Bool) (front word more : List ℕ)
+    → front ++ (if after then space ∷ (word ++ more) else word ++ more)
+    ≡ (front ++ (if after then space ∷ word else word)) ++ more
+space-append true front word more = sym (append_assoc front (space ∷ word) more)
+space-append false front word more = sym (append_assoc front word more)
+
+-- a byte after white space is added with one space before it, unless it is the first of the name
+form-new : (front : List ℕ) (a b : ℕ) → is_white a ≡ true → is_white b ≡ false
+    → normal_form ((front ++ a ∷ []) ++ b ∷ [])
+    ≡ normal_form (front ++ a ∷ []) ++ (if has_bytes (normal_form (front ++ a ∷ [])) then space ∷ b ∷ [] else b ∷ [])
+form-new front a b white other =
+    ap (join_with_byte space) (words-new front a b white other)
+    ∙ join-append (name_words (front ++ a ∷ [])) (b ∷ [])
+    ∙ ap (λ any. normal_form (front ++ a ∷ []) ++ (if any then space ∷ b ∷ [] else b ∷ []))
+    (sym (join-has (parts_of (front ++ a ∷ []))))
+
+-- a byte after another one is added
+form-more : (front : List ℕ) (a b : ℕ) → is_white a ≡ false → is_white b ≡ false
+    → normal_form ((front ++ a ∷ []) ++ b ∷ []) ≡ normal_form (front ++ a ∷ []) ++ b ∷ []
+form-more front a b first second =
+    let more = words-more front a b first second in
+    ap (join_with_byte space) more.3
+    ∙ join-append more.0 (more.1 ++ b ∷ [])
+    ∙ space-append (has_words more.0) (join_with_byte space more.0) more.1 (b ∷ [])
+    ∙ ap (λ bs. bs ++ b ∷ []) (sym (join-append more.0 more.1) ∙ ap (join_with_byte space) (sym more.2))
+
+-- the name with a byte more
+
+pub so-far-white : (read name : List ℕ) (white : Bool) (b : ℕ) → is_white b ≡ true → IsNameSoFar read name white
+    → IsNameSoFar (read ++ b ∷ []) name true
+so-far-white read name white b is h = record {
+  form = h.form ∙ ap (join_with_byte space) (sym (words-white read b is));
+  ends = sym (ap holds_white (last-append None read b) ∙ is);
+}
+
+-- the byte that is read is added, after a space if one is needed
+so-far-next : (read name : List ℕ) (white : Bool) (b : ℕ) → is_white b ≡ false → IsNameSoFar read name white
+    → IsNameSoFar (read ++ b ∷ []) (name ++ (if has_bytes name && white then space ∷ b ∷ [] else b ∷ [])) false
+so-far-next read name white b is h = record {
+  form = rw (h.form, h.ends) (elim (from-end read) [
+    | inl none ↦ rw none
+        (sym (ap (λ parts. join_with_byte space (filter has_bytes parts)) (slice_split-cons_no is_white b [] is)))
+    | inr ends ↦ rw ends.2 (by ends.0 ends.1 (is_white ends.1) refl)
+  ]);
+  ends = sym (ap holds_white (last-append None read b) ∙ is);
+}
+  where
+    one : (any ends : Bool) → ends ≡ false → (if any && ends then space ∷ b ∷ [] else b ∷ []) ≡ b ∷ []
+    one true ends e = ap (λ c. if c then space ∷ b ∷ [] else b ∷ []) e
+    one false ends e = refl
+
+    two : (any ends : Bool)
+        → ends ≡ true → (if any && ends then space ∷ b ∷ [] else b ∷ []) ≡ (if any then space ∷ b ∷ [] else b ∷ [])
+    two true ends e = ap (λ c. if c then space ∷ b ∷ [] else b ∷ []) e
+    two false ends e = refl
+
+    by : (front : List ℕ) (a : ℕ) (white : Bool) → is_white a ≡ white
+        → normal_form (front ++ a ∷ [])
+        ++ (if has_bytes (normal_form (front ++ a ∷ [])) && ends_in_white (front ++ a ∷ [])
+        then space ∷ b ∷ []
+        else b ∷ [])
+        ≡ normal_form ((front ++ a ∷ []) ++ b ∷ [])
+    by front a true e =
+        ap (λ bs. normal_form (front ++ a ∷ []) ++ bs)
+        (two (has_bytes (normal_form (front ++ a ∷ [])))
+        (ends_in_white (front ++ a ∷ [])) (ap holds_white (last-append None front a) ∙ e))
+        ∙ sym (form-new front a b e is)
+    by front a false e =
+        ap (λ bs. normal_form (front ++ a ∷ []) ++ bs)
+        (one (has_bytes (normal_form (front ++ a ∷ [])))
+        (ends_in_white (front ++ a ∷ [])) (ap holds_white (last-append None front a) ∙ e))
+        ∙ sym (form-more front a b e is)
+
+pub so-far-space : (read name : List ℕ) (white : Bool) (b : ℕ) → is_white b ≡ false → IsNameSoFar read name white
+    → 0 < length name → white ≡ true
+    → IsNameSoFar (read ++ b ∷ []) ((name ++ space ∷ []) ++ b ∷ []) false
+so-far-space read [] white b is h any after = absurd (omega (arith, any))
+so-far-space read (x ∷ name) white b is h any after =
+    subst (λ bs. IsNameSoFar (read ++ b ∷ []) bs false)
+    (ap (λ w. (x ∷ name) ++ (if w then space ∷ b ∷ [] else b ∷ [])) after
+    ∙ sym (append_assoc (x ∷ name) (space ∷ []) (b ∷ [])))
+    (so-far-next read (x ∷ name) white b is h)
+
+pub so-far-byte : (read name : List ℕ) (white : Bool) (b : ℕ) → is_white b ≡ false → IsNameSoFar read name white
+    → (white ≡ false) ⊎ (length name ≡ 0)
+    → IsNameSoFar (read ++ b ∷ []) (name ++ b ∷ []) false
+so-far-byte read [] white b is h reason = so-far-next read [] white b is h
+so-far-byte read (x ∷ name) white b is h (inl other) =
+    subst (λ bs. IsNameSoFar (read ++ b ∷ []) bs false)
+    (ap (λ w. (x ∷ name) ++ (if w then space ∷ b ∷ [] else b ∷ [])) other) (so-far-next read (x ∷ name) white b is h)
+so-far-byte read (x ∷ name) white b is h (inr none) = absurd (omega (arith, none))
+
+-- names that are in normal form as they are read
+
+-- The bytes that were read are a name in normal form, with a space after it if the last byte is white space, or none.
+abbrev pub IsPlainSoFar : List ℕ → Bool → Type 0
+IsPlainSoFar read true =
+    (read ≡ []) ⊎ ((name : List ℕ) × (0 < length name) × (read ≡ name ++ space ∷ []) × IsNameSoFar read name true)
+IsPlainSoFar read false = (0 < length read) × IsNameSoFar read read false
+
+pub past-space : (b : ℕ) → 32 < b → is_white b ≡ false
+past-space b past =
+    rw (
+      ne_eqb b 32 (λ e. absurd (omega (arith, past, e))),
+      ne_eqb b 9 (λ e. absurd (omega (arith, past, e))),
+      ne_eqb b 13 (λ e. absurd (omega (arith, past, e))),
+      ne_eqb b 11 (λ e. absurd (omega (arith, past, e))),
+      ne_eqb b 12 (λ e. absurd (omega (arith, past, e))),
+    ) refl
+
+pub plain-space : (read : List ℕ) (b : ℕ) → b ≡ space → IsPlainSoFar read false → IsPlainSoFar (read ++ b ∷ []) true
+plain-space read b is h = rw is (inr (read, h.0, refl, so-far-white read read false space refl h.1))
+
+pub plain-byte : (read : List ℕ) (white : Bool) (b : ℕ)
+    → is_white b ≡ false → IsPlainSoFar read white → IsPlainSoFar (read ++ b ∷ []) false
+plain-byte read true b is (inl none) =
+    rw none (omega arith, so-far-byte [] [] false b is (record { form = refl; ends = refl }) (inl refl))
+plain-byte read true b is (inr name) = (
+  omega (arith, length-append read (b ∷ [])),
+  subst (λ bs. IsNameSoFar (read ++ b ∷ []) (bs ++ b ∷ []) false)
+      (sym name.2) (so-far-space read name.0 true b is name.3 name.1 refl),
+)
+plain-byte read false b is h =
+    (omega (arith, length-append read (b ∷ [])), so-far-byte read read false b is h.1 (inl refl))

@@ -1,0 +1,153 @@
+-- Rules 4 and 5 in one pass over the tokens.
+use Rattle.std.proofs.Common.{◌≡◌, ℕ, ◌+◌, nat_le, length, Bool, true, false, ◌&&◌, ◌||◌, if◌then◌else◌}
+use Rattle.std.proofs.Common.{Option, Some, None, is_some, List, [], ◌∷◌, ◌++◌, refl, ap, sym, ◌∙◌, inl, inr}
+use Rattle.std.proofs.lemmas.Bool.Decides.{eqb_tells}
+use Rattle.tangle_faults.specs.declared.faults.Origin.{Origin}
+use Rattle.tangle_lexer.specs.declared.tokens.Token.{Token}
+use Rattle.tangle_lexer.specs.declared.tokens.Token.TheVariants as token
+use Rattle.tangle_lexer.specs.declared.tokens.SpanKind.TheVariants as span_kind
+use Rattle.tangle_lines.specs.Reading.{SourceLine, origin_at}
+use Rattle.tangle_scan.specs.declared.items.Item.{Item}
+use Rattle.tangle_scan.specs.declared.items.Item.TheVariants as item
+use Rattle.tangle_scan.specs.Rules.{texts_of, is_continued, at_line_front, blanks, span_item, next_line, same_origin}
+use Rattle.tangle_scan.specs.Rules.{with_all_marks, with_needed_marks, part_tokens, part_items}
+use Rattle.tangle_scan.specs.LineTruth.{counted_after_line_end}
+use Rattle.tangle_scan.specs.Passes.{line_item, is_front_gap}
+
+-- the items of tokens that rule 3 made, by the token before them on the line and by the counted origin
+abbrev pub items_by_origin : List SourceLine → Option Token → Origin → List Token → List Item
+items_by_origin lines before counted [] = []
+items_by_origin lines before counted (token.LineEnd line ∷ es) =
+    let continued : Bool = is_continued (texts_of lines) before in
+    line_item lines continued counted line
+    ∷ items_by_origin lines (at_line_front (texts_of lines) before line)
+    (counted_after_line_end lines continued counted line) es
+items_by_origin lines before counted (token.White ∷ es) = item.Blank ∷ items_by_origin lines before counted es
+items_by_origin lines before counted (token.QuoteBreak ∷ es) =
+    item.QuoteBreak ∷ items_by_origin lines (Some token.QuoteBreak) (next_line counted) es
+items_by_origin lines before counted (token.Span kind s ∷ es) =
+    span_item kind s ∷ items_by_origin lines (Some (token.Span kind s)) counted es
+items_by_origin lines before counted (token.AsciiConstant value line ∷ es) =
+    item.Code value ∷ items_by_origin lines (Some (token.AsciiConstant value line)) counted es
+items_by_origin lines before counted (token.UseOf occurrence line ∷ es) =
+    item.UseOf occurrence ∷ item.LineMark (origin_at lines line)
+    ∷ items_by_origin lines (Some (token.UseOf occurrence line)) (origin_at lines line) es
+items_by_origin lines before counted (token.AllMacros line ∷ es) =
+    item.Defs ∷ item.LineMark (origin_at lines line)
+    ∷ items_by_origin lines (Some (token.AllMacros line)) (origin_at lines line) es
+items_by_origin lines before counted (e ∷ es) = items_by_origin lines (Some e) counted es
+
+-- the choice between two origins that are the same makes no difference
+pub same_origin-either : (p q : Origin) → (if same_origin p q then q else p) ≡ p
+same_origin-either p q =
+    elim (eqb_tells p.file q.file) [
+      | inl f ↦ elim (eqb_tells p.line q.line) [
+        | inl l ↦ rw (f.0, l.0)
+            (ap (λ x. record { file = x; line = q.line }) (sym f.1)
+            ∙ ap (λ y. record { file = p.file; line = y }) (sym l.1))
+        | inr l ↦ rw (f.0, l.0) refl
+      ]
+      | inr f ↦ rw f.0 refl
+    ]
+
+module _ (lines : List SourceLine) where
+  abbrev texts : List (List ℕ)
+  texts = texts_of lines
+
+  -- the items that rules 4 and 5 give for these tokens
+  abbrev made : Option Token → Origin → List Token → List Item
+  made before counted es = with_needed_marks counted (with_all_marks lines before es)
+
+  -- a line end with no mark after it stays
+  line_end-alone : (before : Option Token) (counted : Origin) (es : List Token)
+      → with_needed_marks counted (item.LineEnd ∷ with_all_marks lines before es)
+      ≡ item.LineEnd ∷ made before (next_line counted) es
+  line_end-alone before counted [] = refl
+  line_end-alone before counted (token.White ∷ es) = refl
+  line_end-alone before counted (token.LineEnd line ∷ es) = refl
+  line_end-alone before counted (token.QuoteBreak ∷ es) = refl
+  line_end-alone before counted (token.Span span_kind.Word s ∷ es) = refl
+  line_end-alone before counted (token.Span span_kind.Sign s ∷ es) = refl
+  line_end-alone before counted (token.Span span_kind.Quoted s ∷ es) = refl
+  line_end-alone before counted (token.Span span_kind.Verbatim s ∷ es) = refl
+  line_end-alone before counted (token.AsciiConstant value line ∷ es) = refl
+  line_end-alone before counted (token.UseOf occurrence line ∷ es) = refl
+  line_end-alone before counted (token.AllMacros line ∷ es) = refl
+  line_end-alone before counted (e ∷ es) = line_end-alone (Some e) counted es
+
+  made-line_end : (before : Option Token) (counted : Origin) (line : ℕ) (es : List Token) →
+      let continued : Bool = is_continued texts before in
+      made before counted (token.LineEnd line ∷ es)
+      ≡ line_item lines continued counted line
+      ∷ made (Some (token.LineEnd line)) (counted_after_line_end lines continued counted line) es
+  made-line_end before counted line es = by (is_continued texts before) (nat_le (length lines) (line + 1))
+    where
+      next : Origin
+      next = origin_at lines (line + 1)
+
+      rest : List Item
+      rest = with_all_marks lines (Some (token.LineEnd line)) es
+
+      by : (continued last : Bool) →
+          let same : Bool = same_origin next (next_line counted) in
+          with_needed_marks counted
+          (item.LineEnd ∷ ((if continued || last then [] else item.LineMark next ∷ []) ++ rest))
+          ≡ (if continued || (last || same) then item.LineEnd else item.LineMark next)
+          ∷ with_needed_marks (if continued || (last || same) then next_line counted else next) rest
+      by true last = line_end-alone (Some (token.LineEnd line)) counted es
+      by false true = line_end-alone (Some (token.LineEnd line)) counted es
+      by false false = rw (same_origin-either next (next_line counted)) refl
+
+  -- a token other than white space and a line end, before others
+  made-token : (left before : Option Token) (counted : Origin) (e : Token) (es : List Token) → is_front_gap e ≡ false
+      → ((after : Origin) → made (Some e) after es ≡ items_by_origin lines (Some e) after es)
+      → made left counted (e ∷ es) ≡ items_by_origin lines before counted (e ∷ es)
+  made-token left before counted token.White es gap h = cc
+  made-token left before counted (token.LineEnd line) es gap h = cc
+  made-token left before counted token.QuoteBreak es gap h = ap (λ t. item.QuoteBreak ∷ t) (h (next_line counted))
+  made-token left before counted (token.Span span_kind.Word s) es gap h = ap (λ t. item.Word s ∷ t) (h counted)
+  made-token left before counted (token.Span span_kind.Sign s) es gap h = ap (λ t. item.Sign s ∷ t) (h counted)
+  made-token left before counted (token.Span span_kind.Quoted s) es gap h = ap (λ t. item.Quoted s ∷ t) (h counted)
+  made-token left before counted (token.Span span_kind.Verbatim s) es gap h = ap (λ t. item.Verbatim s ∷ t) (h counted)
+  made-token left before counted (token.AsciiConstant value line) es gap h = ap (λ t. item.Code value ∷ t) (h counted)
+  made-token left before counted (token.UseOf occurrence line) es gap h =
+      ap (λ t. item.UseOf occurrence ∷ item.LineMark (origin_at lines line) ∷ t) (h (origin_at lines line))
+  made-token left before counted (token.AllMacros line) es gap h =
+      ap (λ t. item.Defs ∷ item.LineMark (origin_at lines line) ∷ t) (h (origin_at lines line))
+  made-token left before counted e es gap h = h counted
+
+  -- Rule 3 leaves no white space before a line end, so the token
+  -- directly before a line end is the last one on the line.
+  made-blanks : (left before : Option Token) (white : Bool) (counted : Origin) (es : List Token)
+      → is_continued texts left ≡ is_continued texts before
+      → made left counted (blanks texts before white es)
+      ≡ items_by_origin lines before counted (blanks texts before white es)
+  made-blanks left before white counted [] alike = refl
+  made-blanks left before white counted (token.White ∷ es) alike = made-blanks left before true counted es alike
+  made-blanks left before white counted (token.LineEnd line ∷ es) alike =
+      let front : Option Token = at_line_front texts before line in
+      let after : Origin = counted_after_line_end lines (is_continued texts before) counted line in
+      made-line_end left counted line (blanks texts front false es)
+      ∙ rw alike (ap (λ t. line_item lines (is_continued texts before) counted line ∷ t)
+      (made-blanks (Some (token.LineEnd line)) front false after es (ends (is_continued texts before))))
+    where
+      ends : (b : Bool) → false ≡ is_continued texts (if b then Some (token.LineEnd line) else None)
+      ends true = refl
+      ends false = refl
+  made-blanks left before white counted (e ∷ es) alike =
+      by (is_some before && white) (λ after. made-blanks (Some e) (Some e) false after es refl)
+    where
+      rest : List Token
+      rest = blanks texts (Some e) false es
+
+      by : (blank : Bool) → ((after : Origin) → made (Some e) after rest ≡ items_by_origin lines (Some e) after rest) →
+          let tokens : List Token = (if blank then token.White ∷ [] else []) ++ e ∷ rest in
+          made left counted tokens ≡ items_by_origin lines before counted tokens
+      by true h = ap (λ t. item.Blank ∷ t) (made-token (Some token.White) before counted e rest refl h)
+      by false h = made-token left before counted e rest refl h
+
+  -- rules 4 and 5, one after the other, give the same items of a C part as the one pass
+  pub part_items-by_origin : (line : ℕ) (es : List Token)
+      → part_items lines line es
+      ≡ items_by_origin lines None (origin_at lines line) (blanks texts None false (part_tokens es))
+  part_items-by_origin line es = made-blanks None None false (origin_at lines line) (part_tokens es) refl
