@@ -128,12 +128,15 @@ class Comparison:
         same((done.status, done.output, done.errors, files_of(folder)),
              (status, b'', faults, {**before, **files}), name)
 
-    def generated(self, folder, first, count):
+    def each_generated(self, what, compare, folder, first, count):
         for seed in range(first, first + count):
             project = generator.Project(seed)
-            name = 'generated web %d' % seed
+            name = '%s %d' % (what, seed)
             if is_laid(folder, name, project):
-                self.compare_run(name, arguments_of(project, seed), folder)
+                compare(name, arguments_of(project, seed), folder)
+
+    def generated(self, folder, first, count):
+        self.each_generated('generated web', self.compare_run, folder, first, count)
 
     def cut(self, folder, webs):
         for web in webs:
@@ -192,11 +195,7 @@ class Comparison:
         same(self.answers(folder, whole, script), (answers, b'', of_whole.status), name + ', by lists')
 
     def layers(self, folder, first, count):
-        for seed in range(first, first + count):
-            project = generator.Project(seed)
-            name = 'layers of generated web %d' % seed
-            if is_laid(folder, name, project):
-                self.compare_listing(name, arguments_of(project, seed), folder)
+        self.each_generated('layers of generated web', self.compare_listing, folder, first, count)
 
     def edited_layers(self, folder, first, count):
         """Of half of the pairs the second project is the older one."""
