@@ -3,7 +3,8 @@
 #
 # usage: tests/wrong_bodies.sh [CRATE..]
 #
-# It works on a copy of the crates, over what make has proved. The last line is 'N passed, M failed'.
+# It works on a copy of the crates. Proofs, and edits that were tried over the same text, are taken from earlier runs on
+# this machine, as far as rt ci has kept them. The last line is 'N passed, M failed'.
 set -u
 top=$(cd "$(dirname "$0")/.." && pwd)
 temporary=$(mktemp -d)
@@ -14,7 +15,7 @@ rm -rf "$temporary"/crates/*/must-fail
 for crate; do
     cp -a "$top/tests/wrong-bodies/$crate" "$temporary/crates/$crate/must-fail"
 done
-(cd "$temporary" && rt must-fail "$@") 2>&1 | tee "$temporary/log"
+(cd "$temporary" && rt ci "$@") 2>&1 | tee "$temporary/log"
 tried=$(find "$temporary"/crates/*/must-fail -name '*.edit' | wc -l)
 passed=$(grep -c 'refused, as it must be' "$temporary/log")
 echo "$passed passed, $((tried - passed)) failed"
