@@ -87,8 +87,8 @@ def taken(project, before, edit, work):
 
 
 def check_one(name, project, before):
-    """An edit that affects one node takes so many allocations more than one that affects none, and
-    one that affects two nodes so many more again: whatever else the project has, and after other
+    """An edit that affects one node takes ONE_NODE allocations more than one that affects none, and
+    one that affects two nodes takes ANOTHER more: whatever else the project has, and after other
     edits."""
     first, second = project.lines_of_files
     nothing = taken(project, before, [(first, '1')], 0)
@@ -125,8 +125,8 @@ def check_size(count):
     everything = taken(project, [], [(project.line_of_last, '2')], count + 2) - nothing
     check(least <= everything <= least + DOUBLINGS, name,
           'expansions for an edit: %d allocations, at least %d' % (everything, least))
-    print('%s: an edit that affects nothing takes %d allocations, one that affects all %d more'
-          % (name, nothing, everything))
+    print('%s: an edit that affects no node takes %d allocations, and one that affects all takes '
+          '%d more' % (name, nothing, everything))
 
 
 def test_commands():

@@ -45,20 +45,20 @@ REPLACED = re.compile(
 EXPANDING = ('tangle_plans', 'tangle_expansion', 'tangle_graph', 'tangle_affected', 'tangle_session', 'ctangle_cli',
              'ctangle', 'retangle')
 
-# Which function calls what, once in its text. A session begins one work in a start, one in an edit
-# and one in a list of edits, and starts no other session; each expansion is made in `expand`, which
-# notes its node in the work. So last_work() counts all that was expanded. Outputs are written into
-# the writer as they are made, and only where they are asked for, so that no session holds them.
+# Which function calls what, once in its text. A session begins one work in a start and one in a
+# list of edits (one edit is made as a list), and starts no other session; each expansion is made in
+# `expand`, which notes its node in the work. So last_work() counts all that was expanded. Outputs
+# are written into the writer as they are made, and only where they are asked for, so that no
+# session holds them.
 CALLS = {
-    'Work::new': ['tangle_session/session.rt: ' + caller for caller in ('start', 'apply', 'apply_all')],
+    'Work::new': ['tangle_session/session.rt: start', 'tangle_session/tangling.rt: expand_over'],
     'expand_all': ['tangle_session/session.rt: start'],
     'expand_again': ['tangle_session/tangling.rt: expand_over'],
     'affected': [],
     'affected_over': ['tangle_affected/edits.rt: affected', 'tangle_affected/keeping.rt: expand_again'],
     'expand_list': ['tangle_affected/keeping.rt: expand_all', 'tangle_affected/keeping.rt: expand_again'],
     'expand_next': ['tangle_affected/keeping.rt: expand_list'],
-    'expand_one': ['tangle_affected/keeping.rt: expand_next'],
-    'expand': ['tangle_graph/store.rt: expand_one'],
+    'expand': ['tangle_affected/keeping.rt: expand_next', 'tangle_graph/store.rt: expand'],
     'expansion_of': ['tangle_expansion/expanding.rt: expand'],
     'plan_node': ['tangle_graph/bodies.rt: body_of_node'],
     'write_text_after': ['tangle_expansion/writing.rt: write_text_after', 'tangle_expansion/writing.rt: write_text',
@@ -66,12 +66,13 @@ CALLS = {
     'write_text': [],
     'write_file': ['tangle_expansion/files.rt: file_size', 'tangle_session/session.rt: write_output_at'],
     'create_output': ['ctangle_cli/writing.rt: create_outputs'],
-    'Session::start': ['tangle_session/headline.rt: start_and_edit', 'ctangle_cli/run.rt: started',
+    'Session::start': ['tangle_session/headline.rt: start_and_edit', 'ctangle_cli/run.rt: run_loaded',
                        'retangle/main.rt: run_named'],
     'Analysis::build': ['tangle_session/session.rt: start', 'tangle_session/tangling.rt: tangle_again'],
-    'tangle_again': ['tangle_session/session.rt: make_all'],
+    'tangle_again': ['tangle_session/session.rt: apply_all'],
     'expand_over': ['tangle_session/tangling.rt: tangle_again'],
-    'make_all': ['tangle_session/session.rt: apply', 'tangle_session/session.rt: apply_all'],
+    'apply_all': ['tangle_session/session.rt: apply', 'tangle_session/headline.rt: apply_edits',
+                  'ctangle_cli/conversation.rt: commit'],
     'write_output_at': ['tangle_session/session.rt: write_output', 'ctangle_cli/writing.rt: create_output'],
     'write_output': ['tangle_session/headline.rt: ask_all', 'ctangle_cli/conversation.rt: write_bytes'],
     'file_size': ['tangle_session/session.rt: output_size'],
@@ -97,19 +98,20 @@ PLANTED = {
         '    expand_list(alloc, new, &list, &mut kept, work)?;\n'
         '    let mut second = Work::new(alloc);\n    drop(expand_all(alloc, new, &mut second)?);\n'),
     'each node is expanded in a second work too': (
-        'tangle_graph', 'store.rt', '    expand(alloc, store, node, kept, work)\n',
-        '    let mut second = Work::new(alloc);\n    drop(expand(alloc, store, node, kept, &mut second)?);\n'
-        '    expand(alloc, store, node, kept, work)\n'),
+        'tangle_graph', 'store.rt', '        expand(alloc, node, &self.bodies[n], kept, work)\n',
+        '        let mut second = Work::new(alloc);\n'
+        '        drop(expand(alloc, node, &self.bodies[n], kept, &mut second)?);\n'
+        '        expand(alloc, node, &self.bodies[n], kept, work)\n'),
     'an expansion is made twice and noted once': (
         'tangle_expansion', 'expanding.rt', '    work.add(node)?;\n',
-        '    drop(expansion_of(alloc, stored, kept)?);\n    work.add(node)?;\n'),
+        '    drop(expansion_of(alloc, body, kept)?);\n    work.add(node)?;\n'),
     'an expansion is made twice in a loop and noted once': (
-        'tangle_expansion', 'expanding.rt', '    let expansion = expansion_of(alloc, stored, kept)?;\n',
+        'tangle_expansion', 'expanding.rt', '    let expansion = expansion_of(alloc, body, kept)?;\n',
         '    let mut made = Vec::new(alloc);\n    for _ in 0..2 {\n'
-        '        made.push(expansion_of(alloc, stored, kept)?)?;\n    }\n    let expansion = made.pop().unwrap();\n'),
+        '        made.push(expansion_of(alloc, body, kept)?)?;\n    }\n    let expansion = made.pop().unwrap();\n'),
     'a function that expands goes by another name': (
-        'tangle_affected', 'keeping.rt', '    let expansion = expand_one(alloc, store, node, kept, work)?;\n',
-        '    let twice = expand_one;\n    let expansion = twice(alloc, store, node, kept, work)?;\n'),
+        'tangle_affected', 'keeping.rt', '    let expansion = store.expand(alloc, node, kept, work)?;\n',
+        '    let twice = Store::expand;\n    let expansion = twice(store, alloc, node, kept, work)?;\n'),
     'a work is made by its fields': (
         'tangle_expansion', 'expanding.rt', '    work.add(node)?;\n',
         '    let second = Work { nodes: Vec::new(alloc) };\n    drop(second);\n    work.add(node)?;\n'),
@@ -117,10 +119,10 @@ PLANTED = {
         'tangle_session', 'session.rt', '        let mut work = Work::new(alloc);\n',
         '        write_text(&expansion, &analysis.numbers, &mut sink)?;\n        let mut work = Work::new(alloc);\n'),
     'a second session is started for a list of edits': (
-        'tangle_session', 'session.rt', '        self.make_all(edits, work)\n',
+        'tangle_session', 'session.rt', '        let marks = marks_after(&self.roles, edits);\n',
         '        if let (Ok(files), Ok(roles)) = (self.state.files.copy(), roles_of(&self.roles)) {\n'
         '            drop(Session::start(self.alloc, files, roles));\n        }\n'
-        '        self.make_all(edits, work)\n'),
+        '        let marks = marks_after(&self.roles, edits);\n'),
     'a session holds the bytes of its outputs': (
         'tangle_session', 'session.rt', '    alloc: Global,\n}\n',
         '    alloc: Global,\n    outputs: IoSink<Vec<u8>>,\n}\n', '        self.state = next;\n',

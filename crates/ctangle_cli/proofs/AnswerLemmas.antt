@@ -1,22 +1,19 @@
 -- Answers to the requests of a script: bytes written one after another, and the answer to an edit or a list.
-use Rattle.std.proofs.Common.{◌≡◌, ◌⊎◌, inl, inr, ℕ, true, false, List, [], ◌++◌, Option, None, Some, Result, Ok, Err}
+use Rattle.std.proofs.Common.{◌≡◌, ◌⊎◌, inl, inr, ℕ, true, List, ◌++◌, Option, None, Some, Result, Ok, Err}
 use Rattle.std.proofs.Common.{ap, subst, sym, refl, length, codes}
-use Rattle.std.specs.Prelude.{IfNone, IfSome, IsOkUnless, OnErr, OnOk, is_some}
+use Rattle.std.specs.Prelude.{IfNone, IfSome, IsOkUnless, OnErr, OnOk}
 use Rattle.std.specs.Global.{Global}
 use Rattle.std.specs.Option.{option_map}
 use Rattle.std.specs.declared.vec.Vec.{Vec}
 use Rattle.tangle_streams.specs.Streams.{Stream, TakesAll, TakesPrefix}
 use Rattle.tangle_files.specs.Edited.{edited_all, roles_after}
 use Rattle.tangle_files.specs.declared.edits.Edit.{Edit}
-use Rattle.tangle_files.specs.declared.edits.Edit.TheVariants.{Insert, Replace, Remove, Create, Discard, Marks}
+use Rattle.tangle_files.specs.declared.edits.Edit.TheVariants.{Marks}
 use Rattle.tangle_files.specs.declared.marks.MarkMode.TheVariants.{Full, Bare}
 use Rattle.tangle_files.specs.declared.refusal.Refusal.{Refusal}
-use Rattle.tangle_files.specs.declared.refusal.Refusal.TheVariants.{BadName, FileExists, TooManyFiles, LineTooLong}
-use Rattle.tangle_files.specs.declared.refusal.Refusal.TheVariants.{TooManyLines, NoMemory, UnknownFile}
-use Rattle.tangle_files.specs.declared.refusal.Refusal.TheVariants.{NoSuchLine, BadLine, NoWeb, NoChange, RoleFile}
-use Rattle.tangle_files.specs.declared.refusal.Refusal.TheVariants.{NoOutput, WriteFault}
+use Rattle.tangle_files.specs.declared.refusal.Refusal.TheVariants.{NoMemory}
+use Rattle.tangle_files.specs.declared.refusal.Refusal.TheVariants.{WriteFault}
 use Rattle.tangle_script.specs.Requests.{is_edit}
-use Rattle.tangle_script.specs.Requests.Request.{Begin, Commit, Cancel}
 use Rattle.tangle_script.specs.Script.{Replies, WritesAnswer}
 use Rattle.tangle_session.specs.Edits.{list_memory, list_refusal, session_refusal}
 use Rattle.tangle_session.specs.Files.{web_at}
@@ -51,22 +48,14 @@ some_has_bytes (Some bytes) size e = let same : size ≡ length bytes = cc in (b
 
 answers_edit : (s t : SessionAndDraft) (made : Edit) (output : List ℕ)
     → AnswersIn s.draft s made output t → answers s (request_for made) output t
-answers_edit s t (Insert file at text) output h = (Insert file at text, refl, h)
-answers_edit s t (Replace file at text) output h = (Replace file at text, refl, h)
-answers_edit s t (Remove file at) output h = (Remove file at, refl, h)
-answers_edit s t (Create file) output h = (Create file, refl, h)
-answers_edit s t (Discard file) output h = (Discard file, refl, h)
 answers_edit s t (Marks Full) output h = (Marks Full, refl, h)
 answers_edit s t (Marks Bare) output h = (Marks Bare, refl, h)
+answers_edit s t made output h = (made, refl, h)
 
 asks_for_edit : (made : Edit) → is_edit (request_for made) ≡ true
-asks_for_edit (Insert file at text) = refl
-asks_for_edit (Replace file at text) = refl
-asks_for_edit (Remove file at) = refl
-asks_for_edit (Create file) = refl
-asks_for_edit (Discard file) = refl
 asks_for_edit (Marks Full) = refl
 asks_for_edit (Marks Bare) = refl
+asks_for_edit made = refl
 
 abbrev Same : Result (Unit {0}) Refusal → Result (Unit {0}) Refusal → Type 0
 Same a b = a ≡ b
@@ -89,32 +78,7 @@ refused_now s t d made refusal none refused only stays =
         inl (answers_edit (record { session = s; draft = None }) (record { session = t; draft = None })
         made _ (IsRefused other e (ap refused_line same) stays, refl))
 
--- lists that are opened, made and dropped
-
-pub bad_begin : (session : SessionRead) (d : Option (Vec Edit Global)) → is_some d ≡ true
-    → answers (session_and_draft session d) Begin (codes "no BadCommand\n") (session_and_draft session d)
-bad_begin session None h = absurd (cc)
-bad_begin session (Some held) h = (refl, refl)
-
-pub begun : (session : SessionRead) (d : Option (Vec Edit Global)) (empty : Vec Edit Global)
-    → is_some d ≡ false → empty.items ≡ []
-    → answers (session_and_draft session d) Begin (codes "ok\n") (session_and_draft session (Some empty))
-begun session None empty h e = (refl, ap (λ l. record { session = session; draft = Some l }) e)
-begun session (Some held) empty h e = absurd (cc)
-
-pub bad_cancel : (session : SessionRead) (d : Option (Vec Edit Global)) → is_some d ≡ false
-    → answers (session_and_draft session d) Cancel (codes "no BadCommand\n") (session_and_draft session d)
-bad_cancel session None h = (refl, refl)
-bad_cancel session (Some held) h = absurd (cc)
-
-pub cancelled : (session : SessionRead) (d : Option (Vec Edit Global))
-    → is_some d ≡ true → answers (session_and_draft session d) Cancel (codes "ok\n") (session_and_draft session None)
-cancelled session None h = absurd (cc)
-cancelled session (Some held) h = (refl, refl)
-
-pub bad_commit : (session : SessionRead) (d : Option (Vec Edit Global))
-    → d ≡ None → answers (session_and_draft session d) Commit (codes "no BadCommand\n") (session_and_draft session None)
-bad_commit session d none = rw none (refl, refl)
+-- a list of edits, which is made or refused
 
 made_whole : (s t : SessionRead) (made : List Edit) (done : Result (Unit {0}) ListRefusal)
     → OnOk done (t.files ≡ edited_all s.files made)
@@ -146,25 +110,8 @@ list_answered s t made done files roles work refused only stays =
       | inr h ↦ (let same : r ≡ list_memory = cc in IsListOutOfMemory (ap list_refused_line same) k)
     ]
 
-pub committed : (s t : SessionRead) (d : Option (Vec Edit Global)) (held : Vec Edit Global) (output : List ℕ)
-    → d ≡ Some held → AnswersList s held.items output t
-    → answers (session_and_draft s d) Commit output (session_and_draft t None)
-committed s t d held output some h = rw some (h, refl)
-
 -- an output that was not written whole was written up to a prefix of its bytes
 pub output_is_cut : (a b : Stream) (bytes : List ℕ) (refusal : Refusal)
     → WritesOut a b bytes (Err refusal) → TakesPrefix a b bytes
 output_is_cut a b bytes (WriteFault n) h = (n, h.0, h.1, h.2)
-output_is_cut a b bytes BadName h = absurd h
-output_is_cut a b bytes FileExists h = absurd h
-output_is_cut a b bytes TooManyFiles h = absurd h
-output_is_cut a b bytes LineTooLong h = absurd h
-output_is_cut a b bytes TooManyLines h = absurd h
-output_is_cut a b bytes NoMemory h = absurd h
-output_is_cut a b bytes UnknownFile h = absurd h
-output_is_cut a b bytes NoSuchLine h = absurd h
-output_is_cut a b bytes BadLine h = absurd h
-output_is_cut a b bytes NoWeb h = absurd h
-output_is_cut a b bytes NoChange h = absurd h
-output_is_cut a b bytes RoleFile h = absurd h
-output_is_cut a b bytes NoOutput h = absurd h
+output_is_cut a b bytes refusal h = absurd h

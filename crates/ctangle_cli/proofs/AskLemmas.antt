@@ -6,49 +6,26 @@ use Rattle.std.specs.List.{AllByRecursion, IsDistinct, list_any}
 use Rattle.std.specs.Str.{bytes_eq}
 use Rattle.std.specs.declared.vec.Vec.{Vec}
 use Rattle.std.specs.Global.{Global}
+use Rattle.std.proofs.Math.Bool.{or-false, or_assoc, or_comm}
 use Rattle.std.proofs.Math.Seq.{take-suc}
+use Rattle.std.proofs.lemmas.Bool.{cond_both, or_left, or_right}
 use Rattle.std.proofs.lemmas.Cmp.{nat_list_eq_equiv}
 use Rattle.std.proofs.lemmas.List.{map-append, take-append-drop}
 use Rattle.std.proofs.lemmas.List.Folds.{list_any-append}
 use Rattle.std.proofs.lemmas.List.Elements.{All-append, All-cons, All-head, All-nil, All-tail, filter-append}
 use Rattle.std.proofs.lemmas.Map.Keys.{IsDistinct-push}
 use Rattle.std.proofs.lemmas.Slice.Eq.{bytes_eq-Decides}
-use Rattle.tangle_files.specs.Lines.{FileTable, cut}
-use Rattle.tangle_files.specs.Adding.{has_file, with_file}
+use Rattle.tangle_files.specs.Lines.{FileTable}
+use Rattle.tangle_files.specs.Adding.{has_file}
 use Rattle.tangle_folders.specs.Folder.{FolderRead}
 use Rattle.tangle_faults.specs.Faults.{FaultRead}
 use Rattle.ctangle_cli.specs.AskedNames.{with_all_asked, with_asked_once}
 use Rattle.ctangle_cli.specs.Loading.{add_bytes, is_missing_kind, missed_in}
 use Rattle.ctangle_cli.specs.Steps.{Progress, is_tried, progress}
-use Rattle.ctangle_cli.proofs.LoadLemmas.{added, has_any, list_any-map}
-
-pub or_false : (b : Bool) → (b || false) ≡ b
-or_false true = refl
-or_false false = refl
-
-pub or_left : (a b : Bool) → a ≡ true → (a || b) ≡ true
-or_left true b e = refl
-or_left false b e = absurd (cc)
-
-pub or_right : (a b : Bool) → b ≡ true → (a || b) ≡ true
-or_right true b e = refl
-or_right false b e = e
+use Rattle.ctangle_cli.proofs.LoadLemmas.{added, has_with, list_any-map}
 
 or_moved : (a b c : Bool) → ((a || b) || c) ≡ ((a || c) || b)
-or_moved true b c = refl
-or_moved false true true = refl
-or_moved false true false = refl
-or_moved false false true = refl
-or_moved false false false = refl
-
--- the table with one more file
-has_with : (files : FileTable) (name bytes other : List ℕ)
-    → has_file (with_file files name bytes) other ≡ (has_file files other || bytes_eq other name)
-has_with files name bytes other =
-    has_any (with_file files name bytes) other
-    ∙ list_any-append (λ f. bytes_eq other f.0) files ((name, cut bytes) ∷ [])
-    ∙ ap (λ b. b || (bytes_eq other name || false)) (sym (has_any files other))
-    ∙ ap (λ b. has_file files other || b) (or_false (bytes_eq other name))
+or_moved a b c = or_assoc a b c ∙ ap (λ d. a || d) (or_comm b c) ∙ sym (or_assoc a c b)
 
 -- only this name was tried since
 abbrev pub TriesThis : Progress → Progress → List ℕ → Type 0
@@ -62,21 +39,13 @@ tries_added folder folder' files next absent name bytes e other =
     (ap (λ t. has_file t other) (sym (added files next name bytes e)) ∙ has_with files name bytes other)
     ∙ or_moved (has_file files other) (bytes_eq other name) (list_any (bytes_eq other) absent)
 
-or_assoc : (a b c : Bool) → (a || (b || c)) ≡ ((a || b) || c)
-or_assoc true b c = refl
-or_assoc false b c = refl
-
 pub tries_absent : (folder folder' : FolderRead) (files : FileTable) (absent : List (List ℕ)) (name : List ℕ)
     → TriesThis (progress folder files absent) (progress folder' files (absent ++ name ∷ [])) name
 tries_absent folder folder' files absent name other =
     ap (λ b. has_file files other || b)
     (list_any-append (bytes_eq other) absent (name ∷ [])
-    ∙ ap (λ b. list_any (bytes_eq other) absent || b) (or_false (bytes_eq other name)))
-    ∙ or_assoc (has_file files other) (list_any (bytes_eq other) absent) (bytes_eq other name)
-
-pub untried : (a b : Bool) → a ≡ false → b ≡ false → (a || b) ≡ false
-untried true b e f = absurd (cc)
-untried false b e f = f
+    ∙ ap (λ b. list_any (bytes_eq other) absent || b) (or-false (bytes_eq other name)))
+    ∙ sym (or_assoc (has_file files other) (list_any (bytes_eq other) absent) (bytes_eq other name))
 
 -- a name that is new, and a name that is not
 pub with_asked_new : (asked : List (List ℕ)) (name : List ℕ)
@@ -90,11 +59,9 @@ with_asked_old asked name e = ap (λ b. cond b asked (asked ++ name ∷ [])) e
 -- the names asked for before stay in front
 with_asked_front : (asked : List (List ℕ)) (name : List ℕ)
     → (more : List (List ℕ)) × (with_asked_once asked name ≡ asked ++ more)
-with_asked_front asked name = by (list_any (bytes_eq name) asked)
-  where
-    by : (b : Bool) → (more : List (List ℕ)) × (cond b asked (asked ++ name ∷ []) ≡ asked ++ more)
-    by true = ([], sym (append-nil asked))
-    by false = (name ∷ [], refl)
+with_asked_front asked name =
+    cond_both (list_any (bytes_eq name) asked) asked (asked ++ name ∷ [])
+    (λ l. (more : List (List ℕ)) × (l ≡ asked ++ more)) (λ _. ([], sym (append-nil asked))) (λ _. (name ∷ [], refl))
 
 pub with_all_asked_front : (asked names : List (List ℕ))
     → (more : List (List ℕ)) × (with_all_asked asked names ≡ asked ++ more)
@@ -121,15 +88,12 @@ stays_asked asked names name e =
     ∙ or_left (list_any (bytes_eq name) asked) (list_any (bytes_eq name) front.0) e
 
 is_asked : (asked : List (List ℕ)) (name : List ℕ) → list_any (bytes_eq name) (with_asked_once asked name) ≡ true
-is_asked asked name = by (list_any (bytes_eq name) asked) refl
-  where
-    by : (b : Bool)
-        → list_any (bytes_eq name) asked ≡ b → list_any (bytes_eq name) (cond b asked (asked ++ name ∷ [])) ≡ true
-    by true e = e
-    by false e =
-        list_any-append (bytes_eq name) asked (name ∷ [])
-        ∙ or_right (list_any (bytes_eq name) asked) (bytes_eq name name || false)
-        (or_false (bytes_eq name name) ∙ (bytes_eq-Decides name name).1 refl)
+is_asked asked name =
+    cond_both (list_any (bytes_eq name) asked) asked (asked ++ name ∷ [])
+    (λ l. list_any (bytes_eq name) l ≡ true) (λ e. e)
+    (λ _. list_any-append (bytes_eq name) asked (name ∷ [])
+    ∙ or_right (list_any (bytes_eq name) asked) (bytes_eq name name || false)
+    (or-false (bytes_eq name name) ∙ (bytes_eq-Decides name name).1 refl))
 
 pub become_asked : (asked names : List (List ℕ)) → All (IsAsked (with_all_asked asked names)) names
 become_asked asked [] = All-nil (IsAsked asked)
@@ -151,11 +115,9 @@ with_all_asked_again asked names = none_new (with_all_asked asked names) names (
 -- no two of the names are the same, and each has a property that the new names have
 once_more : (asked : List (List ℕ)) (name : List ℕ)
     → IsDistinct bytes_eq asked → IsDistinct bytes_eq (with_asked_once asked name)
-once_more asked name once = by (list_any (bytes_eq name) asked) refl
-  where
-    by : (b : Bool) → list_any (bytes_eq name) asked ≡ b → IsDistinct bytes_eq (cond b asked (asked ++ name ∷ []))
-    by true e = once
-    by false e = IsDistinct-push nat_list_eq_equiv asked name once e
+once_more asked name once =
+    cond_both (list_any (bytes_eq name) asked) asked (asked ++ name ∷ []) (IsDistinct bytes_eq)
+    (λ _. once) (λ e. IsDistinct-push nat_list_eq_equiv asked name once e)
 
 pub all_once : (asked names : List (List ℕ))
     → IsDistinct bytes_eq asked → IsDistinct bytes_eq (with_all_asked asked names)
@@ -164,11 +126,9 @@ all_once asked (name ∷ names) once = all_once (with_asked_once asked name) nam
 
 module _ (P : List ℕ → Type 0) where
   one_more : (asked : List (List ℕ)) (name : List ℕ) → All P asked → P name → All P (with_asked_once asked name)
-  one_more asked name h p = by (list_any (bytes_eq name) asked)
-    where
-      by : (b : Bool) → All P (cond b asked (asked ++ name ∷ []))
-      by true = h
-      by false = All-append P asked (name ∷ []) h (All-cons P name [] p (All-nil P))
+  one_more asked name h p =
+      cond_both (list_any (bytes_eq name) asked) asked (asked ++ name ∷ []) (All P)
+      (λ _. h) (λ _. All-append P asked (name ∷ []) h (All-cons P name [] p (All-nil P)))
 
   pub all_asked : (asked names : List (List ℕ)) → All P asked → All P names → All P (with_all_asked asked names)
   all_asked asked [] h new = h
@@ -186,7 +146,7 @@ once_in_front [] ys h = tt
 once_in_front (x ∷ xs) ys h = (apart_front (λ y. bytes_eq x y ≡ false) xs ys h.0, once_in_front xs ys h.1)
 
 -- the names that one more fault misses
-missed-append : (xs ys : List FaultRead) → missed_in (xs ++ ys) ≡ missed_in xs ++ missed_in ys
+pub missed-append : (xs ys : List FaultRead) → missed_in (xs ++ ys) ≡ missed_in xs ++ missed_in ys
 missed-append xs ys = ap (map (λ f. f.subject)) (filter-append (λ f. is_missing_kind f.kind) xs ys)
     ∙ map-append (λ f. f.subject) (filter (λ f. is_missing_kind f.kind) xs) (filter (λ f. is_missing_kind f.kind) ys)
 

@@ -6,8 +6,7 @@ use Rattle.tangle_files.specs.Roles.{RolesRead}
 use Rattle.tangle_files.specs.declared.edits.Edit.{Edit}
 use Rattle.tangle_files.specs.declared.refusal.Refusal.TheVariants.{NoMemory}
 use Rattle.tangle_script.specs.Requests.{Command, Request, is_edit, request_of}
-use Rattle.tangle_script.specs.Requests.Request.{Insert, Replace, Remove, Create, Discard}
-use Rattle.tangle_script.specs.Requests.Request.{Show, MarksFull, MarksNone, Begin, Commit, Cancel}
+use Rattle.tangle_script.specs.Requests.Request.{Show, Begin, Commit, Cancel}
 use Rattle.tangle_script.specs.Requests.Request.{Faults, Work, Quit, BadCommand}
 use Rattle.tangle_script.specs.Script.{Dialogue, Replies}
 use Rattle.tangle_session.specs.Edits.{list_memory, of_first}
@@ -139,13 +138,6 @@ module _ (files : FileTable) (roles : RolesRead) where
 
   answered : (calls : List Call) (s t : SessionAndDraft) (request : Request) (output : List ℕ)
       → History files roles calls s.session → answers s request output t → GoesOn calls request output s t
-  answered calls s t (Insert at file text) output history a = asks calls s t (Insert at file text) output history a
-  answered calls s t (Replace at file text) output history a = asks calls s t (Replace at file text) output history a
-  answered calls s t (Remove at file) output history a = asks calls s t (Remove at file) output history a
-  answered calls s t (Create file) output history a = asks calls s t (Create file) output history a
-  answered calls s t (Discard file) output history a = asks calls s t (Discard file) output history a
-  answered calls s t MarksFull output history a = asks calls s t MarksFull output history a
-  answered calls s t MarksNone output history a = asks calls s t MarksNone output history a
   answered calls s t Begin output history a = begins calls s t output s.draft refl history a
   answered calls s t Commit output history a = commits calls s t output s.draft refl history a
   answered calls s t Cancel output history a = cancels calls s t output s.draft refl history a
@@ -159,6 +151,7 @@ module _ (files : FileTable) (roles : RolesRead) where
       stays calls s t Quit output history refl (none_of_list s.draft Quit refl (λ held. refl)) a.1
   answered calls s t BadCommand output history a =
       stays calls s t BadCommand output history refl (none_of_list s.draft BadCommand refl (λ held. refl)) a.1
+  answered calls s t request output history a = asks calls s t request output history a
 
   replied : (calls : List Call) (s t : SessionAndDraft) (request : Request) (output : List ℕ)
       → History files roles calls s.session → Replies answers s request output t → GoesOn calls request output s t

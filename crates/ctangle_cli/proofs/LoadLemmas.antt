@@ -1,30 +1,37 @@
 -- Steps of loading, one after another.
 use Rattle.std.proofs.Common.{◌≡◌, ◌∙◌, inl, inr, ℕ, zero, suc, ◌-◌, ◌<◌, ◌≤◌, Bool, true, false, cond, not, ◌||◌, List}
 use Rattle.std.proofs.Common.{[], ◌∷◌, Option, Some, None, Result, Ok, Err, ap, subst, sym, refl, length, length-append}
-use Rattle.std.proofs.Common.{append_assoc, append-nil, ◌++◌, arith, rules}
-use Rattle.std.specs.Prelude.{IfSome, IfNone, IsOkUnless, IsSomeAnd, nat_lt, ◌==◌, ◌&&◌, ◌+◌, map, All, is_some}
+use Rattle.std.proofs.Common.{append_assoc, append-nil, ◌++◌, arith}
+use Rattle.std.specs.Prelude.{◌⊎◌, ⊤, IfSome, IfNone, IsOkUnless, IsSomeAnd, nat_lt, ◌==◌, ◌+◌, map, All, is_some}
 use Rattle.std.specs.Prelude.{position}
 use Rattle.std.specs.List.{list_any, position_or_len}
 use Rattle.std.specs.Str.{bytes_eq}
 use Rattle.std.proofs.lemmas.Option.{IfSome_then}
 use Rattle.std.proofs.lemmas.Slice.Eq.{bytes_eq-Decides}
-use borrow.Author.Tests.{ltb-true, ltb-false, leb-false}
-use Rattle.std.proofs.lemmas.Bool.{ne_eqb, eq-eqb, eqb-false, lt-ltb}
+use borrow.Author.Tests.{leb-false}
+use Rattle.std.proofs.lemmas.Bool.{and_from, and_parts, cond-false, le-ltb, ne_eqb, eq-eqb, eqb-false, lt-ltb}
+use Rattle.std.proofs.lemmas.Bool.{or_left, or_right}
+use Rattle.std.proofs.lemmas.Bool.Decides.{nat_tests}
+use Rattle.std.proofs.lemmas.List.Elements.{All-contains}
+use Rattle.std.proofs.lemmas.Map.Made.{is_some-lookup}
+use Rattle.std.proofs.lemmas.Map.Views.{Contains-from_any}
 use Rattle.std.specs.declared.vec.Vec.{Vec}
 use Rattle.std.specs.Global.{Global}
 use Rattle.tangle_files.specs.declared.refusal.Refusal.{Refusal}
 use Rattle.tangle_files.specs.declared.refusal.Refusal.TheVariants.{NoMemory as RefusalMemory}
-use Rattle.tangle_files.specs.Lines.{FileTable, cut, file_number, lines_of}
+use Rattle.tangle_files.specs.Lines.{FileTable, cut, file_number}
 use Rattle.tangle_files.specs.Adding.{add_refusal, with_file, has_file, is_name}
 use Rattle.tangle_files.specs.Roles.{RolesRead, has_file_if_any, fits}
 use Rattle.tangle_files.proofs.TableLemmas.{accepted}
 use Rattle.tangle_folders.specs.declared.folder.FolderFault.TheVariants.{TooBig}
-use Rattle.tangle_streams.specs.Streams.{Failed, one_more_failure}
+use Rattle.tangle_streams.specs.Streams.{Failed}
 use Rattle.tangle_folders.specs.Folder.{File, IsFileAnswer, file_bytes, file_limit}
-use Rattle.ctangle_cli.specs.Loading.{AreAbsent, missing_of, LoadEnd, Grows, IsLoadEnd, Loaded, StopsFor, add_bytes}
+use Rattle.ctangle_cli.specs.Loading.{missing_of, LoadEnd, IsLoadEnd, Loaded, StopsFor, add_bytes}
 use Rattle.ctangle_cli.specs.Loading.{add_needed, add_present, after_round, and_then, refused_as, rounds_from}
 use Rattle.ctangle_cli.specs.Loading.{rounds_in, unless_refused, with_inclusion, with_inclusions, with_round}
 use Rattle.ctangle_cli.specs.Loading.LoadEnd.{CannotRead, Refused, NoMemory}
+use Rattle.ctangle_cli.specs.Steps.{AreAbsent}
+use Rattle.tangle_session.proofs.EditLemmas.{has_file-append}
 
 -- out of memory, no reason is claimed
 pub stops_given : (reported : Option (List File)) (loads : List File → Loaded) (f g : ℕ) (needed given : LoadEnd)
@@ -68,13 +75,8 @@ stops_refused (Some all) n name loads refusal e = (e, refl)
 -- a file within the limit
 within_limit : (files : FileTable) (name bytes : List ℕ) → length bytes ≤ file_limit
     → add_bytes files name bytes ≡ unless_refused files name bytes (add_refusal files name bytes)
-within_limit files name bytes h = by (nat_lt file_limit (length bytes)) refl
-  where
-    by : (b : Bool) → nat_lt file_limit (length bytes) ≡ b
-        → cond b (Err (CannotRead name)) (unless_refused files name bytes (add_refusal files name bytes))
-        ≡ unless_refused files name bytes (add_refusal files name bytes)
-    by false e = refl
-    by true e = absurd (omega (arith, ltb-true file_limit (length bytes) e))
+within_limit files name bytes h =
+    cond-false (nat_lt file_limit (length bytes)) _ _ (le-ltb file_limit (length bytes) h)
 
 abbrev failed : {T : Type 0} → Refusal → Result T Refusal
 failed refusal = Err refusal
@@ -104,8 +106,7 @@ and_then_same (Err e) f g = refl
 
 chosen : (h n : Bool) (files : FileTable) (x : Loaded) → h ≡ false → n ≡ true → cond (h || not n) (Ok files) x ≡ x
 chosen false true files x a b = refl
-chosen true n files x a b = absurd (cc)
-chosen false false files x a b = absurd (cc)
+chosen h n files x a b = absurd (cc)
 
 pub present_included : (all : List File) (files : FileTable) (name : List ℕ)
     → has_file files name ≡ false → is_name name ≡ true
@@ -126,82 +127,82 @@ with_inclusions-append all (x ∷ xs) ys files = by (with_inclusion all files x)
     by (Ok t) rest = rest t
     by (Err e) rest = refl
 
--- tables that grow
+-- a file that is added
+pub added : (files next : FileTable) (name bytes : List ℕ)
+    → add_bytes files name bytes ≡ Ok next → with_file files name bytes ≡ next
+added files next name bytes e = by (nat_lt file_limit (length bytes)) (add_refusal files name bytes) e
+  where
+    by : (b : Bool) (o : Option Refusal) → cond b (Err (CannotRead name)) (unless_refused files name bytes o) ≡ Ok next
+        → with_file files name bytes ≡ next
+    by true o e = absurd (cc)
+    by false (Some r) e = absurd (cc)
+    by false None e = cc
+
+-- a table that has the old files, and perhaps others after them
+abbrev pub Grows : FileTable → FileTable → Type 0
+Grows old new = (more : FileTable) × (new ≡ old ++ more)
+
 pub Grows-refl : (files : FileTable) → Grows files files
-Grows-refl files = record { more = []; is = sym (append-nil files); within = λ h. absurd (omega arith) }
+Grows-refl files = ([], sym (append-nil files))
 
 pub Grows-trans : (a b c : FileTable) → Grows a b → Grows b c → Grows a c
-Grows-trans a b c first second = record {
-  more = first.more ++ second.more;
-  is = second.is ∙ ap (λ l. l ++ second.more) first.is ∙ append_assoc a first.more second.more;
-  within = by first.more first.within second.more second.is second.within;
-}
-  where
-    by : (xs : FileTable) → (0 < length xs → length b ≤ 256) → (ys : FileTable)
-        → c ≡ b ++ ys → (0 < length ys → length c ≤ 256) → 0 < length (xs ++ ys) → length c ≤ 256
-    by xs within [] same more some =
-        let some_x : 0 < length xs = omega (arith, some, length-append {A = List ℕ × List (List ℕ)} xs []) in
-        let inside = within some_x in
-        omega (arith, inside, ap length same, length-append b [])
-    by xs within (y ∷ ys) same more some = more (omega arith)
-
--- when a file is added, the table had fewer than 256
-is_below_limit : (files : FileTable) (name bytes : List ℕ) → add_refusal files name bytes ≡ None → length files < 256
-is_below_limit files name bytes h =
-    omega (arith, leb-false 256 (length files) (accepted files name bytes (sym h)).below_limit)
-
-grows_unless : (files next : FileTable) (name bytes : List ℕ) (o : Option Refusal)
-    → add_refusal files name bytes ≡ o → unless_refused files name bytes o ≡ Ok next → Grows files next
-grows_unless files next name bytes None is e =
-    let same : with_file files name bytes ≡ next = cc in
-    let below = is_below_limit files name bytes is in
-    record {
-      more = (name, cut bytes) ∷ [];
-      is = sym same;
-      within = λ _. omega (arith, below, ap length same, length-append files ((name, cut bytes) ∷ []));
-    }
-grows_unless files next name bytes (Some r) is e = absurd (cc)
-
-pub grows_bytes : (b : Bool) (files next : FileTable) (name bytes : List ℕ)
-    → cond b (Err (CannotRead name)) (unless_refused files name bytes (add_refusal files name bytes)) ≡ Ok next
-    → Grows files next
-grows_bytes true files next name bytes e = absurd (cc)
-grows_bytes false files next name bytes e = grows_unless files next name bytes (add_refusal files name bytes) refl e
+Grows-trans a b c first second =
+    (first.0 ++ second.0, second.1 ∙ ap (λ l. l ++ second.0) first.1 ∙ append_assoc a first.0 second.0)
 
 pub grows_added : (files next : FileTable) (name bytes : List ℕ)
     → add_bytes files name bytes ≡ Ok next → Grows files next
-grows_added files next name bytes e = grows_bytes (nat_lt file_limit (length bytes)) files next name bytes e
+grows_added files next name bytes e = ((name, cut bytes) ∷ [], sym (added files next name bytes e))
 
-grows_present : (files next : FileTable) (name : List ℕ) (o : Option (List ℕ))
-    → add_present files name o ≡ Ok next → Grows files next
-grows_present files next name None e =
-    let same : next ≡ files = cc in subst (λ t. Grows files t) (sym same) (Grows-refl files)
-grows_present files next name (Some bytes) e = grows_added files next name bytes e
+-- a loading gives the same table, or a longer one within the limit
+abbrev pub IsLonger : FileTable → FileTable → Type 0
+IsLonger old new = (length old < length new) × (length new ≤ 256)
 
-grows_if : (b : Bool) (files next : FileTable) (name : List ℕ) (o : Option (List ℕ))
-    → cond b (Ok files) (add_present files name o) ≡ Ok next → Grows files next
-grows_if true files next name o e =
-    let same : next ≡ files = cc in subst (λ t. Grows files t) (sym same) (Grows-refl files)
-grows_if false files next name o e = grows_present files next name o e
+abbrev pub MayAdd : FileTable → Loaded → Type 0
+MayAdd files (Ok next) = (next ≡ files) ⊎ IsLonger files next
+MayAdd files (Err ending) = ⊤
 
-grows_then : (files next : FileTable) (first : Loaded) (rest : FileTable → Loaded)
-    → ((mid : FileTable) → first ≡ Ok mid → Grows files mid)
-    → ((mid : FileTable) → rest mid ≡ Ok next → Grows mid next) → and_then first rest ≡ Ok next → Grows files next
-grows_then files next (Ok mid) rest h k e = Grows-trans files mid next (h mid refl) (k mid e)
-grows_then files next (Err ending) rest h k e = absurd (cc)
+may_add_bytes : (files : FileTable) (name bytes : List ℕ) → MayAdd files (add_bytes files name bytes)
+may_add_bytes files name bytes = by (nat_lt file_limit (length bytes)) (add_refusal files name bytes) refl
+  where
+    by : (b : Bool) (o : Option Refusal) → add_refusal files name bytes ≡ o
+        → MayAdd files (cond b (Err (CannotRead name)) (unless_refused files name bytes o))
+    by true o e = tt
+    by false (Some r) e = tt
+    by false None e =
+        let below = leb-false 256 (length files) (accepted files name bytes (sym e)).below_limit in
+        let one = length-append files ((name, cut bytes) ∷ []) in
+        inr (omega (arith, one), omega (arith, one, below))
 
-pub grows_one : (all : List File) (files next : FileTable) (name : List ℕ)
-    → with_inclusion all files name ≡ Ok next → Grows files next
-grows_one all files next name e =
-    grows_if (has_file files name || not (is_name name)) files next name (file_bytes all name) e
+pub may_add_one : (all : List File) (files : FileTable) (name : List ℕ) → MayAdd files (with_inclusion all files name)
+may_add_one all files name = by (has_file files name || not (is_name name)) (file_bytes all name)
+  where
+    by : (b : Bool) (o : Option (List ℕ)) → MayAdd files (cond b (Ok files) (add_present files name o))
+    by true o = inl refl
+    by false None = inl refl
+    by false (Some bytes) = may_add_bytes files name bytes
 
-pub grows_all : (all : List File) (names : List (List ℕ)) (files next : FileTable)
-    → with_inclusions all names files ≡ Ok next → Grows files next
-grows_all all [] files next e = let same : next ≡ files = cc in subst (λ t. Grows files t) (sym same) (Grows-refl files)
-grows_all all (name ∷ names) files next e =
-    grows_then files next (with_inclusion all files name) (λ mid. with_inclusions all names mid)
-    (λ mid is. grows_if (has_file files name || not (is_name name)) files mid name (file_bytes all name) is)
-    (λ mid more. grows_all all names mid next more) e
+may_add_then : (a b : FileTable) (l : Loaded) → (b ≡ a) ⊎ IsLonger a b → MayAdd b l → MayAdd a l
+may_add_then a b (Err ending) first second = tt
+may_add_then a b (Ok c) (inl same) second = subst (λ t. MayAdd t (Ok c)) same second
+may_add_then a b (Ok c) (inr more) (inl same) = inr (subst (IsLonger a) (sym same) more)
+may_add_then a b (Ok c) (inr more) (inr again) = inr (omega (arith, more.0, again.0), again.1)
+
+pub may_add_all : (all : List File) (names : List (List ℕ)) (files : FileTable)
+    → MayAdd files (with_inclusions all names files)
+may_add_all all [] files = inl refl
+may_add_all all (name ∷ names) files =
+    by (with_inclusion all files name) (may_add_one all files name) (λ t. may_add_all all names t)
+  where
+    by : (l : Loaded) → MayAdd files l → ((t : FileTable) → MayAdd t (with_inclusions all names t))
+        → MayAdd files (and_then l (λ t. with_inclusions all names t))
+    by (Err ending) first rest = tt
+    by (Ok t) first rest = may_add_then files t (with_inclusions all names t) first (rest t)
+
+pub longer : (all : List File) (names : List (List ℕ)) (files next : FileTable)
+    → with_inclusions all names files ≡ Ok next → (length next ≡ length files → ⊥) → IsLonger files next
+longer all names files next e more =
+    let may : (next ≡ files) ⊎ IsLonger files next = subst (MayAdd files) e (may_add_all all names files) in
+    elim may [ inl same ↦ absurd (more (ap length same)) | inr is ↦ is ]
 
 -- two continuations that agree on each longer table give the same loading after a round
 after_same : (files : FileTable) (l : Loaded) (f g : FileTable → Loaded)
@@ -229,15 +230,6 @@ unfolding rounds_in
 stopped_round all roles files ending e =
     ap (λ l. after_round files l (λ t. rounds_in all roles (256 - length files) t)) e
 
-pub longer : (files next : FileTable)
-    → Grows files next → (length next ≡ length files → ⊥) → (length files < length next) × (length next ≤ 256)
-longer files next g more = by g.more g.is g.within
-  where
-    by : (xs : FileTable)
-        → next ≡ files ++ xs → (0 < length xs → length next ≤ 256) → (length files < length next) × (length next ≤ 256)
-    by [] is within = absurd (more (ap length is ∙ ap length (append-nil files)))
-    by (x ∷ xs) is within = (omega (arith, ap length is, length-append files (x ∷ xs)), within (omega arith))
-
 -- any number of rounds that is more than the files yet to be added gives the same
 rounds_enough : (all : List File) (roles : RolesRead) (n m : ℕ) (files : FileTable)
     → 256 - length files < n → 256 - length files < m → rounds_in all roles n files ≡ rounds_in all roles m files
@@ -248,7 +240,7 @@ rounds_enough all roles (suc n) (suc m) files p q =
     after_same files (with_round all roles files)
     (λ next. rounds_in all roles n next) (λ next. rounds_in all roles m next)
     (λ next e more.
-    let g = longer files next (grows_all all (missing_of files roles) files next e) more in
+    let g = longer all (missing_of files roles) files next e more in
     let x = g.0 in
     let y = g.1 in
     rounds_enough all roles n m next (omega arith) (omega arith))
@@ -258,7 +250,7 @@ pub next_round : (all : List File) (roles : RolesRead) (files next : FileTable) 
     → (length next ≡ length files → ⊥) → rounds_from all roles next ≡ rounds_from all roles files
 unfolding rounds_in
 next_round all roles files next e more =
-    let g = longer files next (grows_all all (missing_of files roles) files next e) more in
+    let g = longer all (missing_of files roles) files next e more in
     let x = g.0 in
     let y = g.1 in
     rounds_enough all roles (suc (256 - length next)) (256 - length files) next (omega arith) (omega arith)
@@ -274,15 +266,8 @@ list_any-map f p (x ∷ xs) = ap (λ b. p (f x) || b) (list_any-map f p xs)
 
 absent_at : (all : List File) (name : List ℕ) (names : List (List ℕ))
     → All (λ n. file_bytes all n ≡ None) names → list_any (bytes_eq name) names ≡ true → file_bytes all name ≡ None
-absent_at all name [] h e = absurd (cc)
-absent_at all name (n ∷ ns) h e =
-    by (bytes_eq name n) refl (absent_at all name ns (λ k d lt. h (suc k) d (omega arith)))
-  where
-    by : (b : Bool) → bytes_eq name n ≡ b → (list_any (bytes_eq name) ns ≡ true → file_bytes all name ≡ None)
-        → file_bytes all name ≡ None
-    by true same rest =
-        subst (λ m. file_bytes all m ≡ None) (sym ((bytes_eq-Decides name n).0 same)) (h zero [] (omega arith))
-    by false other rest = rest (subst (λ b. (b || list_any (bytes_eq name) ns) ≡ true) other e)
+absent_at all name names h e = All-contains (λ n. file_bytes all n ≡ None) names name h
+    (Contains-from_any (λ x y same. (bytes_eq-Decides x y).0 same) name names e)
 
 -- a name of which the folder has no file adds nothing
 pub absent_included : (reported : Option (List File)) (files : FileTable) (name : List ℕ) (names : List (List ℕ))
@@ -293,15 +278,9 @@ absent_included reported files name names h e absent named =
     IfSome_then reported h (λ all gone.
     sym (present_included all files name absent named) ∙ ap (add_present files name) (absent_at all name names gone e))
 
--- a file is there if the table has its lines
+-- a file has a number if the table has its lines
 nat_lt-suc : (a b : ℕ) → nat_lt (1 + a) (suc b) ≡ nat_lt a b
-nat_lt-suc a b = by (nat_lt (1 + a) (suc b)) refl (nat_lt a b) refl
-  where
-    by : (t : Bool) → nat_lt (1 + a) (suc b) ≡ t → (u : Bool) → nat_lt a b ≡ u → t ≡ u
-    by true e true f = refl
-    by true e false f = let p = ltb-true (1 + a) (suc b) e in let q = ltb-false a b f in absurd (omega arith)
-    by false e true f = let p = ltb-false (1 + a) (suc b) e in let q = ltb-true a b f in absurd (omega arith)
-    by false e false f = refl
+nat_lt-suc a b = grind (arith, nat_tests)
 
 position_below : {X : Type 0} (p : X → Bool) (xs : List X) → nat_lt (position_or_len p xs) (length xs) ≡ list_any p xs
 position_below p [] = refl
@@ -319,58 +298,27 @@ is_some-position p xs = by (nat_lt (position_or_len p xs) (length xs)) ∙ posit
     by true = refl
     by false = refl
 
-pub has_any : (files : FileTable) (name : List ℕ) → has_file files name ≡ list_any (λ f. bytes_eq name f.0) files
-has_any [] name = refl
-has_any (f ∷ files) name = by (bytes_eq name f.0) (has_any files name)
-  where
-    by : (b : Bool) → has_file files name ≡ list_any (λ f. bytes_eq name f.0) files
-        → is_some (cond b (Some f.1) (lines_of files name)) ≡ (b || list_any (λ f. bytes_eq name f.0) files)
-    by true rest = refl
-    by false rest = rest
-
--- a file has a number if the table has its lines
 pub numbered_as_has : (files : FileTable) (name : List ℕ) → is_some (file_number files name) ≡ has_file files name
-numbered_as_has files name = is_some-position (λ f. bytes_eq name f.0) files ∙ sym (has_any files name)
+numbered_as_has files name =
+    is_some-position (λ f. bytes_eq name f.0) files ∙ sym (list_any-map (λ f. f.0) (bytes_eq name) files)
+    ∙ sym (is_some-lookup (bytes_eq name) files)
 
--- a table that grows keeps its files
-has_file-append : (files more : FileTable) (name : List ℕ)
-    → has_file files name ≡ true → has_file (files ++ more) name ≡ true
-has_file-append [] more name h = absurd (cc)
-has_file-append (f ∷ files) more name h = by (bytes_eq name f.0) h (has_file-append files more name)
+-- the table with one more file
+pub has_with : (files : FileTable) (name bytes other : List ℕ)
+    → has_file (with_file files name bytes) other ≡ (has_file files other || bytes_eq other name)
+has_with files name bytes other =
+    has_file-append files ((name, cut bytes) ∷ []) other
+    ∙ ap (λ b. has_file files other || b) (by (bytes_eq other name))
   where
-    by : (b : Bool) → is_some (cond b (Some f.1) (lines_of files name)) ≡ true
-        → (has_file files name ≡ true → has_file (files ++ more) name ≡ true)
-        → is_some (cond b (Some f.1) (lines_of (files ++ more) name)) ≡ true
-    by true e rest = refl
-    by false e rest = rest e
-
-has_file-last : (files : FileTable) (name : List ℕ) (lines : List (List ℕ))
-    → has_file (files ++ (name, lines) ∷ []) name ≡ true
-has_file-last [] name lines = ap (λ b. is_some (cond b (Some lines) None)) ((bytes_eq-Decides name name).1 refl)
-has_file-last (f ∷ files) name lines = by (bytes_eq name f.0) (has_file-last files name lines)
-  where
-    by : (b : Bool) → has_file (files ++ (name, lines) ∷ []) name ≡ true
-        → is_some (cond b (Some f.1) (lines_of (files ++ (name, lines) ∷ []) name)) ≡ true
-    by true rest = refl
-    by false rest = rest
-
-pub there_added : (files : FileTable) (name bytes : List ℕ) → has_file (with_file files name bytes) name ≡ true
-there_added files name bytes = has_file-last files name (cut bytes)
-
-pub added : (files next : FileTable) (name bytes : List ℕ)
-    → add_bytes files name bytes ≡ Ok next → with_file files name bytes ≡ next
-added files next name bytes e = by (nat_lt file_limit (length bytes)) (add_refusal files name bytes) e
-  where
-    by : (b : Bool) (o : Option Refusal) → cond b (Err (CannotRead name)) (unless_refused files name bytes o) ≡ Ok next
-        → with_file files name bytes ≡ next
-    by true o e = absurd (cc)
-    by false (Some r) e = absurd (cc)
-    by false None e = cc
+    by : (b : Bool) → is_some (cond b (Some (cut bytes)) None) ≡ b
+    by true = refl
+    by false = refl
 
 pub added_there : (files next : FileTable) (name bytes : List ℕ)
     → add_bytes files name bytes ≡ Ok next → has_file next name ≡ true
 added_there files next name bytes e =
-    subst (λ t. has_file t name ≡ true) (added files next name bytes e) (there_added files name bytes)
+    ap (λ t. has_file t name) (sym (added files next name bytes e)) ∙ has_with files name bytes name
+    ∙ or_right (has_file files name) (bytes_eq name name) ((bytes_eq-Decides name name).1 refl)
 
 -- the web or the change file that the folder has, or has not
 pub needed_present : (files next : FileTable) (name : List ℕ) (bytes : Option (List ℕ)) (b : Bool)
@@ -408,35 +356,19 @@ too_big (Some all) files name h = by (file_bytes all name) h
         ap (λ b. cond b (Err (CannotRead name)) (unless_refused files name bytes (add_refusal files name bytes)))
         (lt-ltb file_limit (length bytes) h)
 
-pub one_failed : (old new : ℕ) → new ≡ one_more_failure old → Failed old new
-one_failed old new e = search rules
-
 pub grows_there : (old new : FileTable) (name : List ℕ)
     → Grows old new → has_file old name ≡ true → has_file new name ≡ true
-grows_there old new name g h = subst (λ t. has_file t name ≡ true) (sym g.is) (has_file-append old g.more name h)
+grows_there old new name g h =
+    ap (λ t. has_file t name) g.1 ∙ has_file-append old g.0 name ∙ or_left (has_file old name) (has_file g.0 name) h
 
 pub grows_there_if_any : (old new : FileTable) (name : Option (List ℕ))
     → Grows old new → has_file_if_any old name ≡ true → has_file_if_any new name ≡ true
 grows_there_if_any old new None g h = refl
 grows_there_if_any old new (Some name) g h = grows_there old new name g h
 
-both : (a b : Bool) → a ≡ true → b ≡ true → (a && b) ≡ true
-both true true p q = refl
-both true false p q = absurd (cc)
-both false b p q = absurd (cc)
-
-each : (a b : Bool) → (a && b) ≡ true → (a ≡ true) × (b ≡ true)
-each true true p = (refl, refl)
-each true false p = absurd (cc)
-each false b p = absurd (cc)
-
 pub grows_fits : (old new : FileTable) (roles : RolesRead)
     → Grows old new → fits old roles ≡ true → fits new roles ≡ true
 grows_fits old new roles g h =
-    let parts = each (has_file old roles.web) (has_file_if_any old roles.change) h in
-    both (has_file new roles.web) (has_file_if_any new roles.change)
+    let parts = and_parts (has_file old roles.web) (has_file_if_any old roles.change) h in
+    and_from (has_file new roles.web) (has_file_if_any new roles.change)
     (grows_there old new roles.web g parts.0) (grows_there_if_any old new roles.change g parts.1)
-
-pub fits_both : (files : FileTable) (roles : RolesRead)
-    → has_file files roles.web ≡ true → has_file_if_any files roles.change ≡ true → fits files roles ≡ true
-fits_both files roles p q = both (has_file files roles.web) (has_file_if_any files roles.change) p q

@@ -1,10 +1,8 @@
 -- Where each included file is in the table, no name is missing.
 use Rattle.std.proofs.Common.{◌≡◌, ◌∙◌, ℕ, zero, suc, ◌+◌, ◌||◌, ◌&&◌, ◌==◌, Bool, true, false, cond, not, List, []}
-use Rattle.std.proofs.Common.{◌∷◌, ◌++◌, Option, Some, None, is_some, drop, map, refl, ap, sym, length, true≢false}
-use Rattle.std.specs.Prelude.{nat_lt, min, filter}
-use Rattle.std.proofs.lemmas.Bool.{or_parts, or_from, not-false}
-use Rattle.std.proofs.lemmas.List.{map-append}
-use Rattle.std.proofs.lemmas.List.Elements.{filter-append}
+use Rattle.std.proofs.Common.{◌∷◌, ◌++◌, Option, Some, None, is_some, drop, refl, ap, sym, length, true≢false}
+use Rattle.std.specs.Prelude.{nat_lt, min}
+use Rattle.std.proofs.lemmas.Bool.{cond_both, or_parts, or_from, not-false}
 use Rattle.std.proofs.lemmas.List.Folds.{list_any-append}
 use Rattle.std.specs.List.{list_any}
 use Rattle.tangle_faults.specs.declared.faults.FaultKind.TheVariants.{ChangeMismatch, IncludeTooDeep, SourceTooLong}
@@ -24,25 +22,17 @@ use Rattle.tangle_lines.specs.Reading.{line_step, mismatch_faults, place_of, pla
 use Rattle.tangle_lines.specs.Reading.{waiting_lines}
 use Rattle.tangle_lines.specs.Reading.ReadingStep.{Ends, Goes}
 use Rattle.tangle_files.specs.Roles.{RolesRead}
-use Rattle.ctangle_cli.specs.Loading.{IncludesNoMissing, is_missing_kind, misses_file, misses_name, missed_in}
+use Rattle.ctangle_cli.specs.Loading.{IncludesNoMissing, misses_file, misses_name, missed_in}
 use Rattle.ctangle_cli.specs.Loading.{missing_of}
+use Rattle.ctangle_cli.proofs.AskLemmas.{missed-append}
 use Rattle.ctangle_cli.proofs.LoadLemmas.{numbered_as_has}
 
-missed_in-append : (xs ys : List FaultRead) → missed_in (xs ++ ys) ≡ missed_in xs ++ missed_in ys
-missed_in-append xs ys =
-    ap (map (λ (f : FaultRead). f.subject)) (filter-append (λ (f : FaultRead). is_missing_kind f.kind) xs ys)
-    ∙ map-append (λ (f : FaultRead). f.subject) (filter (λ (f : FaultRead). is_missing_kind f.kind) xs)
-    (filter (λ (f : FaultRead). is_missing_kind f.kind) ys)
-
 both_miss_none : (xs ys : List FaultRead) → missed_in xs ≡ [] → missed_in ys ≡ [] → missed_in (xs ++ ys) ≡ []
-both_miss_none xs ys h k = missed_in-append xs ys ∙ ap (λ l. l ++ missed_in ys) h ∙ k
+both_miss_none xs ys h k = missed-append xs ys ∙ ap (λ l. l ++ missed_in ys) h ∙ k
 
 mismatch_misses_none : (place : PlaceRead) (n : ℕ) → missed_in (mismatch_faults place n) ≡ []
-mismatch_misses_none place n = by (n == 0)
-  where
-    by : (b : Bool) → missed_in (cond b [] (fault_counting ChangeMismatch place n ∷ [])) ≡ []
-    by true = refl
-    by false = refl
+mismatch_misses_none place n =
+    cond_both (n == 0) [] (fault_counting ChangeMismatch place n ∷ []) (λ l. missed_in l ≡ []) (λ _. refl) (λ _. refl)
 
 none_after : {A : Type 0} (p : A → Bool) (n : ℕ) (xs : List A) → list_any p xs ≡ false → list_any p (drop n xs) ≡ false
 none_after p zero xs h = h

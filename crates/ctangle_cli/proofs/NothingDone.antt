@@ -8,10 +8,9 @@ use Rattle.tangle_faults.specs.Faults.{FaultRead, is_error}
 use Rattle.tangle_files.specs.Roles.{RolesRead}
 use Rattle.tangle_folders.specs.Folder.{FolderRead}
 use Rattle.tangle_folders.specs.declared.folder.FolderFault.{FolderFault}
-use Rattle.tangle_folders.specs.declared.folder.FolderFault.TheVariants.{Missing, TooBig, Failed as IsFailed}
 use Rattle.tangle_folders.specs.declared.folder.FolderFault.TheVariants.{NoMemory as FolderMemory}
 use Rattle.ctangle_cli.specs.Loading.{LoadEnd}
-use Rattle.ctangle_cli.specs.Loading.LoadEnd.{CannotRead, Refused, NoMemory}
+use Rattle.ctangle_cli.specs.Loading.LoadEnd.{NoMemory}
 use Rattle.ctangle_cli.specs.Messages.{ending_line, fault_lines, no_memory_line, faults_status, unwritten_line}
 use Rattle.tangle_session.specs.Tangle.{Tangling}
 use Rattle.ctangle_cli.specs.Run.{NamedEnds, RunEnds, TangledEnds, moment, nothing_done}
@@ -47,15 +46,12 @@ silent_after between before bytes some first last = by between.taken first.0 las
     ]
 
 ending_some : (e : LoadEnd) → 0 < length (ending_line (codes "ctangle") e)
-ending_some (CannotRead name) = omega arith
-ending_some (Refused name refusal) = omega arith
 ending_some NoMemory = omega arith
+ending_some ending = omega arith
 
 stop_some : (f : FolderFault) (name : List ℕ) → 0 < length (unwritten_line f name)
 stop_some FolderMemory name = omega arith
-stop_some Missing name = omega arith
-stop_some IsFailed name = omega arith
-stop_some TooBig name = omega arith
+stop_some fault name = omega arith
 
 small_status : (fs : List FaultRead) → faults_status fs < 3
 small_status [] = omega arith

@@ -4,6 +4,7 @@ use Rattle.std.proofs.Common.{inl, inr, arith, codes, true≢false}
 use Rattle.std.specs.List.{All}
 use Rattle.std.specs.Result.{IfErr, IsErrAnd}
 use Rattle.std.specs.Str.{bytes_eq}
+use Rattle.std.proofs.lemmas.List.Elements.{All-cons, All-nil}
 use Rattle.clap.specs.Built.{FitsChain, HasDistinctIds, IsPlainArg}
 use Rattle.clap.specs.Words.{App, HasMatchesOf, Text, app_of, first_of, first_value, found_of, is_simple, matches_of}
 use Rattle.clap.specs.Words.{takes}
@@ -29,10 +30,8 @@ fits a id plain is named help version = (
 )
 
 pub fits_three : (a b c : Arg) → FitsChain a → FitsChain b → FitsChain c → All FitsChain (a ∷ b ∷ c ∷ [])
-fits_three a b c fa fb fc zero d lt = fa
-fits_three a b c fa fb fc (suc zero) d lt = fb
-fits_three a b c fa fb fc (suc (suc zero)) d lt = fc
-fits_three a b c fa fb fc (suc (suc (suc k))) d lt = absurd (omega arith)
+fits_three a b c fa fb fc = All-cons FitsChain a (b ∷ c ∷ []) fa
+    (All-cons FitsChain b (c ∷ []) fb (All-cons FitsChain c [] fc (All-nil FitsChain)))
 
 differ : (x y : Arg) (s t : List ℕ)
     → x.id.now ≡ s → y.id.now ≡ t → bytes_eq s t ≡ false → bytes_eq x.id.now y.id.now ≡ true → ⊥
@@ -50,10 +49,7 @@ distinct_three a b c ea eb ec (suc zero) (suc (suc zero)) d e lj lk h = absurd (
 distinct_three a b c ea eb ec (suc (suc zero)) zero d e lj lk h = absurd (differ c a _ _ ec ea refl h)
 distinct_three a b c ea eb ec (suc (suc zero)) (suc zero) d e lj lk h = absurd (differ c b _ _ ec eb refl h)
 distinct_three a b c ea eb ec (suc (suc zero)) (suc (suc zero)) d e lj lk h = refl
-distinct_three a b c ea eb ec (suc (suc (suc j))) k d e lj lk h = absurd (omega arith)
-distinct_three a b c ea eb ec zero (suc (suc (suc k))) d e lj lk h = absurd (omega arith)
-distinct_three a b c ea eb ec (suc zero) (suc (suc (suc k))) d e lj lk h = absurd (omega arith)
-distinct_three a b c ea eb ec (suc (suc zero)) (suc (suc (suc k))) d e lj lk h = absurd (omega arith)
+distinct_three a b c ea eb ec j k d e lj lk h = absurd (omega arith)
 
 pub value_is : (c : Command) (a : App) (m : ArgMatches) (arguments : List Text) (id : Text)
     → app_of c ≡ a → is_simple a ≡ true → HasMatchesOf (app_of c) arguments m

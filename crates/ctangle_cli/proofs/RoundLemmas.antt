@@ -5,6 +5,7 @@ use Rattle.std.proofs.Common.{Contains}
 use Rattle.std.specs.Prelude.{All, IfSome, filter}
 use Rattle.std.specs.List.{IsDistinct, list_any}
 use Rattle.std.specs.Str.{bytes_eq}
+use Rattle.std.proofs.lemmas.Bool.{or_left}
 use Rattle.std.proofs.lemmas.Cmp.{nat_list_eq_equiv}
 use Rattle.std.proofs.lemmas.Option.{IfSome_then}
 use Rattle.std.proofs.lemmas.List.{take-append-le, take_all}
@@ -20,35 +21,36 @@ use Rattle.tangle_folders.specs.Folder.{File, FolderRead}
 use Rattle.ctangle_cli.specs.AskedOnce.{AsksOnce, IsNeeded, with_names_added}
 use Rattle.ctangle_cli.specs.AskedNames.{AsksSome, AsksUntil, AsksUpTo, StopsAmong, asked_in, asked_next, asked_unless}
 use Rattle.ctangle_cli.specs.AskedNames.{files_under, named_in, with_all_asked}
-use Rattle.ctangle_cli.specs.Loading.{AreAbsent, Grows, IsAskedLast, IsLoadEnd, LoadEnd, Loaded, NamesLastAsked}
+use Rattle.ctangle_cli.specs.Loading.{IsAskedLast, IsLoadEnd, LoadEnd, Loaded, NamesLastAsked}
 use Rattle.ctangle_cli.specs.Loading.{StopsFor, and_then, bad_name, load_of, load_unless, missing_of, rounds_from}
 use Rattle.ctangle_cli.specs.Loading.{with_change, with_inclusions, with_needed}
 use Rattle.ctangle_cli.specs.Loading.LoadEnd.{CannotRead, Refused, NoMemory}
 use Rattle.ctangle_cli.specs.Loads.{Loads, OnlyAsks, StopsLoading}
-use Rattle.ctangle_cli.specs.Steps.{HasAsked, Progress, Reads, Stops, progress}
-use Rattle.ctangle_cli.proofs.AskLemmas.{IsAsked, all_asked, all_once, become_asked, once_in_front, or_left}
+use Rattle.ctangle_cli.specs.Steps.{AreAbsent, HasAsked, Progress, Reads, Stops, progress}
+use Rattle.ctangle_cli.proofs.AskLemmas.{IsAsked, all_asked, all_once, become_asked, once_in_front}
 use Rattle.ctangle_cli.proofs.AskLemmas.{with_all_asked_again}
-use Rattle.ctangle_cli.proofs.LoadLemmas.{and_then_same, both_some, grows_fits, last_round, next_round, some_always}
+use Rattle.ctangle_cli.proofs.LoadLemmas.{Grows, and_then_same, both_some, grows_fits, last_round, next_round}
+use Rattle.ctangle_cli.proofs.LoadLemmas.{some_always}
 use Rattle.ctangle_cli.proofs.LoadLemmas.{stopped_round, stops_along}
 use Rattle.ctangle_cli.proofs.MissingLemmas.{same_table}
 use Rattle.ctangle_cli.proofs.StepLemmas.{Included, fails_not, fails_since, only_asks_none, only_asks_then}
 use Rattle.ctangle_cli.proofs.StepLemmas.{out_of_memory, reads_none, reads_then, stops_early, stops_then}
 
 -- the names asked for in the rounds since loading began
-pub record AsksInRounds (roles : RolesRead) (start : FolderRead) (now : Progress) : Type 0 where
+pub record AsksInRounds (roles : RolesRead) (start : FolderRead) (state : Progress) : Type 0 where
   pub names : List (List ℕ)
-  pub asked : HasAsked start.asked now names
+  pub asked : HasAsked start.asked state names
   pub once : IsDistinct bytes_eq names
-  pub needed : All (IsNeeded now.files roles) names
+  pub needed : All (IsNeeded state.files roles) names
   pub rounds : IfSome start.files (λ all. (n : ℕ) × (names ≡ asked_in all roles n))
 
 -- what holds between two rounds of loading
-pub record InRounds (roles : RolesRead) (start : FolderRead) (now : Progress) : Type 0 where
-  pub has_roles : fits now.files roles ≡ true
-  pub absent : AreAbsent now.folder.files now.absent
-  pub loads : IfSome start.files (λ all. rounds_from all roles now.files ≡ load_of all roles)
-  pub only_asks : OnlyAsks start now.folder
-  pub asks : AsksInRounds roles start now
+pub record InRounds (roles : RolesRead) (start : FolderRead) (state : Progress) : Type 0 where
+  pub has_roles : fits state.files roles ≡ true
+  pub absent : AreAbsent state.folder.files state.absent
+  pub loads : IfSome start.files (λ all. rounds_from all roles state.files ≡ load_of all roles)
+  pub only_asks : OnlyAsks start state.folder
+  pub asks : AsksInRounds roles start state
 
 -- the web and the change file, with which loading begins
 abbrev pub first_loads : RolesRead → List File → Loaded
@@ -63,13 +65,13 @@ first_of_load roles all fine =
     ap (load_unless all roles) fine ∙ sym (and_then_same (with_needed all [] roles.web)
     (λ files. with_change all files roles.change) (λ files. rounds_from all roles files))
 
+none_added : (before : Option (List (List ℕ))) → before ≡ with_names_added before []
+none_added None = refl
+none_added (Some names) = ap (λ l. Some l) (sym (append-nil names))
+
 nothing_yet : (start : FolderRead) → HasAsked start.asked (progress start [] []) []
 nothing_yet start =
-    record { after = by start.asked; same = λ name. refl; files = some_always start.files (λ all. refl) }
-  where
-    by : (before : Option (List (List ℕ))) → before ≡ with_names_added before []
-    by None = refl
-    by (Some names) = ap (λ l. Some l) (sym (append-nil names))
+    record { after = none_added start.asked; same = λ name. refl; files = some_always start.files (λ all. refl) }
 
 roles_needed : (files : FileTable) (roles : RolesRead) (change : Option (List ℕ))
     → roles.change ≡ change → All (IsNeeded files roles) (roles.web ∷ named_in change)
@@ -79,14 +81,15 @@ roles_needed files roles (Some name) is =
     All-cons (IsNeeded files roles) roles.web (name ∷ []) (inl refl)
     (All-cons (IsNeeded files roles) name [] (inr (inl is)) (All-nil (IsNeeded files roles)))
 
-pub rounds_begin : (roles : RolesRead) (start : FolderRead) (mid now : Progress)
-    → bad_name roles ≡ None → fits now.files roles ≡ true
+pub rounds_begin : (roles : RolesRead) (start : FolderRead) (mid state : Progress)
+    → bad_name roles ≡ None → fits state.files roles ≡ true
     → Reads (λ all. with_needed all [] roles.web) (roles.web ∷ []) (progress start [] []) mid
-    → Reads (λ all. with_change all mid.files roles.change) (named_in roles.change) mid now → InRounds roles start now
+    → Reads (λ all. with_change all mid.files roles.change) (named_in roles.change) mid state
+    → InRounds roles start state
 unfolding IsDistinct
-rounds_begin roles start mid now fine has_roles web change =
+rounds_begin roles start mid state fine has_roles web change =
     let first = reads_then (λ all. with_needed all [] roles.web) (λ all files. with_change all files roles.change)
-    (roles.web ∷ []) (named_in roles.change) (progress start [] []) mid now web change in
+    (roles.web ∷ []) (named_in roles.change) (progress start [] []) mid state web change in
     record {
       has_roles = has_roles;
       absent = first.absent;
@@ -97,8 +100,8 @@ rounds_begin roles start mid now fine has_roles web change =
         names = with_all_asked [] (first_names roles);
         asked = first.asks start.asked [] (nothing_yet start);
         once = all_once [] (first_names roles) tt;
-        needed = all_asked (IsNeeded now.files roles) [] (first_names roles)
-            (All-nil (IsNeeded now.files roles)) (roles_needed now.files roles roles.change refl);
+        needed = all_asked (IsNeeded state.files roles) [] (first_names roles)
+            (All-nil (IsNeeded state.files roles)) (roles_needed state.files roles roles.change refl);
         rounds = some_always start.files (λ all. (zero, refl));
       };
     }
@@ -112,9 +115,9 @@ still_needed files next roles name g w = elim w [
     | inl change ↦ inr (inl change)
     | inr missed ↦ inr (inr (
       missed.0,
-      omega (arith, missed.1, ap length g.is, length-append files g.more),
+      omega (arith, missed.1, ap length g.1, length-append files g.0),
       subst (λ t. Contains (missing_of t roles) name)
-          (sym (ap (take missed.0) g.is ∙ take-append-le missed.0 files g.more missed.1)) missed.2,
+          (sym (ap (take missed.0) g.1 ∙ take-append-le missed.0 files g.0 missed.1)) missed.2,
     ))
   ]
 ]
@@ -140,36 +143,36 @@ next_names : (all : List File) (roles : RolesRead) (files : FileTable) (names : 
     → with_all_asked names (filter is_name (missing_of files roles)) ≡ asked_next all roles names
 next_names all roles files names is = ap (λ t. with_all_asked names (filter is_name (missing_of t roles))) is
 
-round_asks : (roles : RolesRead) (start : FolderRead) (now next : Progress)
-    → OnlyAsks start now.folder → Included (missing_of now.files roles) now next → AsksInRounds roles start now
+round_asks : (roles : RolesRead) (start : FolderRead) (state next : Progress)
+    → OnlyAsks start state.folder → Included (missing_of state.files roles) state next → AsksInRounds roles start state
     → AsksInRounds roles start next
-round_asks roles start now next only round so_far =
-    let missing = filter is_name (missing_of now.files roles) in record {
+round_asks roles start state next only round so_far =
+    let missing = filter is_name (missing_of state.files roles) in record {
       names = with_all_asked so_far.names missing;
       asked = round.asks start.asked so_far.names so_far.asked;
       once = all_once so_far.names missing so_far.once;
       needed = all_asked (IsNeeded next.files roles) so_far.names missing
-          (All-weaker (IsNeeded now.files roles) (IsNeeded next.files roles)
-          (λ name w. still_needed now.files next.files roles name round.grows w) so_far.names so_far.needed)
-          (missing_needed now.files next.files roles round.grows);
+          (All-weaker (IsNeeded state.files roles) (IsNeeded next.files roles)
+          (λ name w. still_needed state.files next.files roles name round.grows w) so_far.names so_far.needed)
+          (missing_needed state.files next.files roles round.grows);
       rounds = both_some start.files so_far.rounds
-          (subst (λ t. IfSome t (λ all. now.files ≡ files_under all so_far.names)) only.files_stay so_far.asked.files)
-          (λ all r is. (suc r.0, next_names all roles now.files so_far.names is ∙ ap (asked_next all roles) r.1));
+          (subst (λ t. IfSome t (λ all. state.files ≡ files_under all so_far.names)) only.files_stay so_far.asked.files)
+          (λ all r is. (suc r.0, next_names all roles state.files so_far.names is ∙ ap (asked_next all roles) r.1));
     }
 
-pub rounds_next : (roles : RolesRead) (start : FolderRead) (now next : Progress) (missed : List (List ℕ))
-    → missed ≡ missing_of now.files roles → InRounds roles start now → Included missed now next
-    → (length next.files ≡ length now.files → ⊥) → InRounds roles start next
-rounds_next roles start now next missed is so_far included more =
-    let round = subst (λ l. Included l now next) is included in record {
-      has_roles = grows_fits now.files next.files roles round.grows so_far.has_roles;
+pub rounds_next : (roles : RolesRead) (start : FolderRead) (state next : Progress) (missed : List (List ℕ))
+    → missed ≡ missing_of state.files roles → InRounds roles start state → Included missed state next
+    → (length next.files ≡ length state.files → ⊥) → InRounds roles start next
+rounds_next roles start state next missed is so_far included more =
+    let round = subst (λ l. Included l state next) is included in record {
+      has_roles = grows_fits state.files next.files roles round.grows so_far.has_roles;
       absent = round.absent;
       loads = both_some start.files so_far.loads
-          (subst (λ t. IfSome t (λ all. with_inclusions all (missing_of now.files roles) now.files ≡ Ok next.files))
+          (subst (λ t. IfSome t (λ all. with_inclusions all (missing_of state.files roles) state.files ≡ Ok next.files))
           so_far.only_asks.files_stay round.loaded)
-          (λ all a b. next_round all roles now.files next.files b more ∙ a);
-      only_asks = only_asks_then start now.folder next.folder so_far.only_asks round.only_asks;
-      asks = round_asks roles start now next so_far.only_asks round so_far.asks;
+          (λ all a b. next_round all roles state.files next.files b more ∙ a);
+      only_asks = only_asks_then start state.folder next.folder so_far.only_asks round.only_asks;
+      asks = round_asks roles start state next so_far.only_asks round so_far.asks;
     }
 
 tried_asked : (names : List (List ℕ)) (name : List ℕ) → IsAsked names name → Contains names name
@@ -188,27 +191,27 @@ named_missing names missed name c named =
     (become_asked names (filter is_name missed)) (tried_asked (filter is_name missed) name among))
 
 -- the last round adds no file
-pub rounds_end : (roles : RolesRead) (start : FolderRead) (now next : Progress) (missed : List (List ℕ))
-    → missed ≡ missing_of now.files roles → InRounds roles start now → Included missed now next
-    → length next.files ≡ length now.files → Loads roles start next.folder next.files
+pub rounds_end : (roles : RolesRead) (start : FolderRead) (state next : Progress) (missed : List (List ℕ))
+    → missed ≡ missing_of state.files roles → InRounds roles start state → Included missed state next
+    → length next.files ≡ length state.files → Loads roles start next.folder next.files
 unfolding round_asks
-rounds_end roles start now next missed is so_far included same =
-    let round = subst (λ l. Included l now next) is included in
-    let stays = same_table now.files next.files round.grows same in
-    let missing = filter is_name (missing_of now.files roles) in
-    let asks = round_asks roles start now next so_far.only_asks round so_far.asks in
-    let only = only_asks_then start now.folder next.folder so_far.only_asks round.only_asks in record {
+rounds_end roles start state next missed is so_far included same =
+    let round = subst (λ l. Included l state next) is included in
+    let stays = same_table state.files next.files round.grows same in
+    let missing = filter is_name (missing_of state.files roles) in
+    let asks = round_asks roles start state next so_far.only_asks round so_far.asks in
+    let only = only_asks_then start state.folder next.folder so_far.only_asks round.only_asks in record {
       loaded = both_some start.files so_far.loads
-          (subst (λ t. IfSome t (λ all. with_inclusions all (missing_of now.files roles) now.files ≡ Ok next.files))
+          (subst (λ t. IfSome t (λ all. with_inclusions all (missing_of state.files roles) state.files ≡ Ok next.files))
           so_far.only_asks.files_stay round.loaded)
-          (λ all a b. sym a ∙ last_round all roles now.files next.files b same);
+          (λ all a b. sym a ∙ last_round all roles state.files next.files b same);
       asks = both_some start.files asks.rounds
           (subst (λ t. IfSome t (λ all. next.files ≡ files_under all asks.names)) only.files_stay asks.asked.files)
           (λ all r under. record {
             rounds = r.0;
             after = asks.asked.after ∙ ap (with_names_added start.asked) r.1;
             last = subst (λ l. asked_next all roles l ≡ l) r.1
-                (sym (next_names all roles now.files asks.names (sym stays ∙ under))
+                (sym (next_names all roles state.files asks.names (sym stays ∙ under))
                 ∙ with_all_asked_again so_far.asks.names missing);
           });
       needed = record {
@@ -218,7 +221,7 @@ rounds_end roles start now next missed is so_far included same =
         needed = asks.needed;
         loaded = λ name e. tried_asked asks.names name
             (asks.asked.same name ∙ or_left (has_file next.files name) (list_any (bytes_eq name) next.absent) e);
-        missing = λ name c named. named_missing so_far.asks.names (missing_of now.files roles)
+        missing = λ name c named. named_missing so_far.asks.names (missing_of state.files roles)
             name (subst (λ t. Contains (missing_of t roles) name) stays c) named;
       };
       only_asks = only;
@@ -251,28 +254,26 @@ last_among names before now (CannotRead name) s = subst (λ a. IsAskedLast a nam
     by : (before : Option (List (List ℕ))) → IsAskedLast (with_names_added before (s.front ++ name ∷ [])) name
     by None = tt
     by (Some names) = (names ++ s.front, sym (append_assoc names s.front (name ∷ [])))
-last_among names before now (Refused name refusal) s = tt
-last_among names before now NoMemory s = tt
+last_among names before now ending s = tt
 
 some_until : (reported : Option (List File)) (roles : RolesRead)
     (before now : Option (List (List ℕ))) (ending : LoadEnd)
     → AsksSome reported roles before now ending → AsksUntil reported roles before now ending
-some_until reported roles before now (CannotRead name) h = h
 some_until reported roles before now (Refused name refusal) h = inr h
-some_until reported roles before now NoMemory h = h
+some_until reported roles before now ending h = h
 
-stops_loading : (roles : RolesRead) (start : FolderRead) (now : Progress)
+stops_loading : (roles : RolesRead) (start : FolderRead) (state : Progress)
     (these : List File → Loaded) (since more : List (List ℕ)) (new : FolderRead) (ending : LoadEnd)
     → bad_name roles ≡ None
-    → OnlyAsks start now.folder → HasAsked start.asked now since → IsDistinct bytes_eq since
+    → OnlyAsks start state.folder → HasAsked start.asked state since → IsDistinct bytes_eq since
     → IfSome start.files (λ all. (n : ℕ) × (with_all_asked since more ≡ asked_in all roles n))
     → IfSome start.files (λ all. (e : LoadEnd) → these all ≡ Err e → load_of all roles ≡ Err e)
-    → Stops these more now new ending → StopsLoading roles start new ending
-stops_loading roles start now these since more new ending fine only asked once rounds along s =
+    → Stops these more state new ending → StopsLoading roles start new ending
+stops_loading roles start state these since more new ending fine only asked once rounds along s =
     let among = s.asks start.asked since asked in record {
       why = stops_along start.files these (λ all. load_of all roles)
-          start.failures now.folder.failures new.failures ending only.counted along
-          (subst (λ t. StopsFor t these now.folder.failures new.failures ending) only.files_stay s.why);
+          start.failures state.folder.failures new.failures ending only.counted along
+          (subst (λ t. StopsFor t these state.folder.failures new.failures ending) only.files_stay s.why);
       asks = some_until start.files roles start.asked new.asked ending (IfSome_then start.files rounds (λ all r. (
         r.0,
         subst (λ o. StopsAmong (asked_unless all roles o r.0) start.asked new.asked ending)
@@ -280,7 +281,7 @@ stops_loading roles start now these since more new ending fine only asked once r
       )));
       once = once_among (with_all_asked since more) start.asked new.asked ending (all_once since more once) among;
       reported = last_among (with_all_asked since more) start.asked new.asked ending among;
-      fails = fails_since start now.folder new only s.fails;
+      fails = fails_since start state.folder new only s.fails;
       files_stay = s.files_stay ∙ only.files_stay;
       created_stay = s.created_stay ∙ only.created_stay;
     }
@@ -313,43 +314,39 @@ change_stops roles start mid new ending fine web s =
     (stops_then (λ all. with_needed all [] roles.web) (λ all files. with_change all files roles.change)
     (roles.web ∷ []) (named_in roles.change) (progress start [] []) mid new ending web s)
 
-pub rounds_stop : (roles : RolesRead) (start : FolderRead) (now : Progress)
+pub rounds_stop : (roles : RolesRead) (start : FolderRead) (state : Progress)
     (missed : List (List ℕ)) (new : FolderRead) (ending : LoadEnd)
-    → bad_name roles ≡ None → missed ≡ missing_of now.files roles
-    → InRounds roles start now
-    → Stops (λ all. with_inclusions all missed now.files) (filter is_name missed) now new ending
+    → bad_name roles ≡ None → missed ≡ missing_of state.files roles
+    → InRounds roles start state
+    → Stops (λ all. with_inclusions all missed state.files) (filter is_name missed) state new ending
     → StopsLoading roles start new ending
-rounds_stop roles start now missed new ending fine is so_far s =
+rounds_stop roles start state missed new ending fine is so_far s =
     let names = so_far.asks.names in
-    stops_loading roles start now (λ all. with_inclusions all missed now.files) names
+    stops_loading roles start state (λ all. with_inclusions all missed state.files) names
     (filter is_name missed) new ending fine so_far.only_asks so_far.asks.asked so_far.asks.once
     (both_some start.files so_far.asks.rounds
-    (subst (λ t. IfSome t (λ all. now.files ≡ files_under all names))
+    (subst (λ t. IfSome t (λ all. state.files ≡ files_under all names))
     so_far.only_asks.files_stay so_far.asks.asked.files)
     (λ all r under. (
       suc r.0,
       ap (λ l. with_all_asked names (filter is_name l)) is
-          ∙ next_names all roles now.files names under ∙ ap (asked_next all roles) r.1,
+          ∙ next_names all roles state.files names under ∙ ap (asked_next all roles) r.1,
     )))
     (IfSome_then start.files so_far.loads (λ all a e stop.
-    sym a ∙ stopped_round all roles now.files e (ap (λ l. with_inclusions all l now.files) (sym is) ∙ stop))) s
+    sym a ∙ stopped_round all roles state.files e (ap (λ l. with_inclusions all l state.files) (sym is) ∙ stop))) s
 
-pub rounds_short : (roles : RolesRead) (start : FolderRead) (now : Progress)
-    → bad_name roles ≡ None → InRounds roles start now → StopsLoading roles start now.folder NoMemory
-rounds_short roles start now fine so_far =
-    rounds_stop roles start now (missing_of now.files roles) now.folder NoMemory fine refl so_far
-    (out_of_memory (λ _. Ok now.files) (λ all. with_inclusions all (missing_of now.files roles) now.files)
-    [] (filter is_name (missing_of now.files roles)) now now
-    (reads_none (λ _. Ok now.files) [] now
-    (some_always now.folder.files (λ all. refl)) so_far.absent (λ since same. refl)))
+pub rounds_short : (roles : RolesRead) (start : FolderRead) (state : Progress)
+    → bad_name roles ≡ None → InRounds roles start state → StopsLoading roles start state.folder NoMemory
+rounds_short roles start state fine so_far =
+    rounds_stop roles start state (missing_of state.files roles) state.folder NoMemory fine refl so_far
+    (out_of_memory (λ _. Ok state.files) (λ all. with_inclusions all (missing_of state.files roles) state.files)
+    [] (filter is_name (missing_of state.files roles)) state state
+    (reads_none (λ _. Ok state.files) [] state
+    (some_always state.folder.files (λ all. refl)) so_far.absent (λ since same. refl)))
 
 -- a loading that asks for nothing
 none_among : (names : List (List ℕ)) (before : Option (List (List ℕ))) → StopsAmong names before before NoMemory
-none_among names before = record { front = []; rest = names; split = refl; after = by before }
-  where
-    by : (before : Option (List (List ℕ))) → before ≡ with_names_added before []
-    by None = refl
-    by (Some names) = ap (λ l. Some l) (sym (append-nil names))
+none_among names before = record { front = []; rest = names; split = refl; after = none_added before }
 
 pub stops_at_once : (roles : RolesRead) (start : FolderRead) → StopsLoading roles start start NoMemory
 unfolding IsDistinct

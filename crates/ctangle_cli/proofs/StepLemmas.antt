@@ -1,11 +1,13 @@
 -- One step of loading, and one after another.
-use Rattle.std.proofs.Common.{◌≡◌, ◌∙◌, ◌⊎◌, inl, inr, ℕ, Bool, true, false, cond, ◌||◌, List, [], ◌∷◌, ◌++◌, Option}
+use Rattle.std.proofs.Common.{◌≡◌, ◌∙◌, ◌⊎◌, inl, inr, ℕ, true, false, cond, ◌||◌, List, [], ◌∷◌, ◌++◌, Option}
 use Rattle.std.proofs.Common.{Some, None, Ok, Err, ap, subst, sym, refl, append_assoc, append-nil}
 use Rattle.std.specs.Prelude.{IfSome, filter}
 use Rattle.std.specs.List.{list_any}
 use Rattle.std.specs.Str.{bytes_eq}
 use Rattle.std.specs.declared.vec.Vec.{Vec}
 use Rattle.std.specs.Global.{Global}
+use Rattle.std.proofs.Math.Bool.{or-false}
+use Rattle.std.proofs.lemmas.Bool.{cond_both}
 use Rattle.std.proofs.lemmas.List.Elements.{All-append, All-cons, All-nil, filter-append}
 use Rattle.std.proofs.lemmas.List.Folds.{list_any-append}
 use Rattle.std.proofs.lemmas.Option.{IfSome_then}
@@ -18,14 +20,15 @@ use Rattle.tangle_streams.specs.Streams.{one_more_failure}
 use Rattle.tangle_folders.specs.Folder.{File, FolderRead, IsFileAnswer, file_bytes, with_name_added}
 use Rattle.ctangle_cli.specs.AskedOnce.{with_names_added}
 use Rattle.ctangle_cli.specs.AskedNames.{AsksUpTo, FailsLast, StopsAmong, file_if_there, files_under, with_all_asked}
-use Rattle.ctangle_cli.specs.Loading.{AreAbsent, Grows, IsAskedLast, IsLoadEnd, LoadEnd, Loaded, StopsFor, add_bytes}
+use Rattle.ctangle_cli.specs.Loading.{IsAskedLast, IsLoadEnd, LoadEnd, Loaded, StopsFor, add_bytes}
 use Rattle.ctangle_cli.specs.Loading.{add_present, and_then, refused_as, with_inclusions, with_needed}
 use Rattle.ctangle_cli.specs.Loading.LoadEnd.{CannotRead, Refused, NoMemory}
 use Rattle.ctangle_cli.specs.Loads.{OnlyAsks}
-use Rattle.ctangle_cli.specs.Steps.{HasAsked, IsAbout, Progress, Reads, Stops, is_tried}
-use Rattle.ctangle_cli.proofs.AskLemmas.{TriesThis, or_false, with_all_asked-append, with_all_asked_front}
+use Rattle.ctangle_cli.specs.Steps.{AreAbsent, HasAsked, IsAbout, Progress, Reads, Stops, is_tried}
+use Rattle.ctangle_cli.proofs.AskLemmas.{TriesThis, with_all_asked-append, with_all_asked_front}
 use Rattle.ctangle_cli.proofs.AskLemmas.{with_asked_new, with_asked_old}
-use Rattle.ctangle_cli.proofs.LoadLemmas.{Grows-refl, Grows-trans, added, both_some, needed_present, needed_stops}
+use Rattle.ctangle_cli.proofs.LoadLemmas.{Grows, Grows-refl, Grows-trans, added, both_some, needed_present}
+use Rattle.ctangle_cli.proofs.LoadLemmas.{needed_stops}
 use Rattle.ctangle_cli.proofs.LoadLemmas.{present_included, some_always, stops_along, stops_given}
 use Rattle.ctangle_cli.proofs.LoadLemmas.{with_inclusions-append}
 
@@ -41,6 +44,11 @@ only_asks_then old mid new first second = record {
   counted = second.counted ∙ first.counted;
 }
 
+pub only_asked : (old new : FolderRead) → new.files ≡ old.files → new.created ≡ old.created
+    → new.failed ≡ old.failed → new.failures ≡ old.failures → OnlyAsks old new
+only_asked old new files created failed failures =
+    record { files_stay = files; created_stay = created; unfailed = failed; counted = failures }
+
 -- the folder did not fail, or only at the last name
 pub fails_not : (old new : FolderRead) → OnlyAsks old new → FailsLast old new
 fails_not old new only = inl (only.unfailed, only.counted)
@@ -55,10 +63,10 @@ fails_here old new name asks fails counted =
     by None = tt
     by (Some names) = (names, refl)
 
-pub fails_since : (old now new : FolderRead) → OnlyAsks old now → FailsLast now new → FailsLast old new
-fails_since old now new only h =
+pub fails_since : (old mid new : FolderRead) → OnlyAsks old mid → FailsLast mid new → FailsLast old new
+fails_since old mid new only h =
     subst (λ n. FailsLast (record old { failures = n }) new) only.counted
-    (subst (λ l. FailsLast (record now { failed = l }) new) only.unfailed h)
+    (subst (λ l. FailsLast (record mid { failed = l }) new) only.unfailed h)
 
 -- one more name was asked for
 after_more : (before : Option (List (List ℕ))) (since : List (List ℕ))
@@ -105,29 +113,25 @@ stops_last since before asked name (Refused reported refusal) after about =
 stops_last since before asked name NoMemory after about =
     record { front = since ++ name ∷ []; rest = []; split = sym (append-nil (since ++ name ∷ [])); after = after }
 
+up_to_further : (names more : List (List ℕ)) (before asked : Option (List (List ℕ))) (name : List ℕ)
+    → AsksUpTo names before asked name → AsksUpTo (names ++ more) before asked name
+up_to_further names more before asked name s = record {
+  front = s.front;
+  rest = s.rest ++ more;
+  split = ap (λ l. l ++ more) s.split ∙ append_assoc s.front (name ∷ s.rest) more;
+  after = s.after;
+}
+
 stops_further : (names more : List (List ℕ)) (before asked : Option (List (List ℕ))) (ending : LoadEnd)
     → StopsAmong names before asked ending → StopsAmong (names ++ more) before asked ending
-stops_further names more before asked (CannotRead name) s =
-    record {
-      front = s.front;
-      rest = s.rest ++ more;
-      split = ap (λ l. l ++ more) s.split ∙ append_assoc s.front (name ∷ s.rest) more;
-      after = s.after;
-    }
-stops_further names more before asked (Refused name refusal) s =
-    record {
-      front = s.front;
-      rest = s.rest ++ more;
-      split = ap (λ l. l ++ more) s.split ∙ append_assoc s.front (name ∷ s.rest) more;
-      after = s.after;
-    }
-stops_further names more before asked NoMemory s =
-    record {
-      front = s.front;
-      rest = s.rest ++ more;
-      split = ap (λ l. l ++ more) s.split ∙ append_assoc s.front s.rest more;
-      after = s.after;
-    }
+stops_further names more before asked (CannotRead name) s = up_to_further names more before asked name s
+stops_further names more before asked (Refused name refusal) s = up_to_further names more before asked name s
+stops_further names more before asked NoMemory s = record {
+  front = s.front;
+  rest = s.rest ++ more;
+  split = ap (λ l. l ++ more) s.split ∙ append_assoc s.front s.rest more;
+  after = s.after;
+}
 
 -- what the folder answered about a name: the step adds its file, if there is one
 pub found_added : (reported : Option (List File)) (files next : FileTable) (name : List ℕ) (bytes : Vec ℕ Global)
@@ -183,7 +187,7 @@ reads_one name old new grows absent only fresh asked this found = record {
     after = after_more before since old.folder.asked new.folder.asked name h.after asked;
     same = λ other. list_any-append (bytes_eq other) since (name ∷ [])
         ∙ ap (λ b. b || (bytes_eq other name || false)) (h.same other)
-        ∙ ap (λ b. is_tried old other || b) (or_false (bytes_eq other name)) ∙ sym (this other);
+        ∙ ap (λ b. is_tried old other || b) (or-false (bytes_eq other name)) ∙ sym (this other);
     files = subst (λ t. IfSome t (λ all. new.files ≡ files_under all (since ++ name ∷ [])))
         (sym only.files_stay) (both_some old.folder.files h.files found
         (λ all had f. f.1 ∙ ap (λ t. t ++ file_if_there name (file_bytes all name)) had
@@ -351,11 +355,9 @@ pub none_asked : (old : Progress) (name : List ℕ)
     → (is_name name ≡ true → is_tried old name ≡ true) → (since : List (List ℕ))
     → ((other : List ℕ) → list_any (bytes_eq other) since ≡ is_tried old other)
     → with_all_asked since (filter is_name (name ∷ [])) ≡ since
-none_asked old name tried since same = by (is_name name) refl
-  where
-    by : (b : Bool) → is_name name ≡ b → with_all_asked since (cond b (name ∷ []) []) ≡ since
-    by false e = refl
-    by true e = with_asked_old since name (same name ∙ tried e)
+none_asked old name tried since same =
+    cond_both (is_name name) (name ∷ []) [] (λ l. with_all_asked since l ≡ since)
+    (λ e. with_asked_old since name (same name ∙ tried e)) (λ _. refl)
 
 pub as_missing : (P : (List File → Loaded) → List (List ℕ) → Type 0) (name : List ℕ) (files : FileTable)
     → has_file files name ≡ false → is_name name ≡ true

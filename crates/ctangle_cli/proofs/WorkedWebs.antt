@@ -17,6 +17,7 @@ use Rattle.tangle_lines.specs.Reading.{reads_in}
 use Rattle.tangle_lexer.specs.Steps.{tokens_from, lexeme, occurrences_from}
 use Rattle.tangle_files.specs.Roles.{RolesRead, roles_of}
 use Rattle.tangle_files.specs.declared.marks.MarkMode.TheVariants.{Bare}
+use Rattle.tangle_names.specs.Faults.{name_faults}
 use Rattle.tangle_names.specs.NameTable.{table_of}
 use Rattle.tangle_expansion.specs.Limits.{levels, heaviest}
 use Rattle.tangle_graph.specs.Faults.{graph_faults}
@@ -26,7 +27,7 @@ use Rattle.tangle_session.specs.Tangle.{Tangling, outputs_of}
 -- what tangling gives where no node contains itself or reaches a name that does
 abbrev tangle_of : FileTable → RolesRead → Tangling
 tangle_of files roles = record {
-  faults = (source_at files roles).faults ++ ((web_at files roles).faults ++ ((table_of (web_at files roles)).faults
+  faults = (source_at files roles).faults ++ ((web_at files roles).faults ++ (name_faults (web_at files roles)
       ++ graph_faults (web_at files roles) (table_of (web_at files roles)) roles.out (λ n. false) (λ n. false)));
   outputs = outputs_of files roles;
 }

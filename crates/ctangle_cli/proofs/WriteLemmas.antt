@@ -15,7 +15,7 @@ use Rattle.tangle_streams.specs.Streams.{Stream}
 use Rattle.tangle_files.specs.declared.refusal.Refusal.{Refusal}
 use Rattle.tangle_files.specs.declared.refusal.Refusal.TheVariants as refusal
 use Rattle.tangle_session.specs.Writes.{WritesOutput}
-use Rattle.tangle_folders.specs.declared.folder.FolderFault.TheVariants.{Missing, NoMemory, TooBig, Failed as IsFailed}
+use Rattle.tangle_folders.specs.declared.folder.FolderFault.TheVariants.{NoMemory}
 use Rattle.ctangle_cli.specs.Writing.{AddsPrefix}
 use Rattle.ctangle_cli.specs.Run.{StopsAt}
 
@@ -107,19 +107,6 @@ pub record HasWritten (outputs : List File) (old new : Option (List File)) (name
   pub all : outputs ≡ done ++ others
   pub created : new ≡ with_created old done
   pub names_are : names ≡ map (λ f. f.0) others
-
-pub wrote_none : (outputs : List File) (old : Option (List File)) (names : List (List ℕ))
-    → names ≡ map (λ f. f.0) outputs → HasWritten outputs old old names
-wrote_none outputs old names is =
-    record { done = []; others = outputs; all = refl; created = sym (with_created-none old); names_are = is }
-
-pub wrote_all : (outputs : List File) (old new : Option (List File)) (names : List (List ℕ))
-    → names ≡ [] → HasWritten outputs old new names → new ≡ with_created old outputs
-wrote_all outputs old new names none h = by h.others (sym none ∙ h.names_are) h.all
-  where
-    by : (others : List File) → [] ≡ map (λ f. f.0) others → outputs ≡ h.done ++ others → new ≡ with_created old outputs
-    by [] is all = h.created ∙ ap (with_created old) (sym (all ∙ append-nil h.done))
-    by (f ∷ others) is all = absurd (cc)
 
 -- the output of the next name is the first of the remaining outputs
 lookup_here : (done others : List File) (f : File)
@@ -231,9 +218,5 @@ pub stops_at_next : (outputs : List File) (old mid new : Option (List File))
     → StopsAt outputs old new name fault
 stops_at_next outputs old mid new name names NoMemory next added nothing =
     stops_without outputs old mid new name names NoMemory next (nothing refl)
-stops_at_next outputs old mid new name names Missing next added nothing =
-    stops_with outputs old mid new name names Missing next added (λ e. cc)
-stops_at_next outputs old mid new name names IsFailed next added nothing =
-    stops_with outputs old mid new name names IsFailed next added (λ e. cc)
-stops_at_next outputs old mid new name names TooBig next added nothing =
-    stops_with outputs old mid new name names TooBig next added (λ e. cc)
+stops_at_next outputs old mid new name names fault next added nothing =
+    stops_with outputs old mid new name names fault next added (λ e. cc)

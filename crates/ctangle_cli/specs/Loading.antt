@@ -1,7 +1,7 @@
 -- Loading: the files that a run reads, and how loading ends where one can't be read or is refused.
-use Rattle.std.specs.Prelude.{◌≡◌, ◌⊎◌, ◌<◌, ◌≤◌, ⊤, ℕ, zero, suc, ◌-◌, ◌==◌, ◌||◌, not, nat_lt}
+use Rattle.std.specs.Prelude.{◌≡◌, ◌⊎◌, ⊤, ℕ, zero, suc, ◌-◌, ◌==◌, ◌||◌, not, nat_lt}
 use Rattle.std.specs.Prelude.{length, map, filter, Bool, true, false, List, [], ◌∷◌, ◌++◌, Option}
-use Rattle.std.specs.Prelude.{None, Some, IfSome, Result, Ok, Err, if◌then◌else◌, All}
+use Rattle.std.specs.Prelude.{None, Some, IfSome, Result, Ok, Err, if◌then◌else◌}
 use Rattle.tangle_files.specs.declared.refusal.Refusal.{Refusal}
 use Rattle.tangle_files.specs.declared.refusal.Refusal.TheVariants.{BadName}
 use Rattle.tangle_files.specs.declared.refusal.Refusal.TheVariants.{NoMemory as RefusalMemory}
@@ -140,12 +140,6 @@ load_unless all roles None =
 abbrev pub load_of : List File → RolesRead → Loaded
 load_of all roles = load_unless all roles (bad_name roles)
 
--- the new table has the old files, and perhaps others after them, up to its limit
-pub record Grows (old new : FileTable) : Type 0 where
-  pub more : FileTable
-  pub is : new ≡ old ++ more
-  pub within : 0 < length more → length new ≤ 256
-
 -- why loading ended: by what the folder has, or because the folder failed, or out of memory
 abbrev pub StopsFor : Option (List File) → (List File → Loaded) → ℕ → ℕ → LoadEnd → Type 0
 StopsFor reported loads failures failures' (CannotRead name) =
@@ -166,10 +160,6 @@ abbrev pub NamesLastAsked : Option (List (List ℕ)) → LoadEnd → Type 0
 NamesLastAsked asked (CannotRead name) = IsAskedLast asked name
 NamesLastAsked asked (Refused name refusal) = ⊤
 NamesLastAsked asked NoMemory = ⊤
-
--- the folder, if it reports its files, has none of these names
-abbrev pub AreAbsent : Option (List File) → List (List ℕ) → Type 0
-AreAbsent reported names = IfSome reported (λ all. All (λ name. file_bytes all name ≡ None) names)
 
 -- the ending of a loading in which the table refused a file
 abbrev pub refused_as : List ℕ → Refusal → LoadEnd

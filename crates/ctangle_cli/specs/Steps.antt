@@ -1,15 +1,15 @@
 -- A step of loading reads some names: the web, the change file, or files that inclusions miss.
 use Rattle.std.specs.Prelude.{◌≡◌, ⊤, ◌||◌, ℕ, Bool, true, false, List, [], ◌∷◌, ◌++◌, Option}
-use Rattle.std.specs.Prelude.{Result, Ok, Err, IfSome, filter}
+use Rattle.std.specs.Prelude.{None, Result, Ok, Err, All, IfSome, filter}
 use Rattle.std.specs.List.{list_any}
 use Rattle.std.specs.Str.{bytes_eq}
 use Rattle.tangle_files.specs.Adding.{has_file, is_name}
 use Rattle.tangle_files.specs.Lines.{FileTable}
-use Rattle.tangle_folders.specs.Folder.{File, FolderRead}
+use Rattle.tangle_folders.specs.Folder.{File, FolderRead, file_bytes}
 use Rattle.ctangle_cli.specs.declared.loading.LoadFault.{LoadFault}
 use Rattle.ctangle_cli.specs.AskedOnce.{with_names_added}
 use Rattle.ctangle_cli.specs.AskedNames.{FailsLast, StopsAmong, files_under, with_all_asked}
-use Rattle.ctangle_cli.specs.Loading.{AreAbsent, Grows, LoadEnd, Loaded, StopsFor, ending_of}
+use Rattle.ctangle_cli.specs.Loading.{LoadEnd, Loaded, StopsFor, ending_of}
 use Rattle.ctangle_cli.specs.Loading.{with_inclusions}
 use Rattle.ctangle_cli.specs.Loading.LoadEnd.{CannotRead, Refused, NoMemory}
 use Rattle.ctangle_cli.specs.Loads.{OnlyAsks}
@@ -24,23 +24,28 @@ pub record Progress : Type 0 where
 abbrev pub progress : FolderRead → FileTable → List (List ℕ) → Progress
 progress folder files absent = record { folder = folder; files = files; absent = absent }
 
+-- the folder, if it reports its files, has none of these names
+abbrev pub AreAbsent : Option (List File) → List (List ℕ) → Type 0
+AreAbsent reported names = IfSome reported (λ all. All (λ name. file_bytes all name ≡ None) names)
+
 abbrev pub is_tried : Progress → List ℕ → Bool
-is_tried now name = has_file now.files name || list_any (bytes_eq name) now.absent
+is_tried state name = has_file state.files name || list_any (bytes_eq name) state.absent
 
 -- Exactly these names were asked for since, in this order. They are the tried names, and the table
 -- has the folder's files of these names.
 pub record HasAsked (before : Option (List (List ℕ)))
-    (now : Progress) (names : List (List ℕ)) : Type 0 where
-  pub after : now.folder.asked ≡ with_names_added before names
-  pub same : (name : List ℕ) → list_any (bytes_eq name) names ≡ is_tried now name
-  pub files : IfSome now.folder.files (λ all. now.files ≡ files_under all names)
+    (state : Progress) (names : List (List ℕ)) : Type 0 where
+  pub after : state.folder.asked ≡ with_names_added before names
+  pub same : (name : List ℕ) → list_any (bytes_eq name) names ≡ is_tried state name
+  pub files : IfSome state.folder.files (λ all. state.files ≡ files_under all names)
 
 -- `loads` is what the step gives, and `names` are the names that it reads
 module _ (loads : List File → Loaded) (names : List (List ℕ)) (old : Progress) where
-  -- the step gives these files, and asked for its names, except those that were tried before
+  -- the step gives these files, which begin with the old ones, and asked for its names, except
+  -- those that were tried before
   pub record Reads (new : Progress) : Type 0 where
     pub loaded : IfSome old.folder.files (λ all. loads all ≡ Ok new.files)
-    pub grows : Grows old.files new.files
+    pub grows : (more : FileTable) × (new.files ≡ old.files ++ more)
     pub absent : AreAbsent new.folder.files new.absent
     pub asks : (before : Option (List (List ℕ))) (since : List (List ℕ))
         → HasAsked before old since → HasAsked before new (with_all_asked since names)

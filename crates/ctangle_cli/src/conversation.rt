@@ -241,17 +241,6 @@ fn setting(mode: MarkMode) -> Result<Edit, AllocError>
     Ok(Edit::Marks { mode })
 }
 
-fn hold(held: &mut Vec<Edit>, edit: Edit) -> Result<(), Refusal>
-    ensures ok { OnOk result (held.new.items ≡ held.old.items ++ edit ∷ []) }
-    ensures err { OnErr result (held.new.items ≡ held.old.items) }
-    ensures memory { IfErr result (λ refusal. refusal ≡ no_memory) }
-{
-    match held.push(edit) {
-        Ok(()) => Ok(()),
-        Err(_) => Err(Refusal::NoMemory),
-    }
-}
-
 // Makes the edit that a request asks for or, while a list is open, holds it in the list. The edit
 // is an error where there was no memory for its bytes.
 fn make_or_hold(
@@ -264,18 +253,16 @@ fn make_or_hold(
         → Replies answers (session_and_draft session.old draft.old) request (edit_line result)
         (session_and_draft session.new draft.new) }
 {
-    match edit {
-        Err(_) => Err(Refusal::NoMemory),
-        Ok(edit) => match draft {
-            Some(held) => match hold(held, edit) {
-                Ok(()) => Ok(Accepted::Held),
-                Err(refusal) => Err(refusal),
-            },
-            None => match session.apply(&edit) {
-                Ok(()) => Ok(Accepted::Made),
-                Err(refusal) => Err(refusal),
-            },
-        },
+    let edit = edit?;
+    match draft {
+        Some(held) => {
+            held.push(edit)?;
+            Ok(Accepted::Held)
+        }
+        None => {
+            session.apply(&edit)?;
+            Ok(Accepted::Made)
+        }
     }
 }
 
@@ -308,11 +295,13 @@ fn begin<S: Sink>(
         (session_and_draft session draft.new)
         × WritesAnswer (S.stream sink.old) (S.stream sink.new) output result }
 {
-    if draft.is_some() {
-        return say(sink, Ok(()), b"no BadCommand\n");
+    match draft {
+        Some(_) => say(sink, Ok(()), b"no BadCommand\n"),
+        None => {
+            *draft = Some(Vec::new(alloc));
+            say(sink, Ok(()), b"ok\n")
+        }
     }
-    *draft = Some(Vec::new(alloc));
-    say(sink, Ok(()), b"ok\n")
 }
 
 // Drops the open list and writes the answer: a bad command where none is open.
@@ -322,11 +311,13 @@ fn cancel<S: Sink>(draft: &mut Option<Vec<Edit>>, sink: &mut S) -> Result<(), Si
         (session_and_draft session draft.new)
         × WritesAnswer (S.stream sink.old) (S.stream sink.new) output result }
 {
-    if draft.is_some() {
-        *draft = None;
-        return say(sink, Ok(()), b"ok\n");
+    match draft {
+        None => say(sink, Ok(()), b"no BadCommand\n"),
+        Some(_) => {
+            *draft = None;
+            say(sink, Ok(()), b"ok\n")
+        }
     }
-    say(sink, Ok(()), b"no BadCommand\n")
 }
 
 // Makes all edits of the open list or none, closes the list, and writes the answer: a bad command

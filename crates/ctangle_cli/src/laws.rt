@@ -16,9 +16,7 @@ ghost use Rattle.ctangle_cli.specs.Conversation.{SessionAndDraft, answers};
 ghost use Rattle.ctangle_cli.specs.Histories.{AreCallsOf, ShowsPlainOf};
 ghost use Rattle.ctangle_cli.specs.Loading.{LoadEnd, load_of, missing_of, rounds_from, with_round};
 
-use tangle_session::{
-    histories_make_the_accepted_edits, outputs_are_found_by_their_names, tangling_is_plain,
-};
+use tangle_session::outputs_are_found_by_their_names;
 
 /// After a round that adds a file, loading continues as if it began with the new table; a round
 /// that adds none is the last, and a round that ends in a fault ends loading. So the bound on the
@@ -72,8 +70,4 @@ pub fn scripts_show_plain_tangling()
         → (more : List Call) × AreCallsOf commands output old.draft more new.draft
         × ShowsPlainOf (files_after files (accepted (calls ++ more)))
         (roles_with roles (accepted (calls ++ more))) new }
-{
-    histories_make_the_accepted_edits();
-    tangling_is_plain();
-    the_answers_of_a_script_are_a_history();
-}
+{}

@@ -8,13 +8,14 @@ ghost use Rattle.tangle_folders.specs.Folder.{file_bytes, file_limit};
 ghost use Rattle.tangle_files.specs.Adding.{has_file};
 ghost use Rattle.tangle_files.specs.Roles.{fits, has_file_if_any};
 ghost use Rattle.ctangle_cli.specs.AskedNames.{named_in, with_asked_once};
-ghost use Rattle.ctangle_cli.specs.Loading.{AreAbsent, IncludesNoMissing, IsLoadEnd};
+ghost use Rattle.ctangle_cli.specs.Loading.{IncludesNoMissing, IsLoadEnd};
 ghost use Rattle.ctangle_cli.specs.Loading.{StopsFor, add_bytes, add_present, bad_name, ending_of};
 ghost use Rattle.ctangle_cli.specs.Loading.{is_missing_kind, misses_file, missed_in, missing_of};
 ghost use Rattle.ctangle_cli.specs.Loading.{refused_as, with_change, with_needed};
 ghost use Rattle.ctangle_cli.specs.Loading.LoadEnd.{CannotRead};
 ghost use Rattle.ctangle_cli.specs.Loads.{Loads, StopsLoading};
-ghost use Rattle.ctangle_cli.specs.Steps.{IsAbout, ReadsMissing, Step, absent_after, progress};
+ghost use Rattle.ctangle_cli.specs.Steps.{AreAbsent, IsAbout, ReadsMissing, Step, absent_after};
+ghost use Rattle.ctangle_cli.specs.Steps.{progress};
 
 use crate::arguments::Words;
 use indexmap::IndexSet;
@@ -191,13 +192,8 @@ fn read_change<F: Folder>(
     ensures has_file { OnOk result (has_file_if_any files.new (option_copied change.entry) ≡ true) }
 {
     match change {
-        None => Ok(()),
-        Some(name) => {
-            if has(files, name) {
-                return Ok(());
-            }
-            read_needed(alloc, folder, files, name)
-        }
+        Some(name) if !has(files, name) => read_needed(alloc, folder, files, name),
+        _ => Ok(()),
     }
 }
 
@@ -229,10 +225,7 @@ fn read_inclusion<F: Folder>(
 fn is_missing(kind: FaultKind) -> bool
     ensures { result ≡ is_missing_kind kind }
 {
-    match kind {
-        FaultKind::IncludeMissing => true,
-        _ => false,
-    }
+    matches!(kind, FaultKind::IncludeMissing)
 }
 
 // Reads the missing files that these faults of reading name.
@@ -268,12 +261,7 @@ fn misses(files: &Files, line: &Line) -> bool
 fn any_misses(files: &Files, lines: &[Line]) -> bool
     ensures { result ≡ list_any (misses_file files.now) lines.now }
 {
-    for line in lines {
-        if misses(files, line) {
-            return true;
-        }
-    }
-    false
+    lines.iter().any(|line| misses(files, line))
 }
 
 // Whether each file that a line includes is in the table.

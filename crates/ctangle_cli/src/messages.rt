@@ -9,6 +9,7 @@ ghost use Rattle.ctangle_cli.specs.Messages.{fault_lines, refusal_name, unwritte
 use crate::loading::LoadFault;
 use tangle_folders::FolderFault;
 use tangle_lines::{Fault, Refusal, Sink, WriteFault, write_after, write_fault};
+use tangle_script::SinkFailed;
 
 /// The name of a refusal, as the programs print it.
 pub fn name_of(refusal: Refusal) -> &'static [u8]
@@ -128,16 +129,12 @@ pub fn write_unwritten<E: Sink>(
     }
 }
 
-/// The error stream failed before it took all the bytes.
-#[derive(Clone, Copy, Debug)]
-pub struct StreamFailed;
-
 /// Writes the line of each fault.
 ///
 /// # Errors
 ///
-/// `StreamFailed` where the stream failed, or took no byte, before it had all the lines.
-pub fn write_faults<E: Sink>(faults: &[Fault], err: &mut E) -> Result<(), StreamFailed>
+/// `SinkFailed` where the stream failed, or took no byte, before it had all the lines.
+pub fn write_faults<E: Sink>(faults: &[Fault], err: &mut E) -> Result<(), SinkFailed>
     ensures whole { OnOk result
         (TakesAll (E.stream err.old) (E.stream err.new) (fault_lines faults.now)) }
     ensures cut { OnErr result
@@ -146,7 +143,7 @@ pub fn write_faults<E: Sink>(faults: &[Fault], err: &mut E) -> Result<(), Stream
     for fault in faults {
         match write_fault(fault, err) {
             Ok(_) => {}
-            Err(_) => return Err(StreamFailed),
+            Err(_) => return Err(SinkFailed),
         }
     }
     Ok(())

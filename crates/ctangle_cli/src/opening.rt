@@ -12,10 +12,7 @@ use tangle_lines::IoSink;
 ///
 /// The error of the system: out of memory, or an argument that is not UTF-8.
 pub fn command_line(rt: &HostRuntime) -> io::Result<Vec<String>> {
-    match env::args(rt) {
-        Ok(arguments) => arguments.collect(rt.alloc()).map_err(Error::from),
-        Err(error) => Err(error),
-    }
+    env::args(rt)?.collect(rt.alloc()).map_err(Error::from)
 }
 
 /// A sink that passes each whole line on to a stream. Where there is no memory to keep a line, it

@@ -129,10 +129,7 @@ fn read_values<'a, S: AsStr>(alloc: Global, arguments: &'a [S]) -> Result<Values
 fn value_bytes(value: Option<&str>) -> Option<&[u8]>
     ensures { option_copied result ≡ option_map (λ s. s.now) value.entry }
 {
-    match value {
-        None => None,
-        Some(value) => Some(value.as_bytes()),
-    }
+    value.map(|value| value.as_bytes())
 }
 
 /// Reads the names that the arguments of `retangle WEB [--change FILE] [--out FILE]` give. The

@@ -1,5 +1,5 @@
 //! A run of `ctangle`.
-ghost use Rattle.std.specs.Prelude.{◌≡◌, ℕ, List, IfOk, map};
+ghost use Rattle.std.specs.Prelude.{◌≡◌, ℕ, List, map};
 ghost use Rattle.ctangle_cli.specs.Messages.{faults_status};
 ghost use Rattle.tangle_folders.specs.Folder.{FolderRead};
 ghost use Rattle.ctangle_cli.specs.Loads.{Loads};
@@ -12,7 +12,7 @@ use crate::messages::{write_faults, write_load, write_unwritten, write_usage};
 use crate::writing::create_outputs;
 use std::alloc::Global;
 use tangle_folders::Folder;
-use tangle_lines::{Fault, Files, NoMemory, Roles, Sink};
+use tangle_lines::{Fault, Files, Roles, Sink};
 use tangle_session::Session;
 
 fn status(faults: &[Fault]) -> u8
@@ -51,18 +51,6 @@ fn run_session<F: Folder, E: Sink>(
     }
 }
 
-// Starts a session of these files. They have the web and the change file, if one is named, so only
-// an allocation can fail.
-fn started(alloc: Global, files: Files, roles: Roles) -> Result<Session, NoMemory>
-    ensures files { IfOk result (λ session. session.files ≡ files) }
-    ensures roles { IfOk result (λ session. session.roles ≡ roles) }
-{
-    match Session::start(alloc, files, roles) {
-        Ok(session) => Ok(session),
-        Err(_) => Err(NoMemory),
-    }
-}
-
 /// The result of a run of `ctangle`.
 #[derive(Drop)]
 pub struct Ended {
@@ -72,17 +60,18 @@ pub struct Ended {
     pub session: Option<Session>,
 }
 
-// The result of a run that ended with status 3 before a session was started.
-fn unstarted() -> Ended
-    ensures { result.status ≡ 3 }
+// The result of a run that ended before a session was started.
+fn unstarted(status: u8) -> Ended
+    ensures { result.status ≡ status }
 {
     Ended {
-        status: 3,
+        status,
         session: None,
     }
 }
 
-// Starts a session of the loaded files, and writes its faults and outputs.
+// Starts a session of the loaded files, and writes its faults and outputs. The files have the web
+// and the change file, if one is named, so only an allocation can fail at the start.
 fn run_loaded<F: Folder, E: Sink>(
     alloc: Global,
     files: Files,
@@ -94,10 +83,10 @@ fn run_loaded<F: Folder, E: Sink>(
         → NamedEnds roles (moment begun (E.stream err.old))
         (moment (F.state folder.new) (E.stream err.new)) result.status }
 {
-    match started(alloc, files, roles) {
+    match Session::start(alloc, files, roles) {
         Err(_) => {
             let _ = write_load(b"ctangle", &LoadFault::NoMemory, err);
-            unstarted()
+            unstarted(3)
         }
         Ok(session) => {
             let status = run_session(alloc, &session, folder, err);
@@ -116,7 +105,7 @@ fn run_named<F: Folder, E: Sink>(alloc: Global, names: &Words, folder: &mut F, e
     match load(alloc, names, folder) {
         Err(fault) => {
             let _ = write_load(b"ctangle", &fault, err);
-            unstarted()
+            unstarted(3)
         }
         Ok((files, roles)) => run_loaded(alloc, files, roles, folder, err),
     }
@@ -136,15 +125,12 @@ pub fn run_keeping_session<F: Folder, E: Sink>(
 {
     match read_words(alloc, arguments) {
         Err(WordFault::Usage) => match write_usage(err) {
-            Ok(_) => Ended {
-                status: 2,
-                session: None,
-            },
-            Err(_) => unstarted(),
+            Ok(_) => unstarted(2),
+            Err(_) => unstarted(3),
         },
         Err(WordFault::NoMemory) => {
             let _ = write_load(b"ctangle", &LoadFault::NoMemory, err);
-            unstarted()
+            unstarted(3)
         }
         Ok(names) => run_named(alloc, &names, folder, err),
     }

@@ -1,15 +1,15 @@
 -- The expansion of one more node is kept, and what is kept at the end.
-use Rattle.std.proofs.Common.{◌≡◌, ◌≢◌, ◌∙◌, ◌+◌, ◌<◌, ◌≤◌, ℕ, Bool, true, false, List, [], length, take, get_or, refl}
+use Rattle.std.proofs.Common.{◌≡◌, ◌∙◌, ◌+◌, ◌<◌, ◌≤◌, ℕ, Bool, true, false, List, [], length, take, get_or, refl}
 use Rattle.std.proofs.Common.{ap, sym, subst, inl, inr, arith, Contains}
 use Rattle.std.specs.Prelude.{Some, None, IsSome}
 use Rattle.std.specs.List.{filter}
 use Rattle.std.proofs.lemmas.List.{take_more, take_all}
 use Rattle.std.proofs.lemmas.List.Elements.{Contains-get_or, Contains-push_cases}
 use Rattle.std.proofs.lemmas.Bool.{both_ways}
-use Rattle.tangle_expansion.specs.Affected.{IsExpandable}
+use Rattle.tangle_expansion.proofs.SameShapes.{used_expandable}
 use Rattle.tangle_expansion.specs.Kept.{kept_at, PutsKept}
 use Rattle.tangle_expansion.specs.Limits.{levels, heaviest, flat_of, IsExpandableNode}
-use Rattle.tangle_plans.specs.Shapes.{Title, Named, Shapes, Uses}
+use Rattle.tangle_plans.specs.Shapes.{Named, Shapes}
 use Rattle.tangle_expansion.specs.declared.kept.Kept.{Kept}
 use Rattle.tangle_plans.specs.declared.nodes.Node.{Node}
 use Rattle.tangle_plans.specs.declared.nodes.Node.TheVariants.{Program, Name}
@@ -43,10 +43,8 @@ module _ (shapes : Shapes) (store : StoreRead) (list : List Node)
 
   -- the expansions of the names with a piece that it uses are kept
   pub next_kept : (i : ℕ) (kept : Kept) → i < length list → KeepsDone shapes store list i kept
-      → ((l h : ℕ) (any : Shapes) (title : Title) (name : List ℕ)
-      → IsExpandable l h any title → Uses any title name → any (Named name) ≢ [] → IsExpandable l h any (Named name))
       → KeepsUsed shapes store kept (get_or list i Program)
-  next_kept i kept h keeps law id u =
+  next_kept i kept h keeps id u =
       let node = get_or list i Program in
       let name = get_or store.names id [] in
       let flag : is_expandable_at store (get_or list i Program) ≡ true = next_expandable i h in
@@ -55,7 +53,7 @@ module _ (shapes : Shapes) (store : StoreRead) (list : List Node)
       let expandable : IsExpandableNode shapes (title_in_store store (get_or list i Program)) =
       (is.expandable node (expandable_in store node flag)).0 flag in
       let used : IsExpandableNode shapes (Named (get_or store.names id [])) =
-      law levels heaviest shapes (title_in_store store node) name expandable u.uses u.has_piece in
+      used_expandable levels heaviest shapes (title_in_store store node) name expandable u.uses u.has_piece in
       let is_flagged : is_expandable_at store (Name id) ≡ true =
       (is.expandable (Name id) u.inside).1 (subst (IsExpandableNode shapes) (sym title) used) in
       let uses : UsesTitle shapes (title_in_store store (get_or list i Program)) (title_in_store store (Name id)) =

@@ -10,9 +10,9 @@ ghost use Rattle.tangle_affected.specs.Affected.{ListsAffected};
 ghost use Rattle.tangle_affected.specs.Flags.{AreFlagged, is_expandable_and_flagged};
 
 use std::alloc::Global;
-use tangle_graph::{Store, keeps_shape, same_shape};
+use tangle_graph::{Store, same_shape};
 use tangle_lines::NoMemory;
-use tangle_plans::{Node, PiecesByNode};
+use tangle_plans::Node;
 
 /// The nodes that an edit affects: each that is expandable in the new store, and reaches there a
 /// node whose shape differs from its shape in the old store. Each is listed once, after those
@@ -82,7 +82,7 @@ fn has_new_shape(old: &Store, new: &Store, are_kept: &[bool], node: Node) -> boo
         → ((result ≡ true) ↔ (new_shapes (title_in_store new.now node) ≢ old_shapes
         (title_in_store new.now node))) }
 {
-    if keeps_shape(old, new, are_kept, node) {
+    if new.is_flagged(are_kept, node) {
         return false;
     }
     match node_before(old, new, node) {
@@ -101,12 +101,10 @@ pub(crate) fn node_before(old: &Store, new: &Store, node: Node) -> Option<Node>
 {
     match node {
         Node::Program => Some(Node::Program),
-        Node::Name(id) => {
-            match old.full_names().find_from(id, new.full_names().text(id)) {
-                Some(before) => Some(Node::Name(before)),
-                None => None,
-            }
-        }
+        Node::Name(id) => match old.names().find_from(id, new.names().text(id)) {
+            Some(before) => Some(Node::Name(before)),
+            None => None,
+        },
     }
 }
 

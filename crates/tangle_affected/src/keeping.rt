@@ -15,8 +15,8 @@ ghost use Rattle.tangle_affected.specs.Flags.{FlagsJustListed, FlagsAffected};
 
 use crate::edits::{affected_over, node_before};
 use std::alloc::Global;
-use tangle_expansion::{Expansion, Kept, Work, unaffected_nodes_stay, used_names_are_expandable};
-use tangle_graph::{Store, expand_one};
+use tangle_expansion::{Expansion, Kept, Work};
+use tangle_graph::Store;
 use tangle_lines::NoMemory;
 use tangle_plans::Node;
 
@@ -95,6 +95,7 @@ fn flags_of(alloc: Global, store: &Store, list: &[Node]) -> Result<Vec<bool>, No
 }
 
 /// Shares the old expansion of the node, which is found by its name.
+#[tactic(auto, using(tangle_expansion::proofs::Unaffected::stays))]
 fn share_old(old: &Store, old_kept: &Kept, new: &Store, node: Node) -> Result<Expansion, NoMemory>
     requires node { IsNodeIn new.now node }
     requires edit { (shapes : EditedShapes) × IsEditOf old.now new.now old_kept.now shapes
@@ -103,7 +104,6 @@ fn share_old(old: &Store, old_kept: &Kept, new: &Store, node: Node) -> Result<Ex
         → IsUnaffected new.now shapes node
         → IfOk result (λ e. e ≡ flat_of shapes.new (title_in_store new.now node)) }
 {
-    unaffected_nodes_stay();
     let before = node_before(old, new, node).unwrap();
     old_kept.get(before).unwrap().share()
 }
@@ -171,7 +171,7 @@ fn expand_next(
         (flat_of shapes (title_in_store store.now node))) }
     ensures listed { OnOk result (work.new ≡ work.old ++ node ∷ []) }
 {
-    let expansion = expand_one(alloc, store, node, kept, work)?;
+    let expansion = store.expand(alloc, node, kept, work)?;
     kept.put(node, expansion)
 }
 
@@ -188,7 +188,6 @@ fn expand_list(
         → OnOk result (KeepsJust shapes store.now kept.new) }
     ensures work { OnOk result (work.new ≡ work.old ++ list.now) }
 {
-    used_names_are_expandable();
     for node in list {
         expand_next(alloc, store, *node, kept, work)?;
     }

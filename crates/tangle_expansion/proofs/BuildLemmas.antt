@@ -1,17 +1,12 @@
--- The numbers of names, one name after another.
-use Rattle.std.proofs.Common.{◌≡◌, ◌∙◌, ℕ, ◌+◌, ◌<◌, List, [], ◌∷◌, ◌++◌, map, length, take, ap, sym, get_or, add-one}
-use Rattle.std.proofs.lemmas.List.{map-append}
-use Rattle.std.proofs.Math.Seq.{take-suc}
-use Rattle.tangle_expansion.specs.Numbers.{PieceNumbersRead}
+-- What is made of each of some values, and of one more.
+use Rattle.std.proofs.Common.{◌≡◌, List, [], ◌∷◌, ◌++◌, map, refl, ap}
 
--- one more row is added at the end
-pub rows_next : (f : List ℕ → List PieceNumbersRead) (names : List (List ℕ))
-    (id : ℕ) (rows : List (List PieceNumbersRead)) (row : List PieceNumbersRead)
-    → id < length names
-    → rows ≡ map f (take id names) → row ≡ f (get_or names id [])
-    → rows ++ row ∷ [] ≡ map f (take (id + 1) names)
-rows_next f names id rows row low h is =
-    ap (λ l. l ++ row ∷ []) h
-    ∙ ap (λ r. map f (take id names) ++ r ∷ []) is
-    ∙ sym (map-append f (take id names) (get_or names id [] ∷ []))
-    ∙ ap (map f) (sym (take-suc names id [] low) ∙ ap (λ j. take j names) (sym (add-one id)))
+pub each_made : {X Y Z : Type 0} (f : Y → Z) (g : X → Y) (xs : List X) (last : Y)
+    → map f (map g xs ++ last ∷ []) ≡ map (λ x. f (g x)) xs ++ f last ∷ []
+each_made f g [] last = refl
+each_made f g (x ∷ xs) last = ap (λ l. f (g x) ∷ l) (each_made f g xs last)
+
+pub each_pushed : {X Y Z W : Type 0} (f : Z → W) (g : Y → Z) (h : X → Y) (xs : List X) (x : X)
+    → map f (map g (map h (xs ++ x ∷ []))) ≡ map f (map g (map h xs)) ++ f (g (h x)) ∷ []
+each_pushed f g h [] x = refl
+each_pushed f g h (y ∷ ys) x = ap (λ l. f (g (h y)) ∷ l) (each_pushed f g h ys x)

@@ -1,5 +1,5 @@
 mod WorkedWebs
-mod Weights
+pub mod Weights
 mod WithoutClasses
 pub mod LineTruth
 mod PieceLemmas
@@ -15,6 +15,6 @@ pub mod ShortLemmas
 pub mod PlanLemmas
 pub mod UseLemmas
 pub mod UsedLemmas
-mod SameShapes
-mod Unaffected
+pub mod SameShapes
+pub mod Unaffected
 pub mod FilledLemmas

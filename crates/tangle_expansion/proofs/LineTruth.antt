@@ -1,6 +1,6 @@
 -- In a whole output, each byte of an item is at its own origin.
 use Rattle.std.proofs.Common.{◌≡◌, ◌∙◌, ℕ, ◌+◌, zero, suc, Bool, true, false, List, [], ◌∷◌, ◌++◌, map, drop, get_or}
-use Rattle.std.proofs.Common.{Option, None, Some, refl, ap, subst, arith}
+use Rattle.std.proofs.Common.{Option, None, Some, refl, ap, subst, sym, arith}
 use Rattle.std.specs.Prelude.{filter, flat_map, if◌then◌else◌, slice_index_or}
 use Rattle.std.specs.List.{AllZip}
 use Rattle.tangle_faults.specs.declared.faults.Origin.{Origin}
@@ -12,12 +12,17 @@ use Rattle.tangle_scan.specs.LineTruth.{PiecesAreAtTheirLines}
 use Rattle.tangle_scan.specs.Web.{WebRead, PieceRead}
 use Rattle.tangle_names.specs.declared.Resolved.{Resolved}
 use Rattle.tangle_names.specs.declared.Resolved.TheVariants.{Name, NoFullName, Ambiguous}
-use Rattle.tangle_names.specs.NameTable.{TableRead}
+use Rattle.tangle_names.specs.NameTable.{TableRead, table_of}
 use Rattle.tangle_plans.specs.Shapes.{Title, Named}
 use Rattle.tangle_plans.specs.Flat.{Byte, marks_after_shape_item}
-use Rattle.tangle_plans.specs.WebShapes.{is_piece_of, use_of, resolved_at, ResolvesInside}
+use Rattle.tangle_plans.specs.WebShapes.{is_piece_of, use_of, resolved_at, ResolvesInside, shapes}
+use Rattle.tangle_plans.proofs.InsideLemmas.{table_inside}
+use Rattle.tangle_expansion.specs.Limits.{levels, flat_of}
+use Rattle.tangle_expansion.specs.Outputs.{IsTrueToLines}
+use Rattle.tangle_expansion.proofs.WithoutClasses.{without_classes}
 use Rattle.tangle_expansion.proofs.NumberLemmas.{node_numbers_of}
 use Rattle.tangle_expansion.specs.Numbers.{NumbersRead, PieceNumbersRead, no_origin, no_numbers, numbers_of}
+use Rattle.tangle_expansion.specs.Numbers.{expansion_bytes}
 use Rattle.tangle_expansion.specs.Numbers.{node_numbers, numbers_at, origin_of_mark, numbers_of_piece, item_origins}
 use Rattle.tangle_expansion.specs.Location.{OfItem, Other, LocatedItem, LocatedSymbol, origin_after, AreAtTheirOrigins}
 use Rattle.tangle_expansion.specs.Location.{located_items, located_pieces, located_shapes, located_item, items_located}
@@ -203,3 +208,13 @@ node_is_located source web table inside own (suc fuel) node q =
     (λ name. located fuel (located_shapes source web table) (Named name))
     (λ name r. node_is_located source web table inside own fuel (Named name) r)
     node 0 web.pieces (piece_locations source.lines) (node_numbers_of web table Full inside node) own q
+
+-- the expansion of each node, written with marks in full, is true to lines
+pub true_to_lines : (source : SourceRead) (web : WebRead) (node : Title) → PiecesAreAtTheirLines source web
+    → IsTrueToLines source web node
+    (expansion_bytes (numbers_of web (table_of web) Full) (flat_of (shapes web (table_of web)) node))
+true_to_lines source web node own = record {
+  written = ap (expansion_bytes (numbers_of web (table_of web) Full))
+      (sym (without_classes source web (table_of web) levels node));
+  origins = node_is_located source web (table_of web) (table_inside web) own levels node None;
+}

@@ -1,13 +1,15 @@
 -- The expansion of a node follows from the shapes that the node reaches.
 use Rattle.std.proofs.Common.{◌≡◌, ◌∙◌, ℕ, ◌+◌, ◌<◌, ◌≤◌, zero, suc, min, List, [], ◌∷◌, ◌++◌, refl, ap, sym, inl, inr}
-use Rattle.std.proofs.Common.{arith}
+use Rattle.std.proofs.Common.{◌≢◌, arith, length}
 use Rattle.tangle_files.specs.Bytes.{space}
 use Rattle.tangle_plans.specs.Shapes.{Title, Named, ShapeItem, Written, Mark, AllMacros, Use, NoUse, Shape, Shapes}
 use Rattle.tangle_plans.specs.Shapes.{IsUseOf, UsesInPiece, UsesInShape, Uses, Reaches, here, on, ContainsItself}
 use Rattle.tangle_plans.specs.Flat.{Symbol, Byte, Opening, MarkOf, marks_after_shape_item, item_flat, items_flat}
 use Rattle.tangle_plans.specs.Flat.{pieces_flat, flat, item_weight, items_weight, pieces_weight, weight, item_depth}
 use Rattle.tangle_plans.specs.Flat.{items_depth, pieces_depth, depth}
-use Rattle.tangle_expansion.proofs.UsedLemmas.{pieces_depth-use, pieces_weight-use}
+use Rattle.tangle_expansion.specs.Affected.{IsExpandable}
+use Rattle.tangle_expansion.proofs.UsedLemmas.{pieces_depth-use, pieces_shorter, pieces_weight-use}
+use Rattle.tangle_expansion.proofs.Weights.{weight-length}
 
 -- values of an item, of a piece and of a shape are equal if the values of the used names are
 
@@ -247,3 +249,20 @@ cycle_heavy (suc fuel) shapes node c =
       cycle_heavy fuel shapes (Named next.0) next.2,
       pieces_weight-use (λ name. weight fuel shapes (Named name)) (shapes node) next.0 next.1,
     )
+
+-- a name with a piece that an expandable node uses is expandable
+pub used_expandable : (levels limit : ℕ) (shapes : Shapes) (node : Title) (name : List ℕ)
+    → IsExpandable levels limit shapes node → Uses shapes node name → shapes (Named name) ≢ []
+    → IsExpandable levels limit shapes (Named name)
+used_expandable levels limit shapes node name e u has =
+    let shallow = pieces_depth-use (λ m. depth levels shapes (Named m)) (shapes node) name u in
+    let deep = depth_by_uses levels shapes node in
+    let long = ap length (flat_by_uses levels shapes node e.shallow) in
+    let short = pieces_shorter (λ m. flat levels shapes (Named m)) node 0 (shapes node) name u in
+    let weighs = weight-length levels shapes node in
+    let weighs_less = weight-length levels shapes (Named name) in
+    record {
+      has_piece = has;
+      shallow = omega (arith, e.shallow, deep, shallow);
+      light = omega (arith, e.light, long, short, weighs, weighs_less);
+    }

@@ -72,6 +72,10 @@ all_or P [] d none h i = none
 all_or P (x ∷ xs) d none h zero = h zero d (omega arith)
 all_or P (x ∷ xs) d none h (suc i) = all_or P xs d none (λ j e low. h (suc j) e (omega (arith, low))) i
 
+-- a row of short pieces, or an empty one
+pub row_short : (rows : List (List PieceNumbersRead)) → All (All IsShort) rows → (n : ℕ) → All IsShort (get_or rows n [])
+row_short rows h n = all_or (All IsShort) rows [] (λ i d none. absurd (omega (arith, none))) h n
+
 none_short : IsShort no_numbers
 none_short = record { section = omega arith; origins = λ i d none. absurd (omega (arith, none)) }
 

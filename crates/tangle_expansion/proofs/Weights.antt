@@ -1,9 +1,10 @@
 -- The weight of a node is the length of its expansion.
-use Rattle.std.proofs.Common.{◌≡◌, ◌∙◌, ℕ, ◌+◌, zero, suc, List, [], ◌∷◌, length, refl, ap, sym, arith, length-append}
+use Rattle.std.proofs.Common.{◌≡◌, ◌≤◌, ◌∙◌, ℕ, ◌+◌, zero, suc, List, [], ◌∷◌, length, refl, ap, sym, arith, length-append}
 use Rattle.std.proofs.lemmas.List.{length-map}
 use Rattle.tangle_plans.specs.Shapes.{Title, Named, ShapeItem, Written, Mark, AllMacros, Use, NoUse, Shape, Shapes}
 use Rattle.tangle_plans.specs.Flat.{Symbol, Byte, marks_after_shape_item, item_flat, items_flat, pieces_flat, flat}
 use Rattle.tangle_plans.specs.Flat.{item_weight, items_weight, pieces_weight, weight}
+use Rattle.tangle_expansion.specs.Limits.{levels, heaviest, flat_of, IsExpandableNode}
 
 item_weight-length : (used : List ℕ → List Symbol) (node : Title) (piece marks : ℕ) (item : ShapeItem)
     → item_weight (λ name. length (used name)) item ≡ length (item_flat used node piece marks item)
@@ -64,3 +65,8 @@ weight-length (suc fuel) shapes node =
     (λ name. length (flat fuel shapes (Named name))) (shapes node)
     (λ name. weight-length fuel shapes (Named name))
     ∙ pieces_weight-length (λ name. flat fuel shapes (Named name)) node 0 (shapes node)
+
+-- an expandable node has no more symbols than the limit of weight
+pub expandable_light : (shapes : Shapes) (node : Title)
+    → IsExpandableNode shapes node → length (flat_of shapes node) ≤ heaviest
+expandable_light shapes node e = omega (arith, e.light, weight-length levels shapes node)

@@ -4,8 +4,6 @@ ghost use Rattle.std.specs.Prelude.{◌≡◌, ◌<◌, ◌^◌, ◌++◌, lengt
 ghost use Rattle.std.specs.Prelude.{IfOk, OnOk};
 ghost use Rattle.std.specs.List.{All};
 ghost use Rattle.tangle_names.specs.NameTable.{table_of};
-ghost use Rattle.tangle_plans.specs.Shapes.{Named};
-ghost use Rattle.tangle_plans.specs.WebShapes.{pieces_of};
 ghost use Rattle.tangle_plans.specs.ItemSlots.{pieces_at};
 ghost use Rattle.tangle_plans.specs.Nodes.{IsGroupedBy};
 ghost use Rattle.tangle_expansion.specs.Numbers.{escaped, item_origins, numbers_of};
@@ -18,20 +16,8 @@ use crate::numbers::Numbers;
 use bstr::ByteSlice;
 use std::alloc::Global;
 use tangle_lines::{MarkMode, NoMemory, Origin};
-use tangle_plans::{Node, PiecesByNode};
+use tangle_names::Names;
 use tangle_scan::{Item, Piece, Web};
-
-/// Returns the origin unchanged. The contract adds that its line, a `u32`, is below 2^32.
-fn low_origin(origin: Origin) -> Origin
-    ensures same { result ≡ origin }
-    ensures low { IsLow result }
-{
-    let line = origin.line;
-    Origin {
-        file: origin.file,
-        line,
-    }
-}
 
 /// Adds the origin of the item, if it is a mark.
 fn add_origin(origins: &mut Vec<Origin>, item: Item) -> Result<(), NoMemory>
@@ -40,7 +26,7 @@ fn add_origin(origins: &mut Vec<Origin>, item: Item) -> Result<(), NoMemory>
     ensures low { OnOk result (All IsLow origins.new.items) }
 {
     if let Item::LineMark(origin) = item {
-        origins.push(low_origin(origin))?;
+        origins.push(origin)?;
     }
     Ok(())
 }
@@ -66,9 +52,8 @@ fn numbers_of_piece(alloc: Global, piece: &Piece) -> Result<PieceNumbers, NoMemo
     ensures numbers { IfOk result (λ numbers. numbers ≡ numbers_of_piece piece.now) }
     ensures short { IfOk result IsShort }
 {
-    let opening = low_origin(piece.origin());
     let origins = mark_origins(alloc, piece)?;
-    Ok(PieceNumbers::new(piece.section(), opening, origins))
+    Ok(PieceNumbers::new(piece.section(), piece.origin(), origins))
 }
 
 /// The numbers of each of these pieces of the web.
@@ -117,50 +102,50 @@ fn escaped_names(alloc: Global, web: &Web) -> Result<Vec<Vec<u8>>, NoMemory>
     Ok(names)
 }
 
-/// The numbers of the pieces of each full name.
-fn numbers_of_names<S: PiecesByNode>(
+/// The numbers of the pieces in each row.
+fn numbers_of_nodes(
     alloc: Global,
     web: &Web,
-    store: &S,
+    pieces: &[Vec<usize>],
 ) -> Result<Vec<NodeNumbers>, NoMemory>
-    requires { IsGroupedBy web.now (table_of web.now) (S.names store.now) (S.pieces store.now) }
+    requires { All (All (λ n. n < length web.now.pieces)) (map (λ row. row.items) pieces.now) }
     ensures rows { IfOk result (λ rows. rows.items
-        ≡ (let table = table_of web.now in
-        map (λ name. map numbers_of_piece (pieces_of web.now table (Named name)))
-        table.names)) }
+        ≡ map (map numbers_of_piece)
+        (map (pieces_at web.now.pieces) (map (λ row. row.items) pieces.now))) }
     ensures short { IfOk result (λ rows. All (All IsShort) rows.items) }
 {
-    let count = store.full_names().count();
-    let mut rows = Vec::with_capacity(alloc, count)?;
-    for id in 0..count {
-        let pieces = store.piece_numbers(Node::Name(id));
-        rows.push(numbers_of_pieces(alloc, web, pieces)?)?;
+    let mut rows = Vec::with_capacity(alloc, pieces.len())?;
+    for row in pieces {
+        rows.push(numbers_of_pieces(alloc, web, row)?)?;
     }
     Ok(rows)
 }
 
 impl Numbers {
     /// Reads from a web what its outputs need besides the symbols: section numbers, the origins of
-    /// marks and the bytes of the macros. Line marks are written as `marks` says. The store must be
-    /// that of the web.
+    /// marks and the bytes of the macros. Line marks are written as `marks` says. The names must be
+    /// those of the web; the rows have the numbers of the pieces of each name, and then of the
+    /// program.
     ///
     /// # Errors
     ///
     /// `NoMemory` where an allocation failed.
-    pub fn build<S: PiecesByNode>(
+    pub fn build(
         alloc: Global,
         web: &Web,
-        store: &S,
+        names: &Names,
+        pieces: &[Vec<usize>],
         marks: MarkMode,
     ) -> Result<Numbers, NoMemory>
-        requires { IsGroupedBy web.now (table_of web.now) (S.names store.now) (S.pieces store.now) }
+        requires names { names.now ≡ (table_of web.now).names }
+        requires pieces { IsGroupedBy web.now (table_of web.now)
+            (map (λ row. row.items) pieces.now) }
         ensures { IfOk result (λ numbers. numbers ≡ numbers_of web.now (table_of web.now) marks) }
     {
         let file_names = escaped_names(alloc, web)?;
-        let program = numbers_of_pieces(alloc, web, store.piece_numbers(Node::Program))?;
-        let names = store.full_names().share()?;
-        let of_names = numbers_of_names(alloc, web, store)?;
+        let nodes = numbers_of_nodes(alloc, web, pieces)?;
+        let names = names.share()?;
         let macros = macros_bytes(alloc, web)?;
-        Ok(Numbers::new(file_names, program, names, of_names, macros, marks))
+        Ok(Numbers::new(file_names, names, nodes, macros, marks))
     }
 }

@@ -1,11 +1,8 @@
 //! Makes the expansion of a node from those of the names that it uses.
-ghost use Rattle.std.specs.Prelude.{◌≡◌, ◌++◌, ℕ, map, Contains, IfOk, OnOk, OnErr, IsSome, Some};
-ghost use Rattle.std.specs.Prelude.{◌∷◌, []};
+ghost use Rattle.std.specs.Prelude.{◌≡◌, ◌++◌, ◌∷◌, [], ℕ, map, Contains, IfOk, OnOk, OnErr, IsSome};
 ghost use Rattle.tangle_expansion.specs.Kept.{kept_at, used_symbols};
-ghost use Rattle.tangle_plans.specs.Meaning.{title_of};
-ghost use Rattle.tangle_plans.specs.Slots.{slots, filled, step_uses, uses_of};
+ghost use Rattle.tangle_plans.specs.Slots.{filled, step_uses};
 ghost use Rattle.tangle_plans.specs.NodeBodies.{plan_uses, plan_slots};
-ghost use Rattle.tangle_plans.specs.declared.nodes.NodeBody.{NodeBody};
 ghost use Rattle.tangle_plans.specs.declared.nodes.Node.TheVariants as node_kind;
 
 use crate::expansion::{Expansion, SharedExpansion};
@@ -14,7 +11,7 @@ use crate::work::Work;
 use std::alloc::Global;
 use std::rc::Rc;
 use tangle_lines::NoMemory;
-use tangle_plans::{Node, NodeBody, PiecesByNode, Step};
+use tangle_plans::{Node, NodeBody, Step};
 
 /// Shares the expansion of the name that the step uses, if the step is a use.
 fn share_used(used: &mut Vec<Expansion>, step: Step, kept: &Kept) -> Result<(), NoMemory>
@@ -37,51 +34,41 @@ fn share_used(used: &mut Vec<Expansion>, step: Step, kept: &Kept) -> Result<(), 
 /// Makes the expansion of a node, which shares the node's body and the kept expansions of the names
 /// that the node uses.
 fn expansion_of(alloc: Global, body: &Rc<NodeBody>, kept: &Kept) -> Result<Expansion, NoMemory>
-    requires { (id : ℕ) → Contains (uses_of body.now.value.plan.items) id
+    requires { (id : ℕ) → Contains (plan_uses body.now.value) id
         → IsSome (kept_at kept.now (node_kind.Name id)) }
-    ensures { IfOk result (λ e. e ≡ filled (used_symbols kept.now)
-        (slots (title_of body.now.value.name) body.now.value.bytes.items 0 0 0
-        body.now.value.plan.items)) }
+    ensures { IfOk result (λ e. e ≡ filled (used_symbols kept.now) (plan_slots body.now.value)) }
 {
     let stored: &NodeBody = body;
     let mut used = Vec::new(alloc);
     for step in &stored.plan {
         share_used(&mut used, *step, kept)?;
     }
-    let body = match body.clone() {
-        Ok(body) => body,
-        Err(_) => return Err(NoMemory),
-    };
-    match Rc::new(alloc, SharedExpansion { body, used }) {
-        Ok(shared) => Ok(Expansion { shared }),
-        Err(_) => Err(NoMemory),
-    }
+    let body = body.clone()?;
+    let shared = Rc::new(alloc, SharedExpansion { body, used })?;
+    Ok(Expansion { shared })
 }
 
-/// Expands a node of a store: its own symbols, with each use of a name with a piece replaced by
+/// Expands a node with this body: its own symbols, with each use of a name with a piece replaced by
 /// that name's kept expansion. The node is added to the end of the work's list.
 ///
 /// # Errors
 ///
 /// `NoMemory` where an allocation failed; the work does not change then.
-pub fn expand<S: PiecesByNode>(
+pub fn expand(
     alloc: Global,
-    store: &S,
     node: Node,
+    body: &Rc<NodeBody>,
     kept: &Kept,
     work: &mut Work,
 ) -> Result<Expansion, NoMemory>
-    requires body { IsSome (S.bodies store.now node) }
-    requires kept { (body : NodeBody) → S.bodies store.now node ≡ Some body
-        → (id : ℕ) → Contains (plan_uses body) id → IsSome (kept_at kept.now (node_kind.Name id)) }
-    ensures right { IfOk result (λ e. (body : NodeBody) → S.bodies store.now node ≡ Some body
-        → e ≡ filled (used_symbols kept.now) (plan_slots body)) }
+    requires { (id : ℕ) → Contains (plan_uses body.now.value) id
+        → IsSome (kept_at kept.now (node_kind.Name id)) }
+    ensures right { IfOk result
+        (λ e. e ≡ filled (used_symbols kept.now) (plan_slots body.now.value)) }
     ensures listed { OnOk result (work.new ≡ work.old ++ node ∷ []) }
     ensures err { OnErr result (work.new ≡ work.old) }
 {
-    // The store gives the body, so that the node in the work's list is the one that is expanded.
-    let stored = store.node_body(node).unwrap();
-    let expansion = expansion_of(alloc, stored, kept)?;
+    let expansion = expansion_of(alloc, body, kept)?;
     work.add(node)?;
     Ok(expansion)
 }

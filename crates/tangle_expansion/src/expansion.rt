@@ -46,9 +46,7 @@ impl Expansion {
     pub fn share(&self) -> Result<Expansion, NoMemory>
         ensures { IfOk result (λ e. e ≡ self.now) }
     {
-        match self.shared.clone() {
-            Ok(shared) => Ok(Expansion { shared }),
-            Err(_) => Err(NoMemory),
-        }
+        let shared = self.shared.clone()?;
+        Ok(Expansion { shared })
     }
 }

@@ -1,8 +1,8 @@
 //! Output files, and how they are written.
-ghost use Rattle.std.specs.Prelude.{◌≡◌, length, IsSome};
+ghost use Rattle.std.specs.Prelude.{◌≡◌, [], if◌then◌else◌, length, IsSome};
 ghost use Rattle.tangle_streams.specs.Streams.{IsWritten};
 ghost use Rattle.tangle_expansion.specs.Kept.{kept_at};
-ghost use Rattle.tangle_expansion.specs.Outputs.{IsReady, front_bytes, node_symbols};
+ghost use Rattle.tangle_expansion.specs.Outputs.{IsReady, node_symbols};
 ghost use Rattle.tangle_expansion.specs.Outputs.{kept_output_bytes};
 
 use crate::expansion::Expansion;
@@ -87,14 +87,10 @@ impl Output {
 }
 
 /// The bytes that come before those of the node: the macros, or nothing.
-fn front_of<'a>(output: &Output, numbers: &'a Numbers) -> &'a [u8]
-    ensures { result.now ≡ front_bytes numbers.now output.now.has_macros }
+fn front_of<'a>(output: &Output, macros: &'a [u8]) -> &'a [u8]
+    ensures { result.now ≡ (if output.now.has_macros then macros.now else []) }
 {
-    if output.has_macros() {
-        numbers.macros()
-    } else {
-        &[]
-    }
+    if output.has_macros() { macros } else { &[] }
 }
 
 fn kept_expansion(kept: &Kept, node: Node) -> &Expansion
@@ -120,8 +116,7 @@ pub fn write_file<S: Sink>(
     ensures { IsWritten (S.stream sink.old) (S.stream sink.new)
         (kept_output_bytes numbers.now kept.now output.now) result }
 {
-    numbers.symbols_are_short();
-    let begun = write_after(sink, Ok(0), front_of(output, numbers));
+    let begun = write_after(sink, Ok(0), front_of(output, numbers.macros()));
     if !output.has_piece() {
         return begun;
     }

@@ -25,9 +25,6 @@ ghost use Rattle.tangle_expansion.specs.PieceBytes.{piece_bytes, AreWrittenApart
 ghost use Rattle.tangle_expansion.specs.Location.{LocatedSymbol, located, located_shapes};
 ghost use Rattle.tangle_expansion.specs.Location.{AreAtTheirOrigins};
 
-use tangle_plans::names_resolve_inside;
-use tangle_scan::what_is_apart_stays_apart;
-
 /// The weight of a node is the number of symbols in its expansion.
 pub fn the_weight_is_the_length()
     ensures { (fuel : ℕ) (shapes : Shapes) (node : Title) → weight fuel shapes node
@@ -47,9 +44,7 @@ pub fn bytes_are_at_their_origins()
         → PiecesAreAtTheirLines source web
         → AreAtTheirOrigins (numbers_of web (table_of web) Full) origin
         (located fuel (located_shapes source web (table_of web)) node) }
-{
-    names_resolve_inside();
-}
+{}
 
 /// The expansion of each node, written with marks in full, is true to lines if each piece is, which
 /// `tangle_scan::scan` promises. The counted origin at each byte of a word, a sign, a quoted or
@@ -62,9 +57,7 @@ pub fn outputs_are_true_to_lines()
         → IsTrueToLines source web node
         (expansion_bytes (numbers_of web (table_of web) Full)
         (flat_of (shapes web (table_of web)) node)) }
-{
-    bytes_are_at_their_origins();
-}
+{}
 
 /// A node that is expandable after an edit, and not affected by it, was expandable before, with the
 /// same symbols. This holds whatever the edit redefines, resolves otherwise or renumbers, and
@@ -109,19 +102,14 @@ pub fn used_names_are_expandable()
     ensures { (levels limit : ℕ) (shapes : Shapes) (node : Title) (name : List ℕ)
         → IsExpandable levels limit shapes node → Uses shapes node name → shapes (Named name) ≢ []
         → IsExpandable levels limit shapes (Named name) }
-{
-    nodes_expand_by_uses();
-    the_weight_is_the_length();
-}
+{}
 
 /// The expansion of an expandable node has no more symbols than the limit of weight, which
 /// `write_text` requires.
 pub fn expandable_nodes_are_light()
     ensures { (shapes : Shapes) (node : Title) → IsExpandableNode shapes node
         → length (flat_of shapes node) ≤ heaviest }
-{
-    the_weight_is_the_length();
-}
+{}
 
 /// A plan whose uses are replaced by the expansions of the used names is the expansion of its node.
 pub fn filled_plans_are_right()
@@ -163,10 +151,7 @@ pub fn nodes_are_written_by_pieces()
         ≡ flat_map (piece_bytes (numbers_of web (table_of web) marks) (table_of web)
         (λ name. flat_of (shapes web (table_of web)) (Named name)) web.texts)
         (pieces_of web (table_of web) node) }
-{
-    names_resolve_inside();
-    nodes_expand_by_uses();
-}
+{}
 
 /// In what is written, a C compiler reads as two any two items of a macro or of a piece that the
 /// source keeps apart. This holds whatever the used names expand to, and however line marks are
@@ -175,6 +160,4 @@ pub fn what_is_apart_is_written_apart()
     ensures { (source : SourceRead) (marks : MarkMode) (used : List ℕ → List Symbol)
         → AreWrittenApart source (web_of source) (table_of (web_of source)) used
         (numbers_of (web_of source) (table_of (web_of source)) marks) }
-{
-    what_is_apart_stays_apart();
-}
+{}

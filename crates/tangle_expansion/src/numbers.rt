@@ -1,5 +1,6 @@
 //! The section numbers and origins of a web, and the bytes of its macros.
-ghost use Rattle.std.specs.Prelude.{◌≡◌, ◌<◌, ◌^◌, [], get_or, length, map, vec_len};
+ghost use Rattle.std.specs.Prelude.{◌≡◌, ◌<◌, ◌+◌, ◌^◌, [], get_or, length, map, vec_len};
+ghost use Rattle.std.specs.Prelude.{slice_index_or};
 ghost use Rattle.std.specs.List.{All, zip};
 ghost use Rattle.tangle_plans.specs.Meaning.{title_of};
 ghost use Rattle.tangle_expansion.specs.Numbers.{node_numbers};
@@ -16,10 +17,9 @@ use tangle_names::Names;
 #[derive(Drop)]
 pub struct Numbers {
     file_names: Vec<Vec<u8>>,
-    program: NodeNumbers,
     names: Names,
-    // For each name, the numbers of its pieces.
-    of_names: Vec<NodeNumbers>,
+    // For each name, and then for the program, the numbers of its pieces.
+    nodes: Vec<NodeNumbers>,
     macros: Vec<u8>,
     marks: MarkMode,
 }
@@ -39,52 +39,40 @@ impl Numbers {
     /// Assembles the numbers from their parts.
     pub(crate) fn new(
         file_names: Vec<Vec<u8>>,
-        program: NodeNumbers,
         names: Names,
-        of_names: Vec<NodeNumbers>,
+        nodes: Vec<NodeNumbers>,
         macros: Vec<u8>,
         marks: MarkMode,
     ) -> Self
         requires file_names { All (λ n. vec_len n < 2 ^ 64) file_names.items }
-        requires program { All IsShort program }
-        requires rows { length of_names.items ≡ length names }
-        requires of_names { All (All IsShort) of_names.items }
+        requires size { length nodes.items ≡ length names + 1 }
+        requires nodes { All (All IsShort) nodes.items }
         ensures { result ≡ record {
           file_names = map (λ n. n.items) file_names.items;
           program =
-              program;
-          names = zip names of_names.items;
+              slice_index_or nodes.items (length names) [];
+          names = zip names nodes.items;
           macros = macros.items;
           marks = marks;
         } }
     {
-        // A length is below 2^64, which bounds the bytes of the macros.
-        let _bytes = macros.len();
         Numbers {
             file_names,
-            program,
             names,
-            of_names,
+            nodes,
             macros,
             marks,
         }
     }
 
-    /// Does nothing: its contract says, by the invariant, that few bytes are written for each
-    /// symbol.
-    pub(crate) fn symbols_are_short(&self)
-        ensures { SymbolsAreShort self.now }
-    {
-        let _bytes = self.macros.len();
-    }
-
     /// The numbers of the pieces of the name, or of the program where there is no name.
     pub(crate) fn of_node(&self, name: &Option<Vec<u8>>) -> &[PieceNumbers]
-        ensures { result.now ≡ node_numbers self.now (title_of name.now) }
+        ensures numbers { result.now ≡ node_numbers self.now (title_of name.now) }
+        ensures short { SymbolsAreShort self.now }
     {
         match name {
-            None => self.program.as_slice(),
-            Some(name) => row_at(&self.of_names, self.names.find(name.as_slice())),
+            None => row_at(&self.nodes, Some(self.names.count())),
+            Some(name) => row_at(&self.nodes, self.names.find(name.as_slice())),
         }
     }
 
@@ -104,8 +92,10 @@ impl Numbers {
         self.marks
     }
 
+    /// The bytes of the macros.
     pub(crate) fn macros(&self) -> &[u8]
-        ensures { result.now ≡ self.now.macros }
+        ensures macros { result.now ≡ self.now.macros }
+        ensures short { SymbolsAreShort self.now }
     {
         self.macros.as_slice()
     }

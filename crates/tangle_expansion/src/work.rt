@@ -43,9 +43,7 @@ impl Work {
         ensures ok { OnOk result (self.new ≡ self.old ++ node ∷ []) }
         ensures err { OnErr result (self.new ≡ self.old) }
     {
-        match self.nodes.push(node) {
-            Ok(()) => Ok(()),
-            Err(_) => Err(NoMemory),
-        }
+        self.nodes.push(node)?;
+        Ok(())
     }
 }

@@ -7,6 +7,7 @@ ghost use Rattle.tangle_plans.specs.Meaning.{pieces_after_step, marks_after_step
 ghost use Rattle.tangle_plans.specs.Meaning.{own_symbols, before_use, after_use};
 ghost use Rattle.tangle_expansion.specs.Numbers.{node_numbers, opening_bytes, closing_bytes};
 ghost use Rattle.tangle_expansion.specs.Numbers.{full_mark_bytes, mark_bytes_at, expansion_bytes};
+ghost use Rattle.tangle_expansion.specs.SymbolLimits.{SymbolsAreShort};
 
 use crate::expansion::{Expansion, SharedExpansion};
 use crate::node_numbers::{PieceNumbers, mark_origin_at, section_at};
@@ -239,8 +240,9 @@ impl Expansion {
         sink: &mut S,
         so_far: Result<u128, WriteFault>,
     ) -> Result<u128, WriteFault>
-        ensures { IsWrittenAfter (S.stream sink.old) (S.stream sink.new)
+        ensures writes { IsWrittenAfter (S.stream sink.old) (S.stream sink.new)
             so_far (expansion_bytes numbers.now self.now) result }
+        ensures short { SymbolsAreShort numbers.now }
     {
         let shared: &SharedExpansion = &self.shared;
         let body: &NodeBody = &shared.body;
@@ -272,6 +274,5 @@ pub fn write_text<S: Sink>(
     ensures { IsWritten (S.stream sink.old) (S.stream sink.new)
         (expansion_bytes numbers.now expansion.now) result }
 {
-    numbers.symbols_are_short();
     expansion.write_text_after(numbers, sink, Ok(0))
 }

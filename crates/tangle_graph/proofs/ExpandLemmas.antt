@@ -1,12 +1,13 @@
 -- A plan with its uses filled in is the expansion of its node.
-use Rattle.std.proofs.Common.{◌≡◌, ◌∙◌, ◌<◌, ℕ, Bool, true, false, List, [], length, map, get_or, refl, ap, sym, inl}
-use Rattle.std.proofs.Common.{inr, arith}
+use Rattle.std.proofs.Common.{◌≡◌, ◌∙◌, ◌<◌, ℕ, Bool, true, false, List, [], length, map, get_or, refl, ap, sym}
+use Rattle.std.proofs.Common.{arith}
 use Rattle.std.specs.Global.{Global}
 use Rattle.std.specs.declared.rc.Rc.{Rc}
-use Rattle.std.proofs.lemmas.List.{get_or-map, get_or_past}
-use Rattle.std.proofs.lemmas.Option.{get_or_from_slice_get, slice_get_cases, slice_get_within}
-use Rattle.std.specs.Prelude.{nat_lt, if◌then◌else◌, Option, Some, None, unwrap_or}
+use Rattle.std.proofs.lemmas.List.{get_or-map, get_or_past, length-map}
+use Rattle.std.proofs.lemmas.Option.{get_or_from_slice_get, slice_get-get_or, slice_get_within}
+use Rattle.std.specs.Prelude.{nat_lt, if◌then◌else◌, Option, Some, None, IsSome, unwrap_or, slice_get}
 use Rattle.std.proofs.lemmas.Bool.Decides.{nat_tests}
+use Rattle.std.proofs.Math.Decide.{dec_lt}
 use Rattle.std.proofs.lemmas.Simd.{map-map}
 use Rattle.tangle_plans.specs.Shapes.{Shapes}
 use Rattle.tangle_expansion.specs.Kept.{used_symbols}
@@ -41,19 +42,35 @@ expanded_right shapes store kept node is e keeps =
     is.plans node (used_symbols kept) ha ((is.expandable node ha).0 e).shallow
     (λ id u. ap (λ o. unwrap_or o []) (keeps id u))
 
--- an expandable node has a body
-pub body_there : (store : StoreRead) (node : Node) → length store.bodies ≡ length store.expandable
-    → is_expandable_at store node ≡ true → (body : NodeBody) × (body_at store node ≡ Some body)
-body_there store node size e = by (number_in (length store.names) node) e
+-- an expandable node has a number, which is below that of nodes
+pub number_some : (store : StoreRead) (node : Node)
+    → is_expandable_at store node ≡ true → IsSome (number_in (length store.names) node)
+number_some store node e = by (number_in (length store.names) node) e
   where
-    by : (o : Option ℕ)
-        → entry false store.expandable o ≡ true → (body : NodeBody) × (entry_if store.bodies o ≡ Some body)
+    by : (o : Option ℕ) → entry false store.expandable o ≡ true → IsSome o
     by None t = absurd (let no : false ≡ true = t in cc)
-    by (Some n) t = elim (slice_get_cases store.bodies n).1 [
-      | inl found ↦ (found.0, found.2)
-      | inr past ↦ absurd
-          (let no : false ≡ true = sym (get_or_past store.expandable n false (omega (arith, past.0, size))) ∙ t in cc)
-    ]
+    by (Some n) t = refl
+
+pub number_below : (store : StoreRead) (node : Node) (n : ℕ) → number_in (length store.names) node ≡ Some n
+    → is_expandable_at store node ≡ true → n < length store.expandable
+number_below store node n is e = elim (dec_lt n (length store.expandable)) [
+  | yes low ↦ low
+  | no past ↦ absurd (let no : false ≡ true = sym (get_or_past store.expandable n false (omega (arith, past)))
+      ∙ sym (ap (entry false store.expandable) is) ∙ e in cc)
+]
+
+-- the body with the number of a node is the node's
+pub body_found : (store : StoreRead) (bodies : List (Rc NodeBody Global)) (node : Node)
+    (n : ℕ) (body : Rc NodeBody Global)
+    → node_bodies bodies ≡ store.bodies → number_in (length store.names) node ≡ Some n
+    → n < length bodies → body ≡ get_or bodies n body → body_at store node ≡ Some body.value
+body_found store bodies node n body same number low read =
+    ap (entry_if store.bodies) number ∙ ap (λ ts. slice_get ts n) (sym same)
+    ∙ slice_get-get_or (node_bodies bodies) n body.value
+    (omega (arith, low, length-map bodies (λ (t : Rc NodeBody Global). t.value)))
+    ∙ ap Some
+    (get_or-map (λ (t : Rc NodeBody Global). t.value) bodies n body body.value low
+    ∙ ap (λ (t : Rc NodeBody Global). t.value) (sym read))
 
 -- a part of a body, read from the list of this part of all bodies, is the entry with the same number
 read_at : {Y : Type 0} (f : NodeBody → List Y) (bodies : List (Rc NodeBody Global))

@@ -1,7 +1,7 @@
 -- The first uses of names, the faults of names one by one, and the flags of nodes.
-use Rattle.std.proofs.Common.{◌≡◌, ◌∙◌, ◌<◌, ◌≤◌, ◌+◌, ◌↔◌, ◌&&◌, ℕ, zero, suc, Bool, true, false, cond, not, List, []}
-use Rattle.std.proofs.Common.{◌∷◌, ◌++◌, length, map, flat_map, take, get_or, refl, ap, sym, arith, append-nil}
-use Rattle.std.proofs.Common.{append_assoc, add-zero, zero-add}
+use Rattle.std.proofs.Common.{◌≡◌, ◌≢◌, ◌∙◌, ◌<◌, ◌≤◌, ◌+◌, ◌↔◌, ◌&&◌, ℕ, zero, suc, Bool, true, false, cond, not}
+use Rattle.std.proofs.Common.{List, [], ◌∷◌, ◌++◌, length, map, flat_map, take, get_or, refl, ap, sym, subst, arith}
+use Rattle.std.proofs.Common.{append-nil, append_assoc, add-zero, zero-add}
 use Rattle.std.specs.List.{range_with_len}
 use Rattle.std.proofs.lemmas.List.{flat_map_more, take_all, take_more}
 use Rattle.std.specs.Prelude.{None, if◌then◌else◌}
@@ -9,41 +9,41 @@ use Rattle.tangle_faults.specs.declared.faults.FaultKind.{FaultKind}
 use Rattle.tangle_faults.specs.declared.faults.FaultKind.TheVariants as kind
 use Rattle.tangle_faults.specs.Faults.{FaultRead, fault_unplaced}
 use Rattle.tangle_lexer.specs.Occurrences.{OccurrenceRead}
-use Rattle.tangle_scan.specs.Web.{PieceRead, WebRead}
+use Rattle.tangle_scan.specs.Web.{WebRead}
 use Rattle.tangle_names.specs.declared.first_numbers.Counted.TheVariants.{Uses}
 use Rattle.tangle_names.specs.declared.Resolved.{Resolved}
 use Rattle.tangle_names.specs.NameTable.{TableRead, table_of}
 use Rattle.tangle_names.specs.Numbers.{first_by_number}
 use Rattle.tangle_names.specs.Resolving.{resolve}
-use Rattle.tangle_plans.specs.ItemSlots.{pieces_at}
-use Rattle.tangle_plans.specs.WebShapes.{shapes, shape_item}
-use Rattle.tangle_plans.specs.Shapes.{Title, Named, Shape, Shapes}
-use Rattle.tangle_plans.specs.Shapes as title
-use Rattle.digraph.specs.Graph.{Graph, HasUse, rows_of, row_at}
+use Rattle.tangle_plans.specs.WebShapes.{shapes}
+use Rattle.tangle_plans.specs.Shapes.{Title, ContainsItself}
+use Rattle.tangle_expansion.specs.Limits.{IsExpandableNode}
 use Rattle.digraph.specs.Flags.{FlagsJust}
+use Rattle.digraph.specs.Graph.{Graph, HasUse}
 use Rattle.digraph.specs.Reach as graph
-use Rattle.digraph.proofs.GraphLemmas.{rows_size}
-use Rattle.digraph.proofs.TitleLemmas.{contains_alike, cycle_alike}
-use Rattle.tangle_graph.specs.FaultFlags.{flag_of_number}
+use Rattle.digraph.proofs.TitleLemmas.{cycle_alike}
+use Rattle.tangle_graph.specs.FaultSearches.{flag_of_number}
 use Rattle.tangle_graph.specs.Faults.{has_piece_by_number, is_too_large, ReachesCycle, AreGraphFaults, fault_of}
 use Rattle.tangle_graph.specs.Faults.{faults_of_names, first_occurrence_number, graph_faults, large_program, no_program}
 use Rattle.tangle_graph.specs.Groups.{IsGraphOf}
-use Rattle.tangle_graph.specs.Nodes.{title_at, UsesTitle}
-use Rattle.tangle_graph.specs.Outputs.{shape_has_piece, is_expandable}
+use Rattle.tangle_graph.specs.Nodes.{UsesTitle, entry, node_at, number_in, title_at}
+use Rattle.tangle_graph.specs.Outputs.{is_expandable}
 use Rattle.tangle_graph.specs.Plans.{ArePieceFlags}
-use Rattle.tangle_graph.specs.Stores.{row_has_piece}
-use Rattle.tangle_graph.proofs.ReachLemmas.{contains_by_titles, cycle_by_titles}
+use Rattle.tangle_graph.specs.Stores.{IsNodeIn, StoreRead, row_has_piece, title_in_store}
+use Rattle.tangle_graph.specs.WebStores.{IsStoreOfWeb}
+use Rattle.tangle_graph.proofs.NodeLemmas.{node_is, number_at, title-node}
+use Rattle.tangle_graph.proofs.ReachLemmas.{cycle_by_titles}
+use Rattle.tangle_graph.proofs.StoreLemmas.{expandable_is, piece_of_shape}
 
 -- the first uses, counted over the occurrences of the web
-pub uses_of_web : (web : WebRead) (table : TableRead) (os : List OccurrenceRead) (counted numbers : List ℕ)
-    → table ≡ record (table_of web) { faults = table.faults } → os ≡ web.occurrences → numbers ≡ counted
+pub uses_of_web : (web : WebRead) (table : TableRead) (os : List OccurrenceRead) (numbers : List ℕ)
+    → table ≡ table_of web → os ≡ web.occurrences
     → ((f : OccurrenceRead → Resolved) → table.resolved ≡ map f os → (id : ℕ)
-    → id < length table.names → get_or counted id 0 ≡ first_by_number f Uses os id)
+    → id < length table.names → get_or numbers id 0 ≡ first_by_number f Uses os id)
     → (id : ℕ)
     → id < length table.names → get_or numbers id 0 ≡ first_by_number (resolve web.occurrences) Uses web.occurrences id
-uses_of_web web table os counted numbers is read same known id h =
-    ap (λ l. get_or l id 0) same
-    ∙ known (resolve web.occurrences)
+uses_of_web web table os numbers is read known id h =
+    known (resolve web.occurrences)
     (ap (λ (t : TableRead). t.resolved) is ∙ ap (map (resolve web.occurrences)) (sym read)) id h
     ∙ ap (λ l. first_by_number (resolve web.occurrences) Uses l id) read
 
@@ -91,48 +91,64 @@ pub kinds_whole : (f : FaultKind → List FaultRead) (ks : List FaultKind) (i : 
     → length ks ≤ i → now ≡ flat_map f (take i ks) → now ≡ flat_map f ks
 kinds_whole f ks i now h is = is ∙ ap (flat_map f) (take_all i ks h)
 
--- a node has a piece if its row has a number
-module _ (web : WebRead) (table : TableRead) (rows uses : Graph) (is : IsGraphOf web table rows uses) where
-  below : (n : ℕ) → n ≤ length table.names → n < length uses
-  below n h = omega (arith, h, is.uses_size)
+-- two tests of one fact
+same_flag : {P : Type 0} (a b : Bool) → ((a ≡ true) ↔ P) → ((b ≡ true) ↔ P) → a ≡ b
+same_flag true true p q = refl
+same_flag true false p q = sym (q.1 (p.0 refl))
+same_flag false true p q = p.1 (q.0 refl)
+same_flag false false p q = refl
 
-  row_below : (n : ℕ) → n ≤ length table.names → n < length rows
-  row_below n h = omega (arith, h, is.rows_size)
+-- a node reaches a name that contains itself, if it does so in the graph of numbers
+pub reaching_flag : (web : WebRead) (table : TableRead) (rows uses : Graph) → IsGraphOf web table rows uses
+    → (flags : List Bool) → FlagsJust uses flags (graph.ReachesCycle (HasUse uses)) → (n : ℕ)
+    → n ≤ length table.names
+    → (flag_of_number flags n ≡ true) ↔ ReachesCycle (shapes web table) (title_at table.names n)
+reaching_flag web table rows uses is flags just n low =
+    let below : n < length uses = omega (arith, low, is.uses_size) in
+    let alike = cycle_alike uses (UsesTitle (shapes web table)) (title_at table.names) is.titled n below in
+    let titles = cycle_by_titles (shapes web table) (title_at table.names n) in
+    let flag = just n below in
+    (λ e. titles.0 (alike.0 (flag.0 e)), λ c. flag.1 (alike.1 (titles.1 c)))
 
-  has_mapped : (row : List ℕ)
-      → row_has_piece row
-      ≡ shape_has_piece (map (λ (p : PieceRead). map (shape_item web.texts table) p.items) (pieces_at web.pieces row))
-  has_mapped [] = refl
-  has_mapped (k ∷ row) = refl
+-- the flags of a web's store, by number
+module _ (web : WebRead) (table : TableRead) (out : List ℕ) (made : StoreRead)
+    (is : IsStoreOfWeb web table out made) (n : ℕ) (low : n ≤ length table.names) where
+  inside : n ≤ length made.names
+  inside = omega (arith, low, ap length is.names)
 
-  pub has_piece_flag : (flags : List Bool) → ArePieceFlags (rows_of rows) flags → (n : ℕ)
-      → n ≤ length table.names → flag_of_number flags n ≡ has_piece_by_number web table n
-  has_piece_flag flags flagged n h =
-      flagged.flag n (let low = row_below n h in omega (arith, low, rows_size rows))
-      ∙ has_mapped (row_at (rows_of rows) n)
-      ∙ ap (λ ps. shape_has_piece (map (λ (p : PieceRead). map (shape_item web.texts table) p.items) ps))
-      (is.pieces n (row_below n h))
+  there : IsNodeIn made (node_at (length made.names) n)
+  there = node_is made.names n inside
 
-  pub has_piece_size : (flags : List Bool) → ArePieceFlags (rows_of rows) flags → length flags ≡ length table.names + 1
-  has_piece_size flags flagged = flagged.size ∙ rows_size rows ∙ is.rows_size
+  -- what holds of a node's entry and title holds of the entry and the title with its number
+  by_number : {X : Type 0} (none : X) (xs : List X) (P : X → Title → Type 0)
+      → P (entry none xs (number_in (length made.names) (node_at (length made.names) n)))
+      (title_in_store made (node_at (length made.names) n))
+      → P (get_or xs n none) (title_at table.names n)
+  by_number none xs P h =
+      subst (λ x. P x (title_at table.names n)) (ap (entry none xs) (number_at made.names n inside))
+      (subst (P (entry none xs (number_in (length made.names) (node_at (length made.names) n))))
+      (title-node made.names n inside ∙ ap (λ names. title_at names n) is.names) h)
 
-  pub containing_flag : (flags : List Bool)
-      → FlagsJust uses flags (graph.ContainsItself (HasUse uses)) → (n : ℕ) → n ≤ length table.names
-      → (flag_of_number flags n ≡ true) ↔ title.ContainsItself (shapes web table) (title_at table.names n)
-  containing_flag flags just n h =
-      let alike = contains_alike uses (UsesTitle (shapes web table)) (title_at table.names) is.titled n (below n h) in
-      let titles = contains_by_titles (shapes web table) (title_at table.names n) in
-      let flag = just n (below n h) in
-      (λ e. titles.0 (alike.0 (flag.0 e)), λ c. flag.1 (alike.1 (titles.1 c)))
+  pub has_piece_flag : (flags : List Bool) → ArePieceFlags made.pieces flags
+      → n < length made.pieces → flag_of_number flags n ≡ has_piece_by_number web table n
+  has_piece_flag flags flagged h =
+      flagged.flag n h
+      ∙ same_flag (row_has_piece (get_or made.pieces n [])) (has_piece_by_number web table n)
+      (by_number [] made.pieces (λ row t. (row_has_piece row ≡ true) ↔ (shapes web table t ≢ []))
+      (is.store.has_piece (node_at (length made.names) n) there))
+      (piece_of_shape (shapes web table (title_at table.names n)))
 
-  pub reaching_flag : (flags : List Bool)
-      → FlagsJust uses flags (graph.ReachesCycle (HasUse uses)) → (n : ℕ) → n ≤ length table.names
-      → (flag_of_number flags n ≡ true) ↔ ReachesCycle (shapes web table) (title_at table.names n)
-  reaching_flag flags just n h =
-      let alike = cycle_alike uses (UsesTitle (shapes web table)) (title_at table.names) is.titled n (below n h) in
-      let titles = cycle_by_titles (shapes web table) (title_at table.names n) in
-      let flag = just n (below n h) in
-      (λ e. titles.0 (alike.0 (flag.0 e)), λ c. flag.1 (alike.1 (titles.1 c)))
+  pub containing_flag : (flag_of_number made.self_containing n ≡ true)
+      ↔ ContainsItself (shapes web table) (title_at table.names n)
+  containing_flag = by_number false made.self_containing (λ b t. (b ≡ true) ↔ ContainsItself (shapes web table) t)
+      (is.store.contains_itself (node_at (length made.names) n) there)
+
+  pub expandable_flag : flag_of_number made.expandable n ≡ is_expandable (shapes web table) (title_at table.names n)
+  expandable_flag =
+      same_flag (flag_of_number made.expandable n) (is_expandable (shapes web table) (title_at table.names n))
+      (by_number false made.expandable (λ b t. (b ≡ true) ↔ IsExpandableNode (shapes web table) t)
+      (is.store.expandable (node_at (length made.names) n) there))
+      (expandable_is (shapes web table) (title_at table.names n))
 
 -- lists that are appended one after another, the first four at once
 pub joined : {X : Type 0} (now a b c d e f g : List X) (l0 l1 l2 : List X)
@@ -154,12 +170,6 @@ unless true xs = refl
 unless false xs = refl
 
 -- The faults of a graph are determined: two such lists are equal.
-
-same_flag : {P : Type 0} (a b : Bool) → ((a ≡ true) ↔ P) → ((b ≡ true) ↔ P) → a ≡ b
-same_flag true true p q = refl
-same_flag true false p q = sym (q.1 (p.0 refl))
-same_flag false true p q = p.1 (q.0 refl)
-same_flag false false p q = refl
 
 same_in_range : (f g : ℕ → List FaultRead) (a n : ℕ)
     → ((k : ℕ) → a ≤ k → k < a + n → f k ≡ g k) → flat_map f (range_with_len a n) ≡ flat_map g (range_with_len a n)

@@ -21,6 +21,5 @@ mod FaultLemmas
 pub mod WeightLemmas
 pub mod UsesLemmas
 mod NameGraphLemmas
-mod CandidateLemmas
 mod PlannedLemmas
 pub mod FlagLemmas

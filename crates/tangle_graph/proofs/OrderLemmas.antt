@@ -34,13 +34,6 @@ among (x ∷ xs) n = elim (ℕ_discrete x n) [
         cases (zero, h, e) = inl e
         cases (suc k, h, e) = inr (k, omega (arith, h), e)
 
-pub measured_none : (value : ℕ → ℕ) (other : ℕ) (values order : List ℕ)
-    → ((n : ℕ) → n < length values → get_or values n 0 ≡ other) → AreMeasured value other values (take 0 order)
-measured_none value other values order all = record {
-  listed = λ n c. absurd (omega (arith, c.1));
-  unlisted = λ n h none. all n h;
-}
-
 pub measured_next : (graph : Graph) (value : ℕ → ℕ) (other : ℕ) (values order : List ℕ) (i v : ℕ)
     → IsAfterUses graph order → i < length order → length values ≡ length graph
     → AreMeasured value other values (take i order) → v ≡ value (get_or order i 0)

@@ -1,29 +1,30 @@
 -- The order of the numbers, as nodes, is an order of the store.
-use Rattle.std.proofs.Common.{◌≡◌, ◌≢◌, ◌∙◌, ◌<◌, ◌≤◌, ℕ, Bool, true, false, List, [], length, map, take, get_or, refl}
+use Rattle.std.proofs.Common.{◌≡◌, ◌≢◌, ◌∙◌, ◌<◌, ◌≤◌, ◌+◌, ℕ, suc, Bool, true, false, List, [], ◌∷◌, ◌++◌, length, map, take, get_or}
 use Rattle.std.proofs.Common.{ap, sym, subst, inl, inr, arith}
 use Rattle.std.specs.Prelude.{Contains, AllPairs, ◌&&◌, nat_lt, nat_le, Some, All}
 use Rattle.std.proofs.lemmas.Bool.Decides.{nat_tests}
-use Rattle.std.proofs.lemmas.List.{length-map, get_or-map, take-map}
+use Rattle.std.proofs.lemmas.List.{length-map, get_or-map, get_or_default, take-map}
 use Rattle.std.proofs.lemmas.List.Elements.{All-contains, All-from_get_or}
 use Rattle.std.proofs.lemmas.Bool.{and_parts}
-use Rattle.tangle_scan.specs.Web.{WebRead}
+use Rattle.tangle_scan.specs.Web.{WebRead, PieceRead}
 use Rattle.tangle_names.specs.NameTable.{TableRead}
-use Rattle.tangle_plans.specs.Shapes.{Named}
+use Rattle.tangle_plans.specs.Shapes.{Title, Named}
+use Rattle.tangle_plans.specs.Shapes as title
 use Rattle.tangle_expansion.specs.Limits.{levels, heaviest, depth_of}
-use Rattle.tangle_plans.specs.Nodes.{IsNodeBelow, IsGroupedBy, title_in}
+use Rattle.tangle_plans.specs.Nodes.{IsGroupedBy}
 use Rattle.tangle_plans.specs.ItemSlots.{pieces_at}
 use Rattle.tangle_plans.specs.WebShapes.{shapes, pieces_of}
 use Rattle.tangle_plans.specs.declared.nodes.Node.{Node}
-use Rattle.tangle_plans.specs.declared.nodes.Node.TheVariants.{Program, Name}
+use Rattle.tangle_plans.specs.declared.nodes.Node.TheVariants.{Program}
 use Rattle.digraph.specs.Graph.{Graph, rows_of, row_at}
 use Rattle.digraph.specs.Order.{IsOrder}
 use Rattle.digraph.proofs.GraphLemmas.{rows_size}
 use Rattle.tangle_graph.specs.Groups.{IsGraphOf}
-use Rattle.tangle_graph.specs.Nodes.{title_at, node_at, number_in, entry, IsNodeOf, title_of_node}
+use Rattle.tangle_graph.specs.Nodes.{title_at, node_at, number_in, entry, IsNodeOf}
 use Rattle.tangle_graph.specs.Ordering.{IsOrderIn}
 use Rattle.tangle_graph.specs.Stores.{StoreRead, IsNodeIn, AreWithin, row_has_piece, uses_at, is_expandable_at}
 use Rattle.tangle_names.proofs.ContainsLemmas.{into_map, out_of_map}
-use Rattle.tangle_graph.proofs.NodeLemmas.{number_at, numbered, node_is, title-node, title_inside}
+use Rattle.tangle_graph.proofs.NodeLemmas.{number_at, numbered, node_is}
 use Rattle.tangle_graph.proofs.OrderLemmas.{among, left_out_deepest}
 use Rattle.tangle_graph.proofs.StoreLemmas.{same_number}
 
@@ -119,39 +120,25 @@ module _ (web : WebRead) (table : TableRead) (rows uses : Graph)
   pub order_is : IsOrderIn store (map (node_at (length table.names)) order)
   order_is = record { inside = inside; once = once; after = after; expandable = expandable }
 
--- the pieces of each node are the row with the node's number
-module _ (web : WebRead) (table : TableRead) (rows uses : Graph) (names : List (List ℕ))
-    (graph : IsGraphOf web table rows uses) (names_are : names ≡ table.names) where
-  node_of_below : (a : Node) → IsNodeBelow (length names) a → IsNodeOf table.names a
-  node_of_below Program h = tt
-  node_of_below (Name id) h = omega (arith, h, ap length names_are)
+-- what a row for each name, and one for the program, is made of
+each_of : (f : List ℕ → List PieceRead) (g : Title → List PieceRead) (names rows : List (List ℕ))
+    → length rows ≡ length names + 1
+    → ((n : ℕ) → n < length rows → f (get_or rows n []) ≡ g (title_at names n))
+    → map f rows ≡ map (λ name. g (Named name)) names ++ g title.Program ∷ []
+each_of f g [] [] size is = absurd (omega (arith, size))
+each_of f g [] (row ∷ []) size is = ap (λ x. x ∷ []) (is 0 (omega arith))
+each_of f g [] (row ∷ next ∷ rows) size is = absurd (omega (arith, size))
+each_of f g (name ∷ names) [] size is = absurd (omega (arith, size))
+each_of f g (name ∷ names) (row ∷ rows) size is =
+    ap (λ x. x ∷ map f rows) (is 0 (omega arith))
+    ∙ ap (λ l. g (Named name) ∷ l) (each_of f g names rows (omega (arith, size)) (λ n low. is (suc n) (omega (arith, low))))
 
-  titled_in : (a : Node) → IsNodeBelow (length names) a → title_in names a ≡ title_of_node table.names a
-  titled_in Program h = refl
-  titled_in (Name id) h =
-      ap (λ l. Named (get_or l id [])) names_are ∙ sym (title_inside table.names id (node_of_below (Name id) h))
-
-  pieces_at_number : (a : Node) (n : ℕ) → number_in (length table.names) a ≡ Some n
-      → entry [] (rows_of rows) (number_in (length names) a) ≡ row_at (rows_of rows) n
-  pieces_at_number a n e =
-      ap (λ l. entry [] (rows_of rows) (number_in (length l) a)) names_are ∙ ap (entry [] (rows_of rows)) e
-
-  pub grouped_by : (pieces : Node → List ℕ)
-      → ((a : Node) → pieces a ≡ entry [] (rows_of rows) (number_in (length names) a))
-      → IsGroupedBy web table names pieces
-  grouped_by pieces are = record { same_names = names_are; inside = inside; right = right }
-    where
-      inside : (a : Node) → IsNodeBelow (length names) a → All (λ n. n < length web.pieces) (pieces a)
-      inside a h =
-          let found = numbered table.names a (node_of_below a h) in
-          subst (All (λ n. n < length web.pieces)) (sym (are a ∙ pieces_at_number a found.0 found.3))
-          (graph.numbers found.0 (omega (arith, found.1, graph.rows_size)))
-
-      right : (a : Node)
-          → IsNodeBelow (length names) a → pieces_at web.pieces (pieces a) ≡ pieces_of web table (title_in names a)
-      right a h =
-          let found = numbered table.names a (node_of_below a h) in
-          ap (pieces_at web.pieces) (are a ∙ pieces_at_number a found.0 found.3)
-          ∙ graph.pieces found.0 (omega (arith, found.1, graph.rows_size))
-          ∙ ap (pieces_of web table)
-          (sym (title-node table.names found.0 found.1) ∙ ap (title_of_node table.names) found.2 ∙ sym (titled_in a h))
+-- the rows have the pieces of each node
+pub grouped_by : (web : WebRead) (table : TableRead) (rows uses : Graph)
+    → IsGraphOf web table rows uses → IsGroupedBy web table (rows_of rows)
+grouped_by web table rows uses graph = record {
+  inside = λ k d h. subst (All (λ n. n < length web.pieces)) (get_or_default (rows_of rows) k [] d h)
+      (graph.numbers k (omega (arith, h, rows_size rows)));
+  right = each_of (pieces_at web.pieces) (pieces_of web table) table.names (rows_of rows)
+      (rows_size rows ∙ graph.rows_size) (λ n low. graph.pieces n (omega (arith, low, rows_size rows)));
+}

@@ -1,35 +1,11 @@
 -- Rows of the positions of items.
 use Rattle.std.proofs.Common.{◌≡◌, ◌∙◌, ◌<◌, ◌≤◌, ◌+◌, length-append, ℕ, Bool, true, false, cond, List, [], ◌∷◌, ◌++◌}
-use Rattle.std.proofs.Common.{length, map, filter, get_or, refl, ap, sym, arith, append_assoc, Vec}
-use Rattle.std.specs.Global.{Global}
-use Rattle.std.proofs.lemmas.List.{map-append, get_or_append_left, get_or_push}
+use Rattle.std.proofs.Common.{length, map, filter, get_or, refl, ap, sym, arith, append_assoc}
+use Rattle.std.proofs.lemmas.List.{map-append}
 use Rattle.std.specs.Prelude.{All, if◌then◌else◌}
 use Rattle.std.proofs.lemmas.List.Elements.{All-append, All-cons, All-nil}
-use Rattle.std.proofs.Math.Decide.{dec_lt}
 use Rattle.std.proofs.Math.Seq.{get_or-append_seam}
-use Rattle.digraph.specs.Graph.{rows_of}
-use Rattle.digraph.specs.Rows.{IsRowsOf}
 use Rattle.digraph.specs.Users.{positions}
-
--- one more empty row
-pub row_more : (rows : List (Vec ℕ Global)) (count : ℕ) (row : Vec ℕ Global) → IsRowsOf count (λ _. []) (rows_of rows)
-    → row.items ≡ [] → IsRowsOf (count + 1) (λ _. []) (rows_of (rows ++ row ∷ []))
-row_more rows count row is none = record {
-  size =
-      ap length (map-append (λ (v : Vec ℕ Global). v.items) rows (row ∷ []))
-      ∙ (let n = is.size in more (rows_of rows) row.items count n);
-  row = λ n h. ap (λ l. get_or l n []) (map-append (λ (v : Vec ℕ Global). v.items) rows (row ∷ [])) ∙ at n h;
-}
-  where
-    more : (xs : List (List ℕ)) (x : List ℕ) (n : ℕ) → length xs ≡ n → length (xs ++ x ∷ []) ≡ n + 1
-    more [] x n e = ap (λ m. m + 1) e
-    more (y ∷ xs) x n e = omega (arith, more xs x (length xs) refl, e)
-
-    at : (n : ℕ) → n < count + 1 → get_or (rows_of rows ++ row.items ∷ []) n [] ≡ []
-    at n h = elim (dec_lt n (length (rows_of rows))) [
-      | yes low ↦ get_or_append_left (rows_of rows) (row.items ∷ []) [] n low ∙ is.row n (omega (arith, low, is.size))
-      | no past ↦ get_or_push (rows_of rows) row.items [] n (omega (arith, past, h, is.size)) ∙ none
-    ]
 
 -- positions are below the length of the list
 pub positions_below : {X : Type 0} (p : X → Bool) (k bound : ℕ) (xs : List X)

@@ -1,7 +1,7 @@
 -- The shape of a node of a store, and what the store records of the node.
 use Rattle.std.proofs.Common.{◌≡◌, ◌≢◌, ◌∙◌, ◌↔◌, ℕ, Bool, true, false, not, List, [], ◌∷◌, length, refl, ap, sym}
 use Rattle.std.proofs.Common.{subst, arith}
-use Rattle.std.specs.Prelude.{nat_lt, if◌then◌else◌, Option, Some, None}
+use Rattle.std.specs.Prelude.{nat_lt, if◌then◌else◌, Some, None}
 use Rattle.std.proofs.Math.Decide.{dec_lt}
 use Rattle.std.proofs.lemmas.Bool.Decides.{nat_tests}
 use Rattle.std.proofs.lemmas.Option.{slice_get-get_or, slice_get_past, same_Some}
@@ -38,9 +38,6 @@ shape_inside shapes names Program h = refl
 shape_inside shapes names (Name id) h =
     let is = slice_get-get_or names id [] h in
     ap (shape_of_name shapes) is ∙ sym (ap (λ o. shapes (title_of_name o)) is)
-
-same_none : {X : Type 0} (o : Option X) (x : X) → o ≡ None → o ≡ Some x → ⊥
-same_none o x none some = absurd (let both : None ≡ Some x = sym none ∙ some in cc)
 
 module _ (shapes : Shapes) (store : StoreRead) (is : IsStoreOf shapes store) where
   -- the body of a node determines its shape

@@ -8,7 +8,6 @@ use Rattle.std.specs.Str.{bytes_eq}
 use Rattle.std.proofs.lemmas.List.{get_or-map, length-map}
 use Rattle.std.proofs.lemmas.List.Elements.{Contains-get_or}
 use Rattle.std.proofs.lemmas.List.Kept.{AllPairs-from_increasing}
-use Rattle.tangle_faults.specs.Faults.{FaultRead}
 use Rattle.tangle_scan.specs.Web.{WebRead, PieceRead}
 use Rattle.tangle_names.specs.NameTable.{TableRead}
 use Rattle.tangle_plans.specs.Shapes.{Title, Named, Uses, ContainsItself}
@@ -41,8 +40,8 @@ use Rattle.tangle_graph.proofs.LimitLemmas.{shape_size}
 use Rattle.tangle_graph.proofs.StoreLemmas.{same_number, piece_of_row, there, expandable_is}
 use Rattle.tangle_graph.proofs.ReachLemmas.{contains_by_titles}
 
-module _ (web : WebRead) (table : TableRead) (rows uses users : Graph) (flags : List Bool)
-    (weights depths : List ℕ) (expandable : List Bool) (outputs : List OutputRead) (faults : List FaultRead)
+module _ (web : WebRead) (table : TableRead) (rows uses users : Graph) (flags cycles : List Bool)
+    (weights depths : List ℕ) (expandable : List Bool) (outputs : List OutputRead)
     (slots : List (List Slot)) (plan_uses : List (List ℕ)) (bodies : List NodeBody) (has : ℕ → Bool)
     (distinct : IsDistinct bytes_eq table.names) (inside : ResolvesInside table)
     (is : IsGraphOf web table rows uses) (reversed : IsReversed uses users)
@@ -67,11 +66,11 @@ module _ (web : WebRead) (table : TableRead) (rows uses users : Graph) (flags : 
     uses = map (map (node_at (length table.names))) (rows_of uses);
     users = map (map (node_at (length table.names))) (rows_of users);
     self_containing = flags;
+    reaching_cycles = cycles;
     weights = weights;
     depths = depths;
     expandable = expandable;
     outputs = outputs;
-    faults = faults;
     slots = slots;
     plan_uses = plan_uses;
     bodies = bodies;
@@ -366,11 +365,11 @@ module _ (web : WebRead) (table : TableRead) (rows uses users : Graph) (flags : 
         uses = used;
         users = using;
         self_containing = flags;
+        reaching_cycles = cycles;
         weights = weights;
         depths = depths;
         expandable = expandable;
         outputs = outputs;
-        faults = faults;
         slots = slots;
         plan_uses = plan_uses;
         bodies = bodies;
@@ -382,11 +381,11 @@ module _ (web : WebRead) (table : TableRead) (rows uses users : Graph) (flags : 
         uses = used;
         users = using;
         self_containing = flags;
+        reaching_cycles = cycles;
         weights = weights;
         depths = depths;
         expandable = expandable;
         outputs = outputs;
-        faults = faults;
         slots = slots;
         plan_uses = plan_uses;
         bodies = bodies;
@@ -397,11 +396,11 @@ module _ (web : WebRead) (table : TableRead) (rows uses users : Graph) (flags : 
         uses = x;
         users = using;
         self_containing = flags;
+        reaching_cycles = cycles;
         weights = weights;
         depths = depths;
         expandable = expandable;
         outputs = outputs;
-        faults = faults;
         slots = slots;
         plan_uses = plan_uses;
         bodies = bodies;
@@ -412,11 +411,11 @@ module _ (web : WebRead) (table : TableRead) (rows uses users : Graph) (flags : 
         uses = map (map (node_at (length table.names))) (rows_of uses);
         users = x;
         self_containing = flags;
+        reaching_cycles = cycles;
         weights = weights;
         depths = depths;
         expandable = expandable;
         outputs = outputs;
-        faults = faults;
         slots = slots;
         plan_uses = plan_uses;
         bodies = bodies;

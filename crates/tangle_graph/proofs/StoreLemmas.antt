@@ -65,7 +65,7 @@ piece_of_row (k ∷ row) (x ∷ s) e = (λ t none. (let no : x ∷ s ≡ [] = no
 joined : (a b c : Bool) → a ≡ true → b ≡ true → c ≡ true → (a && (b && c)) ≡ true
 joined a b c p q r = rw (p, q, r) refl
 
-piece_of_shape : (s : Shape) → (shape_has_piece s ≡ true) ↔ (s ≢ [])
+pub piece_of_shape : (s : Shape) → (shape_has_piece s ≡ true) ↔ (s ≢ [])
 piece_of_shape [] = (λ t. absurd (let no : false ≡ true = t in cc), λ h. absurd (h refl))
 piece_of_shape (x ∷ s) = (λ t none. (let no : x ∷ s ≡ [] = none in cc), λ h. refl)
 

@@ -9,6 +9,6 @@ pub mod Ordering
 pub mod StoreView
 pub mod Plans
 pub mod Faults
-pub mod FaultFlags
+pub mod FaultSearches
 pub mod NameGraphs
 pub mod WebStores

@@ -1,9 +1,8 @@
 -- What a store records of a web: for each node its pieces, its uses and users, its weight and
--- depth, and whether it contains itself.
+-- depth, and whether it contains itself or reaches a name that does.
 use Rattle.std.specs.Prelude.{◌≡◌, ◌≢◌, ◌<◌, ◌≤◌, ◌↔◌, ℕ, Bool, true, false, ◌&&◌, nat_lt, nat_le}
 use Rattle.std.specs.Prelude.{slice_get, slice_index, slice_index_or, List, [], ◌∷◌, length}
 use Rattle.std.specs.Prelude.{AllPairs, Contains, Option, Some}
-use Rattle.tangle_faults.specs.Faults.{FaultRead}
 use Rattle.tangle_plans.specs.Shapes.{Title, Named, Shape, Shapes, Uses, ContainsItself}
 use Rattle.tangle_plans.specs.Flat.{Symbol}
 use Rattle.tangle_expansion.specs.Kept.{kept_at}
@@ -28,11 +27,12 @@ pub record StoreRead : Type 0 where
   pub uses : List (List Node)
   pub users : List (List Node)
   pub self_containing : List Bool
+  -- the node reaches a name that contains itself
+  pub reaching_cycles : List Bool
   pub weights : List ℕ
   pub depths : List ℕ
   pub expandable : List Bool
   pub outputs : List OutputRead
-  pub faults : List FaultRead
   -- the node's own symbols and the uses between them, and the names with a piece that the plan uses
   pub slots : List (List Slot)
   pub plan_uses : List (List ℕ)

@@ -63,10 +63,7 @@ fn body_of_node(
 {
     let name = name_of_node(alloc, table, n)?;
     let body = plan_node(alloc, planning, web, table, has_piece, name, numbers)?;
-    match Rc::new(alloc, body) {
-        Ok(body) => Ok(body),
-        Err(_) => Err(NoMemory),
-    }
+    Ok(Rc::new(alloc, body)?)
 }
 
 /// What a new store takes from an old one: its names, a flag for each node that says whether it has
@@ -236,10 +233,8 @@ fn body_after(
 {
     if let Some(body) = before {
         if has_items_of(body, web, table, numbers) {
-            return match body.clone() {
-                Ok(body) => Ok(BodyAfter { body, is_old: true }),
-                Err(_) => Err(NoMemory),
-            };
+            let body = body.clone()?;
+            return Ok(BodyAfter { body, is_old: true });
         }
     }
     let body = body_of_node(alloc, planning, web, table, has_piece, n, numbers)?;

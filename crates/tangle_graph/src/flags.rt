@@ -6,7 +6,7 @@ use crate::nodes::entry;
 use crate::store::Store;
 use std::alloc::Global;
 use tangle_lines::NoMemory;
-use tangle_plans::{Node, PiecesByNode};
+use tangle_plans::Node;
 
 impl Store {
     /// A list with a flag for each node of the store, none of which is set.
@@ -19,7 +19,7 @@ impl Store {
         ensures none { IfOk result
             (λ flags. (node : Node) → flag_at self.now flags.items node ≡ false) }
     {
-        let mut flags = vec![in alloc; false; self.full_names().count()]?;
+        let mut flags = vec![in alloc; false; self.names().count()]?;
         flags.push(false)?;
         Ok(flags)
     }

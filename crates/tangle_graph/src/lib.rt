@@ -15,8 +15,8 @@ mod shapes;
 mod store;
 
 pub use laws::graph_faults_are_one_list;
-pub use shapes::{keeps_shape, same_shape};
-pub use store::{Rebuilt, Store, expand_one};
+pub use shapes::same_shape;
+pub use store::{Rebuilt, Store};
 pub use tangle_expansion::{
     Expansion, Kept, Numbers, Output, Work, file_size, write_file, write_text,
 };

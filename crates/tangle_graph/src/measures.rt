@@ -15,7 +15,6 @@ ghost use Rattle.tangle_graph.specs.Stores.{row_has_piece, AreWithin};
 
 use std::alloc::{AllocError, Global};
 use std::rc::Rc;
-use tangle_expansion::nodes_expand_by_uses;
 use tangle_names::NameTable;
 use tangle_plans::NodeBody;
 use tangle_scan::Web;
@@ -67,7 +66,6 @@ fn weights(
         → slice_index weights.items n ≡ weight_of (shapes web.now table.now)
         (title_at table.now.names n)) }
 {
-    nodes_expand_by_uses();
     let mut weights = vec![in alloc; WEIGHT_CAP; uses.len()]?;
     for n in order {
         weights[*n] = weight_of_node(&weights, &bodies[*n]);
@@ -124,7 +122,6 @@ fn depths(
         → slice_index depths.items n ≡ depth_of (shapes web.now table.now)
         (title_at table.now.names n)) }
 {
-    nodes_expand_by_uses();
     let mut depths = vec![in alloc; LEVELS; uses.len()]?;
     for n in order {
         depths[*n] = depth_of_node(&depths, &pieces[*n], &uses[*n]);

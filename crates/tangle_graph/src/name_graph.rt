@@ -87,11 +87,7 @@ impl NameGraph {
             (λ name_graph. IsNameGraphOf (map body_uses (node_bodies bodies.now))
             name_graph.value) }
     {
-        let name_graph = NameGraph::build(alloc, table, bodies)?;
-        match Rc::new(alloc, name_graph) {
-            Ok(name_graph) => Ok(name_graph),
-            Err(_) => Err(NoMemory),
-        }
+        Ok(Rc::new(alloc, NameGraph::build(alloc, table, bodies)?)?)
     }
 }
 

@@ -1,8 +1,7 @@
 //! Comparing the shapes of two nodes, each of a store of its own.
 ghost use Rattle.std.specs.Prelude.{◌≡◌, ◌↔◌, true};
 ghost use Rattle.tangle_plans.specs.Shapes.{Shapes};
-ghost use Rattle.tangle_graph.specs.Stores.{IsNodeIn, IsStoreOf, KeepsBodies, flag_at};
-ghost use Rattle.tangle_graph.specs.Stores.{shape_in_store, title_in_store};
+ghost use Rattle.tangle_graph.specs.Stores.{IsStoreOf, shape_in_store};
 
 use crate::store::Store;
 use tangle_plans::Node;
@@ -18,21 +17,9 @@ pub fn same_shape(old: &Store, old_node: Node, new: &Store, new_node: Node) -> b
 {
     match old.body(old_node) {
         Some(body) => match new.body(new_node) {
-            Some(other) => tangle_plans::same_shape(old, body, new, other),
+            Some(other) => body.has_shape_of(old.names(), other, new.names()),
             None => !old.has_piece(old_node),
         },
         None => !new.has_piece(new_node),
     }
-}
-
-/// Whether a node has a flag, and so keeps its old shape. The flags say which nodes keep their old
-/// body and the names that it uses.
-pub fn keeps_shape(old: &Store, new: &Store, are_kept: &[bool], node: Node) -> bool
-    requires { KeepsBodies old.now new.now are_kept.now }
-    ensures flag { result ≡ flag_at new.now are_kept.now node }
-    ensures shape { (old_shapes new_shapes : Shapes) → IsStoreOf old_shapes old.now
-        → IsStoreOf new_shapes new.now → IsNodeIn new.now node → result ≡ true
-        → new_shapes (title_in_store new.now node) ≡ old_shapes (title_in_store new.now node) }
-{
-    new.is_flagged(are_kept, node)
 }

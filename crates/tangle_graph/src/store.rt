@@ -12,6 +12,7 @@ ghost use Rattle.tangle_plans.specs.Slots.{filled};
 ghost use Rattle.tangle_plans.specs.declared.nodes.Node.TheVariants as node_kind;
 ghost use Rattle.digraph.specs.Graph.{rows_of};
 ghost use Rattle.digraph.specs.Rows.{IsRowsOf};
+ghost use Rattle.tangle_graph.specs.Faults.{AreGraphFaults};
 ghost use Rattle.tangle_graph.specs.Grouping.{positions_of};
 ghost use Rattle.tangle_graph.specs.NameGraphs.{IsNameGraphOf};
 ghost use Rattle.tangle_graph.specs.Nodes.{number_in};
@@ -26,7 +27,7 @@ ghost use Rattle.tangle_graph.specs.Stores.{body_at};
 ghost use Rattle.tangle_graph.specs.WebStores.{IsStoreOfWeb};
 
 use crate::bodies::{OldBodies, are_same_flags, bodies_by_node, no_bodies, piece_flags};
-use crate::faults::{NodeFlags, faults};
+use crate::faults::FaultSearch;
 use crate::measures::Measures;
 use crate::name_graph::{NameGraph, are_names_of, have_same_uses};
 use crate::nodes::{entry, number_in, row};
@@ -34,17 +35,15 @@ use crate::outputs::outputs;
 use crate::pieces::{are_rows_of, pieces_by_node};
 use std::alloc::Global;
 use std::marker::Model;
-use std::mem::replace;
 use std::rc::Rc;
-use tangle_expansion::{Expansion, Kept, Output, Work, expand, filled_plans_are_right};
+use tangle_expansion::{Expansion, Kept, Output, Work, expand};
 use tangle_lines::{Fault, NoMemory};
-use tangle_names::{NameTable, Names, names_are_the_full_names};
-use tangle_plans::{Node, NodeBody, PiecesByNode, names_resolve_inside};
+use tangle_names::{Counted, NameTable, Names};
+use tangle_plans::{Node, NodeBody};
 use tangle_scan::Web;
 
 /// For each node of a web: its pieces, the names that it uses and the nodes that use it, its weight
-/// and depth, whether it contains itself and whether it is expandable. Also the output files and
-/// the faults.
+/// and depth, whether it contains itself and whether it is expandable. Also the output files.
 ///
 /// A node is a full name or the unnamed program. It uses a name if one of its pieces has a use that
 /// resolves to the name. A node that is none of a store's counts as one without a piece.
@@ -58,7 +57,6 @@ pub struct Store {
     expandable: Vec<bool>,
     outputs: Vec<Output>,
     bodies: Vec<Rc<NodeBody>>,
-    faults: Vec<Fault>,
 }
 
 impl Model for Store {
@@ -81,18 +79,16 @@ pub struct Rebuilt {
 }
 
 impl Store {
-    /// The store of a web with its table of names, for a main file of this name. The faults of the
-    /// table are not read, and may have been taken out: the store has only those of the graph. A
-    /// weight or depth beyond its limit is stored as one more than the limit. No node is expanded.
+    /// The store of a web with its table of names, for a main file of this name. A weight or depth
+    /// beyond its limit is stored as one more than the limit. No node is expanded.
     ///
     /// # Errors
     ///
     /// `NoMemory` where an allocation failed.
     pub fn build(alloc: Global, web: &Web, table: &NameTable, out: &[u8]) -> Result<Store, NoMemory>
-        requires { table.now ≡ record (table_of web.now) { faults = table.now.faults } }
+        requires { table.now ≡ table_of web.now }
         ensures { IfOk result (IsStoreOfWeb web.now table.now out.now) }
     {
-        names_resolve_inside();
         let pieces = shared_pieces(alloc, web, table)?;
         let all: &Vec<Vec<usize>> = &pieces;
         let rows: &[Vec<usize>] = all;
@@ -121,12 +117,11 @@ impl Store {
         out: &[u8],
         old: &Store,
     ) -> Result<Rebuilt, NoMemory>
-        requires { table.now ≡ record (table_of web.now) { faults = table.now.faults } }
+        requires { table.now ≡ table_of web.now }
         ensures store { IfOk result (λ made. IsStoreOfWeb web.now table.now out.now made.store) }
         ensures bodies { IfOk result
             (λ made. KeepsBodies old.now made.store made.are_kept.items) }
     {
-        names_resolve_inside();
         let pieces = old.pieces_for(alloc, web, table)?;
         let all: &Vec<Vec<usize>> = &pieces;
         let rows: &[Vec<usize>] = all;
@@ -168,12 +163,19 @@ impl Store {
         }
     }
 
-    /// For each node, a row with the numbers of its pieces.
-    fn rows(&self) -> &[Vec<usize>]
+    /// The full names of the web, by number.
+    pub fn names(&self) -> &Names
+        ensures { result.now ≡ self.now.names }
+    {
+        &self.name_graph.names
+    }
+
+    /// For each name, and then for the program, a row with the numbers of its pieces.
+    pub fn pieces(&self) -> &[Vec<usize>]
         ensures { rows_of result.now ≡ self.now.pieces }
     {
-        let all: &Vec<Vec<usize>> = &self.pieces;
-        all
+        let rows: &Vec<Vec<usize>> = &self.pieces;
+        rows
     }
 
     /// The pieces of each node of a web: the store's own rows, if they are the same.
@@ -183,17 +185,13 @@ impl Store {
         web: &Web,
         table: &NameTable,
     ) -> Result<Rc<Vec<Vec<usize>>>, NoMemory>
-        requires { table.now ≡ record (table_of web.now) { faults = table.now.faults } }
+        requires { table.now ≡ table_of web.now }
         ensures { IfOk result (λ rows. IsRowsOf (length table.now.names + 1)
             (positions_of table.now web.now.pieces) (rows_of rows.value.items)) }
     {
-        names_resolve_inside();
         let all: &Vec<Vec<usize>> = &self.pieces;
         if are_rows_of(alloc, all, web.pieces(), table)? {
-            return match self.pieces.clone() {
-                Ok(pieces) => Ok(pieces),
-                Err(_) => Err(NoMemory),
-            };
+            return Ok(self.pieces.clone()?);
         }
         shared_pieces(alloc, web, table)
     }
@@ -217,10 +215,7 @@ impl Store {
             name_graph.value) }
     {
         if same_names && have_same_uses(&self.bodies, bodies) {
-            match self.name_graph.clone() {
-                Ok(name_graph) => Ok(name_graph),
-                Err(_) => Err(NoMemory),
-            }
+            Ok(self.name_graph.clone()?)
         } else {
             NameGraph::shared(alloc, table, bodies)
         }
@@ -238,7 +233,7 @@ impl Store {
         bodies: Vec<Rc<NodeBody>>,
         name_graph: Rc<NameGraph>,
     ) -> Result<Store, NoMemory>
-        requires table { table.now ≡ record (table_of web.now) { faults = table.now.faults } }
+        requires table { table.now ≡ table_of web.now }
         requires grouped { IsRowsOf (length table.now.names + 1)
             (positions_of table.now web.now.pieces) (rows_of pieces.value.items) }
         requires has_piece { ArePieceFlags (rows_of pieces.value.items) has_piece.items }
@@ -254,26 +249,23 @@ impl Store {
         ensures store { IfOk result (IsStoreOfWeb web.now table.now out.now) }
         ensures bodies { IfOk result (λ store. store.bodies ≡ node_bodies bodies.items) }
     {
-        names_resolve_inside();
-        names_are_the_full_names();
-        filled_plans_are_right();
         let shared: &NameGraph = &name_graph;
         let has_piece_by_node: &[bool] = &has_piece;
         let all: &Vec<Vec<usize>> = &pieces;
         let rows: &[Vec<usize>] = all;
         let uses: &[Vec<usize>] = &shared.uses;
         let order: &[usize] = &shared.order;
-        // Measures and faults are made anew: each is a short pass, and lines move the faults.
+        // Measures are made anew, in one short pass.
         let measures = Measures::build(alloc, web, table, rows, uses, order, &bodies)?;
-        let flags = NodeFlags {
-            has_piece: has_piece_by_node,
-            self_containing: &shared.self_containing,
-            reaching_cycles: &shared.reaching_cycles,
-            expandable: &measures.expandable,
-        };
         let program_has_piece = has_piece_by_node[table.count()];
-        let outputs = outputs(alloc, web, table, out, program_has_piece, flags.expandable)?;
-        let faults = faults(alloc, web, table, out, &flags)?;
+        let outputs = outputs(
+            alloc,
+            web,
+            table,
+            out,
+            program_has_piece,
+            &measures.expandable,
+        )?;
         Ok(Store {
             name_graph,
             pieces,
@@ -283,7 +275,6 @@ impl Store {
             expandable: measures.expandable,
             outputs,
             bodies,
-            faults,
         })
     }
 
@@ -316,7 +307,7 @@ impl Store {
     pub fn has_piece(&self, node: Node) -> bool
         ensures { result ≡ has_piece_at self.now node }
     {
-        !row(self.rows(), self.number(node)).is_empty()
+        !row(self.pieces(), self.number(node)).is_empty()
     }
 
     /// Whether the node contains itself: it reaches itself by one use or more.
@@ -376,24 +367,38 @@ impl Store {
         self.outputs.as_slice()
     }
 
-    /// The faults of the graph: names that are used and have no piece, names that are never used,
-    /// names that contain themselves, nodes that are too large, and names with `@(` that are the
-    /// main file's. Each kind is in the order of the names, with the program last. The last fault
-    /// is that the program has no piece. Uses in dropped pieces count, and so do uses by
+    /// The faults of the graph of the store's web: names that are used and have no piece, names that
+    /// are never used, names that contain themselves, nodes that are too large, and names with `@(`
+    /// that are the main file's. Each kind is in the order of the names, with the program last. The
+    /// last fault is that the program has no piece. Uses in dropped pieces count, and so do uses by
     /// abbreviations.
-    pub fn faults(&self) -> &[Fault]
-        ensures { result.now ≡ self.now.faults }
+    ///
+    /// # Errors
+    ///
+    /// `NoMemory` where an allocation failed.
+    pub fn faults(
+        &self,
+        alloc: Global,
+        web: &Web,
+        table: &NameTable,
+        out: &[u8],
+    ) -> Result<Vec<Fault>, NoMemory>
+        requires table { table.now ≡ table_of web.now }
+        requires store { IsStoreOfWeb web.now table.now out.now self.now }
+        ensures { IfOk result (λ faults. AreGraphFaults web.now table.now out.now faults.items) }
     {
-        self.faults.as_slice()
-    }
-
-    /// Takes the faults out of the store, which then has none.
-    pub fn take_faults(&mut self) -> Vec<Fault>
-        ensures taken { result.items ≡ self.old.faults }
-        ensures others { self.new ≡ record self.old { faults = [] } }
-    {
-        let alloc = *self.faults.allocator();
-        replace(&mut self.faults, Vec::new(alloc))
+        let name_graph: &NameGraph = &self.name_graph;
+        let search = FaultSearch {
+            web,
+            table,
+            out,
+            has_piece: &self.has_piece,
+            self_containing: &name_graph.self_containing,
+            reaching_cycles: &name_graph.reaching_cycles,
+            expandable: &self.expandable,
+            first_uses: table.first_numbers(alloc, web.occurrences(), Counted::Uses)?,
+        };
+        search.faults(alloc)
     }
 
     /// Nodes of the store, each once and after the names that it uses. Each expandable node is
@@ -403,6 +408,35 @@ impl Store {
     {
         self.name_graph.node_order.as_slice()
     }
+
+    /// Expands a node: the expansion has the node's own symbols, with each use of a name with a
+    /// piece replaced by the kept expansion of that name. The node is added to the end of the
+    /// work's list.
+    ///
+    /// # Errors
+    ///
+    /// `NoMemory` where an allocation failed; the work does not change then.
+    pub fn expand(
+        &self,
+        alloc: Global,
+        node: Node,
+        kept: &Kept,
+        work: &mut Work,
+    ) -> Result<Expansion, NoMemory>
+        requires expandable { is_expandable_at self.now node ≡ true }
+        requires kept { (id : ℕ) → Contains (plan_uses_at self.now node) id
+            → IsSome (kept_at kept.now (node_kind.Name id)) }
+        ensures symbols { IfOk result
+            (λ e. e ≡ filled (used_symbols kept.now) (slots_at self.now node)) }
+        ensures right { (shapes : Shapes) → IsStoreOf shapes self.now
+            → KeepsUsed shapes self.now kept.now node
+            → IfOk result (λ e. e ≡ flat_of shapes (title_in_store self.now node)) }
+        ensures listed { OnOk result (work.new ≡ work.old ++ node ∷ []) }
+        ensures err { OnErr result (work.new ≡ work.old) }
+    {
+        let n = self.number(node).unwrap();
+        expand(alloc, node, &self.bodies[n], kept, work)
+    }
 }
 
 fn shared_pieces(
@@ -410,65 +444,9 @@ fn shared_pieces(
     web: &Web,
     table: &NameTable,
 ) -> Result<Rc<Vec<Vec<usize>>>, NoMemory>
-    requires { table.now ≡ record (table_of web.now) { faults = table.now.faults } }
+    requires { table.now ≡ table_of web.now }
     ensures { IfOk result (λ rows. IsRowsOf (length table.now.names + 1)
         (positions_of table.now web.now.pieces) (rows_of rows.value.items)) }
 {
-    names_resolve_inside();
-    let pieces = pieces_by_node(alloc, web.pieces(), table)?;
-    match Rc::new(alloc, pieces) {
-        Ok(pieces) => Ok(pieces),
-        Err(_) => Err(NoMemory),
-    }
-}
-
-impl PiecesByNode for Store {
-    ghost use Rattle.tangle_graph.specs.Stores.{pieces_of_node, body_at};
-
-    ghost names = { λ s. s.names };
-
-    ghost pieces = { pieces_of_node };
-
-    ghost bodies = { body_at };
-
-    fn full_names(&self) -> &Names {
-        &self.name_graph.names
-    }
-
-    fn piece_numbers(&self, node: Node) -> &[usize] {
-        row(self.rows(), self.number(node))
-    }
-
-    fn node_body(&self, node: Node) -> Option<&Rc<NodeBody>> {
-        self.bodies.get(self.number(node)?)
-    }
-}
-
-/// Expands a node: the expansion has the node's own symbols, with each use of a name with a piece
-/// replaced by the kept expansion of that name. The node is added to the end of the work's list.
-///
-/// # Errors
-///
-/// `NoMemory` where an allocation failed; the work does not change then.
-pub fn expand_one(
-    alloc: Global,
-    store: &Store,
-    node: Node,
-    kept: &Kept,
-    work: &mut Work,
-) -> Result<Expansion, NoMemory>
-    requires expandable { is_expandable_at store.now node ≡ true }
-    requires kept { (id : ℕ) → Contains (plan_uses_at store.now node) id
-        → IsSome (kept_at kept.now (node_kind.Name id)) }
-    ensures symbols { IfOk result
-        (λ e. e ≡ filled (used_symbols kept.now) (slots_at store.now node)) }
-    ensures right { (shapes : Shapes) → IsStoreOf shapes store.now
-        → KeepsUsed shapes store.now kept.now node
-        → IfOk result (λ e. e ≡ flat_of shapes (title_in_store store.now node)) }
-    ensures listed { OnOk result (work.new ≡ work.old ++ node ∷ []) }
-    ensures err { OnErr result (work.new ≡ work.old) }
-{
-    // Reading a field makes the store's invariant known to the proof.
-    let _ = &store.bodies;
-    expand(alloc, store, node, kept, work)
+    Ok(Rc::new(alloc, pieces_by_node(alloc, web.pieces(), table)?)?)
 }

@@ -6,7 +6,6 @@ use tangle_affected::affected;
 use tangle_graph::{Node, Store, same_shape};
 use tangle_lines::{NoMemory, Sink};
 use tangle_names::Names;
-use tangle_plans::PiecesByNode;
 
 fn comparison(first: &Store, node: Node, second: &Store, other: Option<Node>) -> &'static [u8] {
     match other {
@@ -31,9 +30,9 @@ fn list_compared<S: Sink>(
 
 // Lists the nodes of the first web, each compared with that of its name in the second.
 fn list_comparisons<S: Sink>(out: &mut Listing<S>, first: &Store, second: &Store) {
-    let names = first.full_names();
+    let names = first.names();
     for id in 0..names.count() {
-        let other = second.full_names().find(names.text(id)).map(Node::Name);
+        let other = second.names().find(names.text(id)).map(Node::Name);
         list_compared(out, first, Node::Name(id), second, other);
     }
     list_compared(out, first, Node::Program, second, Some(Node::Program));
@@ -64,7 +63,7 @@ pub fn list_differences<S: Sink>(
 ) -> Result<(), NoMemory> {
     list_comparisons(out, first, second);
     for node in &affected(alloc, first, second)? {
-        list_affected_node(out, second.full_names(), *node);
+        list_affected_node(out, second.names(), *node);
     }
     Ok(())
 }

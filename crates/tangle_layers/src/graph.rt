@@ -2,7 +2,6 @@
 use crate::listing::Listing;
 use tangle_graph::{Node, Store, same_shape};
 use tangle_lines::Sink;
-use tangle_plans::PiecesByNode;
 
 /// Adds a node.
 pub fn add_node<S: Sink>(out: &mut Listing<S>, node: Node) {
@@ -46,7 +45,7 @@ fn list_node<S: Sink>(out: &mut Listing<S>, store: &Store, node: Node) {
 
 /// Lists the nodes, the program last.
 pub fn list_nodes<S: Sink>(out: &mut Listing<S>, store: &Store) {
-    for id in 0..store.full_names().count() {
+    for id in 0..store.names().count() {
         list_node(out, store, Node::Name(id));
     }
     list_node(out, store, Node::Program);

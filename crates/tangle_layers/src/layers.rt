@@ -13,11 +13,10 @@ use crate::sources::{list_files, list_lines, list_roles};
 use crate::web_parts::list_parts;
 use std::alloc::Global;
 use tangle_affected::expand_all;
-use tangle_expansion::{Numbers, Work, expandable_nodes_are_light};
+use tangle_expansion::{Numbers, Work};
 use tangle_graph::Store;
 use tangle_lines::{Files, NoMemory, Roles, Sink, read_source};
 use tangle_names::NameTable;
-use tangle_plans::names_resolve_inside;
 use tangle_scan::{Web, scan};
 
 /// Files with their roles: the web and the change file that is named are there.
@@ -49,12 +48,14 @@ fn list_store<S: Sink>(
 ) -> Result<Store, NoMemory>
     requires { table.now ≡ table_of web.now }
 {
-    names_resolve_inside();
-    expandable_nodes_are_light();
     let store = Store::build(alloc, web, table, roles.out())?;
     list_nodes(out, &store);
-    list_faults(out, b"graph", store.faults());
-    let numbers = Numbers::build(alloc, web, &store, roles.marks())?;
+    list_faults(
+        out,
+        b"graph",
+        &store.faults(alloc, web, table, roles.out())?,
+    );
+    let numbers = Numbers::build(alloc, web, store.names(), store.pieces(), roles.marks())?;
     let mut work = Work::new(alloc);
     let kept = expand_all(alloc, &store, &mut work)?;
     out.begin(b"expanded");
@@ -83,7 +84,7 @@ pub fn list_layers<S: Sink>(
     let table = NameTable::build(alloc, &web)?;
     list_web(out, &web, &table);
     list_names(out, &table);
-    list_faults(out, b"names", table.faults());
+    list_faults(out, b"names", &table.faults(alloc, &web)?);
     list_store(alloc, out, &web, &table, &project.roles)
 }
 

@@ -35,68 +35,68 @@ fn push_line_end(
 /// the comment needs no line mark.
 fn pass_line_ends(
     tokens: &mut Vec<Token>,
-    ahead: &mut Reader,
+    reader: &mut Reader,
     region: Region,
     state: LexerState,
 ) -> Result<IncludeState, AllocError>
     requires { skips_ordinary region ≡ true }
-    ensures ahead { OnOk result (ahead.new ≡ region_end region ahead.old) }
+    ensures ahead { OnOk result (reader.new ≡ region_end region reader.old) }
     ensures tokens { OnOk result
-        (tokens.new.items ≡ tokens.old.items ++ spec.line_ends region ahead.old) }
+        (tokens.new.items ≡ tokens.old.items ++ spec.line_ends region reader.old) }
     ensures include { IfOk result (λ after. after
-        ≡ include_over (spec.line_ends region ahead.old) state.include) }
+        ≡ include_over (spec.line_ends region reader.old) state.include) }
 {
     let mut include = state.include;
-    ahead.skip_ordinary();
-    while let Some(front) = ahead.front() {
+    reader.skip_ordinary();
+    while let Some(front) = reader.front() {
         let unit = unit_of(region, front.byte, front.next);
         if let Unit::Stop = unit {
             return Ok(include);
         }
-        include = push_line_end(tokens, include, front.byte, ahead.line(state.last_line))?;
-        ahead.pass(unit);
-        ahead.skip_ordinary();
+        include = push_line_end(tokens, include, front.byte, reader.line(state.last_line))?;
+        reader.pass(unit);
+        reader.skip_ordinary();
     }
     Ok(include)
 }
 
 /// Whether the text ahead begins with `*/`.
-fn ends_comment(ahead: &Reader) -> bool
-    ensures { result ≡ spec.ends_comment ahead.now }
+fn ends_comment(reader: &Reader) -> bool
+    ensures { result ≡ spec.ends_comment reader.now }
 {
-    match ahead.front() {
+    match reader.front() {
         Some(front) => holds(b'*', front.byte) && holds(b'/', front.next),
         None => false,
     }
 }
 
 /// Whether the text ahead begins with `@>`.
-pub fn has_end_code(ahead: &Reader) -> bool
-    ensures { result ≡ spec.has_end_code ahead.now }
+pub fn has_end_code(reader: &Reader) -> bool
+    ensures { result ≡ spec.has_end_code reader.now }
 {
-    match ahead.front() {
+    match reader.front() {
         Some(front) => is_end_code(front.byte, front.next),
         None => false,
     }
 }
 
 /// Advances past `@>`, if the text ahead begins with it, and returns whether it does.
-pub fn pass_end_code(ahead: &mut Reader) -> bool
-    ensures has_end_code { result ≡ spec.has_end_code ahead.old }
-    ensures ahead { ahead.new ≡ drop (spec.two_if (spec.has_end_code ahead.old)) ahead.old }
+pub fn pass_end_code(reader: &mut Reader) -> bool
+    ensures has_end_code { result ≡ spec.has_end_code reader.old }
+    ensures ahead { reader.new ≡ drop (spec.two_if (spec.has_end_code reader.old)) reader.old }
 {
-    if has_end_code(ahead) {
-        ahead.pass(Unit::Two);
+    if has_end_code(reader) {
+        reader.pass(Unit::Two);
         return true;
     }
     false
 }
 
 /// Whether the text ahead begins with a section start.
-pub fn starts_section(ahead: &Reader) -> bool
-    ensures { result ≡ spec.starts_section ahead.now }
+pub fn starts_section(reader: &Reader) -> bool
+    ensures { result ≡ spec.starts_section reader.now }
 {
-    match ahead.front() {
+    match reader.front() {
         Some(front) => is_section_start(front.byte, front.next),
         None => false,
     }
@@ -104,12 +104,12 @@ pub fn starts_section(ahead: &Reader) -> bool
 
 /// Whether the text ahead begins with the end of a block comment (`*/`), or of another region
 /// (`@>`).
-fn ends_region(region: Region, ahead: &Reader) -> bool
-    ensures { result ≡ spec.ends_region region ahead.now }
+fn ends_region(region: Region, reader: &Reader) -> bool
+    ensures { result ≡ spec.ends_region region reader.now }
 {
     match region {
-        Region::BlockComment => ends_comment(ahead),
-        _ => has_end_code(ahead),
+        Region::BlockComment => ends_comment(reader),
+        _ => has_end_code(reader),
     }
 }
 
@@ -120,20 +120,20 @@ fn comment_or_control_text(
     region: Region,
     kind: FaultKind,
     tokens: &mut Vec<Token>,
-    ahead: &mut Reader,
+    reader: &mut Reader,
     state: LexerState,
 ) -> Result<LexerState, AllocError>
     requires { skips_ordinary region ≡ true }
-    ensures { IfOk result (λ after. IsRead tokens.old.items tokens.new.items ahead.old ahead.new
-        after (spec.comment_or_control_text region kind state ahead.old)) }
+    ensures { IfOk result (λ after. IsRead tokens.old.items tokens.new.items reader.old reader.new
+        after (spec.comment_or_control_text region kind state reader.old)) }
 {
     tokens.push(Token::White)?;
-    ahead.pass(Unit::Two);
-    let include = pass_line_ends(tokens, ahead, region, state)?;
-    if ends_region(region, ahead) {
-        ahead.pass(Unit::Two);
+    reader.pass(Unit::Two);
+    let include = pass_line_ends(tokens, reader, region, state)?;
+    if ends_region(region, reader) {
+        reader.pass(Unit::Two);
     } else {
-        tokens.push(Token::Fault(kind, ahead.line(state.last_line)))?;
+        tokens.push(Token::Fault(kind, reader.line(state.last_line)))?;
     }
     Ok(LexerState { include, ..state })
 }
@@ -142,30 +142,30 @@ fn comment_or_control_text(
 /// fault.
 pub fn block_comment(
     tokens: &mut Vec<Token>,
-    ahead: &mut Reader,
+    reader: &mut Reader,
     state: LexerState,
 ) -> Result<LexerState, AllocError>
-    ensures { IfOk result (λ after. IsRead tokens.old.items tokens.new.items ahead.old ahead.new
-        after (spec.block_comment state ahead.old)) }
+    ensures { IfOk result (λ after. IsRead tokens.old.items tokens.new.items reader.old reader.new
+        after (spec.block_comment state reader.old)) }
 {
     let fault = FaultKind::CommentEnd;
-    comment_or_control_text(Region::BlockComment, fault, tokens, ahead, state)
+    comment_or_control_text(Region::BlockComment, fault, tokens, reader, state)
 }
 
 /// Reads a comment from `//` up to the line end. A section start before the line end is a fault.
 pub fn line_comment(
     tokens: &mut Vec<Token>,
-    ahead: &mut Reader,
+    reader: &mut Reader,
     state: LexerState,
 ) -> Result<LexerState, AllocError>
-    ensures { IfOk result (λ after. IsRead tokens.old.items tokens.new.items ahead.old ahead.new
-        after (spec.line_comment state ahead.old)) }
+    ensures { IfOk result (λ after. IsRead tokens.old.items tokens.new.items reader.old reader.new
+        after (spec.line_comment state reader.old)) }
 {
     tokens.push(Token::White)?;
-    ahead.pass(Unit::Two);
-    ahead.skip_to_end(Region::LineComment);
-    if starts_section(ahead) {
-        tokens.push(Token::Fault(FaultKind::CommentEnd, ahead.line(state.last_line)))?;
+    reader.pass(Unit::Two);
+    reader.skip_to_end(Region::LineComment);
+    if starts_section(reader) {
+        tokens.push(Token::Fault(FaultKind::CommentEnd, reader.line(state.last_line)))?;
     }
     Ok(state)
 }
@@ -174,12 +174,12 @@ pub fn line_comment(
 /// control code other than `@@`, is a fault.
 pub fn control_text(
     tokens: &mut Vec<Token>,
-    ahead: &mut Reader,
+    reader: &mut Reader,
     state: LexerState,
 ) -> Result<LexerState, AllocError>
-    ensures { IfOk result (λ after. IsRead tokens.old.items tokens.new.items ahead.old ahead.new
-        after (spec.control_text state ahead.old)) }
+    ensures { IfOk result (λ after. IsRead tokens.old.items tokens.new.items reader.old reader.new
+        after (spec.control_text state reader.old)) }
 {
     let fault = FaultKind::ControlText;
-    comment_or_control_text(Region::ControlText, fault, tokens, ahead, state)
+    comment_or_control_text(Region::ControlText, fault, tokens, reader, state)
 }

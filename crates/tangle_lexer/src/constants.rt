@@ -44,12 +44,12 @@ fn escape_value(byte: Option<u8>) -> Option<u8>
 }
 
 /// The constant of a character that has this value and `count` bytes, if an apostrophe follows.
-fn if_closed(ahead: &Reader, value: Option<u8>, count: usize) -> Option<AsciiConstant>
-    ensures { result ≡ spec.if_closed value count ahead.now }
+fn if_closed(reader: &Reader, value: Option<u8>, count: usize) -> Option<AsciiConstant>
+    ensures { result ≡ spec.if_closed value count reader.now }
 {
     match value {
         Some(value) => {
-            if holds(b'\'', ahead.peek(count)) {
+            if holds(b'\'', reader.peek(count)) {
                 Some(AsciiConstant { value, count })
             } else {
                 None
@@ -60,22 +60,22 @@ fn if_closed(ahead: &Reader, value: Option<u8>, count: usize) -> Option<AsciiCon
 }
 
 /// `if_closed` for a value that may be too large for a byte.
-fn if_byte(ahead: &Reader, value: usize, count: usize) -> Option<AsciiConstant>
-    ensures { result ≡ spec.if_byte value count ahead.now }
+fn if_byte(reader: &Reader, value: usize, count: usize) -> Option<AsciiConstant>
+    ensures { result ≡ spec.if_byte value count reader.now }
 {
     if value <= 255 {
-        if_closed(ahead, Some(value as u8), count)
+        if_closed(reader, Some(value as u8), count)
     } else {
         None
     }
 }
 
 /// The value of the octal digit at this distance from the front of the text ahead.
-fn digit_at(ahead: &Reader, distance: usize) -> usize
-    ensures digit { result ≡ spec.digit_at distance ahead.now }
+fn digit_at(reader: &Reader, distance: usize) -> usize
+    ensures digit { result ≡ spec.digit_at distance reader.now }
     ensures small { result < 256 }
 {
-    match ahead.peek(distance) {
+    match reader.peek(distance) {
         Some(byte) => usize::from(byte).saturating_sub(48),
         None => 0,
     }
@@ -83,49 +83,49 @@ fn digit_at(ahead: &Reader, distance: usize) -> usize
 
 /// The constant of a backslash and one to three octal digits. The caller has seen the backslash and
 /// the first digit.
-fn octal_constant(ahead: &Reader) -> Option<AsciiConstant>
-    ensures { result ≡ spec.octal_constant ahead.now }
+fn octal_constant(reader: &Reader) -> Option<AsciiConstant>
+    ensures { result ≡ spec.octal_constant reader.now }
 {
-    let first = digit_at(ahead, 1);
-    if !is_octal(ahead.peek(2)) {
-        return if_byte(ahead, first, 2);
+    let first = digit_at(reader, 1);
+    if !is_octal(reader.peek(2)) {
+        return if_byte(reader, first, 2);
     }
-    let second = digit_at(ahead, 2);
-    if !is_octal(ahead.peek(3)) {
-        return if_byte(ahead, 8 * first + second, 3);
+    let second = digit_at(reader, 2);
+    if !is_octal(reader.peek(3)) {
+        return if_byte(reader, 8 * first + second, 3);
     }
-    let third = digit_at(ahead, 3);
-    if_byte(ahead, 64 * first + 8 * second + third, 4)
+    let third = digit_at(reader, 3);
+    if_byte(reader, 64 * first + 8 * second + third, 4)
 }
 
 /// The constant of a character that begins with a backslash, which the caller has seen.
-fn escaped_constant(ahead: &Reader) -> Option<AsciiConstant>
-    ensures { result ≡ spec.escaped_constant ahead.now }
+fn escaped_constant(reader: &Reader) -> Option<AsciiConstant>
+    ensures { result ≡ spec.escaped_constant reader.now }
 {
-    let next = ahead.peek(1);
+    let next = reader.peek(1);
     if is_octal(next) {
-        return octal_constant(ahead);
+        return octal_constant(reader);
     }
-    if_closed(ahead, escape_value(next), 2)
+    if_closed(reader, escape_value(next), 2)
 }
 
 /// The constant whose character the text ahead begins with, after `@'`.
-fn constant_at(ahead: &Reader) -> Option<AsciiConstant>
-    ensures { result ≡ spec.constant_at ahead.now }
+fn constant_at(reader: &Reader) -> Option<AsciiConstant>
+    ensures { result ≡ spec.constant_at reader.now }
 {
-    match ahead.byte() {
+    match reader.byte() {
         None => None,
         Some(b'@') => {
-            let value = if holds(b'@', ahead.peek(1)) {
+            let value = if holds(b'@', reader.peek(1)) {
                 Some(b'@')
             } else {
                 None
             };
-            if_closed(ahead, value, 2)
+            if_closed(reader, value, 2)
         }
-        Some(b'\\') => escaped_constant(ahead),
+        Some(b'\\') => escaped_constant(reader),
         Some(b'\'') => None,
-        Some(byte) => if_closed(ahead, Some(byte), 1),
+        Some(byte) => if_closed(reader, Some(byte), 1),
     }
 }
 
@@ -133,18 +133,18 @@ fn constant_at(ahead: &Reader) -> Option<AsciiConstant>
 /// end: white space with a fault.
 fn bad_constant(
     tokens: &mut Vec<Token>,
-    ahead: &mut Reader,
+    reader: &mut Reader,
     state: LexerState,
 ) -> Result<LexerState, AllocError>
-    ensures { IfOk result (λ after. IsRead tokens.old.items tokens.new.items ahead.old ahead.new
-        after (spec.bad_constant state ahead.old)) }
+    ensures { IfOk result (λ after. IsRead tokens.old.items tokens.new.items reader.old reader.new
+        after (spec.bad_constant state reader.old)) }
 {
     tokens.push(Token::White)?;
-    tokens.push(Token::Fault(FaultKind::AsciiBad, ahead.line(state.last_line)))?;
-    ahead.pass(Unit::Two);
-    ahead.skip_to_end(Region::BadConstant);
-    if holds(b'\'', ahead.byte()) {
-        ahead.advance();
+    tokens.push(Token::Fault(FaultKind::AsciiBad, reader.line(state.last_line)))?;
+    reader.pass(Unit::Two);
+    reader.skip_to_end(Region::BadConstant);
+    if holds(b'\'', reader.byte()) {
+        reader.advance();
     }
     Ok(state)
 }
@@ -152,19 +152,19 @@ fn bad_constant(
 /// Reads `@'` with the ASCII constant after it, or with the fault of a bad one.
 pub fn ascii_constant(
     tokens: &mut Vec<Token>,
-    ahead: &mut Reader,
+    reader: &mut Reader,
     state: LexerState,
 ) -> Result<LexerState, AllocError>
-    ensures { IfOk result (λ after. IsRead tokens.old.items tokens.new.items ahead.old ahead.new
-        after (spec.ascii_constant state ahead.old)) }
+    ensures { IfOk result (λ after. IsRead tokens.old.items tokens.new.items reader.old reader.new
+        after (spec.ascii_constant state reader.old)) }
 {
-    let mut character = ahead.copy();
+    let mut character = reader.copy();
     character.pass(Unit::Two);
     let Some(constant) = constant_at(&character) else {
-        return bad_constant(tokens, ahead, state);
+        return bad_constant(tokens, reader, state);
     };
-    tokens.push(Token::AsciiConstant(constant.value, ahead.line(state.last_line)))?;
-    ahead.advance();
-    ahead.skip(2 + constant.count);
+    tokens.push(Token::AsciiConstant(constant.value, reader.line(state.last_line)))?;
+    reader.advance();
+    reader.skip(2 + constant.count);
     Ok(state.elsewhere())
 }

@@ -49,7 +49,7 @@ fn pop_head(tokens: &mut Vec<Token>) -> Option<Token>
 /// Reads the tokens up to the next head, which begins a section, a macro or a C part, or up to the
 /// end of the text.
 ///
-/// `from` is the state at the position of `ahead`, which advances past the head; `from.occurrences`
+/// `from` is the state at the position of `reader`, which advances past the head; `from.occurrences`
 /// has to be the number of occurrences in `buffers`. The tokens before the head, with the faults
 /// among them, replace those in `buffers`. The occurrences that were read are added to those in
 /// `buffers`. Returns the state after the head, and the head itself, or `None` at the end of the
@@ -61,32 +61,32 @@ fn pop_head(tokens: &mut Vec<Token>) -> Option<Token>
 pub fn next_block(
     source: &Source,
     buffers: &mut LexerBuffers,
-    ahead: &mut Reader,
+    reader: &mut Reader,
     from: LexerState,
 ) -> Result<(LexerState, Option<Token>), NoMemory>
     requires { from.occurrences ≡ length buffers.old.occurrences.items }
-    ensures tokens { IfOk result (λ next. tokens_from from ahead.old
-        ≡ buffers.new.tokens.items ++ option_to_list next.1 ++ tokens_from next.0 ahead.new) }
+    ensures tokens { IfOk result (λ next. tokens_from from reader.old
+        ≡ buffers.new.tokens.items ++ option_to_list next.1 ++ tokens_from next.0 reader.new) }
     ensures no_head { OnOk result (HasNoHead buffers.new.tokens.items) }
     ensures head { IfOk result (λ next. IfSome next.1 (λ head. is_head_token head ≡ true)) }
-    ensures end { IfOk result (λ next. IfNone next.1 (ahead.new ≡ [])) }
+    ensures end { IfOk result (λ next. IfNone next.1 (reader.new ≡ [])) }
     ensures shorter { IfOk result
-        (λ next. IfSome next.1 (λ head. length ahead.new < length ahead.old)) }
+        (λ next. IfSome next.1 (λ head. length reader.new < length reader.old)) }
     ensures occurrences { IfOk result (λ next. buffers.new.occurrences.items
-        ++ map (occurrence_of source.now.lines) (occurrences_from next.0 ahead.new)
+        ++ map (occurrence_of source.now.lines) (occurrences_from next.0 reader.new)
         ≡ buffers.old.occurrences.items ++ map (occurrence_of source.now.lines)
-        (occurrences_from from ahead.old)) }
+        (occurrences_from from reader.old)) }
     ensures count { IfOk result
         (λ next. next.0.occurrences ≡ length buffers.new.occurrences.items) }
 {
     buffers.tokens.clear();
     let mut state = from;
-    while let Some(front) = ahead.front() {
-        state = step(source, buffers, ahead, state, front)?;
+    while let Some(front) = reader.front() {
+        state = step(source, buffers, reader, state, front)?;
         if let Some(head) = pop_head(&mut buffers.tokens) {
             return Ok((state, Some(head)));
         }
-        state = read_simple(&mut buffers.tokens, ahead, state)?;
+        state = read_simple(&mut buffers.tokens, reader, state)?;
     }
     Ok((state, None))
 }

@@ -133,10 +133,10 @@ fn has_single_spaces(bytes: &[u8]) -> bool
 }
 
 /// Whether a name ends at the position.
-fn is_name_end(ahead: &Reader) -> bool
-    ensures { Decides result (unit_at region.Name ahead.now ≡ unit.Stop) }
+fn is_name_end(reader: &Reader) -> bool
+    ensures { Decides result (unit_at region.Name reader.now ≡ unit.Stop) }
 {
-    match ahead.front() {
+    match reader.front() {
         Some(front) => matches!(unit_of(Region::Name, front.byte, front.next), Unit::Stop),
         None => false,
     }
@@ -146,47 +146,47 @@ fn is_name_end(ahead: &Reader) -> bool
 const NAME_CAPACITY: usize = 32;
 
 /// Reads the text of a name up to its end, and returns its normal form.
-fn read_text(alloc: Global, ahead: &mut Reader) -> Result<Vec<u8>, AllocError>
-    ensures text { IfOk result (λ name. name.items ≡ spec.name_text ahead.old) }
-    ensures ahead { OnOk result (ahead.new ≡ region_end region.Name ahead.old) }
+fn read_text(alloc: Global, reader: &mut Reader) -> Result<Vec<u8>, AllocError>
+    ensures text { IfOk result (λ name. name.items ≡ spec.name_text reader.old) }
+    ensures ahead { OnOk result (reader.new ≡ region_end region.Name reader.old) }
 {
-    let bytes = ahead.take_name_bytes();
+    let bytes = reader.take_name_bytes();
     // Most names end on their line and are written as they are stored.
-    if is_name_end(ahead) && has_single_spaces(bytes) {
+    if is_name_end(reader) && has_single_spaces(bytes) {
         return Vec::from_slice(alloc, bytes);
     }
     let mut name = Vec::with_capacity(alloc, NAME_CAPACITY)?;
     let mut white = push_bytes(&mut name, false, bytes)?;
-    while let Some(front) = ahead.front() {
+    while let Some(front) = reader.front() {
         let unit = unit_of(Region::Name, front.byte, front.next);
         if let Unit::Stop = unit {
             return Ok(name);
         }
         white = push_name_unit(&mut name, white, unit, front)?;
-        ahead.pass(unit);
-        white = push_bytes(&mut name, white, ahead.take_name_bytes())?;
+        reader.pass(unit);
+        white = push_bytes(&mut name, white, reader.take_name_bytes())?;
     }
     Ok(name)
 }
 
 /// Reads a name with its opening, and with `@>` if that ends it. `last` is the number of the last
 /// source line.
-fn read_name(alloc: Global, ahead: &mut Reader, last: u32) -> Result<Name, AllocError>
-    ensures text { IfOk result (λ name. name.text.items ≡ spec.name_text (drop 2 ahead.old)) }
+fn read_name(alloc: Global, reader: &mut Reader, last: u32) -> Result<Name, AllocError>
+    ensures text { IfOk result (λ name. name.text.items ≡ spec.name_text (drop 2 reader.old)) }
     ensures is_file { IfOk result
-        (λ name. name.is_file ≡ byte.holds byte.left_parenthesis (byte_at 1 ahead.old)) }
-    ensures line { IfOk result (λ name. name.line ≡ front_line last ahead.old) }
+        (λ name. name.is_file ≡ byte.holds byte.left_parenthesis (byte_at 1 reader.old)) }
+    ensures line { IfOk result (λ name. name.line ≡ front_line last reader.old) }
     ensures end_line { IfOk result
-        (λ name. name.end_line ≡ front_line last (spec.name_end ahead.old)) }
-    ensures is_ended { IfOk result (λ name. name.is_ended ≡ spec.is_ended ahead.old) }
-    ensures ahead { OnOk result (ahead.new ≡ spec.after_name ahead.old) }
+        (λ name. name.end_line ≡ front_line last (spec.name_end reader.old)) }
+    ensures is_ended { IfOk result (λ name. name.is_ended ≡ spec.is_ended reader.old) }
+    ensures ahead { OnOk result (reader.new ≡ spec.after_name reader.old) }
 {
-    let line = ahead.line(last);
-    let is_file = opens_file(ahead);
-    ahead.pass(Unit::Two);
-    let text = read_text(alloc, ahead)?;
-    let end_line = ahead.line(last);
-    let is_ended = pass_end_code(ahead);
+    let line = reader.line(last);
+    let is_file = opens_file(reader);
+    reader.pass(Unit::Two);
+    let text = read_text(alloc, reader)?;
+    let end_line = reader.line(last);
+    let is_ended = pass_end_code(reader);
     Ok(Name {
         text,
         is_file,
@@ -197,10 +197,10 @@ fn read_name(alloc: Global, ahead: &mut Reader, last: u32) -> Result<Name, Alloc
 }
 
 /// Whether `@(` opens the name that the text ahead begins with.
-fn opens_file(ahead: &Reader) -> bool
-    ensures { result ≡ byte.holds byte.left_parenthesis (byte_at 1 ahead.now) }
+fn opens_file(reader: &Reader) -> bool
+    ensures { result ≡ byte.holds byte.left_parenthesis (byte_at 1 reader.now) }
 {
-    match ahead.front() {
+    match reader.front() {
         Some(front) => holds(b'(', front.next),
         None => false,
     }
@@ -238,21 +238,21 @@ fn push_occurrence(
 
 /// Advances over optional white space, an optional `+` and optional white space, to where the
 /// equals sign of a definition may be.
-fn skip_to_equals(ahead: &mut Reader)
-    ensures { ahead.new ≡ drop (spec.count_before_equals ahead.old) ahead.old }
+fn skip_to_equals(reader: &mut Reader)
+    ensures { reader.new ≡ drop (spec.count_before_equals reader.old) reader.old }
 {
-    ahead.skip_to_end(Region::White);
-    if holds(b'+', ahead.byte()) {
-        ahead.advance();
-        ahead.skip_to_end(Region::White);
+    reader.skip_to_end(Region::White);
+    if holds(b'+', reader.byte()) {
+        reader.advance();
+        reader.skip_to_end(Region::White);
     }
 }
 
 /// The equals sign that the text ahead begins with.
-fn equals_at(ahead: &Reader) -> Equals
-    ensures { result ≡ spec.equals_by (byte_at 0 ahead.now) (byte_at 1 ahead.now) }
+fn equals_at(reader: &Reader) -> Equals
+    ensures { result ≡ spec.equals_by (byte_at 0 reader.now) (byte_at 1 reader.now) }
 {
-    match ahead.front() {
+    match reader.front() {
         Some(front) if holds(b'=', front.byte) => {
             if holds(b'=', front.next) {
                 Equals::Double
@@ -265,10 +265,10 @@ fn equals_at(ahead: &Reader) -> Equals
 }
 
 /// Whether a single `=` follows a name, which makes a use look like a definition.
-fn has_single_equals(ahead: &Reader) -> bool
-    ensures { result ≡ spec.has_single_equals ahead.now }
+fn has_single_equals(reader: &Reader) -> bool
+    ensures { result ≡ spec.has_single_equals reader.now }
 {
-    let mut further = ahead.copy();
+    let mut further = reader.copy();
     skip_to_equals(&mut further);
     matches!(equals_at(&further), Equals::Single)
 }
@@ -309,16 +309,16 @@ fn push_use(
 pub fn use_of_name(
     source: &Source,
     buffers: &mut LexerBuffers,
-    ahead: &mut Reader,
+    reader: &mut Reader,
     state: LexerState,
 ) -> Result<LexerState, AllocError>
     requires { state.occurrences ≡ length buffers.old.occurrences.items }
     ensures { IfOk result (λ after. ReadsLexeme source.now.lines buffers.old buffers.new
-        ahead.old ahead.new after (spec.use_of_name state ahead.old)) }
+        reader.old reader.new after (spec.use_of_name state reader.old)) }
 {
     let number = state.occurrences;
-    let name = read_name(*buffers.occurrences.allocator(), ahead, state.last_line)?;
-    let equals = has_single_equals(ahead);
+    let name = read_name(*buffers.occurrences.allocator(), reader, state.last_line)?;
+    let equals = has_single_equals(reader);
     push_use(&mut buffers.tokens, &name, number, equals)?;
     let after = push_occurrence(
         source,
@@ -332,25 +332,25 @@ pub fn use_of_name(
 
 /// Advances past the equals sign of a definition and returns the line of that sign. If none
 /// follows, does not advance and returns `None`.
-fn pass_equals(ahead: &mut Reader, last: u32) -> Option<u32>
-    ensures { PassesEquals (spec.equals_in ahead.old) (spec.count_before_equals ahead.old) last
-        ahead.old ahead.new result }
+fn pass_equals(reader: &mut Reader, last: u32) -> Option<u32>
+    ensures { PassesEquals (spec.equals_in reader.old) (spec.count_before_equals reader.old) last
+        reader.old reader.new result }
 {
-    let mut further = ahead.copy();
+    let mut further = reader.copy();
     skip_to_equals(&mut further);
     match equals_at(&further) {
         Equals::Absent => None,
         Equals::Single => {
             let line = further.line(last);
             further.advance();
-            *ahead = further;
+            *reader = further;
             Some(line)
         }
         Equals::Double => {
             further.advance();
             let line = further.line(last);
             further.advance();
-            *ahead = further;
+            *reader = further;
             Some(line)
         }
     }
@@ -417,19 +417,19 @@ fn push_definition(
 pub fn name_in_documentation(
     source: &Source,
     buffers: &mut LexerBuffers,
-    ahead: &mut Reader,
+    reader: &mut Reader,
     state: LexerState,
 ) -> Result<LexerState, AllocError>
     requires { state.occurrences ≡ length buffers.old.occurrences.items }
     ensures { IfOk result (λ after. ReadsLexeme source.now.lines buffers.old buffers.new
-        ahead.old ahead.new after (spec.name_in_documentation state ahead.old)) }
+        reader.old reader.new after (spec.name_in_documentation state reader.old)) }
 {
-    let name = read_name(*buffers.occurrences.allocator(), ahead, state.last_line)?;
+    let name = read_name(*buffers.occurrences.allocator(), reader, state.last_line)?;
     if !name.is_ended {
         let after = push_mention(source, buffers, name, state)?;
         return Ok(after);
     }
-    let Some(line) = pass_equals(ahead, state.last_line) else {
+    let Some(line) = pass_equals(reader, state.last_line) else {
         let after = push_mention(source, buffers, name, state)?;
         return Ok(after);
     };

@@ -56,28 +56,28 @@ fn push_range(
 /// the column at which the range after the unit starts: `start` itself, unless the text is cut.
 fn push_quoted_unit(
     tokens: &mut Vec<Token>,
-    ahead: &Reader,
+    reader: &Reader,
     region: Region,
     unit: Unit,
     start: usize,
     front: Front,
     line: u32,
 ) -> Result<usize, AllocError>
-    requires { IsFront ahead.now front }
-    ensures tokens { (last : ℕ) → line ≡ front_line last ahead.now
+    requires { IsFront reader.now front }
+    ensures tokens { (last : ℕ) → line ≡ front_line last reader.now
         → OnOk result (tokens.new.items ≡ tokens.old.items
-        ++ spec.unit_tokens region unit start (front_cell last ahead.now) (byte_at 1 ahead.now)) }
+        ++ spec.unit_tokens region unit start (front_cell last reader.now) (byte_at 1 reader.now)) }
     ensures start { (last : ℕ) → IfOk result (λ next. next
-        ≡ spec.next_start unit start (front_cell last ahead.now) (byte_at 1 ahead.now)) }
+        ≡ spec.next_start unit start (front_cell last reader.now) (byte_at 1 reader.now)) }
 {
     let is_two = matches!(unit, Unit::Two);
     if is_two && holds(b'@', front.byte) {
-        let end = ahead.column_after();
+        let end = reader.column_after();
         push_range(tokens, region, line, start, end)?;
         return Ok(end + 1);
     }
     if is_two && holds(b'\\', front.byte) && front.next.is_none() {
-        push_range(tokens, region, line, start, ahead.column_after())?;
+        push_range(tokens, region, line, start, reader.column_after())?;
         tokens.push(Token::QuoteBreak)?;
         return Ok(0);
     }
@@ -91,27 +91,35 @@ fn push_quoted_unit(
 /// which the last range starts; the first one starts at column `first`.
 fn cut(
     tokens: &mut Vec<Token>,
-    ahead: &mut Reader,
+    reader: &mut Reader,
     region: Region,
     first: usize,
     last: u32,
 ) -> Result<usize, AllocError>
     requires { skips_ordinary region ≡ true }
-    ensures ahead { OnOk result (ahead.new ≡ region_end region ahead.old) }
+    ensures ahead { OnOk result (reader.new ≡ region_end region reader.old) }
     ensures tokens { IfOk result (λ start. (ends : ℕ → List Cell → List TokenRead) →
-        tokens.new.items ++ ends start ahead.new
-        ≡ tokens.old.items ++ spec.cut_tokens ends region 0 first ahead.old) }
+        tokens.new.items ++ ends start reader.new
+        ≡ tokens.old.items ++ spec.cut_tokens ends region 0 first reader.old) }
 {
     let mut start = first;
-    ahead.skip_ordinary();
-    while let Some(front) = ahead.front() {
+    reader.skip_ordinary();
+    while let Some(front) = reader.front() {
         let unit = unit_of(region, front.byte, front.next);
         if let Unit::Stop = unit {
             return Ok(start);
         }
-        start = push_quoted_unit(tokens, ahead, region, unit, start, front, ahead.line(last))?;
-        ahead.pass(unit);
-        ahead.skip_ordinary();
+        start = push_quoted_unit(
+            tokens,
+            reader,
+            region,
+            unit,
+            start,
+            front,
+            reader.line(last),
+        )?;
+        reader.pass(unit);
+        reader.skip_ordinary();
     }
     Ok(start)
 }
@@ -120,28 +128,28 @@ fn cut(
 /// or the end of the source instead of the closing byte is a fault.
 fn end_quote(
     tokens: &mut Vec<Token>,
-    ahead: &mut Reader,
+    reader: &mut Reader,
     region: Region,
     close: u8,
     start: usize,
     last: u32,
 ) -> Result<(), AllocError>
     ensures tokens { OnOk result (tokens.new.items ≡ tokens.old.items
-        ++ spec.quote_end region close last start ahead.old) }
+        ++ spec.quote_end region close last start reader.old) }
     ensures ahead { OnOk result
-        (ahead.new ≡ drop (spec.one_if (byte.holds close (byte_at 0 ahead.old))) ahead.old) }
+        (reader.new ≡ drop (spec.one_if (byte.holds close (byte_at 0 reader.old))) reader.old) }
 {
-    let Some(front) = ahead.front() else {
+    let Some(front) = reader.front() else {
         tokens.push(Token::Fault(FaultKind::StringEnd, last))?;
         return Ok(());
     };
-    let line = ahead.line(last);
+    let line = reader.line(last);
     if holds(close, front.byte) {
-        push_range(tokens, region, line, start, ahead.column_after())?;
-        ahead.advance();
+        push_range(tokens, region, line, start, reader.column_after())?;
+        reader.advance();
         return Ok(());
     }
-    push_range(tokens, region, line, start, ahead.column())?;
+    push_range(tokens, region, line, start, reader.column())?;
     tokens.push(Token::Fault(FaultKind::StringEnd, line))?;
     Ok(())
 }
@@ -149,19 +157,19 @@ fn end_quote(
 /// Reads a quoted text from its opening byte through its closing byte `close`.
 pub fn quoted_text(
     tokens: &mut Vec<Token>,
-    ahead: &mut Reader,
+    reader: &mut Reader,
     region: Region,
     close: u8,
     state: LexerState,
 ) -> Result<LexerState, AllocError>
     requires { skips_ordinary region ≡ true }
-    ensures { IfOk result (λ after. IsRead tokens.old.items tokens.new.items ahead.old ahead.new
-        after (spec.quoted_text region close state ahead.old)) }
+    ensures { IfOk result (λ after. IsRead tokens.old.items tokens.new.items reader.old reader.new
+        after (spec.quoted_text region close state reader.old)) }
 {
-    let opening = ahead.column();
-    ahead.advance();
-    let start = cut(tokens, ahead, region, opening, state.last_line)?;
-    end_quote(tokens, ahead, region, close, start, state.last_line)?;
+    let opening = reader.column();
+    reader.advance();
+    let start = cut(tokens, reader, region, opening, state.last_line)?;
+    end_quote(tokens, reader, region, close, start, state.last_line)?;
     Ok(LexerState {
         include: IncludeState::Elsewhere,
         ..state
@@ -172,18 +180,18 @@ pub fn quoted_text(
 /// the text.
 fn end_verbatim(
     tokens: &mut Vec<Token>,
-    ahead: &Reader,
+    reader: &Reader,
     start: usize,
     last: u32,
 ) -> Result<(), AllocError>
     ensures { OnOk result (tokens.new.items ≡ tokens.old.items
-        ++ spec.verbatim_end start ahead.now) }
+        ++ spec.verbatim_end start reader.now) }
 {
-    let Some(front) = ahead.front() else {
+    let Some(front) = reader.front() else {
         return Ok(());
     };
-    let line = ahead.line(last);
-    push_range(tokens, Region::Verbatim, line, start, ahead.column())?;
+    let line = reader.line(last);
+    push_range(tokens, Region::Verbatim, line, start, reader.column())?;
     if front.byte.is_none() {
         tokens.push(Token::Fault(FaultKind::VerbatimEnd, line))?;
     }
@@ -191,30 +199,30 @@ fn end_verbatim(
 }
 
 /// Whether a region is empty: its end is next, or the end of the source.
-fn ends_at_once(ahead: &Reader, region: Region) -> bool
-    ensures { result ≡ spec.ends_at_once region ahead.now }
+fn ends_at_once(reader: &Reader, region: Region) -> bool
+    ensures { result ≡ spec.ends_at_once region reader.now }
 {
-    match ahead.front() {
+    match reader.front() {
         Some(front) => matches!(unit_of(region, front.byte, front.next), Unit::Stop),
         None => true,
     }
 }
 
 /// Adds an empty verbatim text, and a fault if a line end ends it.
-fn push_empty(tokens: &mut Vec<Token>, ahead: &Reader) -> Result<(), AllocError>
+fn push_empty(tokens: &mut Vec<Token>, reader: &Reader) -> Result<(), AllocError>
     ensures { OnOk result (tokens.new.items
-        ≡ tokens.old.items ++ token.Span span_kind.Verbatim (span_at 0 ahead.now)
-        ∷ spec.empty_end ahead.now) }
+        ≡ tokens.old.items ++ token.Span span_kind.Verbatim (span_at 0 reader.now)
+        ∷ spec.empty_end reader.now) }
 {
-    let line = ahead.line(0);
-    let column = ahead.column() as u16;
+    let line = reader.line(0);
+    let column = reader.column() as u16;
     let span = Span {
         line,
         start: column,
         end: column,
     };
     tokens.push(Token::Span(SpanKind::Verbatim, span))?;
-    if let Some(front) = ahead.front() {
+    if let Some(front) = reader.front() {
         if front.byte.is_none() {
             tokens.push(Token::Fault(FaultKind::VerbatimEnd, line))?;
         }
@@ -223,33 +231,33 @@ fn push_empty(tokens: &mut Vec<Token>, ahead: &Reader) -> Result<(), AllocError>
 }
 
 /// Reads a verbatim text after its `@=`, up to its end.
-fn push_verbatim(tokens: &mut Vec<Token>, ahead: &mut Reader, last: u32) -> Result<(), AllocError>
+fn push_verbatim(tokens: &mut Vec<Token>, reader: &mut Reader, last: u32) -> Result<(), AllocError>
     ensures tokens { OnOk result
-        (tokens.new.items ≡ tokens.old.items ++ spec.verbatim_tokens ahead.old) }
-    ensures ahead { OnOk result (ahead.new ≡ region_end region.Verbatim ahead.old) }
+        (tokens.new.items ≡ tokens.old.items ++ spec.verbatim_tokens reader.old) }
+    ensures ahead { OnOk result (reader.new ≡ region_end region.Verbatim reader.old) }
 {
-    if ends_at_once(ahead, Region::Verbatim) {
-        push_empty(tokens, ahead)?;
+    if ends_at_once(reader, Region::Verbatim) {
+        push_empty(tokens, reader)?;
         return Ok(());
     }
-    let first = ahead.column();
-    let start = cut(tokens, ahead, Region::Verbatim, first, last)?;
-    end_verbatim(tokens, ahead, start, last)
+    let first = reader.column();
+    let start = cut(tokens, reader, Region::Verbatim, first, last)?;
+    end_verbatim(tokens, reader, start, last)
 }
 
 /// Reads `@=` and the verbatim text through `@>`, or up to the line end, which is a fault.
 pub fn verbatim_text(
     tokens: &mut Vec<Token>,
-    ahead: &mut Reader,
+    reader: &mut Reader,
     state: LexerState,
 ) -> Result<LexerState, AllocError>
-    ensures { IfOk result (λ after. IsRead tokens.old.items tokens.new.items ahead.old ahead.new
-        after (spec.verbatim_text state ahead.old)) }
+    ensures { IfOk result (λ after. IsRead tokens.old.items tokens.new.items reader.old reader.new
+        after (spec.verbatim_text state reader.old)) }
 {
-    ahead.pass(Unit::Two);
-    push_verbatim(tokens, ahead, state.last_line)?;
-    if has_end_code(ahead) {
-        ahead.pass(Unit::Two);
+    reader.pass(Unit::Two);
+    push_verbatim(tokens, reader, state.last_line)?;
+    if has_end_code(reader) {
+        reader.pass(Unit::Two);
     }
     Ok(LexerState {
         include: IncludeState::Elsewhere,

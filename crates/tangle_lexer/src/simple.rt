@@ -72,12 +72,12 @@ fn simple_of(byte: u8) -> Option<SimpleLexeme>
 
 /// The simple lexeme that the text ahead begins with, if it begins with one.
 #[inline(always)]
-fn simple_at(ahead: &Reader) -> Option<SimpleLexeme>
-    ensures { IfSome result (λ simple. IsSimple ahead.now simple) }
+fn simple_at(reader: &Reader) -> Option<SimpleLexeme>
+    ensures { IfSome result (λ simple. IsSimple reader.now simple) }
 {
-    match ahead.byte() {
+    match reader.byte() {
         Some(byte) => simple_of(byte),
-        None if ahead.is_at_end() => None,
+        None if reader.is_at_end() => None,
         None => Some(SimpleLexeme::LineEnd),
     }
 }
@@ -85,21 +85,21 @@ fn simple_at(ahead: &Reader) -> Option<SimpleLexeme>
 #[inline(always)]
 fn simple_step(
     tokens: &mut Vec<Token>,
-    ahead: &mut Reader,
+    reader: &mut Reader,
     state: LexerState,
     simple: SimpleLexeme,
 ) -> Result<LexerState, AllocError>
-    requires { IsSimple ahead.old simple }
-    ensures { IfOk result (λ after. IsRead tokens.old.items tokens.new.items ahead.old ahead.new
-        after (c_lexeme (simple_kind simple) state ahead.old)) }
+    requires { IsSimple reader.old simple }
+    ensures { IfOk result (λ after. IsRead tokens.old.items tokens.new.items reader.old reader.new
+        after (c_lexeme (simple_kind simple) state reader.old)) }
 {
     match simple {
-        SimpleLexeme::Word => word(tokens, ahead, state),
-        SimpleLexeme::White => white_space(tokens, ahead, state),
-        SimpleLexeme::LineEnd => line_end(tokens, ahead, state),
+        SimpleLexeme::Word => word(tokens, reader, state),
+        SimpleLexeme::White => white_space(tokens, reader, state),
+        SimpleLexeme::LineEnd => line_end(tokens, reader, state),
         SimpleLexeme::Sign => {
-            let after = state.after_sign(ahead.byte());
-            sign(tokens, ahead, Unit::One, after)
+            let after = state.after_sign(reader.byte());
+            sign(tokens, reader, Unit::One, after)
         }
     }
 }
@@ -114,27 +114,27 @@ fn is_c_text(mode: Mode) -> bool
 /// documentation it reads nothing.
 pub fn read_simple(
     tokens: &mut Vec<Token>,
-    ahead: &mut Reader,
+    reader: &mut Reader,
     from: LexerState,
 ) -> Result<LexerState, AllocError>
-    ensures tokens { IfOk result (λ after. tokens.new.items ++ tokens_from after ahead.new
-        ≡ tokens.old.items ++ tokens_from from ahead.old) }
+    ensures tokens { IfOk result (λ after. tokens.new.items ++ tokens_from after reader.new
+        ≡ tokens.old.items ++ tokens_from from reader.old) }
     ensures no_head { HasNoHead tokens.old.items → OnOk result (HasNoHead tokens.new.items) }
     ensures occurrences { IfOk result
-        (λ after. occurrences_from after ahead.new ≡ occurrences_from from ahead.old) }
+        (λ after. occurrences_from after reader.new ≡ occurrences_from from reader.old) }
     ensures count { IfOk result (λ after. after.occurrences ≡ from.occurrences) }
-    ensures shorter { OnOk result (length ahead.new ≤ length ahead.old) }
+    ensures shorter { OnOk result (length reader.new ≤ length reader.old) }
 {
     if !is_c_text(from.mode) {
         return Ok(from);
     }
     // `here` and `include` are local, so that they stay in registers in the loop.
-    let mut here = ahead.copy();
+    let mut here = reader.copy();
     let mut include = from.include;
     while let Some(simple) = simple_at(&here) {
         let state = from.with_include(include);
         include = simple_step(tokens, &mut here, state, simple)?.include;
     }
-    *ahead = here;
+    *reader = here;
     Ok(from.with_include(include))
 }

@@ -26,43 +26,43 @@ use tangle_text::{Front, Reader, Region, Unit, holds, is_section_start};
 /// Begins a section. Only the `@` is read: the byte after it is skipped as documentation.
 fn section_start(
     tokens: &mut Vec<Token>,
-    ahead: &mut Reader,
+    reader: &mut Reader,
     state: LexerState,
 ) -> Result<LexerState, AllocError>
-    ensures { IfOk result (λ after. IsRead tokens.old.items tokens.new.items ahead.old ahead.new
+    ensures { IfOk result (λ after. IsRead tokens.old.items tokens.new.items reader.old reader.new
         after (spec.section_start state)) }
 {
     tokens.push(Token::Section)?;
-    ahead.advance();
+    reader.advance();
     Ok(state.in_mode(Mode::Documentation))
 }
 
 /// Skips what is next, and the text after it up to an `@`.
-fn prose(ahead: &mut Reader)
-    ensures { ahead.new ≡ drop (count_before region.Prose (drop 1 ahead.old)) (drop 1 ahead.old) }
+fn prose(reader: &mut Reader)
+    ensures { reader.new ≡ drop (count_before region.Prose (drop 1 reader.old)) (drop 1 reader.old) }
 {
-    ahead.advance();
-    ahead.skip_prose();
+    reader.advance();
+    reader.skip_prose();
 }
 
 /// Reads the first section start, or skips text in limbo: a control code, or the text up to an `@`.
 fn limbo(
     tokens: &mut Vec<Token>,
-    ahead: &mut Reader,
+    reader: &mut Reader,
     state: LexerState,
     front: Front,
 ) -> Result<LexerState, AllocError>
-    requires { IsFront ahead.old front }
-    ensures { IfOk result (λ after. IsRead tokens.old.items tokens.new.items ahead.old ahead.new
-        after (spec.limbo_lexeme state ahead.old)) }
+    requires { IsFront reader.old front }
+    ensures { IfOk result (λ after. IsRead tokens.old.items tokens.new.items reader.old reader.new
+        after (spec.limbo_lexeme state reader.old)) }
 {
     if is_section_start(front.byte, front.next) {
-        return section_start(tokens, ahead, state);
+        return section_start(tokens, reader, state);
     }
     if holds(b'@', front.byte) {
-        ahead.pass(Unit::Two);
+        reader.pass(Unit::Two);
     } else {
-        prose(ahead);
+        prose(reader);
     }
     Ok(state)
 }
@@ -70,16 +70,16 @@ fn limbo(
 /// Begins a macro or an unnamed C part, with its control code.
 fn start_block(
     tokens: &mut Vec<Token>,
-    ahead: &mut Reader,
+    reader: &mut Reader,
     state: LexerState,
     head: Token,
     mode: Mode,
 ) -> Result<LexerState, AllocError>
-    ensures { IfOk result (λ after. IsRead tokens.old.items tokens.new.items ahead.old ahead.new
+    ensures { IfOk result (λ after. IsRead tokens.old.items tokens.new.items reader.old reader.new
         after (lexeme_of (head ∷ []) 1 (in_mode mode state))) }
 {
     tokens.push(head)?;
-    ahead.pass(Unit::Two);
+    reader.pass(Unit::Two);
     Ok(state.in_mode(mode))
 }
 
@@ -87,27 +87,27 @@ fn start_block(
 fn documentation_code(
     source: &Source,
     buffers: &mut LexerBuffers,
-    ahead: &mut Reader,
+    reader: &mut Reader,
     state: LexerState,
     code: ControlCode,
 ) -> Result<LexerState, AllocError>
     requires { state.occurrences ≡ length buffers.old.occurrences.items }
     ensures { IfOk result (λ after. ReadsLexeme source.now.lines buffers.old buffers.new
-        ahead.old ahead.new after (spec.documentation_code code state ahead.old)) }
+        reader.old reader.new after (spec.documentation_code code state reader.old)) }
 {
-    let line = ahead.line(state.last_line);
+    let line = reader.line(state.last_line);
     let tokens = &mut buffers.tokens;
     match code {
-        ControlCode::SectionStart => section_start(tokens, ahead, state),
+        ControlCode::SectionStart => section_start(tokens, reader, state),
         ControlCode::Macro => {
-            start_block(tokens, ahead, state, Token::MacroStart(line), Mode::Macro)
+            start_block(tokens, reader, state, Token::MacroStart(line), Mode::Macro)
         }
         ControlCode::UnnamedPart => {
-            start_block(tokens, ahead, state, Token::UnnamedPart(line), Mode::CPart)
+            start_block(tokens, reader, state, Token::UnnamedPart(line), Mode::CPart)
         }
-        ControlCode::Name => name_in_documentation(source, buffers, ahead, state),
+        ControlCode::Name => name_in_documentation(source, buffers, reader, state),
         _ => {
-            ahead.pass(Unit::Two);
+            reader.pass(Unit::Two);
             Ok(state)
         }
     }
@@ -117,129 +117,129 @@ fn documentation_code(
 #[inline(always)]
 pub fn sign(
     tokens: &mut Vec<Token>,
-    ahead: &mut Reader,
+    reader: &mut Reader,
     unit: Unit,
     after: LexerState,
 ) -> Result<LexerState, AllocError>
-    requires { IsSome (byte_at 0 ahead.old) }
-    ensures { IfOk result (λ state. IsRead tokens.old.items tokens.new.items ahead.old ahead.new
+    requires { IsSome (byte_at 0 reader.old) }
+    ensures { IfOk result (λ state. IsRead tokens.old.items tokens.new.items reader.old reader.new
         state
-        (lexeme_of (token.Span span_kind.Sign (span_at 1 ahead.old) ∷ []) (more_by unit) after)) }
+        (lexeme_of (token.Span span_kind.Sign (span_at 1 reader.old) ∷ []) (more_by unit) after)) }
 {
-    tokens.push(Token::Span(SpanKind::Sign, ahead.byte_span()))?;
-    ahead.pass(unit);
+    tokens.push(Token::Span(SpanKind::Sign, reader.byte_span()))?;
+    reader.pass(unit);
     Ok(after)
 }
 
 /// Reads a control code that becomes this token.
 fn code_token(
     tokens: &mut Vec<Token>,
-    ahead: &mut Reader,
+    reader: &mut Reader,
     token: Token,
     after: LexerState,
 ) -> Result<LexerState, AllocError>
-    ensures { IfOk result (λ state. IsRead tokens.old.items tokens.new.items ahead.old ahead.new
+    ensures { IfOk result (λ state. IsRead tokens.old.items tokens.new.items reader.old reader.new
         state (lexeme_of (token ∷ []) 1 after)) }
 {
     tokens.push(token)?;
-    ahead.pass(Unit::Two);
+    reader.pass(Unit::Two);
     Ok(after)
 }
 
 /// Reads a control code that is a fault of this kind, and white space.
 fn code_fault(
     tokens: &mut Vec<Token>,
-    ahead: &mut Reader,
+    reader: &mut Reader,
     kind: FaultKind,
     state: LexerState,
 ) -> Result<LexerState, AllocError>
-    ensures { IfOk result (λ after. IsRead tokens.old.items tokens.new.items ahead.old ahead.new
-        after (spec.code_fault kind state ahead.old)) }
+    ensures { IfOk result (λ after. IsRead tokens.old.items tokens.new.items reader.old reader.new
+        after (spec.code_fault kind state reader.old)) }
 {
     tokens.push(Token::White)?;
-    tokens.push(Token::Fault(kind, ahead.line(state.last_line)))?;
-    ahead.pass(Unit::Two);
+    tokens.push(Token::Fault(kind, reader.line(state.last_line)))?;
+    reader.pass(Unit::Two);
     Ok(state)
 }
 
 /// Reads a control code in C text, except for one that opens a name.
 fn c_code(
     tokens: &mut Vec<Token>,
-    ahead: &mut Reader,
+    reader: &mut Reader,
     state: LexerState,
     code: ControlCode,
 ) -> Result<LexerState, AllocError>
-    requires byte { IsSome (byte_at 0 ahead.old) }
+    requires byte { IsSome (byte_at 0 reader.old) }
     requires no_name { code ≢ control_code.Name }
     ensures read { IfOk result (λ after. IsRead tokens.old.items tokens.new.items
-        ahead.old ahead.new after (spec.c_code code state ahead.old)) }
-    ensures no_occurrence { (spec.c_code code state ahead.old).occurrence ≡ None }
+        reader.old reader.new after (spec.c_code code state reader.old)) }
+    ensures no_occurrence { (spec.c_code code state reader.old).occurrence ≡ None }
 {
-    let line = ahead.line(state.last_line);
+    let line = reader.line(state.last_line);
     match code {
-        ControlCode::SectionStart => section_start(tokens, ahead, state),
-        ControlCode::DoubleAt => sign(tokens, ahead, Unit::Two, state.elsewhere()),
-        ControlCode::Macro => code_fault(tokens, ahead, FaultKind::CodeInC, state),
-        ControlCode::Format => code_fault(tokens, ahead, FaultKind::CodeInC, state),
-        ControlCode::UnnamedPart => code_fault(tokens, ahead, FaultKind::CodeInC, state),
-        ControlCode::ControlText => control_text(tokens, ahead, state),
-        ControlCode::Verbatim => verbatim_text(tokens, ahead, state),
-        ControlCode::Join => code_token(tokens, ahead, Token::Join, state.elsewhere()),
+        ControlCode::SectionStart => section_start(tokens, reader, state),
+        ControlCode::DoubleAt => sign(tokens, reader, Unit::Two, state.elsewhere()),
+        ControlCode::Macro => code_fault(tokens, reader, FaultKind::CodeInC, state),
+        ControlCode::Format => code_fault(tokens, reader, FaultKind::CodeInC, state),
+        ControlCode::UnnamedPart => code_fault(tokens, reader, FaultKind::CodeInC, state),
+        ControlCode::ControlText => control_text(tokens, reader, state),
+        ControlCode::Verbatim => verbatim_text(tokens, reader, state),
+        ControlCode::Join => code_token(tokens, reader, Token::Join, state.elsewhere()),
         ControlCode::AllMacros => code_token(
             tokens,
-            ahead,
+            reader,
             Token::AllMacros(line),
             state.elsewhere(),
         ),
-        ControlCode::AsciiConstant => ascii_constant(tokens, ahead, state),
-        ControlCode::Name | ControlCode::Other => code_token(tokens, ahead, Token::White, state),
+        ControlCode::AsciiConstant => ascii_constant(tokens, reader, state),
+        ControlCode::Name | ControlCode::Other => code_token(tokens, reader, Token::White, state),
     }
 }
 
 #[inline(always)]
 pub fn word(
     tokens: &mut Vec<Token>,
-    ahead: &mut Reader,
+    reader: &mut Reader,
     state: LexerState,
 ) -> Result<LexerState, AllocError>
-    requires { IsSome (byte_at 0 ahead.old) }
-    ensures { IfOk result (λ after. IsRead tokens.old.items tokens.new.items ahead.old ahead.new
-        after (spec.word state ahead.old)) }
+    requires { IsSome (byte_at 0 reader.old) }
+    ensures { IfOk result (λ after. IsRead tokens.old.items tokens.new.items reader.old reader.new
+        after (spec.word state reader.old)) }
 {
     let after = match state.include {
-        IncludeState::AfterNumberSign => state.after_word(ahead.begins_include()),
+        IncludeState::AfterNumberSign => state.after_word(reader.begins_include()),
         _ => state.elsewhere(),
     };
-    tokens.push(Token::Span(SpanKind::Word, ahead.take_word()))?;
+    tokens.push(Token::Span(SpanKind::Word, reader.take_word()))?;
     Ok(after)
 }
 
 #[inline(always)]
 pub fn white_space(
     tokens: &mut Vec<Token>,
-    ahead: &mut Reader,
+    reader: &mut Reader,
     state: LexerState,
 ) -> Result<LexerState, AllocError>
-    requires { IsSome (byte_at 0 ahead.old) }
-    ensures { IfOk result (λ after. IsRead tokens.old.items tokens.new.items ahead.old ahead.new
-        after (spec.white_space state ahead.old)) }
+    requires { IsSome (byte_at 0 reader.old) }
+    ensures { IfOk result (λ after. IsRead tokens.old.items tokens.new.items reader.old reader.new
+        after (spec.white_space state reader.old)) }
 {
     tokens.push(Token::White)?;
-    ahead.skip_white();
+    reader.skip_white();
     Ok(state)
 }
 
 #[inline(always)]
 pub fn line_end(
     tokens: &mut Vec<Token>,
-    ahead: &mut Reader,
+    reader: &mut Reader,
     state: LexerState,
 ) -> Result<LexerState, AllocError>
-    ensures { IfOk result (λ after. IsRead tokens.old.items tokens.new.items ahead.old ahead.new
-        after (spec.c_lexeme lexeme_kinds.LineEnd state ahead.old)) }
+    ensures { IfOk result (λ after. IsRead tokens.old.items tokens.new.items reader.old reader.new
+        after (spec.c_lexeme lexeme_kinds.LineEnd state reader.old)) }
 {
-    tokens.push(Token::LineEnd(ahead.line(state.last_line)))?;
-    ahead.advance();
+    tokens.push(Token::LineEnd(reader.line(state.last_line)))?;
+    reader.advance();
     Ok(state.with_include(IncludeState::AtStart))
 }
 
@@ -248,32 +248,32 @@ pub fn line_end(
 fn c_text(
     source: &Source,
     buffers: &mut LexerBuffers,
-    ahead: &mut Reader,
+    reader: &mut Reader,
     state: LexerState,
     lexeme_kind: LexemeKind,
 ) -> Result<LexerState, AllocError>
-    requires byte { (lexeme_kind ≡ lexeme_kinds.LineEnd → ⊥) → IsSome (byte_at 0 ahead.old) }
+    requires byte { (lexeme_kind ≡ lexeme_kinds.LineEnd → ⊥) → IsSome (byte_at 0 reader.old) }
     requires occurrences { state.occurrences ≡ length buffers.old.occurrences.items }
     ensures { IfOk result (λ after. ReadsLexeme source.now.lines buffers.old buffers.new
-        ahead.old ahead.new after (spec.c_lexeme lexeme_kind state ahead.old)) }
+        reader.old reader.new after (spec.c_lexeme lexeme_kind state reader.old)) }
 {
     let tokens = &mut buffers.tokens;
     match lexeme_kind {
         LexemeKind::Control(code) => match code {
-            ControlCode::Name => use_of_name(source, buffers, ahead, state),
-            _ => c_code(tokens, ahead, state, code),
+            ControlCode::Name => use_of_name(source, buffers, reader, state),
+            _ => c_code(tokens, reader, state, code),
         },
-        LexemeKind::BlockComment => block_comment(tokens, ahead, state),
-        LexemeKind::LineComment => line_comment(tokens, ahead, state),
-        LexemeKind::DoubleQuote => quoted_text(tokens, ahead, Region::DoubleQuote, b'"', state),
-        LexemeKind::Apostrophe => quoted_text(tokens, ahead, Region::Apostrophe, b'\'', state),
-        LexemeKind::HeaderName => quoted_text(tokens, ahead, Region::HeaderName, b'>', state),
-        LexemeKind::LineEnd => line_end(tokens, ahead, state),
-        LexemeKind::White => white_space(tokens, ahead, state),
-        LexemeKind::Word => word(tokens, ahead, state),
+        LexemeKind::BlockComment => block_comment(tokens, reader, state),
+        LexemeKind::LineComment => line_comment(tokens, reader, state),
+        LexemeKind::DoubleQuote => quoted_text(tokens, reader, Region::DoubleQuote, b'"', state),
+        LexemeKind::Apostrophe => quoted_text(tokens, reader, Region::Apostrophe, b'\'', state),
+        LexemeKind::HeaderName => quoted_text(tokens, reader, Region::HeaderName, b'>', state),
+        LexemeKind::LineEnd => line_end(tokens, reader, state),
+        LexemeKind::White => white_space(tokens, reader, state),
+        LexemeKind::Word => word(tokens, reader, state),
         LexemeKind::Other => {
-            let after = state.after_sign(ahead.byte());
-            sign(tokens, ahead, Unit::One, after)
+            let after = state.after_sign(reader.byte());
+            sign(tokens, reader, Unit::One, after)
         }
     }
 }
@@ -283,31 +283,31 @@ fn c_text(
 fn macro_code(
     source: &Source,
     buffers: &mut LexerBuffers,
-    ahead: &mut Reader,
+    reader: &mut Reader,
     state: LexerState,
     code: ControlCode,
 ) -> Result<LexerState, AllocError>
-    requires byte { IsSome (byte_at 0 ahead.old) }
+    requires byte { IsSome (byte_at 0 reader.old) }
     requires occurrences { state.occurrences ≡ length buffers.old.occurrences.items }
     ensures { IfOk result (λ after. ReadsLexeme source.now.lines buffers.old buffers.new
-        ahead.old ahead.new after (spec.macro_code code state ahead.old)) }
+        reader.old reader.new after (spec.macro_code code state reader.old)) }
 {
     match code {
         ControlCode::Macro | ControlCode::UnnamedPart => {
-            documentation_code(source, buffers, ahead, state, code)
+            documentation_code(source, buffers, reader, state, code)
         }
         ControlCode::Name => {
             let state = state.in_mode(Mode::Documentation);
-            documentation_code(source, buffers, ahead, state, code)
+            documentation_code(source, buffers, reader, state, code)
         }
         ControlCode::Format => {
-            ahead.pass(Unit::Two);
+            reader.pass(Unit::Two);
             Ok(state.in_mode(Mode::Documentation))
         }
         ControlCode::AllMacros => {
-            code_fault(&mut buffers.tokens, ahead, FaultKind::MisplacedH, state)
+            code_fault(&mut buffers.tokens, reader, FaultKind::MisplacedH, state)
         }
-        _ => c_code(&mut buffers.tokens, ahead, state, code),
+        _ => c_code(&mut buffers.tokens, reader, state, code),
     }
 }
 
@@ -316,31 +316,31 @@ fn macro_code(
 pub fn step(
     source: &Source,
     buffers: &mut LexerBuffers,
-    ahead: &mut Reader,
+    reader: &mut Reader,
     state: LexerState,
     front: Front,
 ) -> Result<LexerState, AllocError>
-    requires front { IsFront ahead.old front }
+    requires front { IsFront reader.old front }
     requires occurrences { state.occurrences ≡ length buffers.old.occurrences.items }
     ensures { IfOk result (λ after. ReadsLexeme source.now.lines buffers.old buffers.new
-        ahead.old ahead.new after (spec.lexeme state ahead.old)) }
+        reader.old reader.new after (spec.lexeme state reader.old)) }
 {
     match state.mode {
-        Mode::Limbo => limbo(&mut buffers.tokens, ahead, state, front),
+        Mode::Limbo => limbo(&mut buffers.tokens, reader, state, front),
         Mode::Documentation => {
             if holds(b'@', front.byte) {
-                return documentation_code(source, buffers, ahead, state, code_at(front.next));
+                return documentation_code(source, buffers, reader, state, code_at(front.next));
             }
-            prose(ahead);
+            prose(reader);
             Ok(state)
         }
         Mode::CPart => {
             let lexeme_kind = kind_by(state.include, front.byte, front.next);
-            c_text(source, buffers, ahead, state, lexeme_kind)
+            c_text(source, buffers, reader, state, lexeme_kind)
         }
         Mode::Macro => match kind_by(state.include, front.byte, front.next) {
-            LexemeKind::Control(code) => macro_code(source, buffers, ahead, state, code),
-            lexeme_kind => c_text(source, buffers, ahead, state, lexeme_kind),
+            LexemeKind::Control(code) => macro_code(source, buffers, reader, state, code),
+            lexeme_kind => c_text(source, buffers, reader, state, lexeme_kind),
         },
     }
 }

@@ -1,17 +1,14 @@
 -- The resolution of the names depends only on how the occurrences are written.
 use Rattle.std.proofs.Common.{◌≡◌, ◌<◌, ◌+◌, ◌∙◌, ◌&&◌, ℕ, Bool, true, false, cond, not, List, [], ◌∷◌, length, map}
-use Rattle.std.proofs.Common.{filter, get_or, refl, ap, sym, subst, Some, None, position}
+use Rattle.std.proofs.Common.{filter, get_or, refl, ap, sym, Some, None, position}
 use Rattle.std.specs.Prelude.{nat_lt}
 use Rattle.std.specs.List.{position_or_len}
 use Rattle.std.proofs.lemmas.List.{get_or-map, length-map}
 use Rattle.std.proofs.lemmas.Simd.{map-map}
-use Rattle.tangle_faults.specs.Faults.{FaultRead}
 use Rattle.tangle_lexer.specs.declared.occurrences.OccurrenceRole.TheVariants.{Mention}
 use Rattle.tangle_lexer.specs.Occurrences.{OccurrenceRead}
 use Rattle.tangle_names.specs.Names.{NameText, full_names, meaning, means}
-use Rattle.tangle_names.specs.NameTable.{AreWrittenAlike, TableRead, table_over, written_form}
-use Rattle.tangle_names.specs.declared.resolution.Resolution.{Resolution}
-use Rattle.tangle_names.specs.Resolution.{IsResolutionOf, ResolutionInvariant, table_read}
+use Rattle.tangle_names.specs.NameTable.{AreWrittenAlike, table_over, written_form}
 use Rattle.tangle_names.specs.Resolving.{first_file_number, first_number, names_in_order, names_of, resolve}
 use Rattle.tangle_names.specs.Resolving.{resolved_meaning}
 
@@ -79,13 +76,12 @@ module _ (os : List OccurrenceRead) where
       (λ i. position (λ (o : OccurrenceRead). o.is_file && means name (meaning (full-bare os i) o)) (map bare os))
       ∙ position-map (λ (o : OccurrenceRead). o.is_file && means name (meaning (full_names os) o)) bare os
 
-  table-bare : (faults : List FaultRead) → table_over (map bare os) faults ≡ table_over os faults
-  table-bare faults = λ i. record {
+  table-bare : table_over (map bare os) ≡ table_over os
+  table-bare = λ i. record {
     names = names-bare i;
     resolved = resolved-bare i;
     first_occurrences = map (λ (name : NameText). first-bare name i) (names-bare i);
     first_file_occurrences = map (λ (name : NameText). first_file-bare name i) (names-bare i);
-    faults = faults;
   }
 
 bare-alike : (old new : List OccurrenceRead) → AreWrittenAlike old new → map bare old ≡ map bare new
@@ -93,10 +89,8 @@ unfolding bare
 bare-alike old new alike =
     sym (map-map plain written_form old) ∙ (ap (map plain) alike ∙ map-map plain written_form new)
 
-pub table-alike : (old new : List OccurrenceRead) (faults : List FaultRead)
-    → AreWrittenAlike old new → table_over old faults ≡ table_over new faults
-table-alike old new faults alike =
-    sym (table-bare old faults) ∙ (ap (λ os. table_over os faults) (bare-alike old new alike) ∙ table-bare new faults)
+pub table-alike : (old new : List OccurrenceRead) → AreWrittenAlike old new → table_over old ≡ table_over new
+table-alike old new alike = sym (table-bare old) ∙ (ap table_over (bare-alike old new alike) ∙ table-bare new)
 
 pub alike-at : (old new : List OccurrenceRead) (i : ℕ) (o n : OccurrenceRead)
     → AreWrittenAlike old new → i < length old → i < length new → o ≡ get_or old i o → n ≡ get_or new i n
@@ -105,13 +99,3 @@ alike-at old new i o n alike h g at by =
     ap written_form at
     ∙ (sym (get_or-map written_form old i o (written_form o) h) ∙ (ap (λ ws. get_or ws i (written_form o)) alike
     ∙ (get_or-map written_form new i n (written_form o) g ∙ ap written_form (sym by))))
-
--- the resolution of occurrences that are written the same
-pub kept-alike : (old new : List OccurrenceRead) (r s : Resolution) (faults others : List FaultRead)
-    → table_read r faults ≡ table_over old others → ResolutionInvariant r → s ≡ r
-    → AreWrittenAlike old new → IsResolutionOf new s
-kept-alike old new r s faults others table kept same alike =
-    subst (IsResolutionOf new) (sym same) (record {
-      table = ap (λ (t : TableRead). record t { faults = [] }) table ∙ table-alike old new [] alike;
-      kept = kept;
-    })

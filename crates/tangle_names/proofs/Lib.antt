@@ -3,7 +3,7 @@ pub mod ContainsLemmas
 pub mod FirstLemmas
 mod KeptLemmas
 mod KeyLemmas
-mod LawLemmas
+pub mod LawLemmas
 mod MeaningLemmas
 mod NumberLemmas
 mod OrderLemmas

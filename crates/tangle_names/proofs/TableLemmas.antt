@@ -15,13 +15,12 @@ use Rattle.std.proofs.Math.Bool.{and-false}
 use Rattle.std.proofs.lemmas.Simd.{map-map}
 use Rattle.tangle_names.specs.declared.first_numbers.Counted.TheVariants.{All, Files}
 use Rattle.tangle_names.specs.declared.Resolved.{Resolved}
-use Rattle.tangle_faults.specs.Faults.{FaultRead}
 use Rattle.tangle_lexer.specs.Occurrences.{OccurrenceRead}
 use Rattle.tangle_names.specs.Names.{NameText, Meaning, Nothing, One, Several, full_names, meaning, means, only_with}
 use Rattle.tangle_names.specs.Names.{prefix, begins_with}
 use Rattle.tangle_names.specs.Resolving.{meanings, names_of, names_in_order, resolve, resolved_meaning, resolves_to}
 use Rattle.tangle_names.specs.Resolving.{with_name, first_file_number, first_number}
-use Rattle.tangle_names.specs.Faults.{begins_another, faults}
+use Rattle.tangle_names.specs.Faults.{begins_another}
 use Rattle.tangle_names.specs.Numbers.{begins_another_by_number, first_by_number, is_number, number_below}
 use Rattle.tangle_names.specs.Sorted.{SameTexts}
 use Rattle.tangle_names.specs.NameTable.{table_over}
@@ -240,7 +239,7 @@ resolved_are os ms texts rs came named is =
     ∙ map-map (resolved_meaning (names_in_order os)) (meaning (full_names os)) os)
 
 pub table_is : (os : List OccurrenceRead) (names : List NameText) (rs : List Resolved)
-    (first_occurrences : List ℕ) (first_file_occurrences : List (Option ℕ)) (faults : List FaultRead)
+    (first_occurrences : List ℕ) (first_file_occurrences : List (Option ℕ))
     → names ≡ names_in_order os
     → rs ≡ map (resolve os) os → first_occurrences ≡ map (first_number os) (names_in_order os)
     → first_file_occurrences ≡ map (first_file_number os) (names_in_order os)
@@ -249,7 +248,6 @@ pub table_is : (os : List OccurrenceRead) (names : List NameText) (rs : List Res
       resolved = rs;
       first_occurrences = first_occurrences;
       first_file_occurrences = first_file_occurrences;
-      faults = faults;
-    } ≡ table_over os faults
-table_is os names rs first_occurrences first_file_occurrences faults a b c d =
-    λ i. record { names = a i; resolved = b i; first_occurrences = c i; first_file_occurrences = d i; faults = faults }
+    } ≡ table_over os
+table_is os names rs first_occurrences first_file_occurrences a b c d =
+    λ i. record { names = a i; resolved = b i; first_occurrences = c i; first_file_occurrences = d i }

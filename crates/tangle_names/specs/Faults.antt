@@ -45,6 +45,6 @@ prefix_fault web name = if begins_another (full_names web.occurrences) name
 
 -- all faults of names: those of the occurrences in their order, and then those of the names in
 -- their order
-abbrev pub faults : WebRead → List FaultRead
-faults web = resolution_faults web.file_names (resolve web.occurrences) web.occurrences
+abbrev pub name_faults : WebRead → List FaultRead
+name_faults web = resolution_faults web.file_names (resolve web.occurrences) web.occurrences
     ++ flat_map (prefix_fault web) (names_in_order web.occurrences)

@@ -1,22 +1,20 @@
 -- The parts of a web's names that depend on no origin. Only private contracts cite these
 -- definitions.
-use Rattle.std.specs.Prelude.{◌≡◌, List, [], length, map}
-use Rattle.tangle_faults.specs.Faults.{FaultRead}
+use Rattle.std.specs.Prelude.{◌≡◌, List, length, map}
 use Rattle.tangle_lexer.specs.Occurrences.{OccurrenceRead}
 use Rattle.tangle_names.specs.declared.resolution.Resolution.{Resolution}
 use Rattle.tangle_names.specs.Faults.{begins_another}
 use Rattle.tangle_names.specs.NameTable.{TableRead, table_over}
 use Rattle.tangle_names.specs.Numbers.{is_unresolved, key_texts, number_below, numbers_from}
 
--- a resolution, with these faults, as a table
-abbrev pub table_read : Resolution → List FaultRead → TableRead
-table_read r faults = record {
+-- a resolution as a table
+abbrev pub table_read : Resolution → TableRead
+table_read r = record {
   names = key_texts r.names.keys;
   resolved = r.resolved.items;
   first_occurrences = r.first_occurrences.items;
   first_file_occurrences =
       map (number_below (length r.resolved.items)) r.first_file_occurrences.items;
-  faults = faults;
 }
 
 -- The other numbers follow from the names and from the resolution of the occurrences: each name has
@@ -31,5 +29,5 @@ pub record ResolutionInvariant (r : Resolution) : Type 0 where
 
 -- the resolution is that of the occurrences
 pub record IsResolutionOf (os : List OccurrenceRead) (r : Resolution) : Type 0 where
-  pub table : table_read r [] ≡ table_over os []
+  pub table : table_read r ≡ table_over os
   pub kept : ResolutionInvariant r

@@ -1,7 +1,7 @@
 //! The faults of names.
 ghost use Rattle.std.specs.Prelude.{◌≡◌, ◌<◌, ◌++◌, ◌∷◌, [], All, IfOk, OnOk, flat_map, length};
 ghost use Rattle.tangle_faults.specs.Faults.{fault_about};
-ghost use Rattle.tangle_names.specs.Faults.{faults, resolution_fault, named_place_of};
+ghost use Rattle.tangle_names.specs.Faults.{name_faults, named_place_of, resolution_fault};
 ghost use Rattle.tangle_names.specs.Numbers.{fault_of_number, key_texts};
 ghost use Rattle.tangle_names.specs.Numbers.{warning, warning_of_number};
 ghost use Rattle.tangle_names.specs.Resolution.{IsResolutionOf};
@@ -130,7 +130,7 @@ pub(crate) fn faults(
     resolution: &Resolution,
 ) -> Result<Vec<Fault>, NoMemory>
     requires { IsResolutionOf web.now.occurrences resolution.now }
-    ensures { IfOk result (λ v. v.items ≡ faults web.now) }
+    ensures { IfOk result (λ v. v.items ≡ name_faults web.now) }
 {
     let mut faults = Vec::new(alloc);
     let resolved = &resolution.resolved;

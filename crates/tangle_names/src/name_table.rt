@@ -14,17 +14,15 @@ use crate::names::Names;
 use crate::resolution::{Resolution, are_written_alike};
 use std::alloc::Global;
 use std::marker::Model;
-use std::mem::replace;
 use std::rc::Rc;
 use tangle_lines::{Fault, NoMemory};
 use tangle_scan::{Occurrence, Web};
 
-/// The full names of a web, the resolution of each occurrence, and the faults of names.
+/// The full names of a web, and the resolution of each occurrence.
 #[derive(Drop)]
 pub struct NameTable {
     // Tables of webs whose occurrences are written the same share it. It never changes.
     resolution: Rc<Resolution>,
-    faults: Vec<Fault>,
 }
 
 impl Model for NameTable {
@@ -33,14 +31,14 @@ impl Model for NameTable {
 
     ghost Value = { TableRead };
 
-    ghost view = { λ t. table_read t.resolution.value t.faults.items };
+    ghost view = { λ t. table_read t.resolution.value };
 
     ghost invariant = { λ t. ResolutionInvariant t.resolution.value };
 }
 
 impl NameTable {
+    ghost use Rattle.tangle_names.specs.Faults.{name_faults};
     ghost use Rattle.tangle_names.specs.NameTable.{table_of, table_over};
-    ghost use Rattle.tangle_names.specs.Resolution.{IsResolutionOf};
 
     /// The table of a web's names. A name that ends in three dots is an abbreviation; the others
     /// are full names, also those that are only mentioned. An abbreviation resolves to the one full
@@ -54,12 +52,14 @@ impl NameTable {
         ensures { IfOk result (λ table. table ≡ table_of web.now) }
     {
         let resolution = Resolution::build(alloc, web.occurrences())?;
-        NameTable::over(alloc, web, Rc::new(alloc, resolution)?)
+        Ok(NameTable {
+            resolution: Rc::new(alloc, resolution)?,
+        })
     }
 
     /// The same table as [`NameTable::build`] makes, built from the table and the occurrences of an
     /// older web. If each new occurrence is written as the old one with its number, the resolution
-    /// is shared with the old table, without sorting and look-ups. The faults are made again.
+    /// is shared with the old table, without sorting and look-ups.
     ///
     /// # Errors
     ///
@@ -70,23 +70,16 @@ impl NameTable {
         old: &NameTable,
         old_occurrences: &[Occurrence],
     ) -> Result<NameTable, NoMemory>
-        requires { old.now ≡ table_over old_occurrences.now old.now.faults }
+        requires { old.now ≡ table_over old_occurrences.now }
         ensures { IfOk result (λ table. table ≡ table_of web.now) }
     {
         if are_written_alike(old_occurrences, web.occurrences()) {
-            NameTable::over(alloc, web, old.resolution.clone()?)
+            Ok(NameTable {
+                resolution: old.resolution.clone()?,
+            })
         } else {
             NameTable::build(alloc, web)
         }
-    }
-
-    /// Makes the table of a web with this resolution.
-    fn over(alloc: Global, web: &Web, resolution: Rc<Resolution>) -> Result<NameTable, NoMemory>
-        requires { IsResolutionOf web.now.occurrences resolution.value }
-        ensures { IfOk result (λ table. table ≡ table_of web.now) }
-    {
-        let faults = faults(alloc, web, &resolution)?;
-        Ok(NameTable { resolution, faults })
     }
 
     /// The resolution of the occurrence with this number: its full name, or why it has none.
@@ -184,21 +177,17 @@ impl NameTable {
         Ok(first_numbers(alloc, occurrences, resolved, self.count(), counted)?)
     }
 
-    /// The faults of names: first those of occurrences that resolve to no full name or to several,
-    /// in the order of the occurrences; then the warnings for full names that begin others, in the
-    /// order of the names, each at its name's first occurrence.
-    pub fn faults(&self) -> &[Fault]
-        ensures { result.now ≡ self.now.faults }
+    /// The faults of names of the table's web: first those of occurrences that resolve to no full
+    /// name or to several, in the order of the occurrences; then the warnings for full names that
+    /// begin others, in the order of the names, each at its name's first occurrence.
+    ///
+    /// # Errors
+    ///
+    /// `NoMemory` where an allocation failed.
+    pub fn faults(&self, alloc: Global, web: &Web) -> Result<Vec<Fault>, NoMemory>
+        requires { self.now ≡ table_of web.now }
+        ensures { IfOk result (λ faults. faults.items ≡ name_faults web.now) }
     {
-        self.faults.as_slice()
-    }
-
-    /// Takes the faults out of the table, which then has none.
-    pub fn take_faults(&mut self) -> Vec<Fault>
-        ensures taken { result.items ≡ self.old.faults }
-        ensures others { self.new ≡ record self.old { faults = [] } }
-    {
-        let alloc = *self.faults.allocator();
-        replace(&mut self.faults, Vec::new(alloc))
+        faults(alloc, web, &self.resolution)
     }
 }

@@ -42,10 +42,7 @@ impl Names {
     pub fn share(&self) -> Result<Names, NoMemory>
         ensures { IfOk result (λ names. names ≡ self.now) }
     {
-        match self.resolution.clone() {
-            Ok(resolution) => Ok(Names { resolution }),
-            Err(_) => Err(NoMemory),
-        }
+        Ok(Names::new(self.resolution.clone()?))
     }
 
     /// The number of names.

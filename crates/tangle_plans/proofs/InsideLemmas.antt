@@ -8,7 +8,10 @@ use Rattle.tangle_names.specs.declared.Resolved.TheVariants.{Name, NoFullName, A
 use Rattle.tangle_names.specs.Names.{full_names, prefix}
 use Rattle.tangle_names.specs.Resolving.{names_in_order, resolve}
 use Rattle.tangle_names.specs.Laws.{ResolvesFull, ResolvesPrefix}
-use Rattle.tangle_plans.specs.WebShapes.{IsNameBelow}
+use Rattle.tangle_names.specs.NameTable.{table_of}
+use Rattle.tangle_names.proofs.LawLemmas.{full_law, prefix_law}
+use Rattle.tangle_scan.specs.Web.{WebRead}
+use Rattle.tangle_plans.specs.WebShapes.{IsNameBelow, ResolvesInside}
 
 full_inside : (names : List (List ℕ)) (name : List ℕ) (r : Resolved)
     → ResolvesFull names name r → IsNameBelow (length names) r
@@ -22,19 +25,17 @@ prefix_inside names full p (Name id) h = h.1.inside
 prefix_inside names full p NoFullName h = tt
 prefix_inside names full p Ambiguous h = tt
 
-pub all_inside : (os : List OccurrenceRead)
-    → ((o : OccurrenceRead)
-    → Contains os o → o.is_abbreviation ≡ false → ResolvesFull (names_in_order os) o.text (resolve os o))
-    → ((o : OccurrenceRead) → Contains os o → o.is_abbreviation ≡ true
-    → ResolvesPrefix (names_in_order os) (full_names os) (prefix o.text) (resolve os o))
-    → (occurrence : ℕ)
-    → IsNameBelow (length (names_in_order os)) (slice_index_or (map (resolve os) os) occurrence NoFullName)
-all_inside os full abbreviated occurrence = at os occurrence (λ o h. by o h o.is_abbreviation refl)
+-- the table of a web has each name to which an occurrence resolves
+pub table_inside : (web : WebRead) → ResolvesInside (table_of web)
+table_inside web occurrence = at os occurrence (λ o h. by o h o.is_abbreviation refl)
   where
+    os : List OccurrenceRead
+    os = web.occurrences
+
     by : (o : OccurrenceRead) → Contains os o → (t : Bool)
         → o.is_abbreviation ≡ t → IsNameBelow (length (names_in_order os)) (resolve os o)
-    by o h true e = prefix_inside (names_in_order os) (full_names os) (prefix o.text) (resolve os o) (abbreviated o h e)
-    by o h false e = full_inside (names_in_order os) o.text (resolve os o) (full o h e)
+    by o h true e = prefix_inside (names_in_order os) (full_names os) (prefix o.text) (resolve os o) (prefix_law os o h e)
+    by o h false e = full_inside (names_in_order os) o.text (resolve os o) (full_law os o h e)
 
     at : (xs : List OccurrenceRead) (i : ℕ)
         → ((o : OccurrenceRead) → Contains xs o → IsNameBelow (length (names_in_order os)) (resolve os o))

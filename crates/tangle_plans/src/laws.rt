@@ -6,14 +6,10 @@ ghost use Rattle.tangle_plans.specs.Tags.{shape_tags, shape_bytes, shape_names};
 ghost use Rattle.tangle_plans.specs.Shapes.{Shape};
 ghost use Rattle.tangle_plans.specs.WebShapes.{ResolvesInside};
 
-use tangle_names::occurrences_resolve_by_the_whole_web;
-
 /// Each occurrence of a web that resolves to a name resolves to one in the web's table.
 pub fn names_resolve_inside()
     ensures { (web : WebRead) → ResolvesInside (table_of web) }
-{
-    occurrences_resolve_by_the_whole_web();
-}
+{}
 
 /// Two shapes are equal if the tags of their items, their bytes and the names of their uses are.
 pub fn tags_settle_the_shape()

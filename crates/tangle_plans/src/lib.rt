@@ -1,7 +1,7 @@
 //! The bodies of the nodes of a web, with the plans of their symbols, and their shapes.
 //!
 //! A node is a full name or the unnamed program. [`plan_node`] makes its body, a [`NodeBody`];
-//! [`has_items_of`] compares a body with pieces, and [`same_shape`] compares two bodies.
+//! [`has_items_of`] compares a body with pieces, and [`NodeBody::has_shape_of`] two bodies.
 #![tactic(auto)]
 
 mod comparing;
@@ -16,7 +16,6 @@ mod tags;
 
 pub use comparing::has_items_of;
 pub use laws::{names_resolve_inside, tags_settle_the_shape};
-pub use nodes::{Node, NodeBody, PiecesByNode};
+pub use nodes::{Node, NodeBody};
 pub use planning::{Planning, plan_node};
-pub use shapes::same_shape;
 pub use steps::{Step, bytes_after_step, marks_after_step, pieces_after_step};

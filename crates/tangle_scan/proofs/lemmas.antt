@@ -1,6 +1,6 @@
 pub mod TextLemmas
 pub mod Gaps
-pub mod GatheringLemmas
+pub mod WebBuilderLemmas
 pub mod ItemsByOrigin
 pub mod MacroItemLemmas
 pub mod PartLemmas

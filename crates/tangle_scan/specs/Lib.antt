@@ -1,7 +1,7 @@
 pub mod Rules
 pub mod Passes
 pub mod Web
-pub mod Gathering
+pub mod WebBuilder
 pub mod SourceOrder
 pub mod WellFormed
 pub mod LineTruth

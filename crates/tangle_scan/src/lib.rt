@@ -2,7 +2,6 @@
 #![tactic(auto)]
 
 mod apart;
-mod gathering;
 mod items;
 mod kept_bytes;
 mod line_truth;
@@ -13,6 +12,7 @@ mod rare_parts;
 mod scanning;
 mod spacing;
 mod touching;
+mod web_builder;
 mod webs;
 
 pub use apart::what_is_apart_stays_apart;

@@ -8,9 +8,9 @@ ghost use Rattle.tangle_scan.specs.SourceOrder.{SpansAreInOrder};
 ghost use Rattle.tangle_scan.specs.LineTruth.{PiecesAreAtTheirLines};
 ghost use Rattle.tangle_scan.specs.Apart.{StaysApart};
 ghost use Rattle.tangle_scan.specs.WellFormed.{IsWellFormed};
-ghost use Rattle.tangle_scan.specs.Gathering.{nothing, gathering_with};
+ghost use Rattle.tangle_scan.specs.WebBuilder.{nothing, builder_with};
 
-use crate::gathering::{Gathering, MacroBuffer};
+use crate::web_builder::{MacroBuffer, WebBuilder};
 use crate::webs::Web;
 use std::alloc::Global;
 use tangle_lexer::{LexerBuffers, Occurrence, first_state, next_block};
@@ -18,29 +18,29 @@ use tangle_lines::{NoMemory, Source};
 use tangle_text::Reader;
 
 /// Gathers the pieces, macros and faults of a source, and the occurrences of its names.
-fn gather(alloc: Global, source: &Source) -> Result<(Gathering, Vec<Occurrence>), NoMemory>
+fn gather(alloc: Global, source: &Source) -> Result<(WebBuilder, Vec<Occurrence>), NoMemory>
     requires { length (text_from 0 source.now.lines) + 1 < 2 ^ 64 }
-    ensures gathering { IfOk result
-        (λ r. r.0 ≡ gathering_with source.now nothing (all_tokens source.now.lines)) }
+    ensures builder { IfOk result
+        (λ r. r.0 ≡ builder_with source.now nothing (all_tokens source.now.lines)) }
     ensures occurrences { IfOk result
         (λ r. r.1.items ≡ map (occurrence_of source.now.lines) (all_occurrences source.now.lines)) }
 {
-    let mut gathering = Gathering::new(alloc);
+    let mut builder = WebBuilder::new(alloc);
     let mut macro_buffer = MacroBuffer::new(alloc);
     let mut buffers = LexerBuffers {
         tokens: Vec::new(alloc),
         occurrences: Vec::new(alloc),
     };
-    let mut ahead = Reader::new(source);
+    let mut reader = Reader::new(source);
     let first = first_state(source);
-    let (mut state, mut next_head) = next_block(source, &mut buffers, &mut ahead, first)?;
-    gathering.add_front(alloc, source, &buffers.tokens)?;
+    let (mut state, mut next_head) = next_block(source, &mut buffers, &mut reader, first)?;
+    builder.add_front(alloc, source, &buffers.tokens)?;
     // One block of tokens is held at a time, in buffers that each block uses again.
     while let Some(head) = next_head {
-        (state, next_head) = next_block(source, &mut buffers, &mut ahead, state)?;
-        gathering.add_block(alloc, source, &mut macro_buffer, head, &buffers.tokens)?;
+        (state, next_head) = next_block(source, &mut buffers, &mut reader, state)?;
+        builder.add_block(alloc, source, &mut macro_buffer, head, &buffers.tokens)?;
     }
-    Ok((gathering, buffers.occurrences))
+    Ok((builder, buffers.occurrences))
 }
 
 /// Proves that the text of a source is short: at most 2,000,000 lines, each of at most 65,535 bytes
@@ -80,6 +80,6 @@ pub fn scan<'s, 'a>(alloc: Global, source: &'s Source<'a>) -> Result<Web<'s, 'a>
 {
     // The count of sections cannot overflow, since each section has a byte of the text.
     text_is_short(source);
-    let (gathering, occurrences) = gather(alloc, source)?;
-    Ok(Web::new(source, gathering, occurrences))
+    let (builder, occurrences) = gather(alloc, source)?;
+    Ok(Web::new(source, builder, occurrences))
 }

@@ -4,10 +4,10 @@ ghost use Rattle.tangle_files.specs.Adding.{most_files};
 ghost use Rattle.tangle_scan.specs.Rules.{span_text};
 ghost use Rattle.tangle_scan.specs.SourceOrder.{IsSpan};
 ghost use Rattle.tangle_scan.specs.WellFormed.{IsWellFormed};
-ghost use Rattle.tangle_scan.specs.Gathering.{web_from};
+ghost use Rattle.tangle_scan.specs.WebBuilder.{web_from};
 
-use crate::gathering::Gathering;
 use crate::pieces::{Macro, Piece};
+use crate::web_builder::WebBuilder;
 use std::marker::Model;
 use tangle_lexer::Occurrence;
 use tangle_lines::{Fault, Origin, Source};
@@ -19,35 +19,35 @@ use tangle_text::Span;
 #[derive(Drop)]
 pub struct Web<'s, 'a> {
     source: &'s Source<'a>,
-    gathering: Gathering,
+    builder: WebBuilder,
     occurrences: Vec<Occurrence>,
 }
 
 impl<'s, 'a> Model for Web<'s, 'a> {
     ghost use Rattle.tangle_scan.specs.Web.{WebRead};
-    ghost use Rattle.tangle_scan.specs.Gathering.{web_from};
+    ghost use Rattle.tangle_scan.specs.WebBuilder.{web_from};
     ghost use Rattle.tangle_scan.specs.WellFormed.{IsWellFormed};
 
     ghost Value = { WebRead };
 
-    ghost view = { λ w. web_from w.source.now w.gathering w.occurrences.items };
+    ghost view = { λ w. web_from w.source.now w.builder w.occurrences.items };
 
-    ghost invariant = { λ w. IsWellFormed (web_from w.source.now w.gathering w.occurrences.items) };
+    ghost invariant = { λ w. IsWellFormed (web_from w.source.now w.builder w.occurrences.items) };
 }
 
 impl<'s, 'a> Web<'s, 'a> {
     /// The web of a source, from what was gathered of the source and from its occurrences.
     pub(crate) fn new(
         source: &'s Source<'a>,
-        gathering: Gathering,
+        builder: WebBuilder,
         occurrences: Vec<Occurrence>,
     ) -> Self
-        requires { IsWellFormed (web_from source.now gathering occurrences.items) }
-        ensures { result ≡ web_from source.now gathering occurrences.items }
+        requires { IsWellFormed (web_from source.now builder occurrences.items) }
+        ensures { result ≡ web_from source.now builder occurrences.items }
     {
         Web {
             source,
-            gathering,
+            builder,
             occurrences,
         }
     }
@@ -56,7 +56,7 @@ impl<'s, 'a> Web<'s, 'a> {
     pub fn section_count(&self) -> usize
         ensures { result ≡ self.now.sections }
     {
-        self.gathering.sections
+        self.builder.sections
     }
 
     /// The pieces, in the order of the source. A use in a piece has the number of an occurrence,
@@ -65,7 +65,7 @@ impl<'s, 'a> Web<'s, 'a> {
         ensures pieces { result.now ≡ self.now.pieces }
         ensures well_formed { IsWellFormed self.now }
     {
-        self.gathering.pieces.as_slice()
+        self.builder.pieces.as_slice()
     }
 
     /// The macros, in the order of the source, without those that are dropped since they do not
@@ -74,7 +74,7 @@ impl<'s, 'a> Web<'s, 'a> {
         ensures macros { result.now ≡ self.now.macros }
         ensures well_formed { IsWellFormed self.now }
     {
-        self.gathering.macros.as_slice()
+        self.builder.macros.as_slice()
     }
 
     /// The occurrences of section names, in the order of the source.
@@ -89,14 +89,14 @@ impl<'s, 'a> Web<'s, 'a> {
     pub fn has_defs_code(&self) -> bool
         ensures { result ≡ self.now.has_all_macros }
     {
-        self.gathering.has_all_macros
+        self.builder.has_all_macros
     }
 
     /// The faults of scanning, in the order of the text.
     pub fn faults(&self) -> &[Fault]
         ensures { result.now ≡ self.now.faults }
     {
-        self.gathering.faults.as_slice()
+        self.builder.faults.as_slice()
     }
 
     /// Consumes the web and returns its occurrences and its faults.
@@ -104,8 +104,8 @@ impl<'s, 'a> Web<'s, 'a> {
         ensures occurrences { result.0.items ≡ self.entry.occurrences }
         ensures faults { result.1.items ≡ self.entry.faults }
     {
-        let gathering = self.gathering;
-        (self.occurrences, gathering.faults)
+        let builder = self.builder;
+        (self.occurrences, builder.faults)
     }
 
     /// The text of an item with this span, which is that range of the source.

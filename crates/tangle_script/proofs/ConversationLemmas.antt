@@ -1,9 +1,8 @@
 -- Dialogues that follow each other.
-use Rattle.std.proofs.Common.{◌≡◌, ◌∙◌, ℕ, ◌<◌, ◌≤◌, ◌-◌, drop, length-append, Bool, true, false, length, take, List}
-use Rattle.std.proofs.Common.{[], ◌∷◌, ◌++◌, Option, Some, None, ap, subst, sym, refl, append_assoc, append-nil, arith}
+use Rattle.std.proofs.Common.{◌≡◌, ◌∙◌, ℕ, ◌<◌, Bool, true, false, length, take, List}
+use Rattle.std.proofs.Common.{[], ◌∷◌, ◌++◌, Option, Some, None, ap, subst, sym, refl, append_assoc, append-nil}
 use Rattle.std.specs.Io.KnownBytes.{Appends}
 use Rattle.std.specs.Prelude.{◌||◌}
-use Rattle.std.proofs.Math.Seq.{drop-append_seam}
 use Rattle.std.proofs.Math.Bool.{or-false}
 use Rattle.tangle_streams.specs.Streams.{Failed}
 use Rattle.tangle_streams.proofs.StreamLemmas.{Appends-append, Appends-none}
@@ -26,16 +25,6 @@ pub found_one : (line : List ℕ) (text : Option (List ℕ)) → is_no_command l
 found_one [] None h = absurd (cc)
 found_one (b ∷ bs) None h = refl
 found_one line (Some text) h = refl
-
-pub found_none : (line : List ℕ) (text : Option (List ℕ)) → is_no_command line text ≡ true
-    → found_commands line text ≡ []
-found_none [] None h = refl
-found_none (b ∷ bs) None h = absurd (cc)
-found_none line (Some text) h = absurd (by line h)
-  where
-    by : (l : List ℕ) → is_no_command l (Some text) ≡ true → ⊥
-    by [] h = cc
-    by (b ∷ bs) h = cc
 
 pub found_has : (line : List ℕ) (text : Option (List ℕ)) (r : Request)
     → is_no_command line text ≡ false → r ≡ request_of (record { line = line; text = text })
@@ -152,37 +141,38 @@ module _ {State : Type 0} (answers : State → Request → List ℕ → State �
 
   -- one command
 
-  pub one_answered : (a b : Exchange State) (c : Command) (reply : List ℕ)
-      → Replies answers a.state (request_of c) reply b.state
-      → Appends a.stream.taken b.stream.taken reply × (b.stream.failures ≡ a.stream.failures)
-      → AreAnswered answers a b (c ∷ [])
-  one_answered a b c reply h k = record {
-    output = reply;
-    answered = (reply, [], b.state, h, (refl, refl), sym (append-nil reply));
-    written = k.0;
-    failures = k.1;
-  }
+  module _ (a b : Exchange State) (commands : List Command) (c : Command) (r : Request) (reply : List ℕ)
+      (one : commands ≡ c ∷ []) (asked : r ≡ request_of c) (h : Replies answers a.state r reply b.state) where
+    replied : Replies answers a.state (request_of c) reply b.state
+    replied = subst (λ q. Replies answers a.state q reply b.state) asked h
 
-  pub one_cut : (a b : Exchange State) (c : Command) (reply : List ℕ)
-      → Replies answers a.state (request_of c) reply b.state
-      → (n : ℕ) × (n < length reply) × Appends a.stream.taken b.stream.taken (take n reply)
-      × Failed a.stream.failures b.stream.failures → IsCut answers a b (c ∷ [])
-  one_cut a b c reply h k = record {
-    front = [];
-    last = c;
-    later = [];
-    are = refl;
-    no_quit = refl;
-    before = a.state;
-    output = [];
-    answer = reply;
-    answered = (refl, refl);
-    cut = h;
-    count = k.0;
-    within = k.1;
-    written = k.2;
-    failed = k.3;
-  }
+    pub one_answered : Appends a.stream.taken b.stream.taken reply × (b.stream.failures ≡ a.stream.failures)
+        → AreAnswered answers a b commands
+    one_answered k = subst (AreAnswered answers a b) (sym one) (record {
+      output = reply;
+      answered = (reply, [], b.state, replied, (refl, refl), sym (append-nil reply));
+      written = k.0;
+      failures = k.1;
+    })
+
+    pub one_cut : (n : ℕ) × (n < length reply) × Appends a.stream.taken b.stream.taken (take n reply)
+        × Failed a.stream.failures b.stream.failures → IsCut answers a b commands
+    one_cut k = subst (IsCut answers a b) (sym one) (record {
+      front = [];
+      last = c;
+      later = [];
+      are = refl;
+      no_quit = refl;
+      before = a.state;
+      output = [];
+      answer = reply;
+      answered = (refl, refl);
+      cut = replied;
+      count = k.0;
+      within = k.1;
+      written = k.2;
+      failed = k.3;
+    })
 
   -- a line
 
@@ -266,26 +256,3 @@ module _ {State : Type 0} (answers : State → Request → List ℕ → State �
   under_quit k = subst (IsQuit answers a c) (sym all_done)
       (quit_more answers a c (h.done ++ found) (ended_commands next)
       (answered_then_quit answers a b c h.done found h.is_answered h.no_quit k))
-
-module _ {State : Type 0} (answers : State → Request → List ℕ → State → Type 0)
-    (a b : Exchange State) (bytes rest : List ℕ) (h : IsUnder answers a b bytes rest)
-    (none : (ended_commands rest ≡ []) × (pending rest ≡ rest)) where
-  done_all : h.done ≡ ended_commands bytes
-  done_all = sym (h.commands ∙ (ap (λ l. h.done ++ l) none.0 ∙ append-nil h.done))
-
-  pub under_answered : AreAnswered answers a b (ended_commands bytes)
-  under_answered = subst (AreAnswered answers a b) done_all h.is_answered
-
-  pub under_no_quit : has_quit (ended_commands bytes) ≡ false
-  under_no_quit = ap has_quit (sym done_all) ∙ h.no_quit
-
-  pub under_used : (pending bytes ≡ drop (length bytes - length rest) bytes)
-      × (length bytes - length rest ≤ length bytes)
-  under_used =
-      let size : length bytes - length rest ≡ length h.front =
-      omega (arith, ap length h.bytes_are, length-append h.front rest) in (
-        h.pending_is ∙ (none.1 ∙ sym
-            (ap (λ n. drop n bytes) size
-            ∙ (ap (drop (length h.front)) h.bytes_are ∙ drop-append_seam h.front rest))),
-        omega arith,
-      )

@@ -16,7 +16,7 @@ use Rattle.tangle_script.specs.Endings.ConversationEnds.{IsAtQuit, IsAtInputEnd,
 use Rattle.tangle_script.specs.Endings.ConversationEnds.{IsOutOfMemory}
 use Rattle.tangle_script.specs.Turns.{Breaks, EndsAnswered, EndsBy, IsMidway, Probes}
 use Rattle.tangle_script.proofs.CommandLemmas.{all_commands-pending, commands-append, pending-append, pending_waits}
-use Rattle.tangle_script.proofs.ConversationLemmas.{answered_none, answered_then_cut, answered_then_quit}
+use Rattle.tangle_script.proofs.ConversationLemmas.{answered_then_cut, answered_then_quit}
 use Rattle.tangle_script.proofs.ConversationLemmas.{answered_then_answered, no_quit-append}
 
 pub Consumes-trans : (a b c : Option (List ℕ)) (xs ys : List ℕ) → Consumes a b xs → Consumes b c ys
@@ -41,19 +41,6 @@ Consumes-none (Some x) = refl
 abbrev at : {State : Type 0} → Exchange State → Option (List ℕ) → ℕ → Conversation State
 at answered remaining failures = record
     { exchange = answered; remaining = remaining; reader_failures = failures }
-
-pub holds_at_first : {State : Type 0} (answers : State → Request → List ℕ → State → Type 0)
-    (old : Conversation State) (p : List ℕ) → p ≡ [] → IsMidway answers old old p 0
-holds_at_first answers old p e =
-    record {
-      read = [];
-      given = Consumes-none old.remaining;
-      counted = refl;
-      reader_failures = refl;
-      no_quit = refl;
-      is_answered = answered_none answers old.exchange;
-      buffered_is = e;
-    }
 
 -- one more chunk
 module _ {State : Type 0} (answers : State → Request → List ℕ → State → Type 0)

@@ -107,18 +107,8 @@ module _ (c : Command) where
   row_asked (Replace at file text) h = asked_at _ h.0.whole _ h.1
       ∙ numbered_at (λ at file. Replace at file text) _ at file _ h.0
   row_asked (Remove at file) h = asked_at _ h.0.whole _ h.1 ∙ numbered_at Remove _ at file _ h.0
-  row_asked (Create file) h = asked_at _ h.0 _ h.1
-  row_asked (Discard file) h = asked_at _ h.0 _ h.1
-  row_asked (Show file) h = asked_at _ h.0 _ h.1
-  row_asked MarksFull h = asked_at _ h.0 _ h.1
-  row_asked MarksNone h = asked_at _ h.0 _ h.1
-  row_asked Begin h = asked_at _ h.0 _ h.1
-  row_asked Commit h = asked_at _ h.0 _ h.1
-  row_asked Cancel h = asked_at _ h.0 _ h.1
-  row_asked Faults h = asked_at _ h.0 _ h.1
-  row_asked Work h = asked_at _ h.0 _ h.1
-  row_asked Quit h = asked_at _ h.0 _ h.1
   row_asked BadCommand h = absurd h
+  row_asked request h = asked_at _ h.0 _ h.1
 
 -- a command that is not bad is in a row
 
@@ -215,21 +205,8 @@ module _ (c : Command) where
 
   -- a command that is in a row is not bad
   row_asks : (r : Request) → IsRow c r → CommandAsks c r
-  row_asks (Insert at file text) h = h
-  row_asks (Replace at file text) h = h
-  row_asks (Remove at file) h = h
-  row_asks (Create file) h = h
-  row_asks (Discard file) h = h
-  row_asks (Show file) h = h
-  row_asks MarksFull h = h
-  row_asks MarksNone h = h
-  row_asks Begin h = h
-  row_asks Commit h = h
-  row_asks Cancel h = h
-  row_asks Faults h = h
-  row_asks Work h = h
-  row_asks Quit h = h
   row_asks BadCommand h = absurd h
+  row_asks r h = h
 
   request_asks : CommandAsks c (request_of c)
   request_asks = elim row_or_bad [
@@ -238,21 +215,8 @@ module _ (c : Command) where
   ]
 
   asks_row : (r : Request) → CommandAsks c r → IsRow c r ⊎ (r ≡ BadCommand)
-  asks_row (Insert at file text) h = inl h
-  asks_row (Replace at file text) h = inl h
-  asks_row (Remove at file) h = inl h
-  asks_row (Create file) h = inl h
-  asks_row (Discard file) h = inl h
-  asks_row (Show file) h = inl h
-  asks_row MarksFull h = inl h
-  asks_row MarksNone h = inl h
-  asks_row Begin h = inl h
-  asks_row Commit h = inl h
-  asks_row Cancel h = inl h
-  asks_row Faults h = inl h
-  asks_row Work h = inl h
-  asks_row Quit h = inl h
   asks_row BadCommand h = inr refl
+  asks_row r h = inl h
 
   bad_once : ((r : Request) → IsRow c r → ⊥) → BadCommand ≡ request_of c
   bad_once none = elim row_or_bad [

@@ -1,11 +1,15 @@
 -- The web and the change file are there after an edit that is not refused.
-use Rattle.std.proofs.Common.{◌+◌, ◌≡◌, ◌∙◌, inl, inr, ℕ, Bool, true, false, cond, List, [], ◌∷◌, ◌++◌, Option, None}
+use Rattle.std.proofs.Common.{◌+◌, ◌≡◌, ◌∙◌, inl, inr, ℕ, Bool, true, false, cond, ◌||◌, List, [], ◌∷◌, ◌++◌, Option}
+use Rattle.std.proofs.Common.{None}
 use Rattle.std.proofs.Common.{Some, Result, Err, refl, ap, subst, sym, arith}
 use Rattle.std.specs.Prelude.{◌⊎◌, is_some, IfSome, IfNone, IsOkUnless}
-use Rattle.std.specs.Map.{lookup, set_value, remove_entry}
+use Rattle.std.specs.List.{list_any}
+use Rattle.std.specs.Map.{set_value, remove_entry}
 use Rattle.std.specs.Option.{option_map, option_map_or}
 use Rattle.std.specs.Str.{bytes_eq}
-use Rattle.std.proofs.lemmas.Bool.{and_parts, and_from, or_parts}
+use Rattle.std.proofs.lemmas.Bool.{and_parts, and_from, false_from_ne_true, or_left, or_parts, true≢false}
+use Rattle.std.proofs.lemmas.Map.{keys-set_value}
+use Rattle.std.proofs.lemmas.Map.Made.{is_some-lookup}
 use Rattle.std.proofs.lemmas.Slice.Eq.{bytes_eq-Decides}
 use Rattle.tangle_files.specs.Edited.{edited, edited_all, with_lines_edited}
 use Rattle.tangle_files.specs.Edits.{edit_refusal, refusal_if}
@@ -14,6 +18,7 @@ use Rattle.tangle_files.specs.Adding.{has_file, or_else}
 use Rattle.tangle_files.specs.Roles.{RolesRead, fits, has_file_if_any}
 use Rattle.tangle_files.specs.declared.edits.Edit.{Edit}
 use Rattle.tangle_files.specs.declared.edits.Edit.TheVariants.{Insert, Remove, Replace, Create, Discard, Marks}
+use Rattle.tangle_files.proofs.TableLemmas.{both_none}
 use Rattle.tangle_files.specs.declared.marks.MarkMode.{MarkMode}
 use Rattle.tangle_files.specs.declared.refusal.Refusal.{Refusal}
 use Rattle.tangle_files.specs.declared.refusal.Refusal.TheVariants.{NoMemory, RoleFile}
@@ -21,125 +26,81 @@ use Rattle.tangle_session.specs.Edits.{first_refused, has_role, list_memory, lis
 use Rattle.tangle_session.specs.Edits.{role_refusal, session_refusal}
 use Rattle.tangle_session.specs.declared.refusing.ListRefusal.{ListRefusal}
 
--- neither of two refusals applies
-both_none : (a b : Option Refusal) → None ≡ or_else a b → (None ≡ a) × (None ≡ b)
-both_none None b h = (refl, h)
-both_none (Some e) b h = absurd (cc)
-
 not_refused : (b : Bool) (e : Refusal) → None ≡ refusal_if b e → b ≡ false
 not_refused true e h = absurd (cc)
 not_refused false e h = refl
 
 -- no file is removed where lines change
-kept_changed : (files : FileTable) (name other : List ℕ) (lines : List (List ℕ))
-    → is_some (lookup (bytes_eq other) (set_value (bytes_eq name) files lines)) ≡ is_some (lines_of files other)
-kept_changed [] name other lines = refl
-kept_changed (f ∷ files) name other lines = by (bytes_eq name f.0) (kept_changed files name other lines)
-  where
-    hit : (b : Bool)
-        → is_some (cond b (Some lines) (lines_of files other)) ≡ is_some (cond b (Some f.1) (lines_of files other))
-    hit true = refl
-    hit false = refl
-
-    miss : (b : Bool)
-        → is_some (lookup (bytes_eq other) (set_value (bytes_eq name) files lines)) ≡ is_some (lines_of files other)
-        → is_some (cond b (Some f.1) (lookup (bytes_eq other) (set_value (bytes_eq name) files lines)))
-        ≡ is_some (cond b (Some f.1) (lines_of files other))
-    miss true h = refl
-    miss false h = h
-
-    by : (a : Bool)
-        → is_some (lookup (bytes_eq other) (set_value (bytes_eq name) files lines)) ≡ is_some (lines_of files other)
-        → is_some (lookup (bytes_eq other) (cond a ((f.0, lines) ∷ files) (f ∷ set_value (bytes_eq name) files lines)))
-        ≡ is_some (cond (bytes_eq other f.0) (Some f.1) (lines_of files other))
-    by true h = hit (bytes_eq other f.0)
-    by false h = miss (bytes_eq other f.0) h
-
-kept_with_changed : (files : FileTable) (name other : List ℕ) (change : List (List ℕ) → List (List ℕ))
-    → is_some (lines_of (with_lines_edited files name change) other) ≡ is_some (lines_of files other)
-kept_with_changed files name other change = by (lines_of files name)
+stays_edited : (files : FileTable) (name other : List ℕ) (change : List (List ℕ) → List (List ℕ))
+    → has_file (with_lines_edited files name change) other ≡ has_file files other
+stays_edited files name other change = by (lines_of files name)
   where
     by : (o : Option (List (List ℕ)))
-        → is_some (lines_of (option_map_or (λ lines. set_value (bytes_eq name) files (change lines)) o files) other)
-        ≡ is_some (lines_of files other)
+        → has_file (option_map_or (λ lines. set_value (bytes_eq name) files (change lines)) o files) other
+        ≡ has_file files other
     by None = refl
-    by (Some lines) = kept_changed files name other (change lines)
+    by (Some lines) =
+        is_some-lookup (bytes_eq other) (set_value (bytes_eq name) files (change lines))
+        ∙ ap (list_any (bytes_eq other)) (keys-set_value (bytes_eq name) files (change lines))
+        ∙ sym (is_some-lookup (bytes_eq other) files)
 
-kept_after : (files : FileTable) (name other : List ℕ)
-    → is_some (lines_of files other) ≡ true → is_some (lines_of (files ++ (name, []) ∷ []) other) ≡ true
-kept_after [] name other h = absurd (cc)
-kept_after (f ∷ files) name other h = by (bytes_eq other f.0) h (kept_after files name other)
+-- a table has the files of both its parts
+pub has_file-append : (files more : FileTable) (name : List ℕ)
+    → has_file (files ++ more) name ≡ (has_file files name || has_file more name)
+has_file-append [] more name = refl
+has_file-append (f ∷ files) more name = by (bytes_eq name f.0) (has_file-append files more name)
   where
-    by : (b : Bool) → is_some (cond b (Some f.1) (lines_of files other)) ≡ true
-        → (is_some (lines_of files other) ≡ true → is_some (lines_of (files ++ (name, []) ∷ []) other) ≡ true)
-        → is_some (cond b (Some f.1) (lines_of (files ++ (name, []) ∷ []) other)) ≡ true
-    by true h rest = refl
-    by false h rest = rest h
+    by : (b : Bool) → has_file (files ++ more) name ≡ (has_file files name || has_file more name)
+        → is_some (cond b (Some f.1) (lines_of (files ++ more) name))
+        ≡ (is_some (cond b (Some f.1) (lines_of files name)) || has_file more name)
+    by true rest = refl
+    by false rest = rest
 
 -- a file other than the discarded one stays
 kept_apart : (files : FileTable) (name other : List ℕ) → bytes_eq name other ≡ false
-    → is_some (lookup (bytes_eq other) (remove_entry (bytes_eq name) files)) ≡ is_some (lines_of files other)
+    → has_file (remove_entry (bytes_eq name) files) other ≡ has_file files other
 kept_apart [] name other apart = refl
 kept_apart (f ∷ files) name other apart = by (bytes_eq name f.0) refl (kept_apart files name other apart)
   where
-    hit : (b : Bool) → bytes_eq other f.0 ≡ b → bytes_eq name f.0 ≡ true
-        → is_some (lines_of files other) ≡ is_some (cond b (Some f.1) (lines_of files other))
-    hit false g e = refl
-    hit true g e =
-        let named : name ≡ f.0 = (bytes_eq-Decides name f.0).0 e in
-        let same : bytes_eq name other ≡ true =
-        (bytes_eq-Decides name other).1 (named ∙ sym ((bytes_eq-Decides other f.0).0 g)) in
-        absurd (let both : true ≡ false = sym same ∙ apart in cc)
+    missed : bytes_eq name f.0 ≡ true → bytes_eq other f.0 ≡ false
+    missed e = false_from_ne_true _ (λ same. true≢false (sym ((bytes_eq-Decides name other).1
+        ((bytes_eq-Decides name f.0).0 e ∙ sym ((bytes_eq-Decides other f.0).0 same))) ∙ apart))
 
-    miss : (b : Bool)
-        → is_some (lookup (bytes_eq other) (remove_entry (bytes_eq name) files)) ≡ is_some (lines_of files other)
-        → is_some (cond b (Some f.1) (lookup (bytes_eq other) (remove_entry (bytes_eq name) files)))
-        ≡ is_some (cond b (Some f.1) (lines_of files other))
-    miss true h = refl
-    miss false h = h
+    under : (b : Bool) (o p : Option (List (List ℕ)))
+        → is_some o ≡ is_some p → is_some (cond b (Some f.1) o) ≡ is_some (cond b (Some f.1) p)
+    under true o p e = refl
+    under false o p e = e
 
     by : (a : Bool) → bytes_eq name f.0 ≡ a
-        → is_some (lookup (bytes_eq other) (remove_entry (bytes_eq name) files)) ≡ is_some (lines_of files other)
-        → is_some (lookup (bytes_eq other) (cond a files (f ∷ remove_entry (bytes_eq name) files)))
-        ≡ is_some (cond (bytes_eq other f.0) (Some f.1) (lines_of files other))
-    by true e h = hit (bytes_eq other f.0) refl e
-    by false e h = miss (bytes_eq other f.0) h
+        → has_file (remove_entry (bytes_eq name) files) other ≡ has_file files other
+        → has_file (cond a files (f ∷ remove_entry (bytes_eq name) files)) other ≡ has_file (f ∷ files) other
+    by true e rest = sym (ap (λ b. is_some (cond b (Some f.1) (lines_of files other))) (missed e))
+    by false e rest = under (bytes_eq other f.0) _ _ rest
 
 -- the edit doesn't discard the file of this name
 abbrev Spares : Edit → List ℕ → Type 0
-Spares (Insert file at text) other = Unit {0}
-Spares (Remove file at) other = Unit {0}
-Spares (Replace file at text) other = Unit {0}
-Spares (Create file) other = Unit {0}
 Spares (Discard file) other = bytes_eq file.items other ≡ false
-Spares (Marks mode) other = Unit {0}
-
-lines_stay : (files : FileTable) (edit : Edit) (other : List ℕ)
-    → is_some (lines_of files other) ≡ true → Spares edit other → is_some (lines_of (edited files edit) other) ≡ true
-lines_stay files (Insert file at text) other h s = kept_with_changed files file.items other _ ∙ h
-lines_stay files (Remove file at) other h s = kept_with_changed files file.items other _ ∙ h
-lines_stay files (Replace file at text) other h s = kept_with_changed files file.items other _ ∙ h
-lines_stay files (Create file) other h s = kept_after files file.items other h
-lines_stay files (Discard file) other h s = kept_apart files file.items other s ∙ h
-lines_stay files (Marks mode) other h s = h
+Spares edit other = Unit {0}
 
 stays_there : (files : FileTable) (edit : Edit) (other : List ℕ)
     → has_file files other ≡ true → Spares edit other → has_file (edited files edit) other ≡ true
-stays_there files edit other h s = lines_stay files edit other h s
+stays_there files (Insert file at text) other h s = stays_edited files file.items other _ ∙ h
+stays_there files (Remove file at) other h s = stays_edited files file.items other _ ∙ h
+stays_there files (Replace file at text) other h s = stays_edited files file.items other _ ∙ h
+stays_there files (Create file) other h s =
+    has_file-append files ((file.items, []) ∷ []) other ∙ or_left (has_file files other) _ h
+stays_there files (Discard file) other h s = kept_apart files file.items other s ∙ h
+stays_there files (Marks mode) other h s = h
 
 abbrev SparesRoles : Edit → RolesRead → Type 0
 SparesRoles edit roles = Spares edit roles.web × ((name : List ℕ) → roles.change ≡ Some name → Spares edit name)
 
 spares_roles : (roles : RolesRead) (edit : Edit) → None ≡ role_refusal roles edit → SparesRoles edit roles
-spares_roles roles (Insert file at text) h = (tt, λ name e. tt)
-spares_roles roles (Remove file at) h = (tt, λ name e. tt)
-spares_roles roles (Replace file at text) h = (tt, λ name e. tt)
-spares_roles roles (Create file) h = (tt, λ name e. tt)
-spares_roles roles (Marks mode) h = (tt, λ name e. tt)
 spares_roles roles (Discard file) h =
     let parts = or_parts (bytes_eq file.items roles.web) (option_map_or (bytes_eq file.items) roles.change false)
     (not_refused (has_role roles file.items) RoleFile h) in
     (parts.0, λ name e. sym (ap (λ o. option_map_or (bytes_eq file.items) o false) e) ∙ parts.1)
+spares_roles roles edit h = (tt, λ name e. tt)
 
 any_stays : (files : FileTable) (edit : Edit) (o : Option (List ℕ))
     → has_file_if_any files o ≡ true → ((name : List ℕ) → o ≡ Some name → Spares edit name)
@@ -218,26 +179,8 @@ from_none files roles edits = from_later 0 files roles edits ∙ later_by_none (
 -- why an edit is refused does not depend on how line marks are written
 pub refused_alike : (files : FileTable) (roles : RolesRead) (marks : MarkMode) (edit : Edit)
     → session_refusal files (record roles { marks = marks }) edit ≡ session_refusal files roles edit
-refused_alike files roles marks (Insert file at text) = refl
-refused_alike files roles marks (Remove file at) = refl
-refused_alike files roles marks (Replace file at text) = refl
-refused_alike files roles marks (Create file) = refl
 refused_alike files roles marks (Discard file) = refl
-refused_alike files roles marks (Marks mode) = refl
-
--- the files refuse no edit that the session doesn't
-pub files_take : (files : FileTable) (roles : RolesRead) (edit : Edit)
-    → None ≡ session_refusal files roles edit → None ≡ edit_refusal files edit
-files_take files roles edit none = (both_none (edit_refusal files edit) (role_refusal roles edit) none).0
-
--- if there is no refusal, whatever is claimed of a refusal holds
-pub of_none : (o : Option Refusal) (P : Refusal → Type 0) → None ≡ o → IfSome o P
-of_none None P h = tt
-of_none (Some e) P h = absurd (cc)
-
-pub none_or : (o : Option Refusal) (P : Type 0) → P → IfNone o P
-none_or None P h = h
-none_or (Some e) P h = tt
+refused_alike files roles marks edit = refl
 
 abbrev failed : {T : Type 0} → Refusal → Result T Refusal
 failed refusal = Err refusal

@@ -1,8 +1,8 @@
 -- The state that a history leaves: the files with the accepted edits made, and what is shown of them.
-use Rattle.std.proofs.Common.{◌≡◌, ◌∙◌, ℕ, List, [], ◌∷◌, ◌++◌, length, map, refl, ap, sym, subst, arith, inl, inr}
+use Rattle.std.proofs.Common.{◌≡◌, ◌∙◌, ℕ, List, [], ◌∷◌, ◌++◌, length, map, refl, ap, sym, subst, arith}
 use Rattle.std.proofs.Common.{append_assoc, append-nil}
-use Rattle.std.specs.Prelude.{◌⊎◌, Option, None, Some, Ok, Err, Result, option_map, unwrap_or, zip, IfNone, IfSome}
-use Rattle.std.specs.Prelude.{IsOkUnless, OnErr, OnOk}
+use Rattle.std.specs.Prelude.{Option, None, Some, Ok, Err, Result, option_map, unwrap_or, zip, IfNone, IfSome}
+use Rattle.std.specs.Prelude.{IsOkUnless, OnOk}
 use Rattle.tangle_streams.specs.Streams.{Stream}
 use Rattle.tangle_files.specs.Edited.{edited, edited_all, edited_roles, joined, roles_after}
 use Rattle.tangle_files.specs.Lines.{FileTable}
@@ -11,7 +11,7 @@ use Rattle.tangle_files.specs.declared.edits.Edit.{Edit}
 use Rattle.tangle_files.specs.declared.refusal.Refusal.{Refusal}
 use Rattle.tangle_files.specs.declared.refusal.Refusal.TheVariants.{NoMemory}
 use Rattle.tangle_files.specs.declared.marks.MarkMode.TheVariants.{Full}
-use Rattle.tangle_session.specs.Edits.{list_memory, list_refusal, of_first, session_refusal}
+use Rattle.tangle_session.specs.Edits.{of_first, session_refusal}
 use Rattle.tangle_lines.specs.Reading.{source_of}
 use Rattle.tangle_scan.specs.Web.{web_of}
 use Rattle.tangle_names.specs.NameTable.{table_of}
@@ -124,11 +124,7 @@ reached {files = files} {roles = roles} (Started {session = session} none same_f
 reached {files = files} {roles = roles} (Edited {calls = calls} {after = after} before edits answer history is) =
     reached_edited files roles calls before after edits answer (reached history) is
 
--- one more step of a history, from the clauses of the calls
-
-no_refusal : (o : Option Refusal) (done : Unit {0}) → IfSome o (λ refusal. Ok done ≡ Err refusal) → o ≡ None
-no_refusal None done h = refl
-no_refusal (Some refusal) done h = absurd (cc)
+-- a refused edit, from the clauses of the call
 
 first_reason : (o : Option Refusal) (refusal : Refusal) (answer : Result (Unit {0}) Refusal) → answer ≡ Err refusal
     → IfSome o (λ r. answer ≡ Err r) → IfNone o (IsOkUnless answer NoMemory) → refusal ≡ unwrap_or o NoMemory
@@ -139,16 +135,6 @@ first_reason None refusal answer is h only = memory answer is only
     memory (Err other) is only = cc
 first_reason (Some r) refusal answer is h only = cc
 
-pub one_made : (before after : SessionRead) (edit : Edit) (done : Unit {0})
-    → after.files ≡ edited before.files edit → after.roles ≡ edited_roles before.roles edit
-    → ListsAffectedOfWebs (web_at before.files before.roles) (web_at after.files after.roles) after.work
-    → IfSome (session_refusal before.files before.roles edit) (λ refusal. Ok done ≡ Err refusal)
-    → IsAnswered before (Single edit) (Ok done) after
-one_made before after edit done files roles work refused = (
-  no_refusal (session_refusal before.files before.roles edit) done refused,
-  record { files = files; roles = roles; work = work },
-)
-
 pub one_refused : (before after : SessionRead) (edit : Edit) (refusal : Refusal) (answer : Result (Unit {0}) Refusal)
     → answer ≡ Err refusal
     → IfSome (session_refusal before.files before.roles edit) (λ r. answer ≡ Err r)
@@ -156,40 +142,6 @@ pub one_refused : (before after : SessionRead) (edit : Edit) (refusal : Refusal)
     → after ≡ before → IsAnswered before (Single edit) (Err (of_first refusal)) after
 one_refused before after edit refusal answer is refused only same =
     (ap of_first (first_reason (session_refusal before.files before.roles edit) refusal answer is refused only), same)
-
-pub several_answered : (before after : SessionRead) (edits : List Edit) (answer : Result (Unit {0}) ListRefusal)
-    → OnOk answer (after.files ≡ edited_all before.files edits)
-    → OnOk answer (after.roles ≡ roles_after before.roles edits)
-    → OnOk answer (ListsAffectedOfWebs (web_at before.files before.roles) (web_at after.files after.roles) after.work)
-    → IfSome (list_refusal before.files before.roles edits)
-    (λ refused. (answer ≡ Err refused) ⊎ (answer ≡ Err list_memory))
-    → IfNone (list_refusal before.files before.roles edits) (IsOkUnless answer list_memory)
-    → OnErr answer (after ≡ before) → IsAnswered before (Several edits) answer after
-several_answered before after edits (Ok done) files roles work refused only err =
-    (none (list_refusal before.files before.roles edits) refused, record { files = files; roles = roles; work = work })
-  where
-    none : (o : Option ListRefusal)
-        → IfSome o (λ refused. (Ok done ≡ Err refused) ⊎ (Ok done ≡ Err list_memory)) → o ≡ None
-    none None h = refl
-    none (Some refused) h = elim h [ inl h ↦ absurd (cc) | inr h ↦ absurd (cc) ]
-several_answered before after edits (Err refused) files roles work refused_for only err =
-    (reason (list_refusal before.files before.roles edits) refused_for only, err)
-  where
-    reported : Result (Unit {0}) ListRefusal
-    reported = Err refused
-
-    reason : (o : Option ListRefusal)
-        → IfSome o (λ r. (reported ≡ Err r) ⊎ (reported ≡ Err list_memory)) → IfNone o (IsOkUnless reported list_memory)
-        → (o ≡ Some refused) ⊎ (refused ≡ list_memory)
-    reason None h only = inr only
-    reason (Some r) h only = elim h [ inl is ↦ inl (cc) | inr is ↦ inr (cc) ]
-
--- why a start is refused
-
-pub not_refused : {A E : Type 0} (o : Option Refusal) (give : Refusal → E) (r : Result A E) (a : A)
-    → r ≡ Ok a → IfSome o (λ refusal. r ≡ Err (give refusal)) → o ≡ None
-not_refused None give r a is h = refl
-not_refused (Some refusal) give r a is h = absurd (cc)
 
 -- what is shown
 

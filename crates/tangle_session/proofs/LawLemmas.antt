@@ -14,7 +14,7 @@ use Rattle.tangle_files.specs.Roles.{RolesRead}
 use Rattle.tangle_faults.specs.declared.faults.FaultKind.TheVariants as kind
 use Rattle.tangle_lexer.specs.Occurrences.{OccurrenceRead}
 use Rattle.tangle_scan.specs.Web.{WebRead, PieceRead}
-use Rattle.tangle_names.specs.Faults.{named_place_of}
+use Rattle.tangle_names.specs.Faults.{name_faults, named_place_of}
 use Rattle.tangle_names.specs.NameTable.{TableRead, table_of}
 use Rattle.tangle_names.specs.Resolving.{first_number, first_occurrence, names_in_order, resolves_to}
 use Rattle.tangle_expansion.specs.Limits.{levels, heaviest}
@@ -44,7 +44,7 @@ one_faults : AreOneList → (source : SourceRead) (web : WebRead) (out : List �
     → AreFaults source web out a → AreFaults source web out b → a ≡ b
 one_faults law source web out a b x y =
     x.list
-    ∙ ap (λ l. source.faults ++ (web.faults ++ ((table_of web).faults ++ l)))
+    ∙ ap (λ l. source.faults ++ (web.faults ++ (name_faults web ++ l)))
     (law web (table_of web) out x.of_graph y.of_graph x.are_of_graph y.are_of_graph)
     ∙ sym y.list
 
@@ -166,6 +166,6 @@ reported_in source web out faults name inside occur are c =
           subst (λ l. Contains l (fault_about kind.SelfContaining (named_place_of web.file_names o.0.origin) name))
           (sym are.list)
           (Contains-append_right source.faults _ _
-          (Contains-append_right web.faults _ _ (Contains-append_right (table_of web).faults _ _
+          (Contains-append_right web.faults _ _ (Contains-append_right (name_faults web) _ _
           (reported web out are.of_graph are.are_of_graph found.0 name o.0 found.1 found.2 c o.1))));
     }

@@ -1,8 +1,8 @@
 mod OutputLemmas
 mod TangleLemmas
 mod AnalysisLemmas
-mod EditLemmas
+pub mod EditLemmas
 mod LawLemmas
 mod NameLemmas
-mod HeadlineLemmas
+pub mod HeadlineLemmas
 mod MoveLemmas

@@ -79,24 +79,15 @@ SaidPiece = Option ℕ × List SaidItem
 
 abbrev table_with : List NameText → List Resolved → TableRead
 table_with names resolved =
-    record { names = names; resolved = resolved; first_occurrences = []; first_file_occurrences = []; faults = [] }
+    record { names = names; resolved = resolved; first_occurrences = []; first_file_occurrences = [] }
 
 module _ (table : TableRead) where
   abbrev item_said : SaidItem → ShapeItem
   item_said s = elim s.1 [ None ↦ s.0 | Some occurrence ↦ use_of table (resolved_at table occurrence) ]
 
   item_same : (texts : List (List ℕ)) (i : Item) → shape_item texts table i ≡ item_said (item_form texts i)
-  item_same texts (item.Word span) = refl
-  item_same texts (item.Sign span) = refl
-  item_same texts (item.Quoted span) = refl
-  item_same texts item.QuoteBreak = refl
-  item_same texts (item.Verbatim span) = refl
-  item_same texts (item.Code value) = refl
-  item_same texts item.Blank = refl
-  item_same texts item.LineEnd = refl
-  item_same texts (item.LineMark origin) = refl
   item_same texts (item.UseOf occurrence) = refl
-  item_same texts item.Defs = refl
+  item_same texts i = refl
 
   items_same : (texts : List (List ℕ)) (items : List Item)
       → map (shape_item texts table) items ≡ map item_said (map (item_form texts) items)

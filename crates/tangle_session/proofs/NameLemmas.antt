@@ -87,9 +87,8 @@ module _ (web : WebRead) (table : TableRead) (resolves : ResolvesInside table)
       ((bytes_eq-Decides (name_with_number table id) out).1 (sym same)) e
     where
       by : (a b : Bool) → b ≡ true → (a && not b) ≡ true → ⊥
-      by true true t d = absurd (let no : false ≡ true = d in cc)
-      by true false t d = absurd (let no : false ≡ true = t in cc)
-      by false b t d = absurd (let no : false ≡ true = d in cc)
+      by true true t d = cc
+      by a b t d = cc
 
   main_apart : All (λ x. out ≢ x) (map name_of (map (named_file table) ids))
   main_apart =

@@ -1,12 +1,11 @@
 -- The bytes of each output file of a web, and finding one by its name.
-use Rattle.std.proofs.Common.{◌≡◌, ◌∙◌, ◌<◌, ◌≤◌, zero, suc, ℕ, Bool, true, false, List, [], ◌∷◌, length, map, get_or}
-use Rattle.std.proofs.Common.{drop, drop-cons, ◌+◌, refl, ap, sym, subst, arith, cond}
+use Rattle.std.proofs.Common.{◌≡◌, ◌∙◌, ◌<◌, zero, suc, ℕ, Bool, true, false, List, [], ◌∷◌, length, map, get_or}
+use Rattle.std.proofs.Common.{refl, ap, sym, subst, arith, cond}
 use Rattle.std.specs.Prelude.{Some, None, Contains, unwrap_or, find}
 use Rattle.std.specs.List.{AllByRecursion, IsDistinct}
 use Rattle.std.specs.Map.{lookup}
 use Rattle.std.specs.Option.{option_map}
 use Rattle.std.specs.Str.{bytes_eq}
-use Rattle.std.proofs.lemmas.List.{drop_all}
 use Rattle.std.proofs.lemmas.Map.Keys.{IsDistinct-head, IsDistinct-tail}
 use Rattle.std.proofs.lemmas.Slice.Eq.{bytes_eq-Decides}
 use Rattle.tangle_files.specs.declared.marks.MarkMode.{MarkMode}
@@ -77,27 +76,6 @@ found_in p (y ∷ xs) x e = by (p y) refl e (found_in p xs x)
         → p y ≡ b → cond b (Some y) (find p xs) ≡ Some x → (find p xs ≡ Some x → Contains xs x) → Contains (y ∷ xs) x
     by true t d next = (0, omega arith, (let same : Some y ≡ Some x = d in cc))
     by false f d next = (let rest = next d in (suc rest.0, (let h = rest.1 in omega (arith, h)), rest.2))
-
--- one more item is looked at
-find_step : {X : Type 0} (p : X → Bool) (xs : List X) (i : ℕ) (x : X)
-    → i < length xs → x ≡ get_or xs i x → find p (drop i xs) ≡ cond (p x) (Some x) (find p (drop (i + 1) xs))
-find_step p xs i x h e =
-    ap (find p) (drop-cons xs i x h ∙ ap (λ y. y ∷ drop (suc i) xs) (sym e))
-    ∙ (let one : suc i ≡ i + 1 = omega arith in ap (λ k. cond (p x) (Some x) (find p (drop k xs))) one)
-
-pub find_hit : {X : Type 0} (p : X → Bool) (xs : List X) (i : ℕ) (x : X)
-    → i < length xs → x ≡ get_or xs i x → p x ≡ true → find p (drop i xs) ≡ find p xs → Some x ≡ find p xs
-find_hit p xs i x h e t sofar =
-    sym (sym sofar ∙ find_step p xs i x h e ∙ ap (λ b. cond b (Some x) (find p (drop (i + 1) xs))) t)
-
-pub find_miss : {X : Type 0} (p : X → Bool) (xs : List X) (i : ℕ) (x : X) → i < length xs
-    → x ≡ get_or xs i x → p x ≡ false → find p (drop i xs) ≡ find p xs → find p (drop (i + 1) xs) ≡ find p xs
-find_miss p xs i x h e f sofar =
-    sym (find_step p xs i x h e ∙ ap (λ b. cond b (Some x) (find p (drop (i + 1) xs))) f) ∙ sofar
-
-pub find_end : {X : Type 0} (p : X → Bool) (xs : List X) (i : ℕ)
-    → length xs ≤ i → find p (drop i xs) ≡ find p xs → None ≡ find p xs
-find_end p xs i h sofar = sym (ap (find p) (drop_all i xs h)) ∙ sofar
 
 -- the names of the outputs are the names of the output files
 pub names_written : (web : WebRead) (marks : MarkMode) (os : List OutputRead)

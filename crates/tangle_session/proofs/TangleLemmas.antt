@@ -4,13 +4,14 @@ use Rattle.std.proofs.Common.{subst, Bor, Contains, map}
 use Rattle.std.specs.List.{IsDistinct}
 use Rattle.std.specs.Option.{option_copied, option_map}
 use Rattle.std.specs.Str.{bytes_eq}
-use Rattle.std.specs.Prelude.{if◌then◌else◌, Option, Some, None, is_some, Ok, Err, find}
-use Rattle.tangle_streams.specs.Streams.{Stream, IsWritten}
-use Rattle.tangle_files.specs.Lines.{FileTable, lines_of}
+use Rattle.std.specs.Prelude.{if◌then◌else◌, Option, Some, None, is_some, Result, Err, find}
+use Rattle.tangle_streams.specs.Streams.{Stream}
+use Rattle.tangle_files.specs.Lines.{FileTable}
 use Rattle.tangle_lines.specs.Reading.{SourceRead}
 use Rattle.tangle_files.specs.Adding.{has_file}
 use Rattle.tangle_files.specs.Roles.{RolesRead, has_file_if_any, fits}
 use Rattle.tangle_files.specs.declared.refusal.Refusal.TheVariants.{NoWeb, NoChange}
+use Rattle.tangle_files.specs.declared.refusal.Refusal.{Refusal}
 use Rattle.tangle_files.specs.declared.refusal.Refusal.TheVariants as refusal
 use Rattle.tangle_files.specs.declared.marks.MarkMode.{MarkMode}
 use Rattle.tangle_files.specs.declared.marks.MarkMode.TheVariants.{Full}
@@ -32,9 +33,10 @@ use Rattle.tangle_affected.proofs.OutputLemmas.{ready}
 use Rattle.tangle_session.specs.Files.{shapes_of, output_bytes, source_at, web_at}
 use Rattle.tangle_affected.specs.Affected as affected
 use Rattle.tangle_affected.specs.Keeping as keeping
-use Rattle.tangle_session.specs.Sessions.{AgreesWithFiles, ListsAffectedOfWebs, ListsExpandableOfWeb, start_refusal}
+use Rattle.tangle_session.specs.Sessions.{AgreesWithFiles, ListsAffectedOfWebs, ListsExpandableOfWeb, SessionRead}
+use Rattle.tangle_session.specs.Sessions.{start_refusal}
 use Rattle.tangle_session.specs.Tangle.{output_at, outputs_of}
-use Rattle.tangle_session.specs.Writes.{IsTrueFile, WritesOutput}
+use Rattle.tangle_session.specs.Writes.{IsTrueFile, WritesOut, WritesOutput}
 use Rattle.tangle_session.specs.declared.tangling.SessionState.{SessionState}
 use Rattle.tangle_session.proofs.OutputLemmas.{found_in, look_up, names_written, same_bytes}
 
@@ -91,31 +93,22 @@ expands_nothing web (node ∷ nodes) lists = absurd (((lists.just node).0 (0, om
 
 -- why a session is not to be started
 
-pub no_refusal : (files : FileTable) (roles : RolesRead) → fits files roles ≡ true → None ≡ start_refusal files roles
-no_refusal files roles e = by (has_file files roles.web) (has_file_if_any files roles.change) e
-  where
-    by : (a b : Bool) → (a && b) ≡ true → None ≡ (if a then (if b then None else Some NoChange) else Some NoWeb)
-    by true true e = refl
-    by true false e = absurd (let no : false ≡ true = e in cc)
-    by false b e = absurd (let no : false ≡ true = e in cc)
-
 pub no_change : (files : FileTable) (roles : RolesRead)
-    → fits files roles ≡ false → is_some (lines_of files roles.web) ≡ true → Some NoChange ≡ start_refusal files roles
+    → fits files roles ≡ false → has_file files roles.web ≡ true → Some NoChange ≡ start_refusal files roles
 no_change files roles e there = by (has_file files roles.web) (has_file_if_any files roles.change) e there
   where
     by : (a b : Bool)
         → (a && b) ≡ false → a ≡ true → Some NoChange ≡ (if a then (if b then None else Some NoChange) else Some NoWeb)
-    by true true e t = absurd (let no : true ≡ false = e in cc)
     by true false e t = refl
-    by false b e t = absurd (let no : false ≡ true = t in cc)
+    by a b e t = absurd (cc)
 
 pub no_web : (files : FileTable) (roles : RolesRead)
-    → is_some (lines_of files roles.web) ≡ false → Some NoWeb ≡ start_refusal files roles
+    → has_file files roles.web ≡ false → Some NoWeb ≡ start_refusal files roles
 no_web files roles missing = by (has_file files roles.web) missing
   where
     by : (a : Bool) → a ≡ false
         → Some NoWeb ≡ (if a then (if has_file_if_any files roles.change then None else Some NoChange) else Some NoWeb)
-    by true t = absurd (let no : true ≡ false = t in cc)
+    by true t = absurd (cc)
     by false t = refl
 
 -- where no refusal to start applies, the files fit the roles
@@ -124,98 +117,101 @@ fit_to_start files roles e = by (has_file files roles.web) (has_file_if_any file
   where
     by : (a b : Bool) → None ≡ (if a then (if b then None else Some NoChange) else Some NoWeb) → (a && b) ≡ true
     by true true e = refl
-    by true false e = absurd (let no : None ≡ Some NoChange = e in cc)
-    by false b e = absurd (let no : None ≡ Some NoWeb = e in cc)
+    by a b e = absurd (cc)
 
 pub some_copied : {X : Type 0} (o : Option (Bor X)) → is_some (option_copied o) ≡ is_some o
 some_copied None = refl
 some_copied (Some x) = refl
 
--- Finding an output by its name, where the state is made from the files.
-module _ (files : FileTable) (roles : RolesRead) (state : SessionState)
-    (hold : AgreesWithFiles files roles state) (name : List ℕ) where
+-- what a session with this state and these roles shows
+abbrev view_of : SessionState → RolesRead → SessionRead
+view_of state roles = record { files = state.files; roles = roles; work = state.work }
+
+-- Finding an output by its name in a session.
+module _ (state : SessionState) (roles : RolesRead) (session : SessionRead) (view : view_of state roles ≡ session)
+    (hold : AgreesWithFiles state.files roles state) (name : List ℕ) where
   abbrev named : OutputRead → Bool
   named o = bytes_eq name o.name
 
-  looked_up : output_at files roles name
-      ≡ option_map (output_bytes (web_at files roles) roles.marks) (find named state.analysis.store.outputs)
-  looked_up =
-      look_up (web_at files roles) roles.marks name
-      (outputs (web_at files roles) (table_of (web_at files roles)) roles.out)
-      ∙ ap (λ os. option_map (output_bytes (web_at files roles) roles.marks) (find named os))
-      (sym hold.analysis.outputs_are)
+  abbrev web : WebRead
+  web = web_at state.files roles
 
   -- no two outputs of the store have the same name
-  pub names_apart : IsDistinct bytes_eq (map (λ o. o.0) (outputs_of files roles))
+  pub names_apart : IsDistinct bytes_eq (map (λ o. o.0) (outputs_of state.files roles))
       → IsDistinct bytes_eq (map (λ (o : OutputRead). o.name) state.analysis.store.outputs)
   names_apart distinct =
       subst (λ os. IsDistinct bytes_eq (map (λ (o : OutputRead). o.name) os)) (sym hold.analysis.outputs_are)
       (subst (IsDistinct bytes_eq)
-      (sym (names_written (web_at files roles) roles.marks
-      (outputs (web_at files roles) (table_of (web_at files roles)) roles.out))) distinct)
+      (sym (names_written web roles.marks (outputs web (table_of web) roles.out))) distinct)
 
-  pub none_at : find named state.analysis.store.outputs ≡ None → output_at files roles name ≡ None
-  none_at e = looked_up ∙ ap (option_map (output_bytes (web_at files roles) roles.marks)) e
+  looked_up : output_at session.files session.roles name
+      ≡ option_map (output_bytes web roles.marks) (find named state.analysis.store.outputs)
+  looked_up =
+      ap (λ (s : SessionRead). output_at s.files s.roles name) (sym view)
+      ∙ look_up web roles.marks name (outputs web (table_of web) roles.out)
+      ∙ ap (λ os. option_map (output_bytes web roles.marks) (find named os)) (sym hold.analysis.outputs_are)
+
+  none_at : find named state.analysis.store.outputs ≡ None → output_at session.files session.roles name ≡ None
+  none_at e = looked_up ∙ ap (option_map (output_bytes web roles.marks)) e
+
+  pub no_size : find named state.analysis.store.outputs ≡ None
+      → None ≡ option_map length (output_at session.files session.roles name)
+  no_size e = ap (option_map length) (sym (none_at e))
+
+  pub writes_none : (old new : Stream) → find named state.analysis.store.outputs ≡ None → new ≡ old
+      → WritesOutput (output_at session.files session.roles name) old new (Err refusal.NoOutput)
+  writes_none old new e same =
+      subst (λ x. WritesOutput x old new (Err refusal.NoOutput)) (sym (none_at e)) (refl, same)
 
   module _ (output : OutputRead) (found : find named state.analysis.store.outputs ≡ Some output) where
-    pub some_at : output_at files roles name ≡ Some (output_bytes (web_at files roles) roles.marks output)
-    some_at = looked_up ∙ ap (option_map (output_bytes (web_at files roles) roles.marks)) found
+    some_at : output_at session.files session.roles name ≡ Some (output_bytes web roles.marks output)
+    some_at = looked_up ∙ ap (option_map (output_bytes web roles.marks)) found
 
-    found_there : find named (outputs (web_at files roles) (table_of (web_at files roles)) roles.out) ≡ Some output
+    found_there : find named (outputs web (table_of web) roles.out) ≡ Some output
     found_there = ap (find named) (sym hold.analysis.outputs_are) ∙ found
 
     module _ (resolves : (web : WebRead) → ResolvesInside (table_of web)) where
-      fit : IsFit (shapes_of (web_at files roles)) state.analysis.store.names output
-      fit = subst (λ names. IsFit (shapes_of (web_at files roles)) names output) (sym hold.analysis.store_names)
-          (outputs_fit (web_at files roles) (table_of (web_at files roles))
-          (resolves (web_at files roles)) roles.out output
-          (found_in named (outputs (web_at files roles) (table_of (web_at files roles)) roles.out) output found_there))
+      fit : IsFit (shapes_of web) state.analysis.store.names output
+      fit = subst (λ names. IsFit (shapes_of web) names output) (sym hold.analysis.store_names)
+          (outputs_fit web (table_of web) (resolves web) roles.out output
+          (found_in named (outputs web (table_of web) roles.out) output found_there))
 
       pub is_ready : ((p : Shapes) (t : Title) → IsExpandableNode p t → length (flat_of p t) ≤ heaviest)
           → IsReady output state.kept
-      is_ready law = ready (shapes_of (web_at files roles)) state.analysis.store
+      is_ready law = ready (shapes_of web) state.analysis.store
           state.kept hold.analysis.store hold.kept output fit law
 
-      pub bytes_are : kept_output_bytes state.analysis.numbers state.kept output
-          ≡ output_bytes (web_at files roles) roles.marks output
-      bytes_are =
-          ap (λ n. kept_output_bytes n state.kept output) hold.analysis.numbers
-          ∙ same_bytes (web_at files roles) state.analysis.store state.kept
-          hold.analysis.store hold.analysis.store_names hold.kept roles.marks output fit
+      abbrev bytes : List ℕ
+      bytes = kept_output_bytes state.analysis.numbers state.kept output
+
+      is_its : output_at session.files session.roles name ≡ Some bytes
+      is_its = some_at ∙ ap Some (sym (ap (λ n. kept_output_bytes n state.kept output) hold.analysis.numbers
+          ∙ same_bytes web state.analysis.store state.kept
+          hold.analysis.store hold.analysis.store_names hold.kept roles.marks output fit))
+
+      pub its_size : Some (length bytes) ≡ option_map length (output_at session.files session.roles name)
+      its_size = ap (option_map length) (sym is_its)
+
+      pub writes_it : (old new : Stream) (r : Result ℕ Refusal) → WritesOut old new bytes r
+          → WritesOutput (output_at session.files session.roles name) old new r
+      writes_it old new r puts = subst (λ x. WritesOutput x old new r) (sym is_its) puts
 
     pub truth_at : ((source : SourceRead) (web : WebRead) (node : Title) → PiecesAreAtTheirLines source web
         → IsTrueToLines source web node
         (expansion_bytes (numbers_of web (table_of web) Full) (flat_of (shapes_of web) node)))
-        → roles.marks ≡ Full → IsTrueFile files roles name
-    truth_at law full = record {
-      output = output;
-      named = found_there;
-      bytes = output_bytes (web_at files roles) Full output;
-      are_its = some_at ∙ ap (λ m. Some (output_bytes (web_at files roles) m output)) full;
-      true_to_lines = record {
-        of_node = expansion_bytes (numbers_of (web_at files roles) (table_of (web_at files roles)) Full)
-            (flat_of (shapes_of (web_at files roles))
-            (title_of_node (table_of (web_at files roles)).names output.node));
-        made = refl;
-        true_to_lines = law (source_at files roles) (web_at files roles)
-            (title_of_node (table_of (web_at files roles)).names output.node) hold.analysis.line_truth;
-      };
-    }
-
--- how the writing of an output ends
-
-pub written_whole : (o : Option (List ℕ)) (old new : Stream) (bytes of_output : List ℕ) (n : ℕ)
-    → o ≡ Some of_output → bytes ≡ of_output → IsWritten old new bytes (Ok n) → WritesOutput o old new (Ok n)
-written_whole o old new bytes of_output n at same puts =
-    subst (λ x. WritesOutput x old new (Ok n)) (sym at) (subst (λ b. IsWritten old new b (Ok n)) same puts)
-
-pub written_front : (o : Option (List ℕ)) (old new : Stream) (bytes of_output : List ℕ) (n : ℕ)
-    → o ≡ Some of_output → bytes ≡ of_output → IsWritten old new bytes (Err (record { 0 = n }))
-    → WritesOutput o old new (Err (refusal.WriteFault n))
-written_front o old new bytes of_output n at same puts =
-    subst (λ x. WritesOutput x old new (Err (refusal.WriteFault n))) (sym at)
-    (subst (λ b. IsWritten old new b (Err (record { 0 = n }))) same puts)
-
-pub written_none : (o : Option (List ℕ)) (old new : Stream)
-    → o ≡ None → new ≡ old → WritesOutput o old new (Err refusal.NoOutput)
-written_none o old new at same = subst (λ x. WritesOutput x old new (Err refusal.NoOutput)) (sym at) (refl, same)
+        → session.roles.marks ≡ Full → IsTrueFile session.files session.roles name
+    truth_at law = subst (λ (s : SessionRead). s.roles.marks ≡ Full → IsTrueFile s.files s.roles name)
+        view (λ full. record {
+          output = output;
+          named = found_there;
+          bytes = output_bytes web Full output;
+          are_its = ap (λ (s : SessionRead). output_at s.files s.roles name) view
+              ∙ some_at ∙ ap (λ m. Some (output_bytes web m output)) full;
+          true_to_lines = record {
+            of_node = expansion_bytes (numbers_of web (table_of web) Full)
+                (flat_of (shapes_of web) (title_of_node (table_of web).names output.node));
+            made = refl;
+            true_to_lines = law (source_at state.files roles) web
+                (title_of_node (table_of web).names output.node) hold.analysis.line_truth;
+          };
+        })

@@ -3,6 +3,7 @@ use Rattle.std.specs.Prelude.{◌≡◌, ℕ, List, ◌++◌}
 use Rattle.tangle_faults.specs.Faults.{FaultRead}
 use Rattle.tangle_lines.specs.Reading.{SourceRead}
 use Rattle.tangle_scan.specs.Web.{WebRead}
+use Rattle.tangle_names.specs.Faults.{name_faults}
 use Rattle.tangle_names.specs.NameTable.{table_of}
 use Rattle.tangle_graph.specs.Faults.{AreGraphFaults}
 
@@ -13,4 +14,4 @@ pub record AreFaults (source : SourceRead) (web : WebRead)
     (out : List ℕ) (faults : List FaultRead) : Type 0 where
   pub of_graph : List FaultRead
   pub are_of_graph : AreGraphFaults web (table_of web) out of_graph
-  pub list : faults ≡ source.faults ++ (web.faults ++ ((table_of web).faults ++ of_graph))
+  pub list : faults ≡ source.faults ++ (web.faults ++ (name_faults web ++ of_graph))

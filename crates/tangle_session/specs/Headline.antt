@@ -33,6 +33,7 @@ use Rattle.tangle_files.specs.declared.refusal.Refusal.TheVariants.{NoMemory}
 use Rattle.tangle_faults.specs.Faults.{FaultRead}
 use Rattle.tangle_lines.specs.Reading.{SourceRead, source_of}
 use Rattle.tangle_scan.specs.Web.{WebRead, web_of}
+use Rattle.tangle_names.specs.Faults.{name_faults}
 use Rattle.tangle_names.specs.NameTable.{TableRead, table_of}
 use Rattle.tangle_expansion.specs.Limits.{flat_of}
 use Rattle.tangle_expansion.specs.Numbers.{numbers_of}
@@ -85,7 +86,7 @@ pub record IsPlainTangling (files : FileTable) (roles : RolesRead)
   -- order
   pub of_graph : List FaultRead
   pub are_of_graph : AreGraphFaults web table roles.out of_graph
-  pub reporting : faults ≡ source.faults ++ (web.faults ++ (table.faults ++ of_graph))
+  pub reporting : faults ≡ source.faults ++ (web.faults ++ (name_faults web ++ of_graph))
 
 -- 2. A history: edits from a start on, each with its answer.
 

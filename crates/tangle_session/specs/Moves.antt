@@ -20,7 +20,6 @@ no_names = record {
   resolved = [];
   first_occurrences = [];
   first_file_occurrences = [];
-  faults = [];
 }
 
 -- the number of the occurrence, if the item is a use

@@ -1,5 +1,5 @@
 -- The state of a session, what of it is shown, and what an edit leaves.
-use Rattle.std.specs.Prelude.{◌≡◌, ◌≢◌, ◌↔◌, ℕ, true, List, [], None, Some, Option, AllPairs}
+use Rattle.std.specs.Prelude.{◌≡◌, ◌≢◌, ◌↔◌, ℕ, true, List, None, Some, Option, AllPairs}
 use Rattle.std.specs.Prelude.{Contains, if◌then◌else◌}
 use Rattle.tangle_files.specs.Edited.{edited_all, roles_after}
 use Rattle.tangle_files.specs.Lines.{FileTable}
@@ -12,7 +12,7 @@ use Rattle.tangle_files.specs.declared.refusal.Refusal.{Refusal}
 use Rattle.tangle_files.specs.declared.refusal.Refusal.TheVariants.{NoWeb, NoChange}
 use Rattle.tangle_scan.specs.LineTruth.{PiecesAreAtTheirLines}
 use Rattle.tangle_scan.specs.Web.{WebRead}
-use Rattle.tangle_names.specs.NameTable.{table_of, table_over}
+use Rattle.tangle_names.specs.NameTable.{table_of}
 use Rattle.tangle_expansion.specs.Affected.{IsAffected}
 use Rattle.tangle_expansion.specs.Limits.{levels, heaviest, IsExpandableNode}
 use Rattle.tangle_expansion.specs.Numbers.{numbers_of}
@@ -67,7 +67,7 @@ pub record AreMade (before : SessionRead) (edits : List Edit) (after : SessionRe
 pub record IsAnalysisOf (source : SourceRead) (web : WebRead) (out : List ℕ) (marks : MarkMode)
     (analysis : Analysis) : Type 0 where
   pub occurrences : analysis.occurrences.items ≡ web.occurrences
-  pub table : analysis.table ≡ table_over web.occurrences []
+  pub table : analysis.table ≡ table_of web
   pub store : IsStoreOf (shapes_of web) analysis.store
   pub store_names : analysis.store.names ≡ (table_of web).names
   pub outputs_are : analysis.store.outputs ≡ outputs web (table_of web) out

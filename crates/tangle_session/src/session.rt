@@ -129,8 +129,7 @@ impl Session {
         if let Some(refusal) = refusal_to_apply(&self.state.files, &self.roles, edit) {
             return Err(refusal);
         }
-        let work = Work::new(self.alloc);
-        match self.make_all(std::slice::from_ref(edit), work) {
+        match self.apply_all(std::slice::from_ref(edit)) {
             Ok(()) => Ok(()),
             Err(refused) => Err(refused.refusal),
         }
@@ -156,27 +155,10 @@ impl Session {
             (IsOkUnless result list_memory) }
         ensures err { OnErr result (self.new ≡ self.old) }
     {
-        let work = Work::new(self.alloc);
-        self.make_all(edits, work)
-    }
-
-    /// Makes all the edits or none, for `apply` and `apply_all`. The setting of line marks, on
-    /// which source, web, faults and refusals do not depend, is changed last: this cannot fail, and
-    /// by then the new state is whole.
-    fn make_all(&mut self, edits: &[Edit], work: Work) -> Result<(), ListRefusal>
-        requires { work ≡ [] }
-        ensures files { OnOk result (self.new.files ≡ edited_all self.old.files edits.now) }
-        ensures roles { OnOk result (self.new.roles ≡ roles_after self.old.roles edits.now) }
-        ensures work { OnOk result (ListsAffectedOfWebs (web_at self.old.files self.old.roles)
-            (web_at self.new.files self.new.roles) self.new.work) }
-        ensures refused { IfSome (list_refusal self.old.files self.old.roles edits.now) (λ refused.
-            (result ≡ Err refused) ⊎ (result ≡ Err list_memory)) }
-        ensures only { IfNone (list_refusal self.old.files self.old.roles edits.now)
-            (IsOkUnless result list_memory) }
-        ensures err { OnErr result (self.new ≡ self.old) }
-    {
+        // The setting of line marks, on which neither the web nor a refusal depends, is changed
+        // last: this cannot fail, and by then the new state is whole.
         let marks = marks_after(&self.roles, edits);
-        let next = tangle_again(self.alloc, &self.state, &self.roles, edits, marks, work)?;
+        let next = tangle_again(self.alloc, &self.state, &self.roles, edits, marks)?;
         self.roles.set_marks(marks);
         self.state = next;
         Ok(())

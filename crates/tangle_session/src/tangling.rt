@@ -35,12 +35,8 @@ impl SessionState {
         ensures { option_copied result
             ≡ find (λ output. bytes_eq name.now output.name) self.now.analysis.store.outputs }
     {
-        for output in self.analysis.store.outputs() {
-            if name == output.name() {
-                return Some(output);
-            }
-        }
-        None
+        let outputs = self.analysis.store.outputs();
+        outputs.iter().find(|output| name == output.name())
     }
 
     /// The output file of this name, if there is one. The output at this index is compared first,
@@ -111,12 +107,10 @@ fn expand_over(
     old: &SessionState,
     files: Files,
     analysis: Analysis,
-    mut work: Work,
 ) -> Result<SessionState, NoMemory>
     requires agrees { (before after : RolesRead)
         × AgreesWithFiles old.now.files before old.now × IsAnalysisAt files after analysis }
     requires kept { KeepsBodies old.now.analysis.store analysis.store analysis.are_kept.items }
-    requires unbegun { work ≡ [] }
     ensures files { IfOk result (λ new. new.files ≡ files) }
     ensures agrees { (before after : RolesRead) → AgreesWithFiles old.now.files before old.now
         → IsAnalysisAt files after analysis → fits files after ≡ true
@@ -125,6 +119,7 @@ fn expand_over(
         → IsAnalysisAt files after analysis → IfOk result (λ new.
         ListsAffectedOfWebs (web_at old.now.files before) (web_at new.files after) new.work) }
 {
+    let mut work = Work::new(alloc);
     let kept = expand_again(
         alloc,
         &old.analysis.store,
@@ -142,17 +137,15 @@ fn expand_over(
 }
 
 /// The state after a list of edits, with this setting for line marks: the files are tangled again,
-/// and the expansions of unaffected nodes are kept. The expanded nodes are added to the work.
+/// and the expansions of unaffected nodes are kept.
 pub(crate) fn tangle_again(
     alloc: Global,
     old: &SessionState,
     roles: &Roles,
     edits: &[Edit],
     marks: MarkMode,
-    work: Work,
 ) -> Result<SessionState, ListRefusal>
     requires agrees { AgreesWithFiles old.now.files roles.now old.now }
-    requires unbegun { work ≡ [] }
     ensures files { IfOk result (λ new. new.files ≡ edited_all old.now.files edits.now) }
     ensures agrees { IfOk result (λ new.
         AgreesWithFiles new.files (record roles.now { marks = marks }) new) }
@@ -165,6 +158,6 @@ pub(crate) fn tangle_again(
 {
     let files = edited_copy(&old.files, roles, edits)?;
     let analysis = Analysis::build(alloc, &files, roles, marks, Some(&old.analysis))?;
-    let next = expand_over(alloc, old, files, analysis, work)?;
+    let next = expand_over(alloc, old, files, analysis)?;
     Ok(next)
 }

@@ -14,7 +14,7 @@ fn tangle_source(alloc: Global, source: &Source) -> Result<(Store, Kept, Numbers
     let web = scan(alloc, source)?;
     let table = NameTable::build(alloc, &web)?;
     let store = Store::build(alloc, &web, &table, b"a.c")?;
-    let numbers = Numbers::build(alloc, &web, &store, MarkMode::Full)?;
+    let numbers = Numbers::build(alloc, &web, store.names(), store.pieces(), MarkMode::Full)?;
     let mut work = Work::new(alloc);
     let kept = expand_all(alloc, &store, &mut work)?;
     Ok((store, kept, numbers))

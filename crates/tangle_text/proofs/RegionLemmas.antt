@@ -4,7 +4,7 @@ use Rattle.tangle_text.specs.declared.regions.Region.{Region}
 use Rattle.tangle_text.specs.declared.regions.Unit.{Unit as Unit-of}
 use Rattle.tangle_text.specs.declared.regions.Unit.TheVariants as unit
 use Rattle.tangle_text.specs.Text.{Cell}
-use Rattle.tangle_text.specs.declared.ahead.Front.{Front}
+use Rattle.tangle_text.specs.declared.reader.Front.{Front}
 use Rattle.tangle_text.specs.Ahead.{IsFront}
 use Rattle.tangle_text.specs.Regions.{unit_of, unit_at, count_before, more_by, region_end}
 use Rattle.tangle_text.proofs.UnitLemmas.{counted, count-is}

@@ -2,7 +2,7 @@
 use Rattle.std.specs.Prelude.{◌≡◌, ◌<◌, ℕ, ◌+◌, Bool, true, false, List, [], ◌∷◌, ◌++◌, length}
 use Rattle.std.specs.Prelude.{drop, if◌then◌else◌}
 use Rattle.tangle_lines.specs.Reading.{SourceLine}
-use Rattle.tangle_text.specs.declared.ahead.Front.{Front}
+use Rattle.tangle_text.specs.declared.reader.Front.{Front}
 use Rattle.tangle_text.specs.Text.{Cell, line_text, text_from, byte_at}
 
 -- the text from a column of a line with these bytes on; nothing after the last line

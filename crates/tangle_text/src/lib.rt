@@ -4,12 +4,12 @@
 //! [`Region`] up to the position where the region ends. A [`Span`] is a range of a line.
 #![tactic(auto)]
 
-mod ahead;
 mod bytes;
+mod reader;
 mod regions;
 mod spans;
 
-pub use ahead::{Front, Reader};
 pub use bytes::{holds, is_end_code, is_octal, is_section_start, is_white, is_word_byte, lower};
+pub use reader::{Front, Reader};
 pub use regions::{Region, Unit, unit_of};
 pub use spans::Span;

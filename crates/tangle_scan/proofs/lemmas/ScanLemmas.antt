@@ -10,8 +10,8 @@ use Rattle.tangle_lexer.specs.Steps.{tokens_from, occurrences_from, all_tokens, 
 use Rattle.tangle_scan.specs.Web.{body, web_of}
 use Rattle.tangle_lexer.specs.Occurrences.{OccurrenceRead, occurrence_of}
 use Rattle.tangle_lexer.specs.Heads.{is_head}
-use Rattle.tangle_scan.specs.Gathering.{GatheringRead, nothing, gathering_with, web_from}
-use Rattle.tangle_scan.proofs.lemmas.GatheringLemmas.{gathering-cut}
+use Rattle.tangle_scan.specs.WebBuilder.{WebBuilderRead, nothing, builder_with, web_from}
+use Rattle.tangle_scan.proofs.lemmas.WebBuilderLemmas.{builder-cut}
 
 pub tokens-end : (s : LexerState) → tokens_from s [] ≡ []
 unfolding tokens_from
@@ -29,29 +29,29 @@ ends-body s None rest head end = ap body (ap (tokens_from s) end ∙ tokens-end 
 ends-body s (Some e) rest head end = rw head refl
 
 -- gathering a block, and then the tokens after it, gathers all of them
-pub block-gathering : (source : SourceRead) (before : GatheringRead) (head : Token)
+pub block-builder : (source : SourceRead) (before : WebBuilderRead) (head : Token)
     (s after : LexerState) (text rest : List Cell) (block : List Token) (next_head : Option Token)
     → tokens_from s text ≡ block ++ (option_to_list next_head ++ tokens_from after rest)
     → IfSome next_head (λ head. is_head head ≡ true) → IfNone next_head (rest ≡ [])
-    → gathering_with source (gathering_with source before (head ∷ block))
+    → builder_with source (builder_with source before (head ∷ block))
     (option_to_list next_head ++ tokens_from after rest)
-    ≡ gathering_with source before (head ∷ tokens_from s text)
-block-gathering source before head s after text rest block next_head all some end =
-    gathering-cut source before (head ∷ block)
+    ≡ builder_with source before (head ∷ tokens_from s text)
+block-builder source before head s after text rest block next_head all some end =
+    builder-cut source before (head ∷ block)
     (option_to_list next_head ++ tokens_from after rest) (ends-body after next_head rest some end)
-    ∙ ap (λ es. gathering_with source before (head ∷ es)) (sym all)
+    ∙ ap (λ es. builder_with source before (head ∷ es)) (sym all)
 
 -- gathering the tokens before the first head, and then those from it on, gathers all of them
-pub front-gathering : (source : SourceRead) (before : GatheringRead) (s after : LexerState)
+pub front-builder : (source : SourceRead) (before : WebBuilderRead) (s after : LexerState)
     (text rest : List Cell) (block : List Token) (next_head : Option Token)
     → tokens_from s text ≡ block ++ (option_to_list next_head ++ tokens_from after rest)
     → IfSome next_head (λ head. is_head head ≡ true) → IfNone next_head (rest ≡ [])
-    → gathering_with source (gathering_with source before block) (option_to_list next_head ++ tokens_from after rest)
-    ≡ gathering_with source before (tokens_from s text)
-front-gathering source before s after text rest block next_head all some end =
-    gathering-cut source before block (option_to_list next_head ++ tokens_from after rest)
+    → builder_with source (builder_with source before block) (option_to_list next_head ++ tokens_from after rest)
+    ≡ builder_with source before (tokens_from s text)
+front-builder source before s after text rest block next_head all some end =
+    builder-cut source before block (option_to_list next_head ++ tokens_from after rest)
     (ends-body after next_head rest some end)
-    ∙ ap (gathering_with source before) (sym all)
+    ∙ ap (builder_with source before) (sym all)
 
 -- each head has at least one cell
 pub block-shorter : (text rest : List Cell) (next_head : Option Token)
@@ -61,9 +61,9 @@ block-shorter text rest None some end = omega (arith, ap length end)
 block-shorter text rest (Some head) some end = omega (arith, some)
 
 -- the web of all that was gathered is the web of the source
-pub web-whole : (source : SourceRead) (all : GatheringRead) (occurrences : List OccurrenceRead)
-    → all ≡ gathering_with source nothing (all_tokens source.lines)
+pub web-whole : (source : SourceRead) (all : WebBuilderRead) (occurrences : List OccurrenceRead)
+    → all ≡ builder_with source nothing (all_tokens source.lines)
     → occurrences ≡ map (occurrence_of source.lines) (all_occurrences source.lines) →
     web_from source all occurrences ≡ web_of source
-unfolding gathering_with
+unfolding builder_with
 web-whole source all occurrences a b = rw (a, b) refl

@@ -1,20 +1,13 @@
-use Rattle.std.proofs.Common.{[], sym, ◌∙◌, codes}
-use Rattle.ctangle_cli.proofs.AnswerLemmas.{bad_cancel, cancelled}
+use Rattle.std.proofs.Common.{[], codes, refl}
 use Rattle.ctangle_cli.proofs.RunLemmas.{TakesAll-none}
 use Rattle.ctangle_cli.proofs.conversation.cancel.Goals as goal
 
-pub returns-then-is_some : goal.returns-then-is_some
-returns-then-is_some g c = λ session.
-    let now = g.S.Sink.stream c.args.sink.now in (
-      codes "ok\n",
-      cancelled session c.args.draft.now (sym c.is_some.ensures ∙ c.if-is_some.true),
-      c.say.ensures now [] (TakesAll-none now),
-    )
+pub returns-in-None : goal.returns-in-None
+returns-in-None g c = λ session.
+    let now = g.S.Sink.stream c.args.sink.now in
+    (codes "no BadCommand\n", rw c.in-None.is (refl, refl), c.say.ensures now [] (TakesAll-none now))
 
-pub returns : goal.returns
-returns g c = λ session.
-    let now = g.S.Sink.stream c.args.sink.now in (
-      codes "no BadCommand\n",
-      bad_cancel session c.args.draft.now (sym c.is_some.ensures ∙ c.if-is_some.false),
-      c.say-2.ensures now [] (TakesAll-none now),
-    )
+pub returns-in-Some : goal.returns-in-Some
+returns-in-Some g c = λ session.
+    let now = g.S.Sink.stream c.args.sink.now in
+    (codes "ok\n", rw c.in-Some.is (refl, refl), c.say-in-Some.ensures now [] (TakesAll-none now))

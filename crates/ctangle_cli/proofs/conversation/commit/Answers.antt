@@ -1,6 +1,6 @@
-use Rattle.std.proofs.Common.{[], sym, codes}
+use Rattle.std.proofs.Common.{[], sym, codes, refl}
 use Rattle.ctangle_cli.specs.Conversation.{list_line}
-use Rattle.ctangle_cli.proofs.AnswerLemmas.{bad_commit, committed, list_answered}
+use Rattle.ctangle_cli.proofs.AnswerLemmas.{list_answered}
 use Rattle.ctangle_cli.proofs.RunLemmas.{TakesAll-none}
 use Rattle.ctangle_cli.proofs.conversation.commit.Goals as goal
 
@@ -8,7 +8,7 @@ pub returns-in-None : goal.returns-in-None
 returns-in-None g c =
     let now = g.S.Sink.stream c.args.sink.now in (
       codes "no BadCommand\n",
-      rw c.in-None.ensures.after (bad_commit c.args.session.now c.args.draft.now (sym c.in-None.ensures.value)),
+      rw (c.in-None.ensures.after, sym c.in-None.ensures.value) (refl, refl),
       c.say.ensures now [] (TakesAll-none now),
     )
 
@@ -16,10 +16,10 @@ pub returns-in-Some : goal.returns-in-Some
 returns-in-Some g c =
     let done = rw c.deref.ensures.value at c.apply_all-done.ensures in (
       list_line c.apply_all-done.result,
-      rw c.in-Some.ensures.after
-          (committed c.args.session.now c.apply_all-done.new.self c.args.draft.now
-          c.in-Some.held (list_line c.apply_all-done.result) (sym c.in-Some.ensures.value)
-          (list_answered c.args.session.now c.apply_all-done.new.self c.in-Some.held.items
-          c.apply_all-done.result done.files done.roles done.work done.refused done.only done.err)),
+      rw (c.in-Some.ensures.after, sym c.in-Some.ensures.value) (
+        list_answered c.args.session.now c.apply_all-done.new.self c.in-Some.held.items
+            c.apply_all-done.result done.files done.roles done.work done.refused done.only done.err,
+        refl,
+      ),
       c.write_list_answer.ensures,
     )

@@ -1,11 +1,12 @@
 use Rattle.std.proofs.Common.{[], ◌∷◌, ◌++◌, ◌∙◌, append-nil, subst, sym}
 use Rattle.std.specs.Prelude.{filter}
+use Rattle.std.proofs.lemmas.Bool.{or_right}
 use Rattle.std.proofs.lemmas.Result.{err_from_is_err_and}
 use Rattle.tangle_files.specs.Adding.{has_file, is_name}
 use Rattle.ctangle_cli.specs.Loading.{ending_of, with_inclusions}
 use Rattle.ctangle_cli.specs.Loading.LoadEnd.{NoMemory}
 use Rattle.ctangle_cli.specs.Steps.{Reads, Stops, progress}
-use Rattle.ctangle_cli.proofs.AskLemmas.{or_right, with_asked_new}
+use Rattle.ctangle_cli.proofs.AskLemmas.{with_asked_new}
 use Rattle.ctangle_cli.proofs.LoadLemmas.{absent_included}
 use Rattle.ctangle_cli.proofs.StepLemmas.{Included, as_missing, none_asked, out_of_memory, reads_none}
 use Rattle.ctangle_cli.proofs.loading.read_inclusion.Goals as goal

@@ -23,7 +23,7 @@ loop-fault-preserved g c =
     let faults = c.args.faults.now in
     let i = c.loop-fault.fault-index in
     let old = progress (g.F.Folder.state c.args.folder.now) c.args.files.now c.args.absent.now in
-    let now = progress (g.F.Folder.state c.loop-fault.folder) c.loop-fault.files c.loop-fault.absent in
+    let state = progress (g.F.Folder.state c.loop-fault.folder) c.loop-fault.files c.loop-fault.absent in
     let kind = ap is_missing_kind (sym c.kind.ensures) ∙ sym c.is_missing.ensures in
     elim c.if-is_missing.branch [
       | then-is_missing+in_ok-read_inclusion w ↦
@@ -33,13 +33,13 @@ loop-fault-preserved g c =
           let missed = missed_next faults i c.fault-item.result name true c.loop-fault-test.true
           c.fault-item.is (kind ∙ w.if-is_missing.true) w.subject.ensures in
           rw (w.folder-is, w.files-is, w.absent-is) (subst (λ l. Included l old next) (sym missed)
-          (included_then (missed_in (take i faults)) (name ∷ []) old now
+          (included_then (missed_in (take i faults)) (name ∷ []) old state
           next c.loop-fault.invariant w.in_ok-read_inclusion.ensures))
       | else-is_missing w ↦
           let missed = missed_next faults i c.fault-item.result c.fault-item.result.subject
           false c.loop-fault-test.true c.fault-item.is (kind ∙ w.if-is_missing.false) refl in
           rw (w.folder-is, w.files-is, w.absent-is)
-          (subst (λ l. Included l old now)
+          (subst (λ l. Included l old state)
           (sym (missed ∙ append-nil (missed_in (take i faults)))) c.loop-fault.invariant)
     ]
 

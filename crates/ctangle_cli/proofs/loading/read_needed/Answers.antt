@@ -1,8 +1,8 @@
 use Rattle.std.proofs.Common.{[], ◌∷◌, ◌∙◌, refl}
+use Rattle.std.proofs.Math.Bool.{or-false}
 use Rattle.std.proofs.lemmas.Result.{err_from_is_err_and}
 use Rattle.ctangle_cli.specs.Loading.{ending_of}
 use Rattle.ctangle_cli.specs.Steps.{progress}
-use Rattle.ctangle_cli.proofs.AskLemmas.{or_false}
 use Rattle.ctangle_cli.proofs.StepLemmas.{needed_early, none_absent, reads_needed, stops_missing}
 use Rattle.ctangle_cli.proofs.loading.read_needed.Goals as goal
 
@@ -28,6 +28,6 @@ returns-clause-step g c =
     stops_missing c.args.name.now (progress before c.args.files.now [])
     (progress (g.F.Folder.state c.read_present.new.folder) c.read_present.new.files (c.args.name.now ∷ []))
     (ending_of c.cannot_read.result) c.requires
-    (c.in_ok-read_present.ensures.present ∙ c.if-branch.false) (or_false _ ∙ c.requires)
+    (c.in_ok-read_present.ensures.present ∙ c.if-branch.false) (or-false _ ∙ c.requires)
     ((rw c.if-branch.false at c.in_ok-read_present.ensures.step) [] (none_absent before.files) refl)
     c.cannot_read.ensures

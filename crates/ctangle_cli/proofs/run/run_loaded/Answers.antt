@@ -8,6 +8,6 @@ returns-in-Err g c = λ begun loads.
     IsUntangled c.args.files _ loads (tries_from _ _ c.write_load.result _ c.write_load.ensures)
     (refl, (refl, refl), refl) c.unstarted.ensures
 
-pub returns-in-Ok : goal.returns-in-Ok
-returns-in-Ok g c = λ begun loads.
+pub returns : goal.returns
+returns g c = λ begun loads.
     IsTangled c.args.files _ loads (rw (c.in-Ok.ensures.files, c.in-Ok.ensures.roles) at c.run_session-status.ensures)

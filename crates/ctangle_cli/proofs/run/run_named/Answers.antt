@@ -1,4 +1,3 @@
-use Rattle.std.proofs.Common.{refl}
 use Rattle.ctangle_cli.specs.Loading.{ending_of}
 use Rattle.ctangle_cli.specs.Run.NamedEnds.{IsUnloaded}
 use Rattle.ctangle_cli.proofs.RunLemmas.{tries_from}

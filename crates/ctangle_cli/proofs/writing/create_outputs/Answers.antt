@@ -1,26 +1,17 @@
 use Rattle.std.proofs.Common.{◌∙◌}
-use Rattle.std.specs.Iterator.Adapters.{enumerate_source}
-use Rattle.tangle_session.specs.Tangle.{outputs_of}
 use Rattle.ctangle_cli.proofs.WriteLemmas.{next_output, stops_at_next, wrote_next}
 use Rattle.ctangle_cli.proofs.writing.create_outputs.Goals as goal
 
 pub create_output-requires : goal.create_output-requires
 create_output-requires g c =
-    let next = next_output (outputs_of c.args.session.now.files c.args.session.now.roles)
-    (g.F.Folder.state c.args.folder.now).created (g.F.Folder.state c.loop-index.folder).created
-    (enumerate_source c.loop-index.index-iterator) c.in-Some.name.now (enumerate_source c.next.new.self)
-    c.in-Some.ensures.steps.0 c.requires c.loop-index.invariant.written in
+    let next = next_output _ _ _ _ _ _ c.in-Some.ensures.steps.0 c.requires c.loop-index.invariant.written in
     next.is_there
 
 pub loop-index-preserved : goal.loop-index-preserved
 loop-index-preserved g c =
-    let next = next_output (outputs_of c.args.session.now.files c.args.session.now.roles)
-    (g.F.Folder.state c.args.folder.now).created (g.F.Folder.state c.loop-index.folder).created
-    (enumerate_source c.loop-index.index-iterator) c.in-Some.name.now (enumerate_source c.next.new.self)
-    c.in-Some.ensures.steps.0 c.requires c.loop-index.invariant.written in
+    let next = next_output _ _ _ _ _ _ c.in-Some.ensures.steps.0 c.requires c.loop-index.invariant.written in
     record {
-      written = wrote_next (outputs_of c.args.session.now.files c.args.session.now.roles)
-          _ _ _ c.in-Some.name.now _ next c.in-Ok.ensures.whole;
+      written = wrote_next _ _ _ _ _ _ next c.in-Ok.ensures.whole;
       unfailed = c.in-Ok.ensures.unfailed ∙ c.loop-index.invariant.unfailed;
       asked_stay = c.in-Ok.ensures.asked_stay ∙ c.loop-index.invariant.asked_stay;
       failed_stay = c.in-Ok.ensures.failed_stay ∙ c.loop-index.invariant.failed_stay;
@@ -28,9 +19,5 @@ loop-index-preserved g c =
 
 pub returns-in-Err-clause-stopped : goal.returns-in-Err-clause-stopped
 returns-in-Err-clause-stopped g c =
-    let next = next_output (outputs_of c.args.session.now.files c.args.session.now.roles)
-    (g.F.Folder.state c.args.folder.now).created (g.F.Folder.state c.loop-index.folder).created
-    (enumerate_source c.loop-index.index-iterator) c.in-Some.name.now (enumerate_source c.next.new.self)
-    c.in-Some.ensures.steps.0 c.requires c.loop-index.invariant.written in
-    stops_at_next (outputs_of c.args.session.now.files c.args.session.now.roles) _ _ _
-    c.in-Some.name.now _ c.in-Err.fault next c.in-Err.ensures.prefix c.in-Err.ensures.nothing
+    let next = next_output _ _ _ _ _ _ c.in-Some.ensures.steps.0 c.requires c.loop-index.invariant.written in
+    stops_at_next _ _ _ _ _ _ c.in-Err.fault next c.in-Err.ensures.prefix c.in-Err.ensures.nothing

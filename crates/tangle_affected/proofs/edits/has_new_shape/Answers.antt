@@ -1,8 +1,15 @@
-use Rattle.std.proofs.Common.{◌∙◌, ap, refl, sym}
+use Rattle.std.proofs.Common.{◌∙◌, ap, refl, sym, true≢false}
 use Rattle.tangle_graph.specs.Stores.{shape_in_store, title_in_store}
-use Rattle.tangle_graph.proofs.ShapeLemmas.{shape_inside}
+use Rattle.tangle_graph.proofs.ShapeLemmas.{shape_inside, shape_kept}
 use Rattle.tangle_affected.proofs.NameLemmas.{differ, no_shape}
 use Rattle.tangle_affected.proofs.edits.has_new_shape.Goals as goal
+
+pub returns-then-is_flagged : goal.returns-then-is_flagged
+returns-then-is_flagged c = λ old_shapes new_shapes old_is new_is. (
+  λ e. absurd (true≢false (sym e)),
+  λ apart. absurd (apart (shape_kept c.args.old.now c.args.new.now c.args.are_kept.now c.args.node c.requires.bodies
+      (sym c.is_flagged.ensures ∙ c.if-is_flagged.true) old_shapes new_shapes old_is new_is c.requires.node)),
+)
 
 pub returns-in-Some : goal.returns-in-Some
 returns-in-Some c = λ old_shapes new_shapes old_is new_is.

@@ -12,8 +12,8 @@ returns-in-None-clause-none c = λ _ other h e.
     let new = c.args.new.now in
     let id = c.in-Name.id in
     let low = subst (IsNodeIn new) c.in-Name.is c.requires in
-    let text = c.text.ensures ∙ ap (λ l. get_or l id []) c.full_names-in-Name.ensures in
+    let text = c.text.ensures ∙ ap (λ l. get_or l id []) c.names-in-Name.ensures in
     let title = ap (title_in_store new) c.in-Name.is ∙ title_inside new.names id low ∙ ap Named (sym text) in
     let absent = subst (λ l. position (bytes_eq c.text.result.now) l ≡ None)
-    c.full_names.ensures (c.find_from.ensures.none c.in-None.is) in
+    c.names.ensures (c.find_from.ensures.none c.in-None.is) in
     name_absent c.args.old.now.names c.text.result.now other absent (e ∙ title)

@@ -18,7 +18,7 @@ expand_next-requires c =
         shapes,
         ready.store_is,
         next_kept shapes store list ready.store_is ready.list_is i c.loop-node.kept
-            c.loop-node-test.true kept c.used_names_are_expandable.ensures,
+            c.loop-node-test.true kept,
       );
     }
 
@@ -27,12 +27,11 @@ loop-node-preserved c =
     let store = c.args.store.now in
     let list = c.args.list.now in
     let i = c.loop-node.node-index in
-    let law = c.used_names_are_expandable.ensures in
     record {
       kept = λ shapes ready.
           let kept = c.loop-node.invariant.kept shapes ready in
           let used =
-          next_kept shapes store list ready.store_is ready.list_is i c.loop-node.kept c.loop-node-test.true kept law in
+          next_kept shapes store list ready.store_is ready.list_is i c.loop-node.kept c.loop-node-test.true kept in
           done_more shapes store list ready.store_is ready.list_is i c.loop-node.kept c.expand_next.new.kept
           c.loop-node-test.true kept (c.in_ok-expand_next.ensures.kept shapes ready.store_is used);
       work = c.in_ok-expand_next.ensures.listed ∙ ap (λ l. l ++ get_or list i Program ∷ []) c.loop-node.invariant.work

@@ -4,8 +4,8 @@ use Rattle.tangle_expansion.specs.Kept.{PutsKept}
 use Rattle.tangle_affected.proofs.KeepLemmas.{expandable_in, plan_kept}
 use Rattle.tangle_affected.proofs.keeping.expand_next.Goals as goal
 
-pub expand_one-requires-clause-kept : goal.expand_one-requires-clause-kept
-expand_one-requires-clause-kept c = λ id h.
+pub expand-requires-clause-kept : goal.expand-requires-clause-kept
+expand-requires-clause-kept c = λ id h.
     let store = c.args.store.now in
     let node = c.args.node in
     let used = c.requires.used in

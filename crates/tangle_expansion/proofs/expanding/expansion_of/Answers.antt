@@ -13,13 +13,13 @@ share_used-requires c = λ id u.
     (c.deref-step-items.ensures.value ∙ ap (λ (b : NodeBody). b.plan.items) c.deref-stored.ensures)
     c.loop-step-test.true u)
 
-pub returns-in-Ok-new : goal.returns-in-Ok-new
-returns-in-Ok-new c =
+pub returns : goal.returns
+returns c =
     let body = c.args.body.now.value in
     let done = uses_end (used_symbols c.args.kept.now) body.plan.items
     c.deref-step-items.result.now c.loop-step.step-index c.loop-step.used.items
     (c.deref-step-items.ensures.value ∙ ap (λ (b : NodeBody). b.plan.items) c.deref-stored.ensures) (omega arith)
     c.loop-step.invariant in
-    rw (c.in-Ok-new.ensures.ok, c.in-Ok.ensures.cases)
+    rw (c.in_ok-shared.ensures.ok, c.in_ok-body.ensures.cases)
     (ap (plan_flat (title_of body.name) body.bytes.items 0 0 0 body.plan.items) done
     ∙ plan_filled (used_symbols c.args.kept.now) (title_of body.name) body.bytes.items 0 0 0 body.plan.items)

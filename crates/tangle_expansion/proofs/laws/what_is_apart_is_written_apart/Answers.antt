@@ -2,6 +2,7 @@ use Rattle.std.proofs.Common.{List, [], ◌∷◌, refl}
 use Rattle.std.specs.List.{AllZip}
 use Rattle.tangle_names.specs.NameTable.{table_of}
 use Rattle.tangle_scan.specs.Web.{web_of}
+use Rattle.tangle_scan.proofs.laws.WebsApart.{web-apart}
 use Rattle.tangle_expansion.specs.Numbers.{numbers_of}
 use Rattle.tangle_expansion.specs.PieceBytes.{bytes_after_mark, used_bytes}
 use Rattle.tangle_expansion.proofs.laws.what_is_apart_is_written_apart.Goals as goal
@@ -17,7 +18,7 @@ pub returns : goal.returns
 returns c = λ source marks used.
     let web = web_of source in
     let numbers = numbers_of web (table_of web) marks in
-    let apart = c.what_is_apart_stays_apart.ensures source in
+    let apart = web-apart source in
     record {
       macros_written = refl;
       macros = apart.macros;

@@ -24,7 +24,7 @@ returns-in-Mark g c =
 pub returns-in-AllMacros : goal.returns-in-AllMacros
 returns-in-AllMacros g c =
     rw c.in-AllMacros.is
-    (writes_same _ _ _ _ _ _ (macros_written c.args.numbers.now c.macros.result.now c.macros.ensures)
+    (writes_same _ _ _ _ _ _ (macros_written c.args.numbers.now c.macros.result.now c.macros.ensures.macros)
     (writes_then _ _ _ _ _ _ _ _ c.write_after-opened.ensures c.write_after-in-AllMacros.ensures))
 
 pub returns-in-Close : goal.returns-in-Close

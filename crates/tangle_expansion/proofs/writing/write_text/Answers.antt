@@ -6,5 +6,5 @@ use Rattle.tangle_streams.proofs.StreamLemmas.{IsWritten-none}
 pub returns : goal.returns
 returns g c =
     let t = g.S.Sink.stream in
-    c.write_text_after.ensures (t c.args.sink.now) [] (IsWritten-none (t c.args.sink.now))
-    (omega (arith, light_fits c.args.numbers.now c.symbols_are_short.ensures c.args.expansion.now c.requires))
+    c.write_text_after.ensures.writes (t c.args.sink.now) [] (IsWritten-none (t c.args.sink.now))
+    (omega (arith, light_fits c.args.numbers.now c.write_text_after.ensures.short c.args.expansion.now c.requires))

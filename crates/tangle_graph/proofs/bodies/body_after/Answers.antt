@@ -9,12 +9,12 @@ use Rattle.tangle_graph.specs.Plans.{IsBodyAt}
 use Rattle.tangle_graph.proofs.BodyLemmas.{is_body_of}
 use Rattle.tangle_graph.proofs.bodies.body_after.Goals as goal
 
-pub returns-in-Ok-clause-old : goal.returns-in-Ok-clause-old
-returns-in-Ok-clause-old c = λ _.
-    subst (λ o. MatchOption o ⊥ (λ body. c.in-Ok.body.value ≡ body.now.value)) (sym c.in-Some.is) c.in-Ok.ensures.cases
+pub returns-then-has_items_of-clause-old : goal.returns-then-has_items_of-clause-old
+returns-then-has_items_of-clause-old c = λ _.
+    subst (λ o. MatchOption o ⊥ (λ body. c.in_ok-body.body.value ≡ body.now.value)) (sym c.in-Some.is) c.in_ok-body.ensures.cases
 
-pub returns-in-Ok-clause-body : goal.returns-in-Ok-clause-body
-returns-in-Ok-clause-body c =
+pub returns-then-has_items_of-clause-body : goal.returns-then-has_items_of-clause-body
+returns-then-has_items_of-clause-body c =
     let web = c.args.web.now in
     let table = c.args.table.now in
     let numbers = c.args.numbers.now in
@@ -22,7 +22,7 @@ returns-in-Ok-clause-body c =
     let has : ℕ → Bool = λ id. get_or c.args.has_piece.now id false in
     let old = c.deref.result.now in
     let yes = c.if-has_items_of.true in
-    let same : c.in-Ok.body.value ≡ old = c.in-Ok.ensures.cases ∙ sym c.deref.ensures in
+    let same : c.in_ok-body.body.value ≡ old = c.in_ok-body.ensures.cases ∙ sym c.deref.ensures in
     let planned : IsPlanned has old =
     subst (IsPlanned has) (sym c.deref.ensures)
     (subst (λ o. IfSome o (λ body. IsPlanned has body.now.value)) c.in-Some.is c.requires.planned) in

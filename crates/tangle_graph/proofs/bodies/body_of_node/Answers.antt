@@ -6,8 +6,8 @@ use Rattle.tangle_graph.specs.Plans.{IsBodyAt}
 use Rattle.tangle_graph.proofs.BodyLemmas.{is_body_of}
 use Rattle.tangle_graph.proofs.bodies.body_of_node.Goals as goal
 
-pub returns-in-Ok : goal.returns-in-Ok
-returns-in-Ok c =
+pub returns : goal.returns
+returns c =
     let web = c.args.web.now in
     let table = c.args.table.now in
     let has : ℕ → Bool = λ id. get_or c.args.has_piece.now id false in
@@ -15,7 +15,7 @@ returns-in-Ok c =
     let pieces = pieces_at web.pieces numbers in
     let reported = c.in_ok-body.ensures in
     let body = c.in_ok-body.body in
-    subst (IsBodyAt web table has c.args.n numbers) (sym c.in-Ok.ensures.ok) (record {
+    subst (IsBodyAt web table has c.args.n numbers) (sym c.in_ok-new.ensures.ok) (record {
       slots = reported.plan ∙ ap (λ (t : Title). pieces_slots web.texts table has t 0 pieces) c.in_ok-name.ensures;
       is_body =
           is_body_of web table has (title_of c.in_ok-name.name) numbers body reported.shape reported.uses reported.plan;

@@ -5,6 +5,7 @@ use Rattle.digraph.specs.Graph.{rows_of, row_at}
 use Rattle.digraph.proofs.GraphLemmas.{row_read}
 use Rattle.tangle_expansion.specs.Limits.{levels, depth_of}
 use Rattle.tangle_plans.specs.WebShapes.{shapes}
+use Rattle.tangle_expansion.proofs.SameShapes.{depth_by_uses}
 use Rattle.tangle_graph.specs.Nodes.{title_at}
 use Rattle.tangle_graph.proofs.OrderLemmas.{measured_next, measured_all, left_out_deepest}
 use Rattle.tangle_graph.proofs.StepLemmas.{measured_capped, depth_step}
@@ -21,7 +22,7 @@ depth_of_node-requires-clause-capped c =
       measured_capped value levels c.loop-n.depths.items (take c.loop-n.n-index c.args.order.now)
           (λ n. omega (
             arith,
-            c.nodes_expand_by_uses.ensures.depths levels
+            depth_by_uses levels
                 (shapes c.args.web.now c.args.table.now) (title_at c.args.table.now.names n),
           )) c.loop-n.invariant.1 k h,
     )) in
@@ -50,7 +51,7 @@ loop-n-preserved c =
     depth_step web table c.args.pieces.now c.args.uses.now order c.requires.graph c.requires.order
     i c.loop-n-test.true c.loop-n.depths.items row used c.depth_of_node.result
     c.loop-n.invariant.1 read uses_read
-    (c.nodes_expand_by_uses.ensures.depths levels (shapes web table)) c.depth_of_node.ensures.none
+    (depth_by_uses levels (shapes web table)) c.depth_of_node.ensures.none
     (λ h. subst
     (λ ds. (1 ≤ c.depth_of_node.result) × All (λ m. min levels (1 + get_or ds m 0) ≤ c.depth_of_node.result) used)
     c.deref.ensures.value (c.depth_of_node.ensures.least h))
@@ -68,7 +69,7 @@ returns-clause-depths c = λ n low.
     let web = c.args.web.now in
     let table = c.args.table.now in
     let value : ℕ → ℕ = λ k. depth_of (shapes web table) (title_at table.names k) in
-    let most = c.nodes_expand_by_uses.ensures.depths levels (shapes web table) (title_at table.names n) in
+    let most = depth_by_uses levels (shapes web table) (title_at table.names n) in
     measured_all value levels c.loop-n.depths.items c.args.order.now c.loop-n.n-index n
     (omega (arith, c.loop-n-test.false)) c.loop-n.invariant.1 (omega (arith, low, c.loop-n.invariant.0))
     (λ none. omega (

@@ -9,6 +9,7 @@ use Rattle.tangle_expansion.specs.Limits.{weight_cap, weight_of}
 use Rattle.tangle_plans.specs.NodeBodies.{body_uses, plan_slots}
 use Rattle.tangle_plans.specs.declared.nodes.NodeBody.{NodeBody}
 use Rattle.tangle_plans.specs.WebShapes.{shapes}
+use Rattle.tangle_expansion.proofs.SameShapes.{weight_by_uses}
 use Rattle.tangle_graph.specs.Measures.{weight_of_pieces}
 use Rattle.tangle_graph.specs.Nodes.{title_at}
 use Rattle.tangle_graph.proofs.OrderLemmas.{measured_next, measured_all, left_out_heaviest}
@@ -84,7 +85,7 @@ loop-n-preserved c =
     weight_step web table c.args.pieces.now c.args.uses.now order c.requires.graph c.requires.order
     i c.loop-n-test.true c.loop-n.weights.items (row_at rows n) c.weight_of_node.result
     c.requires.inside c.loop-n.invariant.1 refl
-    (c.nodes_expand_by_uses.ensures.weights weight_cap (shapes web table)) e in (
+    (weight_by_uses weight_cap (shapes web table)) e in (
       length-set c.loop-n.weights.items n c.weight_of_node.result ∙ c.loop-n.invariant.0,
       measured_next c.args.uses.now value weight_cap c.loop-n.weights.items order i c.weight_of_node.result
           c.requires.order.after_uses c.loop-n-test.true c.loop-n.invariant.0 c.loop-n.invariant.1 right,

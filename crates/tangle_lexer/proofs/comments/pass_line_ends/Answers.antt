@@ -11,22 +11,22 @@ use Rattle.tangle_lexer.proofs.comments.pass_line_ends.Goals as goal
 pub returns-in-Stop-clause-ahead : goal.returns-in-Stop-clause-ahead
 returns-in-Stop-clause-ahead c =
     let here =
-    unit_at-front c.args.region c.loop-front.ahead c.in-Some.front _ c.in-Some.ensures.front c.unit_of-unit.ensures in
-    sym (region_end-stop c.args.region c.loop-front.ahead (here ∙ c.in-Stop.is)) ∙ c.loop-front.invariant.end
+    unit_at-front c.args.region c.loop-front.reader c.in-Some.front _ c.in-Some.ensures.front c.unit_of-unit.ensures in
+    sym (region_end-stop c.args.region c.loop-front.reader (here ∙ c.in-Stop.is)) ∙ c.loop-front.invariant.end
 
 pub returns-in-Stop-clause-tokens : goal.returns-in-Stop-clause-tokens
 returns-in-Stop-clause-tokens c =
     let here =
-    unit_at-front c.args.region c.loop-front.ahead c.in-Some.front _ c.in-Some.ensures.front c.unit_of-unit.ensures in
-    let none = line_ends-stop c.args.region c.loop-front.ahead (here ∙ c.in-Stop.is) in
+    unit_at-front c.args.region c.loop-front.reader c.in-Some.front _ c.in-Some.ensures.front c.unit_of-unit.ensures in
+    let none = line_ends-stop c.args.region c.loop-front.reader (here ∙ c.in-Stop.is) in
     sym (append-nil c.loop-front.tokens.items)
     ∙ (ap (λ ts. c.loop-front.tokens.items ++ ts) (sym none) ∙ c.loop-front.invariant.tokens)
 
 pub returns-in-Stop-clause-include : goal.returns-in-Stop-clause-include
 returns-in-Stop-clause-include c =
     let here =
-    unit_at-front c.args.region c.loop-front.ahead c.in-Some.front _ c.in-Some.ensures.front c.unit_of-unit.ensures in
-    let none = line_ends-stop c.args.region c.loop-front.ahead (here ∙ c.in-Stop.is) in
+    unit_at-front c.args.region c.loop-front.reader c.in-Some.front _ c.in-Some.ensures.front c.unit_of-unit.ensures in
+    let none = line_ends-stop c.args.region c.loop-front.reader (here ∙ c.in-Stop.is) in
     sym (ap (λ ts. include_over ts c.loop-front.include) none) ∙ c.loop-front.invariant.include
 
 pub loop-front-init : goal.loop-front-init
@@ -34,9 +34,9 @@ loop-front-init c =
     let is = c.requires in
     let skip = c.skip_ordinary.ensures in
     let same =
-    ap (line_ends c.args.region) skip.1 ∙ line_ends-ordinary c.args.region is skip.0 c.args.ahead.now skip.2 in
+    ap (line_ends c.args.region) skip.1 ∙ line_ends-ordinary c.args.region is skip.0 c.args.reader.now skip.2 in
     record {
-      end = ap (region_end c.args.region) skip.1 ∙ region_end-ordinary c.args.region is skip.0 c.args.ahead.now skip.2;
+      end = ap (region_end c.args.region) skip.1 ∙ region_end-ordinary c.args.region is skip.0 c.args.reader.now skip.2;
       tokens = ap (λ ts. c.args.tokens.now.items ++ ts) same;
       include = ap (λ ts. include_over ts c.args.state.include) same;
     }
@@ -44,15 +44,15 @@ loop-front-init c =
 pub loop-front-preserved : goal.loop-front-preserved
 loop-front-preserved c =
     let front = c.in-Some.ensures.front in
-    let here = unit_at-front c.args.region c.loop-front.ahead c.in-Some.front _ front c.unit_of-unit.ensures in
-    let given = line_ends-go c.args.region c.args.state.last_line c.loop-front.ahead
+    let here = unit_at-front c.args.region c.loop-front.reader c.in-Some.front _ front c.unit_of-unit.ensures in
+    let given = line_ends-go c.args.region c.args.state.last_line c.loop-front.reader
     c.unit_of-unit.result front.inside here c.in_default-unit.not-Stop in
     let is = c.requires in
     let skip = c.skip_ordinary-in-Some.ensures in
     record {
       end = ap (region_end c.args.region) skip.1 ∙ (region_end-ordinary c.args.region is skip.0 c.pass.new.self skip.2
           ∙ (ap (region_end c.args.region) c.pass.ensures
-          ∙ (sym (region_end-go c.args.region c.loop-front.ahead c.unit_of-unit.result here c.in_default-unit.not-Stop)
+          ∙ (sym (region_end-go c.args.region c.loop-front.reader c.unit_of-unit.result here c.in_default-unit.not-Stop)
           ∙ c.loop-front.invariant.end)));
       tokens =
           let same =

@@ -7,13 +7,13 @@ use Rattle.tangle_lexer.proofs.lexer.next_block.Given as goal
 
 abbrev pub invariant-loop-front : goal.invariant-loop-front
 invariant-loop-front l = record {
-  tokens : l.buffers.tokens.items ++ tokens_from l.state l.ahead ≡ tokens_from l.fn.from l.fn.ahead;
+  tokens : l.buffers.tokens.items ++ tokens_from l.state l.reader ≡ tokens_from l.fn.from l.fn.reader;
   no_head : list_any is_head l.buffers.tokens.items ≡ false;
-  occurrences : l.buffers.occurrences.items ++ map (occurrence_of l.source.lines) (occurrences_from l.state l.ahead)
-      ≡ l.fn.buffers.occurrences.items ++ map (occurrence_of l.source.lines) (occurrences_from l.fn.from l.fn.ahead);
+  occurrences : l.buffers.occurrences.items ++ map (occurrence_of l.source.lines) (occurrences_from l.state l.reader)
+      ≡ l.fn.buffers.occurrences.items ++ map (occurrence_of l.source.lines) (occurrences_from l.fn.from l.fn.reader);
   count : l.state.occurrences ≡ length l.buffers.occurrences.items;
-  shorter : length l.ahead ≤ length l.fn.ahead;
+  shorter : length l.reader ≤ length l.fn.reader;
 }
 
 abbrev pub decreases-loop-front : goal.decreases-loop-front
-decreases-loop-front l = length l.ahead
+decreases-loop-front l = length l.reader

@@ -15,12 +15,12 @@ pub returns-in-Single : goal.returns-in-Single
 returns-in-Single c =
     let further = c.skip_to_equals.ensures ∙ ap (λ t. drop (count_before_equals t) t) c.copy-further.ensures in
     let is =
-    c.equals_at.ensures ∙ (ap (λ t. equals_by (byte_at 0 t) (byte_at 1 t)) further ∙ equals-further c.args.ahead.now) in
+    c.equals_at.ensures ∙ (ap (λ t. equals_by (byte_at 0 t) (byte_at 1 t)) further ∙ equals-further c.args.reader.now) in
     sym (ap is_single (sym is ∙ c.in-Single.is))
 
 pub returns-in_default : goal.returns-in_default
 returns-in_default c =
     let further = c.skip_to_equals.ensures ∙ ap (λ t. drop (count_before_equals t) t) c.copy-further.ensures in
     let is =
-    c.equals_at.ensures ∙ (ap (λ t. equals_by (byte_at 0 t) (byte_at 1 t)) further ∙ equals-further c.args.ahead.now) in
-    sym (not_single (equals_in c.args.ahead.now) (λ single. c.in_default.not-Single (is ∙ single)))
+    c.equals_at.ensures ∙ (ap (λ t. equals_by (byte_at 0 t) (byte_at 1 t)) further ∙ equals-further c.args.reader.now) in
+    sym (not_single (equals_in c.args.reader.now) (λ single. c.in_default.not-Single (is ∙ single)))

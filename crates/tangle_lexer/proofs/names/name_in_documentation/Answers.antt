@@ -10,13 +10,13 @@ use Rattle.tangle_lexer.proofs.names.name_in_documentation.Goals as goal
 
 pub returns : goal.returns
 returns c =
-    let text = c.args.ahead.now in
+    let text = c.args.reader.now in
     let s = c.args.state in
     let lines = c.args.source.now.lines in
     let old = c.args.buffers.now.occurrences.items in
     let name = c.in_ok-name.ensures in
     let found =
-    definition-found s.last_line c.in-Some.line c.pass_equals.result text c.read_name.new.ahead c.pass_equals.new.ahead
+    definition-found s.last_line c.in-Some.line c.pass_equals.result text c.read_name.new.reader c.pass_equals.new.reader
     (sym name.is_ended ∙ not-false _ c.if-not-name.false) name.ahead c.in-Some.is c.pass_equals.ensures in
     record {
       read = record {

@@ -10,16 +10,16 @@ pub returns-clause-end_line : goal.returns-clause-end_line
 returns-clause-end_line c =
     c.line-end_line.ensures
     ∙ ap (front_line c.args.last)
-    (name_end-is c.args.ahead.now _ (c.in_ok-text.ensures.ahead ∙ ap (region_end region.Name) c.pass.ensures))
+    (name_end-is c.args.reader.now _ (c.in_ok-text.ensures.ahead ∙ ap (region_end region.Name) c.pass.ensures))
 
 pub returns-clause-is_ended : goal.returns-clause-is_ended
 returns-clause-is_ended c =
     c.pass_end_code-is_ended.ensures.has_end_code
     ∙ ap has_end_code
-    (name_end-is c.args.ahead.now _ (c.in_ok-text.ensures.ahead ∙ ap (region_end region.Name) c.pass.ensures))
+    (name_end-is c.args.reader.now _ (c.in_ok-text.ensures.ahead ∙ ap (region_end region.Name) c.pass.ensures))
 
 pub returns-clause-ahead : goal.returns-clause-ahead
 returns-clause-ahead c =
-    after-is c.args.ahead.now _ _
-    (name_end-is c.args.ahead.now _ (c.in_ok-text.ensures.ahead ∙ ap (region_end region.Name) c.pass.ensures))
+    after-is c.args.reader.now _ _
+    (name_end-is c.args.reader.now _ (c.in_ok-text.ensures.ahead ∙ ap (region_end region.Name) c.pass.ensures))
     c.pass_end_code-is_ended.ensures.ahead

@@ -38,16 +38,16 @@ returns-then-has_single_spaces-clause-ahead c =
 pub returns-in-Stop-clause-text : goal.returns-in-Stop-clause-text
 returns-in-Stop-clause-text c =
     let here =
-    unit_at-front region.Name c.loop-front.ahead c.in-Some.front _ c.in-Some.ensures.front c.unit_of-unit.ensures in
-    let none = name_bytes-stop c.loop-front.ahead (here ∙ c.in-Stop.is) in
+    unit_at-front region.Name c.loop-front.reader c.in-Some.front _ c.in-Some.ensures.front c.unit_of-unit.ensures in
+    let none = name_bytes-stop c.loop-front.reader (here ∙ c.in-Stop.is) in
     let name = c.loop-front.invariant.name in
     name.1.form ∙ ap normal_form (sym (name.2 ∙ ap (λ bs. name.0 ++ bs) none ∙ append-nil name.0))
 
 pub returns-in-Stop-clause-ahead : goal.returns-in-Stop-clause-ahead
 returns-in-Stop-clause-ahead c =
     let here =
-    unit_at-front region.Name c.loop-front.ahead c.in-Some.front _ c.in-Some.ensures.front c.unit_of-unit.ensures in
-    sym (region_end-stop region.Name c.loop-front.ahead (here ∙ c.in-Stop.is)) ∙ c.loop-front.invariant.end
+    unit_at-front region.Name c.loop-front.reader c.in-Some.front _ c.in-Some.ensures.front c.unit_of-unit.ensures in
+    sym (region_end-stop region.Name c.loop-front.reader (here ∙ c.in-Stop.is)) ∙ c.loop-front.invariant.end
 
 pub loop-front-init : goal.loop-front-init
 loop-front-init c =
@@ -61,13 +61,13 @@ loop-front-init c =
 pub loop-front-preserved : goal.loop-front-preserved
 loop-front-preserved c =
     let front = c.in-Some.ensures.front in
-    let here = unit_at-front region.Name c.loop-front.ahead c.in-Some.front _ front c.unit_of-unit.ensures in
-    let given = name_bytes-go 0 c.loop-front.ahead c.unit_of-unit.result front.inside here c.in_default-unit.not-Stop in
+    let here = unit_at-front region.Name c.loop-front.reader c.in-Some.front _ front c.unit_of-unit.ensures in
+    let given = name_bytes-go 0 c.loop-front.reader c.unit_of-unit.result front.inside here c.in_default-unit.not-Stop in
     let chunk = c.take_name_bytes.ensures in
     let units = name_bytes in
     record {
       end = sym chunk.end ∙ ap (region_end region.Name) c.pass.ensures
-          ∙ (sym (region_end-go region.Name c.loop-front.ahead c.unit_of-unit.result here c.in_default-unit.not-Stop)
+          ∙ (sym (region_end-go region.Name c.loop-front.reader c.unit_of-unit.result here c.in_default-unit.not-Stop)
           ∙ c.loop-front.invariant.end);
       name =
           let unit = rw (front.byte, front.next) at given in
@@ -98,7 +98,7 @@ returns-clause-ahead c =
 
 pub loop-front-smaller : goal.loop-front-smaller
 loop-front-smaller c =
-    let text = c.loop-front.ahead in
+    let text = c.loop-front.reader in
     let more = more_by c.unit_of-unit.result in
     omega (
       arith,

@@ -7,9 +7,9 @@ use Rattle.tangle_lexer.proofs.names.read_text.Given as goal
 
 abbrev pub invariant-loop-front : goal.invariant-loop-front
 invariant-loop-front l = record {
-  end : region_end region.Name l.ahead ≡ region_end region.Name l.fn.ahead;
-  name : (read : List ℕ) × IsNameSoFar read l.name.items l.white × (name_bytes l.fn.ahead ≡ read ++ name_bytes l.ahead);
+  end : region_end region.Name l.reader ≡ region_end region.Name l.fn.reader;
+  name : (read : List ℕ) × IsNameSoFar read l.name.items l.white × (name_bytes l.fn.reader ≡ read ++ name_bytes l.reader);
 }
 
 abbrev pub decreases-loop-front : goal.decreases-loop-front
-decreases-loop-front l = length l.ahead
+decreases-loop-front l = length l.reader

@@ -12,10 +12,10 @@ returns-then-holds c =
     ∙ (ap (holds plus_sign) (sym c.byte.ensures) ∙ (sym c.holds.ensures ∙ c.if-holds.true)) in
     c.skip_to_end-then-holds.ensures
     ∙ (ap (region_end region.White) (c.advance.ensures ∙ ap (drop 1) c.skip_to_end.ensures)
-    ∙ plus-further c.args.ahead.now plus)
+    ∙ plus-further c.args.reader.now plus)
 
 pub returns-else-holds : goal.returns-else-holds
 returns-else-holds c =
     let plus = ap (λ t. holds plus_sign (byte_at 0 t)) (sym c.skip_to_end.ensures)
     ∙ (ap (holds plus_sign) (sym c.byte.ensures) ∙ (sym c.holds.ensures ∙ c.if-holds.false)) in
-    c.skip_to_end.ensures ∙ no_plus-further c.args.ahead.now plus
+    c.skip_to_end.ensures ∙ no_plus-further c.args.reader.now plus

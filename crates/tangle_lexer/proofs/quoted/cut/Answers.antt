@@ -10,14 +10,14 @@ use Rattle.tangle_lexer.proofs.quoted.cut.Goals as goal
 pub returns-in-Stop-clause-ahead : goal.returns-in-Stop-clause-ahead
 returns-in-Stop-clause-ahead c =
     let here =
-    unit_at-front c.args.region c.loop-front.ahead c.in-Some.front _ c.in-Some.ensures.front c.unit_of-unit.ensures in
-    sym (region_end-stop c.args.region c.loop-front.ahead (here ∙ c.in-Stop.is)) ∙ c.loop-front.invariant.end
+    unit_at-front c.args.region c.loop-front.reader c.in-Some.front _ c.in-Some.ensures.front c.unit_of-unit.ensures in
+    sym (region_end-stop c.args.region c.loop-front.reader (here ∙ c.in-Stop.is)) ∙ c.loop-front.invariant.end
 
 pub returns-in-Stop-clause-tokens : goal.returns-in-Stop-clause-tokens
 returns-in-Stop-clause-tokens c = λ ends.
     let here =
-    unit_at-front c.args.region c.loop-front.ahead c.in-Some.front _ c.in-Some.ensures.front c.unit_of-unit.ensures in
-    let stop = cut-stop ends c.args.region c.loop-front.start c.loop-front.ahead (here ∙ c.in-Stop.is) in
+    unit_at-front c.args.region c.loop-front.reader c.in-Some.front _ c.in-Some.ensures.front c.unit_of-unit.ensures in
+    let stop = cut-stop ends c.args.region c.loop-front.start c.loop-front.reader (here ∙ c.in-Stop.is) in
     ap (λ ts. c.loop-front.tokens.items ++ ts) (sym stop) ∙ c.loop-front.invariant.tokens ends
 
 pub loop-front-init : goal.loop-front-init
@@ -25,25 +25,25 @@ loop-front-init c =
     let is = c.requires in
     let skip = c.skip_ordinary.ensures in
     record {
-      end = ap (region_end c.args.region) skip.1 ∙ region_end-ordinary c.args.region is skip.0 c.args.ahead.now skip.2;
+      end = ap (region_end c.args.region) skip.1 ∙ region_end-ordinary c.args.region is skip.0 c.args.reader.now skip.2;
       tokens = λ ends. ap (λ ts. c.args.tokens.now.items ++ ts)
           (ap (cut_tokens ends c.args.region 0 c.args.first) skip.1
-          ∙ cut-ordinary ends c.args.region is skip.0 c.args.first c.args.ahead.now skip.2);
+          ∙ cut-ordinary ends c.args.region is skip.0 c.args.first c.args.reader.now skip.2);
     }
 
 pub loop-front-preserved : goal.loop-front-preserved
 loop-front-preserved c =
     let front = c.in-Some.ensures.front in
-    let here = unit_at-front c.args.region c.loop-front.ahead c.in-Some.front _ front c.unit_of-unit.ensures in
+    let here = unit_at-front c.args.region c.loop-front.reader c.in-Some.front _ front c.unit_of-unit.ensures in
     let is = c.requires in
     let skip = c.skip_ordinary-in-Some.ensures in
     record {
       end = ap (region_end c.args.region) skip.1 ∙ (region_end-ordinary c.args.region is skip.0 c.pass.new.self skip.2
           ∙ (ap (region_end c.args.region) c.pass.ensures
-          ∙ (sym (region_end-go c.args.region c.loop-front.ahead c.unit_of-unit.result here c.in_default-unit.not-Stop)
+          ∙ (sym (region_end-go c.args.region c.loop-front.reader c.unit_of-unit.result here c.in_default-unit.not-Stop)
           ∙ c.loop-front.invariant.end)));
       tokens = λ ends.
-          let given = cut-go ends c.args.region c.loop-front.start c.args.last c.loop-front.ahead
+          let given = cut-go ends c.args.region c.loop-front.start c.args.last c.loop-front.reader
           c.unit_of-unit.result front.inside here c.in_default-unit.not-Stop in
           let same = ap (cut_tokens ends c.args.region 0 c.in_ok-start.start) skip.1
           ∙ cut-ordinary ends c.args.region is skip.0 c.in_ok-start.start c.pass.new.self skip.2 in
@@ -66,5 +66,5 @@ returns-clause-ahead c =
 pub returns-clause-tokens : goal.returns-clause-tokens
 returns-clause-tokens c = λ ends.
     ap (λ ts. c.loop-front.tokens.items ++ ts)
-    (sym (cut-nothing ends c.args.region c.loop-front.start c.loop-front.ahead c.in_default.ensures.end))
+    (sym (cut-nothing ends c.args.region c.loop-front.start c.loop-front.reader c.in_default.ensures.end))
     ∙ c.loop-front.invariant.tokens ends

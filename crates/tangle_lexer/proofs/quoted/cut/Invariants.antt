@@ -7,11 +7,11 @@ use Rattle.tangle_lexer.proofs.quoted.cut.Given as goal
 
 abbrev pub invariant-loop-front : goal.invariant-loop-front
 invariant-loop-front l = record {
-  end : region_end l.region l.ahead ≡ region_end l.region l.fn.ahead;
+  end : region_end l.region l.reader ≡ region_end l.region l.fn.reader;
   tokens : (ends : ℕ → List Cell → List Token)
-      → l.tokens.items ++ cut_tokens ends l.region 0 l.start l.ahead
-      ≡ l.fn.tokens.items ++ cut_tokens ends l.region 0 l.first l.fn.ahead;
+      → l.tokens.items ++ cut_tokens ends l.region 0 l.start l.reader
+      ≡ l.fn.tokens.items ++ cut_tokens ends l.region 0 l.first l.fn.reader;
 }
 
 abbrev pub decreases-loop-front : goal.decreases-loop-front
-decreases-loop-front l = length l.ahead
+decreases-loop-front l = length l.reader

@@ -5,4 +5,4 @@ use Rattle.tangle_lexer.proofs.quoted.push_verbatim.Goals as goal
 
 pub returns-then-ends_at_once-clause-ahead : goal.returns-then-ends_at_once-clause-ahead
 returns-then-ends_at_once-clause-ahead c =
-    at_once-end region.Verbatim c.args.ahead.now (sym c.ends_at_once.ensures ∙ c.if-ends_at_once.true)
+    at_once-end region.Verbatim c.args.reader.now (sym c.ends_at_once.ensures ∙ c.if-ends_at_once.true)

@@ -9,10 +9,10 @@ use Rattle.tangle_lexer.proofs.simple.read_simple.Given as goal
 abbrev pub invariant-loop-simple : goal.invariant-loop-simple
 invariant-loop-simple l = record {
   tokens : l.tokens.items ++ tokens_from (with_include l.include l.fn.from) l.here
-      ≡ l.fn.tokens.items ++ tokens_from l.fn.from l.fn.ahead;
+      ≡ l.fn.tokens.items ++ tokens_from l.fn.from l.fn.reader;
   no_head : list_any is_head l.fn.tokens.items ≡ false → list_any is_head l.tokens.items ≡ false;
-  occurrences : occurrences_from (with_include l.include l.fn.from) l.here ≡ occurrences_from l.fn.from l.fn.ahead;
-  shorter : length l.here ≤ length l.fn.ahead;
+  occurrences : occurrences_from (with_include l.include l.fn.from) l.here ≡ occurrences_from l.fn.from l.fn.reader;
+  shorter : length l.here ≤ length l.fn.reader;
   mode : is_c_text l.fn.from.mode ≡ true;
 }
 

@@ -7,4 +7,4 @@ use Rattle.tangle_lexer.proofs.steps.prose.Goals as goal
 pub returns : goal.returns
 returns c =
     c.skip_prose.ensures
-    ∙ (ap (region_end region.Prose) c.advance.ensures ∙ region_end-is region.Prose (drop 1 c.args.ahead.now))
+    ∙ (ap (region_end region.Prose) c.advance.ensures ∙ region_end-is region.Prose (drop 1 c.args.reader.now))

@@ -5,9 +5,9 @@ use Rattle.tangle_lexer.specs.declared.tokens.Token.{Token}
 use Rattle.tangle_text.specs.Text.{Cell}
 use Rattle.tangle_lexer.specs.Steps.{tokens_from, occurrences_from, first_state}
 use Rattle.tangle_lexer.specs.Occurrences.{occurrence_of}
-use Rattle.tangle_scan.specs.Gathering.{nothing, gathering_with}
-use Rattle.tangle_scan.proofs.lemmas.GatheringLemmas.{gathering-nothing}
-use Rattle.tangle_scan.proofs.lemmas.ScanLemmas.{tokens-end, occurrences-end, block-gathering, front-gathering}
+use Rattle.tangle_scan.specs.WebBuilder.{nothing, builder_with}
+use Rattle.tangle_scan.proofs.lemmas.WebBuilderLemmas.{builder-nothing}
+use Rattle.tangle_scan.proofs.lemmas.ScanLemmas.{tokens-end, occurrences-end, block-builder, front-builder}
 use Rattle.tangle_scan.proofs.lemmas.ScanLemmas.{block-shorter}
 use Rattle.tangle_scan.proofs.scanning.gather.Goals as goal
 
@@ -17,36 +17,36 @@ loop-next_head-init c =
     let next = c.in_ok-state in
     let read = next.ensures in
     let first = c.first_state-first.ensures in
-    let ahead = option_to_list next.next_head ++ tokens_from next.state c.next_block.new.ahead in
+    let ahead = option_to_list next.next_head ++ tokens_from next.state c.next_block.new.reader in
     let all = read.tokens
     ∙ append_assoc c.next_block.new.buffers.tokens.items
-    (option_to_list next.next_head) (tokens_from next.state c.next_block.new.ahead) in
-    let front = front-gathering source nothing c.first_state-first.result next.state
-    c.new-ahead.result c.next_block.new.ahead _ _ all read.head read.end in
-    let added = c.in_ok-add_front.ensures.gathering
-    ∙ (ap (λ g. gathering_with source g c.deref.result.now) c.new-gathering.ensures
-    ∙ ap (gathering_with source nothing) c.deref.ensures.value) in
+    (option_to_list next.next_head) (tokens_from next.state c.next_block.new.reader) in
+    let front = front-builder source nothing c.first_state-first.result next.state
+    c.new-reader.result c.next_block.new.reader _ _ all read.head read.end in
+    let added = c.in_ok-add_front.ensures.builder
+    ∙ (ap (λ g. builder_with source g c.deref.result.now) c.new-builder.ensures
+    ∙ ap (builder_with source nothing) c.deref.ensures.value) in
     record {
       count = read.count;
       head = read.head;
       end = read.end;
-      gathering = ap (λ g. gathering_with source g ahead) added ∙ (front
-          ∙ (ap (λ s. gathering_with source nothing (tokens_from s c.new-ahead.result)) first
-          ∙ ap (λ text. gathering_with source nothing (tokens_from (first_state (length source.lines)) text))
-          c.new-ahead.ensures));
+      builder = ap (λ g. builder_with source g ahead) added ∙ (front
+          ∙ (ap (λ s. builder_with source nothing (tokens_from s c.new-reader.result)) first
+          ∙ ap (λ text. builder_with source nothing (tokens_from (first_state (length source.lines)) text))
+          c.new-reader.ensures));
       occurrences = read.occurrences ∙ (ap
           (λ ns. ns
-          ++ map (occurrence_of source.lines) (occurrences_from c.first_state-first.result c.new-ahead.result))
+          ++ map (occurrence_of source.lines) (occurrences_from c.first_state-first.result c.new-reader.result))
           c.new-2.ensures.items
-          ∙ (ap (λ s. map (occurrence_of source.lines) (occurrences_from s c.new-ahead.result)) first
+          ∙ (ap (λ s. map (occurrence_of source.lines) (occurrences_from s c.new-reader.result)) first
           ∙ ap (λ text. map (occurrence_of source.lines) (occurrences_from (first_state (length source.lines)) text))
-          c.new-ahead.ensures));
+          c.new-reader.ensures));
       limit = omega (
         arith,
         c.in_ok-add_front.ensures.sections,
-        ap (λ g. g.sections) c.new-gathering.ensures,
-        block-shorter c.new-ahead.result c.next_block.new.ahead next.next_head read.shorter read.end,
-        ap length c.new-ahead.ensures,
+        ap (λ g. g.sections) c.new-builder.ensures,
+        block-shorter c.new-reader.result c.next_block.new.reader next.next_head read.shorter read.end,
+        ap length c.new-reader.ensures,
       );
     }
 
@@ -56,29 +56,29 @@ loop-next_head-preserved c =
     let before = c.loop-next_head in
     let next = c.in_ok-state-2 in
     let read = next.ensures in
-    let rest = c.next_block-in-Some.new.ahead in
+    let rest = c.next_block-in-Some.new.reader in
     let ahead = option_to_list next.field-0-1 ++ tokens_from next.field-0-0 rest in
     let all = read.tokens
     ∙ append_assoc c.next_block-in-Some.new.buffers.tokens.items
     (option_to_list next.field-0-1) (tokens_from next.field-0-0 rest) in
-    let block = block-gathering source before.gathering c.in-Some.head
-    before.state next.field-0-0 before.ahead rest _ _ all read.head read.end in
-    let added = c.in_ok-add_block.ensures.gathering
-    ∙ ap (λ es. gathering_with source before.gathering (c.in-Some.head ∷ es)) c.deref-in-Some.ensures.value in
+    let block = block-builder source before.builder c.in-Some.head
+    before.state next.field-0-0 before.reader rest _ _ all read.head read.end in
+    let added = c.in_ok-add_block.ensures.builder
+    ∙ ap (λ es. builder_with source before.builder (c.in-Some.head ∷ es)) c.deref-in-Some.ensures.value in
     record {
       count = read.count;
       head = read.head;
       end = read.end;
-      gathering = ap (λ g. gathering_with source g ahead) added ∙ (block
+      builder = ap (λ g. builder_with source g ahead) added ∙ (block
           ∙
-          (ap (λ f. gathering_with source before.gathering (option_to_list f ++ tokens_from before.state before.ahead))
+          (ap (λ f. builder_with source before.builder (option_to_list f ++ tokens_from before.state before.reader))
           (sym c.in-Some.is)
-          ∙ before.invariant.gathering));
+          ∙ before.invariant.builder));
       occurrences = read.occurrences ∙ before.invariant.occurrences;
       limit = omega (
         arith,
         c.in_ok-add_block.ensures.sections,
-        block-shorter before.ahead rest next.field-0-1 read.shorter read.end,
+        block-shorter before.reader rest next.field-0-1 read.shorter read.end,
         before.invariant.limit,
         ap (λ f. length (option_to_list f)) c.in-Some.is,
       );
@@ -89,23 +89,23 @@ nothing-ahead : (next_head : Option Token) (ahead : List Cell)
 nothing-ahead None ahead end is = end
 nothing-ahead (Some head) ahead end is = cc
 
-pub returns-clause-gathering : goal.returns-clause-gathering
-returns-clause-gathering c =
+pub returns-clause-builder : goal.returns-clause-builder
+returns-clause-builder c =
     let source = c.args.source.now in
     let end = c.loop-next_head in
-    let ahead = nothing-ahead end.next_head end.ahead end.invariant.end c.in_default.is in
+    let ahead = nothing-ahead end.next_head end.reader end.invariant.end c.in_default.is in
     sym
-    (ap (λ f. gathering_with source end.gathering (option_to_list f ++ tokens_from end.state end.ahead)) c.in_default.is
-    ∙ (ap (λ text. gathering_with source end.gathering (tokens_from end.state text)) ahead
-    ∙ (ap (gathering_with source end.gathering) (tokens-end end.state) ∙ gathering-nothing source end.gathering)))
-    ∙ end.invariant.gathering
+    (ap (λ f. builder_with source end.builder (option_to_list f ++ tokens_from end.state end.reader)) c.in_default.is
+    ∙ (ap (λ text. builder_with source end.builder (tokens_from end.state text)) ahead
+    ∙ (ap (builder_with source end.builder) (tokens-end end.state) ∙ builder-nothing source end.builder)))
+    ∙ end.invariant.builder
 
 pub returns-clause-occurrences : goal.returns-clause-occurrences
 returns-clause-occurrences c =
     let lines = c.args.source.now.lines in
     let end = c.loop-next_head in
-    let ahead = nothing-ahead end.next_head end.ahead end.invariant.end c.in_default.is in
-    let none : map (occurrence_of lines) (occurrences_from end.state end.ahead) ≡ [] =
+    let ahead = nothing-ahead end.next_head end.reader end.invariant.end c.in_default.is in
+    let none : map (occurrence_of lines) (occurrences_from end.state end.reader) ≡ [] =
     ap (λ text. map (occurrence_of lines) (occurrences_from end.state text)) ahead
     ∙ ap (map (occurrence_of lines)) (occurrences-end end.state) in
     sym (append-nil end.buffers.occurrences.items)

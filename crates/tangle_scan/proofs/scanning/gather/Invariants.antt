@@ -4,21 +4,21 @@ use Rattle.tangle_text.specs.Text.{text_from}
 use Rattle.tangle_lexer.specs.Steps.{tokens_from, occurrences_from, all_tokens, all_occurrences}
 use Rattle.tangle_lexer.specs.Heads.{is_head}
 use Rattle.tangle_lexer.specs.Occurrences.{occurrence_of}
-use Rattle.tangle_scan.specs.Gathering.{nothing, gathering_with}
+use Rattle.tangle_scan.specs.WebBuilder.{nothing, builder_with}
 use Rattle.tangle_scan.proofs.scanning.gather.Given as goal
 
 abbrev pub invariant-loop-next_head : goal.invariant-loop-next_head
 invariant-loop-next_head l = record {
   count : l.state.occurrences ≡ length l.buffers.occurrences.items;
   head : IfSome l.next_head (λ head. is_head head ≡ true);
-  end : IfNone l.next_head (l.ahead ≡ []);
-  gathering : gathering_with l.source l.gathering (option_to_list l.next_head ++ tokens_from l.state l.ahead)
-      ≡ gathering_with l.source nothing (all_tokens l.source.lines);
-  occurrences : l.buffers.occurrences.items ++ map (occurrence_of l.source.lines) (occurrences_from l.state l.ahead)
+  end : IfNone l.next_head (l.reader ≡ []);
+  builder : builder_with l.source l.builder (option_to_list l.next_head ++ tokens_from l.state l.reader)
+      ≡ builder_with l.source nothing (all_tokens l.source.lines);
+  occurrences : l.buffers.occurrences.items ++ map (occurrence_of l.source.lines) (occurrences_from l.state l.reader)
       ≡ map (occurrence_of l.source.lines) (all_occurrences l.source.lines);
-  limit : l.gathering.sections + (length (option_to_list l.next_head) + length l.ahead)
+  limit : l.builder.sections + (length (option_to_list l.next_head) + length l.reader)
       ≤ length (text_from 0 l.source.lines);
 }
 
 abbrev pub decreases-loop-next_head : goal.decreases-loop-next_head
-decreases-loop-next_head l = length (option_to_list l.next_head) + length l.ahead
+decreases-loop-next_head l = length (option_to_list l.next_head) + length l.reader

@@ -16,13 +16,13 @@ gather-requires c = omega (arith, c.text_is_short.ensures)
 
 pub new-requires : goal.new-requires
 new-requires c =
-    let gathering = c.in_ok-gathering.ensures in
-    rw (web-whole c.args.source.now _ _ gathering.gathering gathering.occurrences) (web-well-formed c.args.source.now)
+    let builder = c.in_ok-builder.ensures in
+    rw (web-whole c.args.source.now _ _ builder.builder builder.occurrences) (web-well-formed c.args.source.now)
 
 pub returns-clause-web : goal.returns-clause-web
 returns-clause-web c =
-    let gathering = c.in_ok-gathering.ensures in
-    c.new.ensures ∙ web-whole c.args.source.now _ _ gathering.gathering gathering.occurrences
+    let builder = c.in_ok-builder.ensures in
+    c.new.ensures ∙ web-whole c.args.source.now _ _ builder.builder builder.occurrences
 
 pub returns-clause-well_formed : goal.returns-clause-well_formed
 returns-clause-well_formed c = rw (returns-clause-web c) (web-well-formed c.args.source.now)

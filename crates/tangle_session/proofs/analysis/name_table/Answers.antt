@@ -10,4 +10,4 @@ pub rebuild-requires : goal.rebuild-requires
 rebuild-requires c =
     table_before c.in-Some.old.now
     (subst (λ before. IfSome before (λ (g : Bor Analysis). IsAnalysis g.now)) c.in-Some.is c.requires)
-    ∙ ap (λ os. table_over os c.in-Some.old.now.table.faults) (sym c.deref.ensures.value)
+    ∙ ap table_over (sym c.deref.ensures.value)

@@ -31,4 +31,4 @@ returns-clause-work c = λ before after agrees analysis.
     let made = c.in_ok-kept.ensures.work (record { old = shapes_of old; new = shapes_of new })
     (record { before = agrees.analysis.store; after = analysis.store; expansions = agrees.kept }) in
     let listed = lists_titles old new c.args.analysis.store made.0 analysis.store analysis.store_names made.2 in
-    rw (made.1, c.requires.unbegun) listed
+    rw (made.1, c.new-work.ensures) listed

@@ -32,10 +32,10 @@ loop-used-preserved g t c =
     (wrote_more _ _ _ _ _ _ _ _ _ _
     (wrote_more _ _ _ _ _ _ _ _ _ _ c.loop-used.invariant left c.write_to_use-before.ensures.writes)
     refl c.write_after-spaced.ensures)
-    refl c.write_text_after-so_far.ensures
+    refl c.write_text_after-so_far.ensures.writes
 
-pub returns : goal.returns
-returns g t c =
+pub returns-clause-writes : goal.returns-clause-writes
+returns-clause-writes g t c =
     let body = c.deref-body.result.now in
     let at = c.loop-used.at in
     let left = written_without c.args.numbers.now (title_of body.name)

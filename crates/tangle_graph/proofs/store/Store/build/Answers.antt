@@ -5,6 +5,7 @@ use Rattle.std.specs.Prelude.{All}
 use Rattle.digraph.specs.Graph.{Graph, rows_of}
 use Rattle.tangle_plans.specs.NodeBodies.{body_uses}
 use Rattle.tangle_plans.specs.WebShapes.{ResolvesInside}
+use Rattle.tangle_plans.proofs.InsideLemmas.{table_inside}
 use Rattle.tangle_plans.specs.declared.nodes.NodeBody.{NodeBody}
 use Rattle.tangle_graph.specs.Plans.{ArePiecesInside, ArePlanned, ArePlans, node_bodies, slots_of, uses_of_plans}
 use Rattle.tangle_graph.proofs.NameGraphLemmas.{uses_inside}
@@ -22,7 +23,7 @@ bodies_by_node-requires-clause-inside c =
 pub shared-requires-clause-inside : goal.shared-requires-clause-inside
 shared-requires-clause-inside c =
     let table = c.args.table.now in
-    let inside = subst ResolvesInside (sym c.requires) (c.names_resolve_inside.ensures c.args.web.now) in
+    let inside = subst ResolvesInside (sym c.requires) (table_inside c.args.web.now) in
     subst
     (λ (ts : List (Rc NodeBody Global)).
     All (λ row. All (λ id. id < length table.names) row) (map body_uses (node_bodies ts))) (sym c.deref.ensures.value)

@@ -7,22 +7,23 @@ use Rattle.std.specs.List.{IsDistinct}
 use Rattle.std.specs.Str.{bytes_eq}
 use Rattle.tangle_names.specs.NameTable.{TableRead}
 use Rattle.tangle_plans.specs.WebShapes.{shapes, ResolvesInside}
+use Rattle.tangle_plans.proofs.InsideLemmas.{table_inside}
+use Rattle.tangle_names.proofs.LawLemmas.{once as names_once}
+use Rattle.tangle_expansion.proofs.FilledLemmas.{node_filled}
 use Rattle.tangle_expansion.specs.Limits.{levels, weight_of, depth_of}
 use Rattle.tangle_plans.specs.declared.nodes.NodeBody.{NodeBody}
-use Rattle.digraph.specs.Flags.{FlagsJust}
-use Rattle.digraph.specs.Graph.{Graph, HasUse, rows_of, row_at}
-use Rattle.digraph.specs.Reach.{ContainsItself, ReachesCycle}
+use Rattle.digraph.specs.Graph.{Graph, rows_of, row_at}
 use Rattle.digraph.specs.Order.{IsOrder}
 use Rattle.digraph.proofs.GraphLemmas.{rows_size}
 use Rattle.tangle_graph.specs.Groups.{IsGraphOf}
 use Rattle.tangle_graph.specs.Nodes.{title_at, node_at}
 use Rattle.tangle_graph.specs.Ordering.{IsOrderIn}
 use Rattle.tangle_graph.specs.Outputs.{is_expandable}
-use Rattle.tangle_graph.specs.Plans.{ArePieceFlags, ArePlanned, node_bodies, slots_of, uses_of_plans}
+use Rattle.tangle_graph.specs.Plans.{ArePlanned, node_bodies, slots_of, uses_of_plans}
 use Rattle.tangle_graph.specs.Rows.{node_rows}
 use Rattle.tangle_graph.specs.Stores.{AreWithin, row_has_piece}
 use Rattle.tangle_graph.specs.declared.name_graph.NameGraph.{NameGraph}
-use Rattle.tangle_graph.proofs.FaultLemmas.{containing_flag, has_piece_flag, has_piece_size, reaching_flag}
+use Rattle.tangle_graph.proofs.FaultLemmas.{reaching_flag}
 use Rattle.tangle_graph.proofs.LimitLemmas.{program_has_piece}
 use Rattle.tangle_graph.proofs.OrderingLemmas.{order_is, grouped_by}
 use Rattle.tangle_graph.proofs.NameGraphLemmas.{graph_over}
@@ -36,8 +37,8 @@ build-requires-clause-graph c =
     let table = c.args.table.now in
     let graph = graph_over web table c.args.pieces.value.items (node_bodies c.args.bodies.items) c.args.name_graph.value
     (subst (λ (t : TableRead). IsDistinct bytes_eq t.names) (sym c.requires.table)
-    (c.names_are_the_full_names.ensures.once web.occurrences))
-    (subst ResolvesInside (sym c.requires.table) (c.names_resolve_inside.ensures web)) c.requires.grouped
+    (names_once web.occurrences))
+    (subst ResolvesInside (sym c.requires.table) (table_inside web)) c.requires.grouped
     c.requires.bodies c.requires.name_graph in
     subst (λ (g : Graph). IsGraphOf web table g c.deref-uses.result.now)
     (sym (c.deref-rows.ensures.value ∙ ap (λ (v : Vec (Vec ℕ Global) Global). v.items) c.deref-all.ensures))
@@ -62,8 +63,8 @@ returns-clause-store c =
     let uses = name_graph.uses.items in
     let measures = c.in_ok-measures.measures in
     let distinct = subst (λ (t : TableRead). IsDistinct bytes_eq t.names)
-    (sym c.requires.table) (c.names_are_the_full_names.ensures.once web.occurrences) in
-    let inside = subst ResolvesInside (sym c.requires.table) (c.names_resolve_inside.ensures web) in
+    (sym c.requires.table) (names_once web.occurrences) in
+    let inside = subst ResolvesInside (sym c.requires.table) (table_inside web) in
     let graph = graph_over web table pieces (node_bodies bodies) name_graph
     distinct inside c.requires.grouped c.requires.bodies c.requires.name_graph in
     let same : length c.deref-uses.result.now ≡ length uses =
@@ -83,19 +84,19 @@ returns-clause-store c =
     let count : length name_graph.names ≡ length table.names = ap length c.requires.names in
     let is = c.requires.name_graph in
     record {
-      store = store_made web table pieces uses is.users name_graph.self_containing.items measures.weights.items
-          measures.depths.items measures.expandable.items c.in_ok-outputs.outputs.items c.in_ok-faults.faults.items
-          (slots_of bodies) (uses_of_plans bodies) (node_bodies bodies) has distinct inside graph is.reversed
+      store = store_made web table pieces uses is.users name_graph.self_containing.items
+          name_graph.reaching_cycles.items measures.weights.items measures.depths.items
+          measures.expandable.items c.in_ok-outputs.outputs.items (slots_of bodies) (uses_of_plans bodies) (node_bodies bodies) has distinct inside graph is.reversed
           is.increasing is.users_size is.containing weighed measured limited has_is c.requires.plans c.requires.bodies
-          (λ symbols node. c.filled_plans_are_right.ensures web table has symbols levels node inside)
+          (λ symbols node. node_filled web table has symbols levels node inside)
           name_graph.names (node_rows name_graph.used_nodes.items)
           (node_rows name_graph.user_nodes.items) c.requires.names
           (is.used_nodes ∙ ap (λ k. map (map (node_at k)) (rows_of uses)) count)
           (is.user_nodes ∙ ap (λ k. map (map (node_at k)) (rows_of is.users)) count);
       names = c.requires.names;
+      reaching_cycles = reaching_flag web table pieces uses graph name_graph.reaching_cycles.items is.reaching;
       outputs = c.in_ok-outputs.ensures;
-      faults = c.in_ok-faults.ensures;
-      grouped = grouped_by web table pieces uses name_graph.names graph c.requires.names _ (λ a. refl);
+      grouped = grouped_by web table pieces uses graph;
     }
 
 pub invariant_of-result : goal.invariant_of-result
@@ -108,8 +109,8 @@ invariant_of-result c =
     let uses = name_graph.uses.items in
     let measures = c.in_ok-measures.measures in
     let distinct = subst (λ (t : TableRead). IsDistinct bytes_eq t.names)
-    (sym c.requires.table) (c.names_are_the_full_names.ensures.once web.occurrences) in
-    let inside = subst ResolvesInside (sym c.requires.table) (c.names_resolve_inside.ensures web) in
+    (sym c.requires.table) (names_once web.occurrences) in
+    let inside = subst ResolvesInside (sym c.requires.table) (table_inside web) in
     let graph = graph_over web table pieces (node_bodies bodies) name_graph
     distinct inside c.requires.grouped c.requires.bodies c.requires.name_graph in
     let same : length c.deref-uses.result.now ≡ length uses =
@@ -126,8 +127,13 @@ invariant_of-result c =
     c.requires.name_graph.used_nodes ∙ ap (λ k. map (map (node_at k)) (rows_of uses)) count in
     let nodes : name_graph.node_order.items ≡ map (node_at (length table.names)) name_graph.order.items =
     c.requires.name_graph.node_order ∙ ap (λ k. map (node_at k) name_graph.order.items) count in
+    let rows_count : length bodies ≡ length table.names + 1 =
+    sym (length-map bodies (λ (t : Rc NodeBody Global). t.value)) ∙ c.requires.bodies.size ∙ rows_size pieces ∙ graph.rows_size in
     record {
+      size = rows_count ∙ ap (λ k. k + 1) (sym count);
+      pieces_size = graph.rows_size ∙ sym rows_count;
       sizes = sym (length-map bodies (λ (t : Rc NodeBody Global). t.value)) ∙ c.requires.bodies.size ∙ sym within.size;
+      has_piece = c.requires.has_piece;
       name_graph = c.requires.name_graph;
       order = subst (IsOrderIn _) (sym nodes)
           (order_is web table pieces uses name_graph.order.items measures.weights.items measures.depths.items
@@ -147,8 +153,8 @@ outputs-requires-clause-program c =
     let name_graph = c.args.name_graph.value in
     let uses = name_graph.uses.items in
     let distinct = subst (λ (t : TableRead). IsDistinct bytes_eq t.names)
-    (sym c.requires.table) (c.names_are_the_full_names.ensures.once web.occurrences) in
-    let inside = subst ResolvesInside (sym c.requires.table) (c.names_resolve_inside.ensures web) in
+    (sym c.requires.table) (names_once web.occurrences) in
+    let inside = subst ResolvesInside (sym c.requires.table) (table_inside web) in
     let graph = graph_over web table pieces (node_bodies c.args.bodies.items) name_graph
     distinct inside c.requires.grouped c.requires.bodies c.requires.name_graph in
     ap (λ l. get_or l c.count.result false) c.deref-has_piece_by_node.ensures.value
@@ -156,41 +162,8 @@ outputs-requires-clause-program c =
     ∙ c.requires.has_piece.flag (length table.names) (omega (arith, graph.rows_size, rows_size pieces))
     ∙ program_has_piece web table pieces uses graph
 
-pub faults-requires-clause-flags : goal.faults-requires-clause-flags
-faults-requires-clause-flags c =
-    let web = c.args.web.now in
-    let table = c.args.table.now in
-    let pieces = c.args.pieces.value.items in
-    let name_graph = c.args.name_graph.value in
-    let uses = name_graph.uses.items in
-    let distinct = subst (λ (t : TableRead). IsDistinct bytes_eq t.names)
-    (sym c.requires.table) (c.names_are_the_full_names.ensures.once web.occurrences) in
-    let inside = subst ResolvesInside (sym c.requires.table) (c.names_resolve_inside.ensures web) in
-    let graph = graph_over web table pieces (node_bodies c.args.bodies.items) name_graph
-    distinct inside c.requires.grouped c.requires.bodies c.requires.name_graph in
-    let is = c.requires.name_graph in
-    let have_piece : ArePieceFlags (rows_of pieces) c.deref-has_piece_by_node.result.now =
-    subst (ArePieceFlags (rows_of pieces)) (sym c.deref-has_piece_by_node.ensures.value) c.requires.has_piece in
-    let same : length c.deref-uses.result.now ≡ length uses =
-    ap length (c.deref-uses.ensures.value ∙ ap (λ (s : NameGraph). s.uses.items) c.deref-shared.ensures) in
-    let containing : c.deref-2.result.now ≡ name_graph.self_containing.items =
-    c.deref-2.ensures.value ∙ ap (λ (s : NameGraph). s.self_containing.items) c.deref-shared.ensures in
-    let reaching : c.deref-3.result.now ≡ name_graph.reaching_cycles.items =
-    c.deref-3.ensures.value ∙ ap (λ (s : NameGraph). s.reaching_cycles.items) c.deref-shared.ensures in
-    let rows_count : length (rows_of c.deref-rows.result.now) ≡ length table.names + 1 =
-    ap (λ (g : Graph). length (rows_of g))
-    (c.deref-rows.ensures.value ∙ ap (λ (v : Vec (Vec ℕ Global) Global). v.items) c.deref-all.ensures)
-    ∙ rows_size pieces ∙ graph.rows_size in
-    record {
-      has_piece_size = has_piece_size web table pieces uses graph c.deref-has_piece_by_node.result.now have_piece;
-      containing_size = ap length containing ∙ is.containing_size ∙ graph.uses_size;
-      reaching_size = ap length reaching ∙ is.reaching_size ∙ graph.uses_size;
-      expandable_size = ap length c.deref-4.ensures.value ∙ c.in_ok-measures.ensures.within.size ∙ rows_count;
-      has_piece = has_piece_flag web table pieces uses graph c.deref-has_piece_by_node.result.now have_piece;
-      containing = containing_flag web table pieces uses graph c.deref-2.result.now
-          (subst (λ flags. FlagsJust uses flags (ContainsItself (HasUse uses))) (sym containing) is.containing);
-      reaching = reaching_flag web table pieces uses graph c.deref-3.result.now
-          (subst (λ flags. FlagsJust uses flags (ReachesCycle (HasUse uses))) (sym reaching) is.reaching);
-      expandable = λ n low. ap (λ l. get_or l n false) c.deref-4.ensures.value
-          ∙ c.in_ok-measures.ensures.expandable n (omega (arith, low, same, graph.uses_size));
-    }
+pub build-requires-clause-inside : goal.build-requires-clause-inside
+build-requires-clause-inside c = subst ResolvesInside (sym c.requires.table) (table_inside c.args.web.now)
+
+pub outputs-requires-clause-inside : goal.outputs-requires-clause-inside
+outputs-requires-clause-inside c = subst ResolvesInside (sym c.requires.table) (table_inside c.args.web.now)

@@ -1,4 +1,4 @@
-use Rattle.std.proofs.Common.{◌≡◌, ◌∙◌, ap, map, length, arith, ℕ, Vec, [], sym, subst}
+use Rattle.std.proofs.Common.{◌≡◌, ◌∙◌, ap, map, length, arith, ℕ, Vec, sym, subst}
 use Rattle.std.specs.Global.{Global}
 use Rattle.std.proofs.lemmas.List.{length-map}
 use Rattle.tangle_names.specs.Names.{full_names}
@@ -19,7 +19,7 @@ returns c =
     let size : length (key_texts keys) ≡ length keys = length-map keys (λ (v : Vec ℕ Global). v.items) in
     let count : length resolved ≡ length os = ap length all ∙ length-map os (resolve os) in
     record {
-      table = table_is os (key_texts keys) resolved c.in_ok-first_occurrences.first_occurrences.items _ [] named all
+      table = table_is os (key_texts keys) resolved c.in_ok-first_occurrences.first_occurrences.items _ named all
           (first_occurrences_are os (key_texts keys) c.in_ok-first_occurrences.first_occurrences.items
           named (omega (arith, size, c.in_ok-first_occurrences.ensures.size, c.len.ensures.len))
           (λ id h. c.in_ok-first_occurrences.ensures.numbers (resolve os)

@@ -1,61 +1,47 @@
-use Rattle.std.proofs.Common.{◌≡◌, ◌∙◌, ap, refl, sym, subst}
-use Rattle.tangle_files.specs.declared.marks.MarkMode.TheVariants.{Full}
+use Rattle.std.proofs.Common.{◌∙◌, ap, refl, sym}
 use Rattle.std.specs.Option.{option_copied}
-use Rattle.tangle_session.specs.Sessions.{SessionRead}
-use Rattle.tangle_session.specs.Tangle.{output_at}
-use Rattle.tangle_session.specs.Writes.{IsTrueFile}
-use Rattle.tangle_session.proofs.TangleLemmas.{is_ready, names_apart, none_at, some_at, bytes_are, truth_at}
-use Rattle.tangle_session.proofs.TangleLemmas.{written_whole, written_front, written_none}
+use Rattle.std.specs.Prelude.{Err, Ok}
+use Rattle.tangle_files.specs.declared.refusal.Refusal.TheVariants.{WriteFault}
+use Rattle.tangle_session.proofs.TangleLemmas.{is_ready, names_apart, truth_at, writes_it, writes_none}
 use Rattle.tangle_session.proofs.session.Session.write_output_at.Goals as goal
 
 pub find_output_at-requires : goal.find_output_at-requires
 find_output_at-requires g c =
     let s = c.self.inside in
-    names_apart s.state.files s.roles s.state c.self.invariant c.args.name.now
+    names_apart s.state s.roles _ c.self.view_is c.self.invariant c.args.name.now
     (c.outputs_are_found_by_their_names.ensures.distinct s.state.files s.roles)
 
 pub write_file-requires : goal.write_file-requires
 write_file-requires g c =
     let s = c.self.inside in
-    is_ready s.state.files s.roles s.state c.self.invariant c.args.name.now
+    is_ready s.state s.roles _ c.self.view_is c.self.invariant c.args.name.now
     c.in-Some.output.now (sym c.find_output_at.ensures ∙ ap option_copied c.in-Some.is)
     c.names_resolve_inside.ensures c.expandable_nodes_are_light.ensures
 
 pub returns-in-Ok-clause-written : goal.returns-in-Ok-clause-written
 returns-in-Ok-clause-written g c =
     let s = c.self.inside in
-    let name = c.args.name.now in
-    let found = sym c.find_output_at.ensures ∙ ap option_copied c.in-Some.is in
-    let at = some_at s.state.files s.roles s.state c.self.invariant name c.in-Some.output.now found in
-    let same = bytes_are s.state.files s.roles s.state c.self.invariant
-    name c.in-Some.output.now found c.names_resolve_inside.ensures in
-    written_whole _ _ _ _ _ _
-    (ap (λ (r : SessionRead). output_at r.files r.roles name) (sym c.self.view_is) ∙ at) same c.in-Ok.ensures
+    writes_it s.state s.roles _ c.self.view_is c.self.invariant c.args.name.now
+    c.in-Some.output.now (sym c.find_output_at.ensures ∙ ap option_copied c.in-Some.is)
+    c.names_resolve_inside.ensures _ _ (Ok c.in-Ok.size) c.in-Ok.ensures
 
 pub returns-in-Ok-clause-line_truth : goal.returns-in-Ok-clause-line_truth
 returns-in-Ok-clause-line_truth g c =
     let s = c.self.inside in
-    let name = c.args.name.now in
-    let found = sym c.find_output_at.ensures ∙ ap option_copied c.in-Some.is in
-    subst (λ (r : SessionRead). r.roles.marks ≡ Full → IsTrueFile r.files r.roles name) c.self.view_is
-    (truth_at s.state.files s.roles s.state c.self.invariant name
-    c.in-Some.output.now found c.outputs_are_true_to_lines.ensures)
+    truth_at s.state s.roles _ c.self.view_is c.self.invariant c.args.name.now
+    c.in-Some.output.now (sym c.find_output_at.ensures ∙ ap option_copied c.in-Some.is)
+    c.outputs_are_true_to_lines.ensures
 
 pub returns-in-Err-clause-written : goal.returns-in-Err-clause-written
 returns-in-Err-clause-written g c =
     let s = c.self.inside in
-    let name = c.args.name.now in
-    let found = sym c.find_output_at.ensures ∙ ap option_copied c.in-Some.is in
-    let at = some_at s.state.files s.roles s.state c.self.invariant name c.in-Some.output.now found in
-    let same = bytes_are s.state.files s.roles s.state c.self.invariant
-    name c.in-Some.output.now found c.names_resolve_inside.ensures in
-    written_front _ _ _ _ _ _
-    (ap (λ (r : SessionRead). output_at r.files r.roles name) (sym c.self.view_is) ∙ at) same c.in-Err.ensures
+    writes_it s.state s.roles _ c.self.view_is c.self.invariant c.args.name.now
+    c.in-Some.output.now (sym c.find_output_at.ensures ∙ ap option_copied c.in-Some.is)
+    c.names_resolve_inside.ensures (g.S.Sink.stream c.args.sink.now) (g.S.Sink.stream c.write_file.new.sink)
+    (Err (WriteFault c.in-Err.field-0.0)) c.in-Err.ensures
 
 pub returns-in-None-clause-written : goal.returns-in-None-clause-written
 returns-in-None-clause-written g c =
     let s = c.self.inside in
-    let name = c.args.name.now in
-    let at = none_at s.state.files s.roles s.state c.self.invariant name
-    (sym c.find_output_at.ensures ∙ ap option_copied c.in-None.is) in
-    written_none _ _ _ (ap (λ (r : SessionRead). output_at r.files r.roles name) (sym c.self.view_is) ∙ at) refl
+    writes_none s.state s.roles _ c.self.view_is c.self.invariant c.args.name.now
+    _ _ (sym c.find_output_at.ensures ∙ ap option_copied c.in-None.is) refl

@@ -1,0 +1,37 @@
+use Rattle.std.proofs.Common.{◌≡◌, ◌∙◌, ◌<◌, arith, ◌∷◌, [], ℕ, Bool, true, false, ap, cond, flat_map, length}
+use Rattle.std.proofs.Common.{subst, sym}
+use Rattle.std.specs.Prelude.{All}
+use Rattle.std.specs.List.{range_with_len}
+use Rattle.std.proofs.lemmas.List.Elements.{All-append, All-cons, All-nil}
+use Rattle.tangle_graph.specs.FaultSearches.{fault_of_name}
+use Rattle.tangle_graph.specs.Faults.{fault_of}
+use Rattle.tangle_graph.proofs.FaultLemmas.{candidates_step}
+use Rattle.tangle_graph.proofs.faults.FaultSearch.candidates.Goals as goal
+
+all_where : (count n : ℕ) (b : Bool) → n < count → All (λ m. m < count) (cond b (n ∷ []) [])
+all_where count n true h = All-cons (λ m. m < count) n [] h (All-nil (λ m. m < count))
+all_where count n false h = All-nil (λ m. m < count)
+
+pub loop-id-preserved : goal.loop-id-preserved
+loop-id-preserved c =
+    let search = c.args.self.now in
+    let id = c.loop-id.id in
+    let needed = c.may_have_fault-needed.result in
+    let count = length search.table.now.names in
+    let low : id < count = omega arith in
+    record {
+      names = subst (All (λ m. m < count)) (sym c.in_ok-push_where.ensures)
+          (All-append (λ m. m < count) c.loop-id.names.items (cond needed (id ∷ []) [])
+          c.loop-id.invariant.names (all_where count id needed low));
+      faults = λ kind. ap (flat_map (fault_of_name search kind)) c.in_ok-push_where.ensures
+          ∙ candidates_step (fault_of_name search kind) id c.loop-id.names.items needed
+          (λ e. ap (fault_of search.web.now search.table.now kind id) (c.may_have_fault-needed.ensures e kind))
+          (c.loop-id.invariant.faults kind);
+    }
+
+pub returns-clause-faults : goal.returns-clause-faults
+returns-clause-faults c = λ kind.
+    let search = c.args.self.now in
+    let end : c.loop-id.id ≡ length search.table.now.names = omega arith in
+    c.loop-id.invariant.faults kind
+    ∙ ap (λ n. flat_map (fault_of_name search kind) (range_with_len 0 n)) end

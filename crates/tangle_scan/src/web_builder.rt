@@ -1,0 +1,350 @@
+//! Gathers the pieces, macros and faults of a web from the tokens of its C parts and macros.
+ghost use Rattle.std.specs.Prelude.{◌≡◌, ◌≤◌, ◌<◌, ◌+◌, ◌^◌, ◌++◌, ◌∷◌, ◌||◌, []};
+ghost use Rattle.std.specs.Prelude.{flat_map, if◌then◌else◌, true, false, IfOk, OnOk};
+ghost use Rattle.std.specs.List.{list_any};
+ghost use Rattle.tangle_faults.specs.declared.faults.FaultKind.TheVariants as fault;
+ghost use Rattle.tangle_scan.specs.Passes as passes;
+ghost use Rattle.tangle_scan.specs.Rules as rules;
+ghost use Rattle.tangle_lines.specs.Reading.{origin_at};
+ghost use Rattle.tangle_scan.specs.Web as web;
+ghost use Rattle.tangle_lexer.specs.Heads.{is_head};
+ghost use Rattle.tangle_scan.specs.Rules.{texts_of};
+ghost use Rattle.tangle_scan.specs.Web.{is_line_mark};
+ghost use Rattle.tangle_scan.specs.WebBuilder.{own_fault, nothing, builder_with, with_head};
+
+use crate::items::{Item, OccurrenceNumber};
+use crate::macro_items::fill_macro;
+use crate::pieces::{Macro, Piece};
+use crate::plain_parts::{PartFlags, fill_plain_part};
+use crate::rare_parts::fill_rare_part;
+use crate::spacing::{has_rare, macro_tokens};
+use crate::touching::first_byte;
+use std::alloc::Global;
+use std::marker::Model;
+use tangle_lexer::Token;
+use tangle_lines::{Fault, FaultKind, NoMemory, Source};
+
+/// Whether some token is `@h`.
+fn has_all_macros(tokens: &[Token], has_rare: bool) -> bool
+    requires { has_rare ≡ list_any passes.is_rare tokens.now }
+    ensures { result ≡ list_any web.is_all_macros tokens.now }
+{
+    has_rare
+        && tokens
+            .iter()
+            .any(|token| matches!(token, Token::AllMacros(_)))
+}
+
+/// Adds a fault on a source line.
+fn add_scan_fault(
+    alloc: Global,
+    source: &Source,
+    faults: &mut Vec<Fault>,
+    kind: FaultKind,
+    line: u32,
+) -> Result<(), NoMemory>
+    ensures { OnOk result (faults.new.items
+        ≡ faults.old.items ++ web.fault_on source.now.files source.now.lines kind line ∷ []) }
+{
+    let origin = source.origin(line as usize);
+    let fault = Fault::at(alloc, kind, source.file_name(origin), origin.line)?;
+    faults.push(fault)?;
+    Ok(())
+}
+
+/// Adds the fault of a token, if the token is a fault.
+fn add_own_fault(
+    alloc: Global,
+    source: &Source,
+    faults: &mut Vec<Fault>,
+    token: Token,
+) -> Result<(), NoMemory>
+    ensures { OnOk result (faults.new.items ≡ faults.old.items
+        ++ own_fault source.now.files source.now.lines token) }
+{
+    if let Token::Fault(kind, line) = token {
+        add_scan_fault(alloc, source, faults, kind, line)?;
+    }
+    Ok(())
+}
+
+/// Adds the faults among some tokens.
+fn add_faults(
+    alloc: Global,
+    source: &Source,
+    faults: &mut Vec<Fault>,
+    tokens: &[Token],
+    has_rare: bool,
+) -> Result<(), NoMemory>
+    requires { has_rare ≡ list_any passes.is_rare tokens.now }
+    ensures { OnOk result (faults.new.items
+        ≡ faults.old.items ++ flat_map (own_fault source.now.files source.now.lines) tokens.now) }
+{
+    if !has_rare {
+        return Ok(());
+    }
+    for token in tokens {
+        add_own_fault(alloc, source, faults, *token)?;
+    }
+    Ok(())
+}
+
+/// Replaces `items` by those of a C part whose head ends on this line. Most parts have no rare
+/// token. If a part has one, the items before that token are made a second time.
+fn fill_part(
+    source: &Source,
+    items: &mut Vec<Item>,
+    line: u32,
+    tokens: &[Token],
+) -> Result<PartFlags, NoMemory>
+    ensures items { OnOk result (items.new.items
+        ≡ rules.part_items source.now.lines line tokens.now) }
+    ensures rare { IfOk result (λ flags. flags.has_rare ≡ list_any passes.is_rare tokens.now) }
+    ensures mark { IfOk result (λ flags. flags.may_have_mark ≡ false →
+        list_any is_line_mark items.new.items ≡ false) }
+{
+    let flags = fill_plain_part(source, items, line, tokens)?;
+    if !flags.has_rare {
+        return Ok(flags);
+    }
+    fill_rare_part(source, items, line, tokens)?;
+    Ok(PartFlags {
+        has_rare: true,
+        may_have_mark: true,
+    })
+}
+
+/// The items of a C part whose head ends on this line, with their flags.
+// The vector has capacity for one item for each token. A part has at most a few items more, and
+// capacity that is left is freed.
+fn part_items(
+    alloc: Global,
+    source: &Source,
+    line: u32,
+    tokens: &[Token],
+) -> Result<(Vec<Item>, PartFlags), NoMemory>
+    ensures items { IfOk result (λ r. r.0.items
+        ≡ rules.part_items source.now.lines line tokens.now) }
+    ensures rare { IfOk result (λ r. r.1.has_rare ≡ list_any passes.is_rare tokens.now) }
+    ensures mark { IfOk result (λ r. r.1.may_have_mark ≡ false →
+        list_any is_line_mark r.0.items ≡ false) }
+{
+    let mut items = Vec::with_capacity(alloc, tokens.len())?;
+    let flags = fill_part(source, &mut items, line, tokens)?;
+    items.shrink_to_fit();
+    Ok((items, flags))
+}
+
+/// A buffer that holds the tokens of one macro at a time.
+#[derive(Drop)]
+pub(crate) struct MacroBuffer {
+    tokens: Vec<Token>,
+}
+
+impl MacroBuffer {
+    pub(crate) fn new(alloc: Global) -> Self {
+        MacroBuffer {
+            tokens: Vec::new(alloc),
+        }
+    }
+
+    /// The items of a macro.
+    fn macro_items(
+        &mut self,
+        alloc: Global,
+        source: &Source,
+        tokens: &[Token],
+        has_rare: bool,
+    ) -> Result<Vec<Item>, NoMemory>
+        requires { has_rare ≡ list_any passes.is_rare tokens.now }
+        ensures { IfOk result (λ items. items.items
+            ≡ rules.macro_items (texts_of source.now.lines) tokens.now) }
+    {
+        let left = macro_tokens(source, &mut self.tokens, tokens, has_rare)?;
+        let mut items = Vec::with_capacity(alloc, left.len())?;
+        fill_macro(source, &mut items, left)?;
+        items.shrink_to_fit();
+        Ok(items)
+    }
+}
+
+/// Whether items begin with an identifier, as those of a macro have to.
+fn is_macro(source: &Source, items: &[Item]) -> bool
+    ensures { result ≡ rules.is_macro (texts_of source.now.lines) items.now }
+{
+    match items.first() {
+        Some(Item::Word(span)) => !first_byte(source, *span).is_ascii_digit(),
+        _ => false,
+    }
+}
+
+/// What was gathered of a web so far, block by block.
+#[derive(Drop)]
+pub(crate) struct WebBuilder {
+    pub(crate) sections: usize,
+    pub(crate) pieces: Vec<Piece>,
+    pub(crate) macros: Vec<Macro>,
+    pub(crate) has_all_macros: bool,
+    pub(crate) faults: Vec<Fault>,
+}
+
+impl Model for WebBuilder {
+    ghost use Rattle.tangle_scan.specs.WebBuilder.{WebBuilderRead};
+
+    ghost Value = { WebBuilderRead };
+
+    ghost view = { λ g. record {
+      sections = g.sections;
+      pieces = g.pieces.items;
+      macros = g.macros.items;
+      has_all_macros = g.has_all_macros;
+      faults = g.faults.items;
+    } };
+}
+
+impl WebBuilder {
+    /// An empty builder.
+    pub(crate) fn new(alloc: Global) -> Self
+        ensures { result ≡ nothing }
+    {
+        WebBuilder {
+            sections: 0,
+            pieces: Vec::new(alloc),
+            macros: Vec::new(alloc),
+            has_all_macros: false,
+            faults: Vec::new(alloc),
+        }
+    }
+
+    /// Adds the faults among the tokens before the first head.
+    pub(crate) fn add_front(
+        &mut self,
+        alloc: Global,
+        source: &Source,
+        tokens: &[Token],
+    ) -> Result<(), NoMemory>
+        requires { list_any is_head tokens.now ≡ false }
+        ensures builder { OnOk result (self.new ≡ builder_with source.now self.old tokens.now) }
+        ensures sections { OnOk result (self.new.sections ≡ self.old.sections) }
+    {
+        add_faults(alloc, source, &mut self.faults, tokens, has_rare(tokens))?;
+        Ok(())
+    }
+
+    /// Adds the piece of a C part whose head ends on this line. Returns whether some of its tokens
+    /// are rare.
+    fn add_piece(
+        &mut self,
+        alloc: Global,
+        source: &Source,
+        occurrence: Option<OccurrenceNumber>,
+        line: u32,
+        tokens: &[Token],
+    ) -> Result<bool, NoMemory>
+        ensures piece { OnOk result (self.new ≡ record self.old {
+          pieces = self.old.pieces ++ record {
+            section = self.old.sections;
+            origin = origin_at source.now.lines line;
+            occurrence = occurrence;
+            items = rules.part_items source.now.lines line tokens.now;
+          } ∷ [];
+          has_all_macros = self.old.has_all_macros || list_any web.is_all_macros tokens.now;
+        }) }
+        ensures rare { IfOk result (λ rare. rare ≡ list_any passes.is_rare tokens.now) }
+    {
+        let (items, flags) = part_items(alloc, source, line, tokens)?;
+        let origin = source.origin(line as usize);
+        let piece = Piece::new(
+            self.sections,
+            origin,
+            occurrence,
+            items,
+            flags.may_have_mark,
+        );
+        self.pieces.push(piece)?;
+        self.has_all_macros = self.has_all_macros || has_all_macros(tokens, flags.has_rare);
+        Ok(flags.has_rare)
+    }
+
+    /// Adds a macro, or a fault on the line of its `@d` if the macro does not begin with an
+    /// identifier. Returns whether some of its tokens are rare.
+    fn add_macro(
+        &mut self,
+        alloc: Global,
+        source: &Source,
+        macro_buffer: &mut MacroBuffer,
+        line: u32,
+        tokens: &[Token],
+    ) -> Result<bool, NoMemory>
+        ensures added { OnOk result
+            (let items = rules.macro_items (texts_of source.now.lines) tokens.now in
+            let is_macro = rules.is_macro (texts_of source.now.lines) items in
+            self.new ≡ record self.old {
+              macros = self.old.macros ++ (if is_macro then items ∷ [] else []);
+              faults = self.old.faults ++ (if is_macro then []
+                  else web.fault_on source.now.files source.now.lines fault.MacroName line ∷ []);
+            }) }
+        ensures rare { IfOk result (λ rare. rare ≡ list_any passes.is_rare tokens.now) }
+    {
+        let rare = has_rare(tokens);
+        let items = macro_buffer.macro_items(alloc, source, tokens, rare)?;
+        if is_macro(source, &items) {
+            self.macros.push(Macro::new(items))?;
+            return Ok(rare);
+        }
+        add_scan_fault(alloc, source, &mut self.faults, FaultKind::MacroName, line)?;
+        Ok(rare)
+    }
+
+    /// Adds the section, the macro or the piece that a head begins, without the faults among its
+    /// tokens. Returns whether some of these tokens are rare.
+    fn add_head(
+        &mut self,
+        alloc: Global,
+        source: &Source,
+        macro_buffer: &mut MacroBuffer,
+        head: Token,
+        tokens: &[Token],
+    ) -> Result<bool, NoMemory>
+        requires limit { self.old.sections + 1 < 2 ^ 64 }
+        requires head { is_head head ≡ true }
+        requires whole { web.body tokens.now ≡ tokens.now }
+        ensures head { OnOk result (self.new ≡ with_head source.now self.old head tokens.now) }
+        ensures rare { IfOk result (λ rare. rare ≡ list_any passes.is_rare tokens.now) }
+    {
+        match head {
+            Token::Section => {
+                self.sections += 1;
+                Ok(has_rare(tokens))
+            }
+            Token::MacroStart(line) => self.add_macro(alloc, source, macro_buffer, line, tokens),
+            Token::UnnamedPart(line) => self.add_piece(alloc, source, None, line, tokens),
+            Token::NamedPart(occurrence, line) => {
+                let occurrence = OccurrenceNumber::new(occurrence);
+                self.add_piece(alloc, source, Some(occurrence), line, tokens)
+            }
+            _ => Ok(has_rare(tokens)),
+        }
+    }
+
+    /// Adds a block: a head and the tokens up to the next head.
+    pub(crate) fn add_block(
+        &mut self,
+        alloc: Global,
+        source: &Source,
+        macro_buffer: &mut MacroBuffer,
+        head: Token,
+        tokens: &[Token],
+    ) -> Result<(), NoMemory>
+        requires limit { self.old.sections + 1 < 2 ^ 64 }
+        requires head { is_head head ≡ true }
+        requires no_head { list_any is_head tokens.now ≡ false }
+        ensures builder { OnOk result
+            (self.new ≡ builder_with source.now self.old (head ∷ tokens.now)) }
+        ensures sections { OnOk result (self.new.sections ≤ self.old.sections + 1) }
+    {
+        let rare = self.add_head(alloc, source, macro_buffer, head, tokens)?;
+        add_faults(alloc, source, &mut self.faults, tokens, rare)?;
+        Ok(())
+    }
+}

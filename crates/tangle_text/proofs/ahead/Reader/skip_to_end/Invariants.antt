@@ -1,9 +1,0 @@
-use Rattle.std.proofs.Common.{◌≡◌, length}
-use Rattle.tangle_text.specs.Regions.{region_end}
-use Rattle.tangle_text.proofs.ahead.Reader.skip_to_end.Given as goal
-
-abbrev pub invariant-loop-front : goal.invariant-loop-front
-invariant-loop-front l = region_end l.region l.self ≡ region_end l.region l.fn.self
-
-abbrev pub decreases-loop-front : goal.decreases-loop-front
-decreases-loop-front l = length l.self

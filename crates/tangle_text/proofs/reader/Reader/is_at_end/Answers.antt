@@ -1,0 +1,7 @@
+use Rattle.tangle_text.proofs.AheadLemmas.{rest-inside}
+use Rattle.tangle_text.proofs.reader.Reader.is_at_end.Goals as goal
+
+pub returns-clause-inside : goal.returns-clause-inside
+returns-clause-inside c = λ h.
+    let r = c.self.inside in
+    rw (← c.self.view_is) (rest-inside r.source.now.lines r.bytes.now r.line r.column r.is_done h)
