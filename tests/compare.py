@@ -7,6 +7,10 @@ usage: compare.py generated CTANGLE FIRST COUNT      generated webs, by their se
        compare.py scripts RETANGLE FIRST COUNT       generated projects with scripts, by their seeds
        compare.py edited RETANGLE WEB..              webs edited line by line into what a cut
                                                      leaves, and back, and so by lists
+       compare.py borders RETANGLE FIRST COUNT       generated webs, of which edits move the borders
+                                                     of runs and keep all shapes, by their seeds
+       compare.py long_lines CTANGLE                 webs with a line of C at the limit
+       compare.py edited_long_lines RETANGLE         webs with such a line, edited
        compare.py layers TANGLE_LAYERS FIRST COUNT   generated webs, by their seeds
        compare.py edited_layers TANGLE_LAYERS FIRST COUNT
                                                      pairs of a generated web with what an edit
@@ -25,8 +29,10 @@ import sys
 import tempfile
 
 sys.path.insert(0, os.path.join(os.path.dirname(os.path.abspath(__file__)), 'reference'))
+import borders
 import generator
 import layers
+import long_lines
 import pairs
 import programs
 import short_webs
@@ -194,6 +200,44 @@ class Comparison:
         script = as_list(there) + questions + as_list(back) + questions
         same(self.answers(folder, whole, script), (answers, b'', of_whole.status), name + ', by lists')
 
+    def borders(self, folder, first, count):
+        """Edits that move the borders of runs expand nothing, and what is shown stays as it was. With
+        edits between them that almost keep the shapes, the reference alone says what is answered."""
+        made = others = 0
+        for seed in range(first, first + count):
+            name = 'edits of borders %d' % seed
+            web, states = borders.script_of_borders(seed)
+            shown = answers_to(questions_about(web), web).written
+            edits = [borders.replaced(*pair) for pair in zip([web] + states, states)]
+            expected = b''.join(listed(edit) + b'work 0\n' + shown for edit in edits)
+            self.compare_edits(name, web, edits, expected, folder)
+            made, others = made + len(edits), others + borders.runs_changed(web, states)
+            web, states = borders.script_of_items(seed)
+            edits = [borders.replaced(*pair) for pair in zip([web] + states, states)]
+            self.compare_edits(name + ' and items', web, edits, None, folder)
+        print('%d edits of borders, of which %d change the runs' % (made, others))
+
+    def compare_edits(self, name, web, edits, expected, folder):
+        """After each list of edits is asked what it expanded, and what there is. The answers are those
+        of the reference, and these."""
+        questions = b'work\n' + questions_about(web)
+        script = b''.join(as_list(list(map(replacement, edit))) + questions for edit in edits)
+        answers = answers_to(script, web)
+        if expected is not None:
+            same(answers.written, expected, name + ', by the reference')
+        same(self.answers(folder, web, script), (answers.written, b'', answers.status), name)
+
+    def long_lines(self, folder):
+        for kind, lines in long_lines.LINES.items():
+            for number, line in enumerate(lines):
+                self.compare_web('long line of %s, %d' % (kind, number), bytes_of(long_lines.web(line)), folder)
+
+    def edited_long_lines(self, folder):
+        """Each line is edited into the next one that has the same items, and back."""
+        for kind, lines in long_lines.LINES.items():
+            edits = [[(long_lines.PLACE, line)] for line in lines[1:] + lines[::-1] + [lines[0] + b'y', lines[0]]]
+            self.compare_edits('edits of a long line of ' + kind, long_lines.web(lines[0]), edits, None, folder)
+
     def layers(self, folder, first, count):
         self.each_generated('layers of generated web', self.compare_listing, folder, first, count)
 
@@ -259,6 +303,10 @@ def edits_into_front(whole, part):
 def edits_into_whole(whole, part):
     edits = [b'replace %d a.w\n%s\n' % (len(part), whole[len(part) - 1])] if part else []
     return edits + [b'insert %d a.w\n%s\n' % (number, whole[number - 1]) for number in range(len(part) + 1, len(whole) + 1)]
+
+
+def replacement(line):
+    return b'replace %d a.w\n%s\n' % line
 
 
 def as_list(edits):

@@ -1,5 +1,6 @@
-"""What runs over a web of 40,000 names take, compared with runs over one of 10,000: four times as
-much, and not sixteen times.
+"""What runs over a web of 40,000 names take, compared with runs over one of 10,000, and over a web
+of 1,000,000 short runs of words, compared with one of 250,000: four times as much, and not sixteen
+times.
 
 usage: growing.py CTANGLE RETANGLE MEASURE REFUSE TOP
 
@@ -17,10 +18,13 @@ ctangle, retangle, measure, refuse, top = (os.path.abspath(path) for path in sys
 sys.path.insert(0, os.path.join(top, 'bench'))
 from measuring import find_counter
 
-FEW, MANY = 10000, 40000
+NAMES = 10000, 40000
+WORDS = 250000, 1000000
+ROW = 10000                 # so many words are on a line
 MOST = 4.5                  # times as much, where four times is meant
 MOST_TIME = 7               # the same of times, which vary
 NOTHING = os.devnull
+
 
 def star(count):
     """The program uses all names, and each of them the last one."""
@@ -50,6 +54,16 @@ def files(count):
     return lines
 
 
+def joined(count):
+    """Words with joins between them, all of them one for a C compiler."""
+    return ['@ P.', '@c'] + ['ab@&' * ROW] * (count // ROW)
+
+
+def apart(count):
+    """Words, each of them on its own: the white space between them is no single space."""
+    return ['@ P.', '@c'] + ['ab\t' * ROW] * (count // ROW)
+
+
 def no_script(_):
     return ''
 
@@ -58,6 +72,11 @@ def edits(count):
     """Edits of a chain that move all lines, and one of the name that all others reach."""
     return ('insert 1 a.w\n%% top\nwork\nremove 1 a.w\nwork\nreplace %d a.w\n2\nwork\n'
             % (2 * count + 3))
+
+
+def edits_of_borders(_):
+    """Edits of a line of words that are apart: they are one run, and apart again."""
+    return 'replace 9 a.w\n%s\nwork\nreplace 9 a.w\n%s\nwork\n' % ('ab ' * ROW, 'ab\t' * ROW)
 
 
 class Taken:
@@ -82,7 +101,7 @@ class Taken:
                            stdout=dropped, stderr=dropped)
 
 
-def compare(name, few, many):
+def compare(name, sizes, few, many):
     kinds = [('bytes asked for', 'asked'), ('allocations', 'allocations'), ('KB held', 'held')]
     kinds.append(('instructions', 'instructions') if few.instructions else ('microseconds', 'time'))
     reported = []
@@ -90,18 +109,26 @@ def compare(name, few, many):
         before, after = getattr(few, key), getattr(many, key)
         reported.append('%s %.1f' % (kind, after / max(before, 1)))
         most = MOST_TIME if key == 'time' else MOST
-        check(after <= most * before, name, '%d %s for %d names, %d for %d'
-              % (before, kind, FEW, after, MANY))
+        check(after <= most * before, name, '%d %s for %d, %d for %d'
+              % (before, kind, sizes[0], after, sizes[1]))
     print('%s: times as much: %s' % (name, ', '.join(reported)))
 
 
+WEBS = [('a star of names', star, NAMES, 'ctangle', no_script),
+        ('a cycle of names', cycle, NAMES, 'ctangle', no_script),
+        ('named files', files, NAMES, 'ctangle', no_script),
+        ('a chain of names', chain, NAMES, 'retangle', edits),
+        ('joined words', joined, WORDS, 'ctangle', no_script),
+        ('words apart', apart, WORDS, 'ctangle', no_script),
+        ('words apart, edited', apart, WORDS, 'retangle', edits_of_borders)]
+
+
 def main():
-    counter = find_counter()
-    for web, program, script in ((star, ctangle, no_script), (cycle, ctangle, no_script),
-                                 (files, ctangle, no_script), (chain, retangle, edits)):
-        few, many = (Taken(web(count), [program, 'a'], script(count), counter)
-                     for count in (FEW, MANY))
-        compare('a %s of names' % web.__name__ if web != files else 'named files', few, many)
+    counter, programs = find_counter(), {'ctangle': ctangle, 'retangle': retangle}
+    for name, web, sizes, program, script in WEBS:
+        few, many = (Taken(web(count), [programs[program], 'a'], script(count), counter)
+                     for count in sizes)
+        compare(name, sizes, few, many)
     return finish()
 
 

@@ -12,6 +12,7 @@ test_limits() {
     test_depth
     test_weight
     test_rare_tokens
+    test_short_runs
     test_graphs
     test_growing
 }
@@ -191,6 +192,16 @@ run_timed_case() { # NAME MICROSECONDS
     fi
 }
 
+# The last measured run held less memory than so much.
+must_have_held() { # NAME KILOBYTES
+    kilobytes=$(cut -d ' ' -f 2 "$temporary/used")
+    if [ "$kilobytes" -lt "$2" ]; then
+        pass
+    else
+        fail "$1" "$kilobytes KB of memory, not under $2"
+    fi
+}
+
 test_lines_taken() {
     begin_case a
     printf '@i b.w\n@i b.w\n' >"$case/in/a.w"
@@ -207,12 +218,7 @@ test_lines_taken() {
     : >"$case/expected/a.c"
     cc -O2 -o "$temporary/measure" "$top/tests/measure.c"
     run_case 'more than 2,000,000 lines taken' "$case" measured
-    kilobytes=$(cut -d ' ' -f 2 "$temporary/used")
-    if [ "$kilobytes" -lt 250000 ]; then
-        pass
-    else
-        fail 'more than 2,000,000 lines taken' "$kilobytes KB of memory, not under 250 MB"
-    fi
+    must_have_held 'more than 2,000,000 lines taken' 250000
 }
 
 test_long_name() {
@@ -377,6 +383,41 @@ test_rare_tokens() {
     } >"$case/in/a.w"
     expect_joined_words
     run_timed_case 'joins and line ends in turn' 1000000
+}
+
+# A part of 100 lines with 10,000 words each, this text after each word, and one word more; a line of
+# these words becomes so.
+words_with() { # TEXT WRITTEN
+    begin_case a
+    {
+        printf '@ P.\n@c\n'
+        repeated 100 "$(repeated 10000 "ab$1")
+"
+        printf 'y\n'
+    } >"$case/in/a.w"
+    {
+        printf '/*1:*/\n#line 2 "a.w"\n\n'
+        repeated 100 "$2"
+        printf 'y\n/*:1*/\n'
+    } >"$case/expected/a.c"
+}
+
+# Each word is a run of its own, or all those of a line are one.
+test_short_runs() {
+    words_with '@&' "$(repeated 10000 ab)"
+    run_timed_case '1,000,000 words with joins' 1000000
+    must_have_held '1,000,000 words with joins' 90000
+
+    row=$(repeated 9999 'ab ')
+    words_with '\t' "${row}ab
+"
+    run_timed_case '1,000,000 words with tabs' 1000000
+    must_have_held '1,000,000 words with tabs' 90000
+
+    words_with ' ' "${row}ab
+"
+    run_timed_case '1,000,000 words with single spaces' 1000000
+    must_have_held '1,000,000 words with single spaces' 20000
 }
 
 # Webs whose names use each other in ways that would take quadratic time, or overflow the stack of a recursive program.

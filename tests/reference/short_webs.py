@@ -67,6 +67,18 @@ KINDS = {
                                b' ', b'@h', b'@@', b'@d', b"@'ab'"], 2, b'<b>'),
     'include_in_macro': (b'@ @d N\n', [b'\n', b'/*\n*/', b'/* */', b'@&', b'@,', b'@^i@>', b'@^\n@>', b' ', b'@h',
                          b'@@', b'x', b"@'ab'"], 2, b'#include <b>'),
+    'run': (b'@ @c\n', [b'a', b'\xe9', b' ', b'\t', b'\x0b', b'\x0c', b'\r', b'+', b'/', b'@@', b'\\', b'<'], 4, b''),
+    'run_byte': (b'@ @c\na ', EVERY_BYTE, 2, b' b c'),
+    'run_and_byte': (b'@ @c\na b', EVERY_BYTE, 2, b'c d'),
+    'run_and_quoted': (b'@ @c\na b', [b'"s t"', b"'c'", b'"', b"'", b' ', b'c', b'/', b'<', b'\\', b'@=v w@>'], 4, b'd e'),
+    'run_and_comment': (b'@ @c\na b', [b'//', b'/*', b'*/', b'/', b'*', b' ', b'\n', b'c'], 4, b'd e'),
+    'run_and_line_end': (b'@ @c\na b', [b'\\', b' ', b'\t', b'\x0c', b'\r', b'\n', b'c', b'@&', b'@;', b'/**/'], 4,
+                         b'\n d e'),
+    'run_and_code': (b'@ @c\na b', [b'@@', b'@&', b'@;', b"@'a'", b'@h', b'@<n@>', b'@=v w@>', b' ', b'c'], 4, b'd e'),
+    'run_in_directive': (b'@ @c\n', [b'#', b' ', b'\t', b'include', b'define', b'<a b>', b'<', b'x', b'/**/', b'@@'], 4,
+                         b'<c d> e f'),
+    'run_after_head': (b'@ @<a b@>', [b'=', b'+', b' ', b'\t', b'a', b'@&', b'\n', b'/', b'"s"', b'@@', b'@;'], 4,
+                       b'=y z'),
     'section_start': (b'@ @d N 1\n@c\nx', [b'@', b'*', b'\t', b'\n', b' ', b'c', b'd'], 4, b''),
 }
 

@@ -9,6 +9,7 @@ pub mod MacroEndLemmas
 mod EscapeLemmas
 pub mod FileLemmas
 pub mod BuildLemmas
+pub mod OriginLemmas
 pub mod WriteLemmas
 pub mod WrittenLemmas
 pub mod ShortLemmas

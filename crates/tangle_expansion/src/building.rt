@@ -1,8 +1,9 @@
 //! Reads the numbers of a web: for each node's pieces the section numbers and the origins of the
 //! marks.
-ghost use Rattle.std.specs.Prelude.{◌≡◌, ◌<◌, ◌^◌, ◌++◌, length, map, flat_map, vec_len};
+ghost use Rattle.std.specs.Prelude.{◌≡◌, ◌<◌, ◌^◌, ◌++◌, ℕ, List, length, map, flat_map, vec_len};
 ghost use Rattle.std.specs.Prelude.{IfOk, OnOk};
 ghost use Rattle.std.specs.List.{All};
+ghost use Rattle.tangle_scan.specs.Entries.{entry_items, items_of, piece_read};
 ghost use Rattle.tangle_names.specs.NameTable.{table_of};
 ghost use Rattle.tangle_plans.specs.ItemSlots.{pieces_at};
 ghost use Rattle.tangle_plans.specs.Nodes.{IsGroupedBy};
@@ -17,7 +18,7 @@ use bstr::ByteSlice;
 use std::alloc::Global;
 use tangle_lines::{MarkMode, NoMemory, Origin};
 use tangle_names::Names;
-use tangle_scan::{Item, Piece, Web};
+use tangle_scan::{Entry, Item, Piece, Web};
 
 /// Adds the origin of the item, if it is a mark.
 fn add_origin(origins: &mut Vec<Origin>, item: Item) -> Result<(), NoMemory>
@@ -31,25 +32,39 @@ fn add_origin(origins: &mut Vec<Origin>, item: Item) -> Result<(), NoMemory>
     Ok(())
 }
 
+/// Adds the origin of the entry, if it is a mark.
+fn add_entry_origin(origins: &mut Vec<Origin>, entry: Entry) -> Result<(), NoMemory>
+    requires { All IsLow origins.old.items }
+    ensures added { OnOk result ((texts : List (List ℕ)) → origins.new.items
+        ≡ origins.old.items ++ flat_map item_origins (entry_items texts entry)) }
+    ensures low { OnOk result (All IsLow origins.new.items) }
+{
+    match entry {
+        Entry::Item(item) => add_origin(origins, item),
+        Entry::Run(_) => Ok(()),
+    }
+}
+
 /// The origins of all marks in a piece, in order.
 fn mark_origins(alloc: Global, piece: &Piece) -> Result<Vec<Origin>, NoMemory>
-    ensures origins { IfOk result
-        (λ origins. origins.items ≡ flat_map item_origins piece.now.items) }
+    ensures origins { IfOk result (λ origins. (texts : List (List ℕ)) → origins.items
+        ≡ flat_map item_origins (items_of texts piece.now.entries)) }
     ensures low { IfOk result (λ origins. All IsLow origins.items) }
 {
     let mut origins = Vec::new(alloc);
     if !piece.may_have_mark() {
         return Ok(origins);
     }
-    for item in piece.items() {
-        add_origin(&mut origins, *item)?;
+    for entry in piece.entries() {
+        add_entry_origin(&mut origins, *entry)?;
     }
     Ok(origins)
 }
 
 /// The section number of a piece, with the origins of its opening mark and of the marks in it.
 fn numbers_of_piece(alloc: Global, piece: &Piece) -> Result<PieceNumbers, NoMemory>
-    ensures numbers { IfOk result (λ numbers. numbers ≡ numbers_of_piece piece.now) }
+    ensures numbers { IfOk result (λ numbers. (texts : List (List ℕ))
+        → numbers ≡ numbers_of_piece (piece_read texts piece.now)) }
     ensures short { IfOk result IsShort }
 {
     let origins = mark_origins(alloc, piece)?;

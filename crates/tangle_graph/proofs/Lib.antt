@@ -23,3 +23,4 @@ pub mod UsesLemmas
 mod NameGraphLemmas
 mod PlannedLemmas
 pub mod FlagLemmas
+pub mod StoredLemmas

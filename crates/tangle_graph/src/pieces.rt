@@ -1,8 +1,9 @@
 //! The pieces of each node.
 ghost use Rattle.std.specs.Prelude.{◌≡◌, ◌<◌, ◌+◌, ◌∷◌, [], IfOk, OnOk, IfSome};
-ghost use Rattle.std.specs.Prelude.{◌++◌, ℕ, length, if◌then◌else◌, All, true};
+ghost use Rattle.std.specs.Prelude.{◌++◌, ℕ, length, if◌then◌else◌, true};
 ghost use Rattle.digraph.specs.Graph.{row_at, rows_of};
 ghost use Rattle.digraph.specs.Rows.{IsRowsOf, GrowsBy};
+ghost use Rattle.tangle_names.specs.NameTable.{table_of};
 ghost use Rattle.tangle_plans.specs.WebShapes.{ResolvesInside};
 ghost use Rattle.tangle_graph.specs.Grouping.{resolved_number, number_of_piece, has_number_in};
 ghost use Rattle.tangle_graph.specs.Grouping.{passed_of, positions_of};
@@ -10,7 +11,7 @@ ghost use Rattle.tangle_graph.specs.Grouping.{passed_of, positions_of};
 use digraph::{empty_rows, push_to};
 use std::alloc::{AllocError, Global};
 use tangle_names::{NameTable, Resolved};
-use tangle_scan::{OccurrenceNumber, Piece};
+use tangle_scan::{OccurrenceNumber, Web};
 
 /// The number of the full name, if the occurrence resolves to one.
 pub(crate) fn resolved_number(resolved: Resolved) -> Option<usize>
@@ -55,16 +56,15 @@ fn push_at(
 /// The positions of the pieces of each node, in the order of the source.
 pub(crate) fn pieces_by_node(
     alloc: Global,
-    pieces: &[Piece],
+    web: &Web,
     table: &NameTable,
 ) -> Result<Vec<Vec<usize>>, AllocError>
-    requires inside { ResolvesInside table.now }
-    requires occurrences { All (λ p. IfSome p.occurrence
-        (λ occurrence. occurrence < length table.now.resolved)) pieces.now }
+    requires { table.now ≡ table_of web.now }
     ensures { IfOk result (λ rows. IsRowsOf (length table.now.names + 1)
-        (positions_of table.now pieces.now) (rows_of rows.items)) }
+        (positions_of table.now web.now.pieces) (rows_of rows.items)) }
 {
     let mut rows = rows_for(alloc, table)?;
+    let pieces = web.pieces();
     for (i, piece) in pieces.iter().enumerate() {
         push_at(&mut rows, number_of_piece(table, piece.occurrence()), i)?;
     }
@@ -119,20 +119,19 @@ fn are_passed(rows: &[Vec<usize>], passed: &[usize]) -> bool
 pub(crate) fn are_rows_of(
     alloc: Global,
     rows: &[Vec<usize>],
-    pieces: &[Piece],
+    web: &Web,
     table: &NameTable,
 ) -> Result<bool, AllocError>
-    requires inside { ResolvesInside table.now }
-    requires occurrences { All (λ p. IfSome p.occurrence
-        (λ occurrence. occurrence < length table.now.resolved)) pieces.now }
+    requires { table.now ≡ table_of web.now }
     ensures { IfOk result (λ are. are ≡ true → IsRowsOf (length table.now.names + 1)
-        (positions_of table.now pieces.now) (rows_of rows.now)) }
+        (positions_of table.now web.now.pieces) (rows_of rows.now)) }
 {
     let count = table.count();
     if rows.len() <= count || rows.len() - count != 1 {
         return Ok(false);
     }
     let mut passed = vec![in alloc; 0; rows.len()]?;
+    let pieces = web.pieces();
     for (i, piece) in pieces.iter().enumerate() {
         if !pass_next(
             rows,

@@ -190,7 +190,7 @@ impl Store {
             (positions_of table.now web.now.pieces) (rows_of rows.value.items)) }
     {
         let all: &Vec<Vec<usize>> = &self.pieces;
-        if are_rows_of(alloc, all, web.pieces(), table)? {
+        if are_rows_of(alloc, all, web, table)? {
             return Ok(self.pieces.clone()?);
         }
         shared_pieces(alloc, web, table)
@@ -448,5 +448,5 @@ fn shared_pieces(
     ensures { IfOk result (λ rows. IsRowsOf (length table.now.names + 1)
         (positions_of table.now web.now.pieces) (rows_of rows.value.items)) }
 {
-    Ok(Rc::new(alloc, pieces_by_node(alloc, web.pieces(), table)?)?)
+    Ok(Rc::new(alloc, pieces_by_node(alloc, web, table)?)?)
 }

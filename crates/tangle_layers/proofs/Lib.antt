@@ -1,1 +1,2 @@
 mod OutputLemmas
+mod PartLemmas

@@ -1,5 +1,6 @@
 //! The pieces and macros of a web, with their items.
 ghost use Rattle.std.specs.List.{All};
+ghost use Rattle.tangle_scan.specs.Entries.{IsEntryInRange, items_of};
 ghost use Rattle.tangle_scan.specs.SourceOrder.{IsInRange, IsSpan};
 
 use crate::listing::Listing;
@@ -54,8 +55,19 @@ fn list_items<S: Sink>(out: &mut Listing<S>, web: &Web, items: &[Item])
     }
 }
 
+fn list_piece_items<S: Sink>(out: &mut Listing<S>, web: &Web, piece: &Piece)
+    requires runs { All (IsEntryInRange web.now.texts) piece.now.entries }
+    requires items { All (IsInRange web.now.texts) (items_of web.now.texts piece.now.entries) }
+{
+    let mut items = web.items(piece);
+    while let Some(item) = items.next() {
+        list_item(out, web, item);
+    }
+}
+
 fn list_piece<S: Sink>(out: &mut Listing<S>, web: &Web, number: usize, piece: &Piece)
-    requires { All (IsInRange web.now.texts) piece.now.items }
+    requires runs { All (IsEntryInRange web.now.texts) piece.now.entries }
+    requires items { All (IsInRange web.now.texts) (items_of web.now.texts piece.now.entries) }
 {
     out.begin(b"piece");
     out.number(number);
@@ -70,7 +82,7 @@ fn list_piece<S: Sink>(out: &mut Listing<S>, web: &Web, number: usize, piece: &P
         None => out.word(b"program"),
     }
     out.end();
-    list_items(out, web, piece.items());
+    list_piece_items(out, web, piece);
 }
 
 /// Lists the pieces and the macros, and whether some C part has all macros.

@@ -1,4 +1,4 @@
-pub mod SignBytes
+pub mod BlockLemmas
 pub mod CutLemmas
 pub mod HeadLemmas
 pub mod LexemeLemmas
@@ -6,8 +6,11 @@ pub mod NameLemmas
 pub mod NameWords
 pub mod OccurrencesCounted
 pub mod OrdinaryLemmas
+pub mod PlainLexemes
 pub mod PlainTokens
 pub mod OpenedRegions
+pub mod RunLemmas
+pub mod RunTokens
 pub mod SimpleLemmas
 pub mod StepLemmas
 pub mod DotLemmas

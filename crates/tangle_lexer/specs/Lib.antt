@@ -9,3 +9,4 @@ pub mod Steps
 pub mod Segments
 pub mod Heads
 pub mod Simple
+pub mod Runs

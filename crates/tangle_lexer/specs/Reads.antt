@@ -1,14 +1,20 @@
 -- What the steps of the lexer do: they add tokens and occurrences, and pass over cells.
 use Rattle.std.specs.Prelude.{◌≡◌, ℕ, ◌+◌, List, [], ◌∷◌, ◌++◌, drop, Option, Some, None}
+use Rattle.std.specs.List.{All}
 use Rattle.tangle_lines.specs.Reading.{SourceLine}
 use Rattle.tangle_lexer.specs.declared.tokens.Token.{Token}
 use Rattle.tangle_lexer.specs.declared.modes.LexerState.{LexerState}
-use Rattle.tangle_text.specs.Text.{Cell, front_line}
+use Rattle.tangle_text.specs.Text.{Cell, front_line, texts_of, IsRestOf}
+use Rattle.tangle_lexer.specs.declared.modes.Mode.{Mode}
+use Rattle.tangle_lexer.specs.declared.modes.Mode.TheVariants as mode
 use Rattle.tangle_lexer.specs.declared.tokens.LexerBuffers.{LexerBuffers}
 use Rattle.tangle_lexer.specs.declared.names.Equals.{Equals}
 use Rattle.tangle_lexer.specs.declared.names.Equals.TheVariants as equals
 use Rattle.tangle_lexer.specs.Lexemes.{Lexeme, OccurrenceOnLine}
 use Rattle.tangle_lexer.specs.Occurrences.{OccurrenceRead, occurrence_of}
+use Rattle.tangle_lexer.specs.Heads.{HasNoHead}
+use Rattle.tangle_lexer.specs.Runs.{unfolded, HasNoRun, IsRunIn}
+use Rattle.tangle_lexer.specs.Steps.{tokens_from, occurrences_from}
 
 -- A lexeme was read: its tokens were added, its cells were removed from the text ahead, and the
 -- state is the one after it.
@@ -39,3 +45,17 @@ pub record ReadsLexeme (lines : List SourceLine) (old new : LexerBuffers)
   pub read : IsRead old.tokens.items new.tokens.items text rest after lexeme
   pub occurrences : AddsOccurrence lines old.occurrences.items
       new.occurrences.items lexeme.occurrence
+
+-- Text of these lines was read: its tokens were added, some as runs, and it has no occurrences.
+pub record ReadsOn (lines : List SourceLine) (old new : List Token)
+    (from after : LexerState) (text rest : List Cell) : Type 0 where
+  pub tokens : unfolded (texts_of lines) new ++ tokens_from after rest
+      ≡ unfolded (texts_of lines) old ++ tokens_from from text
+  pub runs : All (IsRunIn (texts_of lines)) old → All (IsRunIn (texts_of lines)) new
+  pub occurrences : occurrences_from after rest ≡ occurrences_from from text
+  pub ours : IsRestOf lines rest
+
+-- no head was added, and runs in C parts alone
+pub record AddsSimple (m : Mode) (old new : List Token) : Type 0 where
+  pub no_head : HasNoHead old → HasNoHead new
+  pub no_run : (m ≡ mode.CPart → ⊥) → HasNoRun old → HasNoRun new

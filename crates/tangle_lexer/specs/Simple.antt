@@ -1,25 +1,19 @@
 -- Simple lexemes, which most of C text consists of: words, white space, signs and line ends.
-use Rattle.std.specs.Prelude.{◌≡◌, ◌<◌, ℕ, Bool, true, false, ◌==◌, ◌||◌, not, if◌then◌else◌, List}
-use Rattle.std.specs.Prelude.{length, Option, None, Some, IsSome}
-use Rattle.tangle_lines.specs.Bytes.{at_sign, double_quote, is_white}
+use Rattle.std.specs.Prelude.{◌≡◌, ◌<◌, ℕ, Bool, true, false, ◌&&◌, not, List, length}
+use Rattle.std.specs.Prelude.{if◌then◌else◌, Option, None, Some, IsSome}
+use Rattle.tangle_lines.specs.Bytes.{is_white}
 use Rattle.tangle_lexer.specs.declared.modes.Mode.{Mode}
 use Rattle.tangle_lexer.specs.declared.modes.Mode.TheVariants as mode
 use Rattle.tangle_lexer.specs.declared.modes.IncludeState.{IncludeState}
+use Rattle.tangle_lexer.specs.declared.modes.IncludeState.TheVariants as include
 use Rattle.tangle_lexer.specs.declared.simple.SimpleLexeme.{SimpleLexeme}
 use Rattle.tangle_lexer.specs.declared.simple.SimpleLexeme.TheVariants as simple
 use Rattle.tangle_lexer.specs.declared.lexeme_kinds.LexemeKind.{LexemeKind}
 use Rattle.tangle_lexer.specs.declared.lexeme_kinds.LexemeKind.TheVariants as lexeme_kind
-use Rattle.tangle_text.specs.Bytes.{slash, apostrophe, less_sign, is_word_byte}
+use Rattle.tangle_text.specs.Bytes.{number_sign, holds, is_opener, is_word_byte}
 use Rattle.tangle_text.specs.Text.{Cell, byte_at}
+use Rattle.tangle_text.specs.Runs.{holds_plain}
 use Rattle.tangle_lexer.specs.Steps.{kind_at}
-
--- a byte that may open something longer
-abbrev pub is_opener : ℕ → Bool
-is_opener b = b == at_sign || b == slash || b == double_quote || b == apostrophe || b == less_sign
-
--- a byte that is a sign wherever a lexeme begins with it
-abbrev pub is_sign_byte : ℕ → Bool
-is_sign_byte b = not (is_opener b || is_white b || is_word_byte b)
 
 -- the simple lexeme that begins with a byte, unless the byte may open something longer
 abbrev pub simple_of : ℕ → Option SimpleLexeme
@@ -34,14 +28,36 @@ simple_kind simple.White = lexeme_kind.White
 simple_kind simple.Sign = lexeme_kind.Other
 simple_kind simple.LineEnd = lexeme_kind.LineEnd
 
+abbrev pub is_word_or_sign : SimpleLexeme → Bool
+is_word_or_sign simple.Word = true
+is_word_or_sign simple.Sign = true
+is_word_or_sign _ = false
+
 -- this simple lexeme is at the front, however much of #include was read
 pub record IsSimple (text : List Cell) (kind : SimpleLexeme) : Type 0 where
   pub inside : 0 < length text
   pub lexeme_kind : (inc : IncludeState) → kind_at inc text ≡ simple_kind kind
   pub byte : (kind ≡ simple.LineEnd → ⊥) → IsSome (byte_at 0 text)
+  pub plain : is_word_or_sign kind ≡ true → holds_plain (byte_at 0 text) ≡ true
 
 -- the modes in which C text is read
 abbrev pub is_c_text : Mode → Bool
 is_c_text mode.CPart = true
 is_c_text mode.Macro = true
 is_c_text _ = false
+
+-- runs
+
+abbrev pub is_c_part : Mode → Bool
+is_c_part mode.CPart = true
+is_c_part _ = false
+
+-- #include neither begins with this byte nor was begun on its line
+abbrev pub is_apart_from_include : IncludeState → Option ℕ → Bool
+is_apart_from_include include.AtStart b = not (holds number_sign b)
+is_apart_from_include include.Elsewhere b = true
+is_apart_from_include _ b = false
+
+-- a simple lexeme with this first byte begins a run
+abbrev pub begins_run : Mode → IncludeState → SimpleLexeme → Option ℕ → Bool
+begins_run m inc kind b = is_c_part m && is_word_or_sign kind && is_apart_from_include inc b

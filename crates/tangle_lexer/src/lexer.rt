@@ -1,6 +1,11 @@
 //! The lexer: from the text to its tokens, one C part or macro at a time.
-ghost use Rattle.std.specs.Prelude.{◌≡◌, ◌<◌, ◌++◌, [], true, length, map, IfOk, IfSome};
-ghost use Rattle.std.specs.Prelude.{IfNone, OnOk, option_to_list};
+ghost use Rattle.std.specs.Prelude.{◌≡◌, ◌<◌, ◌++◌, ℕ, [], true, length, map, IfOk, IfSome};
+ghost use Rattle.std.specs.Prelude.{IfNone, OnOk, Some, option_to_list};
+ghost use Rattle.std.specs.List.{All};
+ghost use Rattle.tangle_text.specs.Text.{IsRestOf, texts_of};
+ghost use Rattle.tangle_lexer.specs.declared.modes.Mode.TheVariants as mode;
+ghost use Rattle.tangle_lexer.specs.declared.tokens.Token.TheVariants as token;
+ghost use Rattle.tangle_lexer.specs.Runs.{unfolded, HasNoRun, IsRunIn};
 ghost use Rattle.tangle_lexer.specs.Steps.{tokens_from, occurrences_from};
 ghost use Rattle.tangle_lexer.specs.Steps as spec;
 ghost use Rattle.tangle_lexer.specs.Occurrences.{occurrence_of};
@@ -53,7 +58,7 @@ fn pop_head(tokens: &mut Vec<Token>) -> Option<Token>
 /// has to be the number of occurrences in `buffers`. The tokens before the head, with the faults
 /// among them, replace those in `buffers`. The occurrences that were read are added to those in
 /// `buffers`. Returns the state after the head, and the head itself, or `None` at the end of the
-/// text.
+/// text. In C parts runs take the place of the words, signs and spaces that they consist of.
 ///
 /// # Errors
 ///
@@ -64,11 +69,20 @@ pub fn next_block(
     reader: &mut Reader,
     from: LexerState,
 ) -> Result<(LexerState, Option<Token>), NoMemory>
-    requires { from.occurrences ≡ length buffers.old.occurrences.items }
+    requires occurrences { from.occurrences ≡ length buffers.old.occurrences.items }
+    requires ours { IsRestOf source.now.lines reader.old }
     ensures tokens { IfOk result (λ next. tokens_from from reader.old
-        ≡ buffers.new.tokens.items ++ option_to_list next.1 ++ tokens_from next.0 reader.new) }
+        ≡ unfolded (texts_of source.now.lines) buffers.new.tokens.items
+        ++ option_to_list next.1 ++ tokens_from next.0 reader.new) }
+    ensures ours { OnOk result (IsRestOf source.now.lines reader.new) }
+    ensures runs { OnOk result
+        (All (IsRunIn (texts_of source.now.lines)) buffers.new.tokens.items) }
+    ensures no_run { OnOk result
+        ((from.mode ≡ mode.CPart → ⊥) → HasNoRun buffers.new.tokens.items) }
     ensures no_head { OnOk result (HasNoHead buffers.new.tokens.items) }
     ensures head { IfOk result (λ next. IfSome next.1 (λ head. is_head_token head ≡ true)) }
+    ensures in_macro { IfOk result (λ next. (line : ℕ) → next.1 ≡ Some (token.MacroStart line)
+        → next.0.mode ≡ mode.Macro) }
     ensures end { IfOk result (λ next. IfNone next.1 (reader.new ≡ [])) }
     ensures shorter { IfOk result
         (λ next. IfSome next.1 (λ head. length reader.new < length reader.old)) }

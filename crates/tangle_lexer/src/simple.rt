@@ -1,17 +1,19 @@
 //! A loop for the simple lexemes: words, white space, signs and line ends, which are most of C
-//! text.
-ghost use Rattle.std.specs.Prelude.{◌≡◌, ◌≤◌, ◌++◌, length, IfOk, IfSome, OnOk};
-ghost use Rattle.tangle_lexer.specs.Reads.{IsRead};
+//! text. In a C part a run of words, signs and single spaces is read at once.
+ghost use Rattle.std.specs.Prelude.{◌≡◌, ◌≤◌, ◌<◌, true, List, length, IfOk, IfSome, OnOk};
+ghost use Rattle.tangle_lines.specs.Reading.{SourceLine};
+ghost use Rattle.tangle_text.specs.Text.{IsRestOf};
+ghost use Rattle.tangle_lexer.specs.Lexemes.{with_include};
+ghost use Rattle.tangle_lexer.specs.Reads.{IsRead, ReadsOn, AddsSimple};
 ghost use Rattle.tangle_lexer.specs.Simple.{IsSimple, simple_kind};
 ghost use Rattle.tangle_lexer.specs.Simple as spec;
-ghost use Rattle.tangle_lexer.specs.Steps.{c_lexeme, tokens_from, occurrences_from};
-ghost use Rattle.tangle_lexer.specs.Heads.{HasNoHead};
+ghost use Rattle.tangle_lexer.specs.Steps.{c_lexeme};
 
-use crate::modes::{LexerState, Mode};
+use crate::modes::{IncludeState, LexerState, Mode};
 use crate::steps::{line_end, sign, white_space, word};
 use crate::tokens::Token;
 use std::alloc::AllocError;
-use tangle_text::{Reader, Unit, is_white, is_word_byte};
+use tangle_text::{Reader, Unit, holds, is_sign_byte, is_white, is_word_byte};
 
 /// A lexeme whose kind is known from its first byte, or from a line end.
 #[derive(Clone, Copy)]
@@ -20,38 +22,6 @@ pub enum SimpleLexeme {
     White,
     Sign,
     LineEnd,
-}
-
-/// For each byte, whether it is a sign wherever a lexeme begins with it. `/` is not, since it may
-/// open a comment.
-const SIGN_BYTES: [bool; 256] = [
-    true, true, true, true, true, true, true, true, true, false, true, false, false, false, true,
-    true, true, true, true, true, true, true, true, true, true, true, true, true, true, true, true,
-    true, false, true, false, true, false, true, true, false, true, true, true, true, true, true,
-    true, false, false, false, false, false, false, false, false, false, false, false, true, true,
-    false, true, true, true, false, false, false, false, false, false, false, false, false, false,
-    false, false, false, false, false, false, false, false, false, false, false, false, false,
-    false, false, false, false, true, true, true, true, false, true, false, false, false, false,
-    false, false, false, false, false, false, false, false, false, false, false, false, false,
-    false, false, false, false, false, false, false, false, false, true, true, true, true, true,
-    false, false, false, false, false, false, false, false, false, false, false, false, false,
-    false, false, false, false, false, false, false, false, false, false, false, false, false,
-    false, false, false, false, false, false, false, false, false, false, false, false, false,
-    false, false, false, false, false, false, false, false, false, false, false, false, false,
-    false, false, false, false, false, false, false, false, false, false, false, false, false,
-    false, false, false, false, false, false, false, false, false, false, false, false, false,
-    false, false, false, false, false, false, false, false, false, false, false, false, false,
-    false, false, false, false, false, false, false, false, false, false, false, false, false,
-    false, false, false, false, false, false, false, false, false, false, false, false, false,
-    false, false, false, false, false, false, false, false, false, false, false,
-];
-
-/// Whether a byte is a sign wherever a lexeme begins with it.
-#[inline(always)]
-fn is_sign_byte(byte: u8) -> bool
-    ensures { result ≡ spec.is_sign_byte byte }
-{
-    SIGN_BYTES[byte as usize]
 }
 
 /// The simple lexeme that begins with this byte; `None` if the byte may open something longer.
@@ -110,18 +80,57 @@ fn is_c_text(mode: Mode) -> bool
     matches!(mode, Mode::CPart | Mode::Macro)
 }
 
-/// Reads simple lexemes of C text, up to a byte that may open something longer. In limbo and in
-/// documentation it reads nothing.
+/// Whether a simple lexeme that begins with this byte begins a run. A word or a sign of a C part
+/// does, unless `#include` begins with it or was begun before it.
+#[inline(always)]
+fn begins_run(state: LexerState, simple: SimpleLexeme, byte: Option<u8>) -> bool
+    ensures { result ≡ spec.begins_run state.mode state.include simple byte }
+{
+    matches!(state.mode, Mode::CPart)
+        && matches!(simple, SimpleLexeme::Word | SimpleLexeme::Sign)
+        && match state.include {
+            IncludeState::AtStart => !holds(b'#', byte),
+            IncludeState::Elsewhere => true,
+            _ => false,
+        }
+}
+
+/// Reads the run that begins here, or else this simple lexeme. Returns how much of `#include` was
+/// read then.
+#[inline(always)]
+fn run_or_simple(
+    tokens: &mut Vec<Token>,
+    reader: &mut Reader,
+    state: LexerState,
+    simple: SimpleLexeme,
+) -> Result<IncludeState, AllocError>
+    requires simple { IsSimple reader.old simple }
+    requires mode { spec.is_c_text state.mode ≡ true }
+    ensures read { IfOk result (λ include. (lines : List SourceLine) → IsRestOf lines reader.old
+        → ReadsOn lines tokens.old.items tokens.new.items state (with_include include state)
+        reader.old reader.new) }
+    ensures adds { OnOk result (AddsSimple state.mode tokens.old.items tokens.new.items) }
+    ensures shorter { OnOk result (length reader.new < length reader.old) }
+{
+    if begins_run(state, simple, reader.byte()) {
+        let run = reader.take_run();
+        tokens.push(Token::Run(run))?;
+        return Ok(IncludeState::Elsewhere);
+    }
+    Ok(simple_step(tokens, reader, state, simple)?.include)
+}
+
+/// Reads simple lexemes of C text, and in C parts runs in place of those that they consist of, up
+/// to a byte that may open something longer. In limbo and in documentation it reads nothing.
 pub fn read_simple(
     tokens: &mut Vec<Token>,
     reader: &mut Reader,
     from: LexerState,
 ) -> Result<LexerState, AllocError>
-    ensures tokens { IfOk result (λ after. tokens.new.items ++ tokens_from after reader.new
-        ≡ tokens.old.items ++ tokens_from from reader.old) }
-    ensures no_head { HasNoHead tokens.old.items → OnOk result (HasNoHead tokens.new.items) }
-    ensures occurrences { IfOk result
-        (λ after. occurrences_from after reader.new ≡ occurrences_from from reader.old) }
+    ensures read { IfOk result (λ after. (lines : List SourceLine) → IsRestOf lines reader.old
+        → ReadsOn lines tokens.old.items tokens.new.items from after reader.old reader.new) }
+    ensures adds { OnOk result (AddsSimple from.mode tokens.old.items tokens.new.items) }
+    ensures mode { IfOk result (λ after. after.mode ≡ from.mode) }
     ensures count { IfOk result (λ after. after.occurrences ≡ from.occurrences) }
     ensures shorter { OnOk result (length reader.new ≤ length reader.old) }
 {
@@ -133,7 +142,7 @@ pub fn read_simple(
     let mut include = from.include;
     while let Some(simple) = simple_at(&here) {
         let state = from.with_include(include);
-        include = simple_step(tokens, &mut here, state, simple)?.include;
+        include = run_or_simple(tokens, &mut here, state, simple)?;
     }
     *reader = here;
     Ok(from.with_include(include))

@@ -30,6 +30,9 @@ pub enum Token {
     NamedPart(usize, u32),
     /// A range of a line: a word, a sign, or a range of a quoted or verbatim text.
     Span(SpanKind, Span),
+    /// A run: a range of a line of words, signs and single spaces in a C part. Its words and signs
+    /// are spans, and each of its spaces is white space.
+    Run(Span),
     /// A line end inside a quoted text, after a backslash. The text is cut there.
     QuoteBreak,
     /// An ASCII constant, with its value and its line.

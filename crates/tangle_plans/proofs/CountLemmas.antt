@@ -28,12 +28,7 @@ own_count bytes start (s ∷ plan) =
 step_same : (node : Title) (bytes : List ℕ) (piece marks start : ℕ) (s : Step)
     → length (step_slots node bytes piece marks start s) ≡ length (step_slots Program bytes 0 0 start s)
 step_same node bytes piece marks start step.Open = refl
-step_same node bytes piece marks start (step.Run end) = refl
-step_same node bytes piece marks start step.Mark = refl
-step_same node bytes piece marks start step.AllMacros = refl
-step_same node bytes piece marks start step.Space = refl
-step_same node bytes piece marks start (step.Use id) = refl
-step_same node bytes piece marks start step.Close = refl
+step_same node bytes piece marks start _ = refl
 
 pub counted : (node : Title) (bytes : List ℕ) (piece marks start : ℕ) (plan : List Step)
     → length (slots node bytes piece marks start plan) ≡ own_count bytes start plan

@@ -1,7 +1,6 @@
 -- The tags, bytes and uses of pieces determine their slots.
 use Rattle.std.proofs.Common.{◌≡◌, ◌∙◌, ℕ, ◌+◌, Bool, List, [], ◌∷◌, ◌++◌, map, refl, ap, sym}
 use Rattle.std.specs.Prelude.{flat_map, if◌then◌else◌, decimal}
-use Rattle.std.proofs.lemmas.List.{map-append}
 use Rattle.tangle_files.specs.Bytes.{space, line_feed}
 use Rattle.tangle_scan.specs.declared.items.Item.{Item}
 use Rattle.tangle_scan.specs.declared.items.Item.TheVariants as item
@@ -20,6 +19,7 @@ use Rattle.tangle_plans.specs.ItemTags.{uses_resolved, uses_in, pieces_uses, sha
 use Rattle.tangle_plans.specs.ItemSlots.{marks_after_item, name_slots, item_slots, items_slots, pieces_slots}
 use Rattle.tangle_plans.specs.Comparing.{HasItemsOf}
 use Rattle.tangle_plans.specs.declared.nodes.NodeBody.{NodeBody}
+use Rattle.tangle_plans.proofs.EachLemmas.{each_mapped}
 use Rattle.tangle_plans.proofs.TagLemmas.{same_by_tags}
 
 -- A shape in which each name is replaced by a name of one byte, its number.
@@ -61,17 +61,8 @@ module _ (texts : List (List ℕ)) (table : TableRead) where
   use_tag_numbered Ambiguous = refl
 
   tag_numbered : (x : Item) → item_tag (numbered x) ≡ item_tag (shape_item texts table x)
-  tag_numbered (item.Word span) = refl
-  tag_numbered (item.Sign span) = refl
-  tag_numbered (item.Quoted span) = refl
-  tag_numbered item.QuoteBreak = refl
-  tag_numbered (item.Verbatim span) = refl
-  tag_numbered (item.Code value) = refl
-  tag_numbered item.Blank = refl
-  tag_numbered item.LineEnd = refl
-  tag_numbered (item.LineMark origin) = refl
   tag_numbered (item.UseOf occurrence) = use_tag_numbered (resolved_at table occurrence)
-  tag_numbered item.Defs = refl
+  tag_numbered _ = refl
 
   item_tags_numbered : (items : List Item)
       → map item_tag (map numbered items) ≡ map item_tag (map (shape_item texts table) items)
@@ -93,17 +84,8 @@ module _ (texts : List (List ℕ)) (table : TableRead) where
   use_bytes_numbered Ambiguous = refl
 
   byte_numbered : (x : Item) → item_bytes (numbered x) ≡ item_bytes (shape_item texts table x)
-  byte_numbered (item.Word span) = refl
-  byte_numbered (item.Sign span) = refl
-  byte_numbered (item.Quoted span) = refl
-  byte_numbered item.QuoteBreak = refl
-  byte_numbered (item.Verbatim span) = refl
-  byte_numbered (item.Code value) = refl
-  byte_numbered item.Blank = refl
-  byte_numbered item.LineEnd = refl
-  byte_numbered (item.LineMark origin) = refl
   byte_numbered (item.UseOf occurrence) = use_bytes_numbered (resolved_at table occurrence)
-  byte_numbered item.Defs = refl
+  byte_numbered _ = refl
 
   item_bytes_numbered : (items : List Item)
       → flat_map item_bytes (map numbered items) ≡ flat_map item_bytes (map (shape_item texts table) items)
@@ -127,33 +109,19 @@ module _ (texts : List (List ℕ)) (table : TableRead) where
   use_names_numbered Ambiguous = refl
 
   name_numbered : (x : Item) → item_names (numbered x) ≡ map as_name (uses_in table x)
-  name_numbered (item.Word span) = refl
-  name_numbered (item.Sign span) = refl
-  name_numbered (item.Quoted span) = refl
-  name_numbered item.QuoteBreak = refl
-  name_numbered (item.Verbatim span) = refl
-  name_numbered (item.Code value) = refl
-  name_numbered item.Blank = refl
-  name_numbered item.LineEnd = refl
-  name_numbered (item.LineMark origin) = refl
   name_numbered (item.UseOf occurrence) = use_names_numbered (resolved_at table occurrence)
-  name_numbered item.Defs = refl
+  name_numbered _ = refl
 
   item_names_numbered : (items : List Item)
       → flat_map item_names (map numbered items) ≡ map as_name (flat_map (uses_in table) items)
-  item_names_numbered [] = refl
-  item_names_numbered (x ∷ items) =
-      ap (λ l. l ++ flat_map item_names (map numbered items)) (name_numbered x)
-      ∙ ap (λ l. map as_name (uses_in table x) ++ l) (item_names_numbered items)
-      ∙ sym (map-append as_name (uses_in table x) (flat_map (uses_in table) items))
+  item_names_numbered items =
+      sym (each_mapped as_name (uses_in table) item_names numbered (λ x. sym (name_numbered x)) items)
 
   names_numbered : (pieces : List PieceRead)
       → shape_names (shape_numbered pieces) ≡ map as_name (pieces_uses table pieces)
-  names_numbered [] = refl
-  names_numbered (p ∷ pieces) =
-      ap (λ l. l ++ shape_names (shape_numbered pieces)) (item_names_numbered p.items)
-      ∙ ap (λ l. map as_name (flat_map (uses_in table) p.items) ++ l) (names_numbered pieces)
-      ∙ sym (map-append as_name (flat_map (uses_in table) p.items) (pieces_uses table pieces))
+  names_numbered pieces =
+      sym (each_mapped as_name (λ (p : PieceRead). flat_map (uses_in table) p.items) (flat_map item_names)
+      (λ (p : PieceRead). map numbered p.items) (λ p. sym (item_names_numbered p.items)) pieces)
 
 -- the slots of such a shape
 
@@ -186,17 +154,8 @@ module _ (has_piece : ℕ → Bool) (node : Title) where
 
     slot_numbered : (piece marks : ℕ) (x : Item)
         → item_slots texts table has_piece node piece marks x ≡ shape_item_slots piece marks (numbered texts table x)
-    slot_numbered piece marks (item.Word span) = refl
-    slot_numbered piece marks (item.Sign span) = refl
-    slot_numbered piece marks (item.Quoted span) = refl
-    slot_numbered piece marks item.QuoteBreak = refl
-    slot_numbered piece marks (item.Verbatim span) = refl
-    slot_numbered piece marks (item.Code value) = refl
-    slot_numbered piece marks item.Blank = refl
-    slot_numbered piece marks item.LineEnd = refl
-    slot_numbered piece marks (item.LineMark origin) = refl
     slot_numbered piece marks (item.UseOf occurrence) = name_slots_numbered piece marks (resolved_at table occurrence)
-    slot_numbered piece marks item.Defs = refl
+    slot_numbered piece marks _ = refl
 
     use_marks_numbered : (marks : ℕ) (r : Resolved) → marks ≡ marks_after_shape_item marks (use_numbered r)
     use_marks_numbered marks (Name id) = refl
@@ -205,17 +164,8 @@ module _ (has_piece : ℕ → Bool) (node : Title) where
 
     marks_numbered : (marks : ℕ) (x : Item)
         → marks_after_item marks x ≡ marks_after_shape_item marks (numbered texts table x)
-    marks_numbered marks (item.Word span) = refl
-    marks_numbered marks (item.Sign span) = refl
-    marks_numbered marks (item.Quoted span) = refl
-    marks_numbered marks item.QuoteBreak = refl
-    marks_numbered marks (item.Verbatim span) = refl
-    marks_numbered marks (item.Code value) = refl
-    marks_numbered marks item.Blank = refl
-    marks_numbered marks item.LineEnd = refl
-    marks_numbered marks (item.LineMark origin) = refl
     marks_numbered marks (item.UseOf occurrence) = use_marks_numbered marks (resolved_at table occurrence)
-    marks_numbered marks item.Defs = refl
+    marks_numbered marks _ = refl
 
     items_slots_numbered : (piece marks : ℕ) (items : List Item)
         → items_slots texts table has_piece node piece marks items

@@ -33,13 +33,8 @@ bytes_ids (b ∷ bytes) = bytes_ids bytes
 step_ids : (node : Title) (bytes : List ℕ) (piece marks start : ℕ) (s : Step)
     → flat_map slot_ids (step_slots node bytes piece marks start s) ≡ step_uses s
 unfolding slot_ids
-step_ids node bytes piece marks start step.Open = refl
 step_ids node bytes piece marks start (step.Run end) = bytes_ids (bytes_between bytes start end)
-step_ids node bytes piece marks start step.Mark = refl
-step_ids node bytes piece marks start step.AllMacros = refl
-step_ids node bytes piece marks start step.Space = refl
-step_ids node bytes piece marks start (step.Use id) = refl
-step_ids node bytes piece marks start step.Close = refl
+step_ids node bytes piece marks start _ = refl
 
 pub plan_ids : (node : Title) (bytes : List ℕ) (piece marks start : ℕ) (plan : List Step)
     → flat_map slot_ids (slots node bytes piece marks start plan) ≡ uses_of plan
@@ -73,14 +68,10 @@ module _ (texts : List (List ℕ)) (table : TableRead) (has_piece : ℕ → Bool
   item_ids piece marks (item.Word span) = bytes_ids (span_text texts span)
   item_ids piece marks (item.Sign span) = bytes_ids (span_text texts span)
   item_ids piece marks (item.Quoted span) = bytes_ids (span_text texts span)
-  item_ids piece marks item.QuoteBreak = refl
   item_ids piece marks (item.Verbatim span) = bytes_ids (span_text texts span)
   item_ids piece marks (item.Code value) = bytes_ids (decimal value)
-  item_ids piece marks item.Blank = refl
-  item_ids piece marks item.LineEnd = refl
-  item_ids piece marks (item.LineMark origin) = refl
   item_ids piece marks (item.UseOf occurrence) = name_ids (resolved_at table occurrence)
-  item_ids piece marks item.Defs = refl
+  item_ids piece marks _ = refl
 
   items_ids : (piece marks : ℕ) (items : List Item)
       → flat_map slot_ids (items_slots texts table has_piece node piece marks items)

@@ -36,6 +36,7 @@ item_from_tag tag.AllMacros n bytes names rest = onto AllMacros (rest bytes name
 item_from_tag tag.Use n bytes names rest = onto (Use (first_name names)) (rest bytes (drop 1 names))
 item_from_tag tag.NoUse n bytes names rest = onto NoUse (rest bytes names)
 item_from_tag tag.PieceEnd n bytes names rest = [] ∷ rest bytes names
+item_from_tag tag.Run n bytes names rest = rest bytes names
 
 shape_from_tags : List ItemTag → List ℕ → List (List ℕ) → Shape
 shape_from_tags [] bytes names = []
@@ -45,13 +46,7 @@ written_from_tag : (k : Kind) (n : ℕ) (bytes : List ℕ) (names : List (List �
     → item_from_tag (written_kind k) n bytes names rest ≡ onto (Written k (take n bytes)) (rest (drop n bytes) names)
 unfolding item_from_tag
 written_from_tag kind.Word n bytes names rest = refl
-written_from_tag kind.Sign n bytes names rest = refl
-written_from_tag kind.Quoted n bytes names rest = refl
-written_from_tag kind.QuoteBreak n bytes names rest = refl
-written_from_tag kind.Verbatim n bytes names rest = refl
-written_from_tag kind.AsciiConstant n bytes names rest = refl
-written_from_tag kind.Blank n bytes names rest = refl
-written_from_tag kind.LineEnd n bytes names rest = refl
+written_from_tag _ n bytes names rest = refl
 
 piece_from_tags : (items : List ShapeItem) (tags : List ItemTag) (bytes : List ℕ) (names : List (List ℕ))
     → shape_from_tags (map item_tag items ++ piece_end ∷ tags)

@@ -8,7 +8,9 @@ pub mod MakingBodies
 pub mod ItemSlots
 pub mod Tags
 pub mod ItemTags
-pub mod Ranges
+pub mod Entries
 pub mod NodeBodies
 pub mod Comparing
 pub mod Fronts
+pub mod UnfoldedTags
+pub mod Remaining

@@ -7,7 +7,7 @@ use Rattle.tangle_plans.specs.declared.tags.ItemTag.{ItemTag}
 use Rattle.tangle_plans.specs.declared.planning.Planning.TheInside.{Inside}
 
 -- what was made so far: the numbers of pieces and marks, the slots, and the bytes, tags and used
--- names of all items
+-- names of all items; the tags are those in memory, where a run has one
 pub record Making : Type 0 where
   pub node : Title
   pub piece : ℕ

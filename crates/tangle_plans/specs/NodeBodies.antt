@@ -5,13 +5,15 @@ use Rattle.tangle_plans.specs.Tags.{shape_tags, shape_bytes, shape_names}
 use Rattle.tangle_plans.specs.Meaning.{title_of}
 use Rattle.tangle_plans.specs.Slots.{Slot, slots, uses_of}
 use Rattle.tangle_plans.specs.declared.tags.ItemTag.{ItemTag}
+use Rattle.tangle_plans.specs.UnfoldedTags.{unfolded_tags}
 use Rattle.tangle_plans.specs.declared.nodes.NodeBody.{NodeBody}
 
 abbrev pub body_title : NodeBody → Title
 body_title body = title_of body.name
 
+-- the tags of all items
 abbrev pub body_tags : NodeBody → List ItemTag
-body_tags body = body.tags.items
+body_tags body = unfolded_tags body.tags.items body.bytes.items
 
 -- the bytes of all items
 abbrev pub body_bytes : NodeBody → List ℕ

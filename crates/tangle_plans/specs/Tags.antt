@@ -29,6 +29,10 @@ item_tag NoUse = record { kind = tag.NoUse; size = 0 }
 abbrev pub blank_tag : ItemTag
 blank_tag = record { kind = tag.Blank; size = 1 }
 
+-- the tag of a line end
+abbrev pub line_end_tag : ItemTag
+line_end_tag = record { kind = tag.LineEnd; size = 1 }
+
 -- the tag that ends a piece
 abbrev pub piece_end : ItemTag
 piece_end = record { kind = tag.PieceEnd; size = 0 }

@@ -1,44 +1,38 @@
-//! Compares the body of a node with the pieces that the node has in a new web, item by item,
-//! without making a new body.
-ghost use Rattle.std.specs.Prelude.{◌≡◌, ◌≢◌, ◌↔◌, ◌∷◌, ◌++◌, ◌<◌, ◌≤◌, true, ℕ, Bool, List};
-ghost use Rattle.std.specs.Prelude.{length, drop, filter, MatchOption, IfSome};
+//! Compares the body of a node with the pieces that the node has in a new web, entry by entry,
+//! without making a new body. A run is compared at once, if the body has the same run there.
+ghost use Rattle.std.specs.Prelude.{◌≡◌, ◌≢◌, ◌↔◌, ◌∷◌, ◌++◌, ◌<◌, ◌≤◌, true, false, ℕ, Bool, List};
+ghost use Rattle.std.specs.Prelude.{length, drop, filter, MatchOption};
 ghost use Rattle.std.specs.List.{All};
-ghost use Rattle.tangle_scan.specs.SourceOrder.{IsInRange, IsSpan};
+ghost use Rattle.tangle_text.specs.Text.{IsSpan, span_text};
+ghost use Rattle.tangle_scan.specs.SourceOrder.{IsInRange};
 ghost use Rattle.tangle_scan.specs.WellFormed.{IsUseBelow};
-ghost use Rattle.tangle_plans.specs.Comparing.{HasItemsOf, IsPlanned};
-ghost use Rattle.tangle_plans.specs.Fronts.{CanComeNext, GoesAfter, GoesAfterItem, GoOnAs};
-ghost use Rattle.tangle_plans.specs.Fronts.{IsNotAfter, LeavesAfter, lists_left, lists_at};
-ghost use Rattle.tangle_plans.specs.Fronts.{no_lists, with_range, with_tag};
-ghost use Rattle.tangle_plans.specs.Fronts.{with_span, with_items, with_shape};
+ghost use Rattle.tangle_scan.specs.Entries.{items_of};
 ghost use Rattle.tangle_scan.specs.ItemBytes.{bytes_in};
+ghost use Rattle.tangle_names.specs.NameTable.{TableRead};
+ghost use Rattle.tangle_plans.specs.Comparing.{HasItemsOf, IsPlanned};
+ghost use Rattle.tangle_plans.specs.Fronts.{IsNotNext, followed_by, lists_left, no_lists};
+ghost use Rattle.tangle_plans.specs.Fronts.{run_lists, item_lists, entry_lists, piece_lists};
+ghost use Rattle.tangle_plans.specs.Fronts.{pieces_lists};
+ghost use Rattle.tangle_plans.specs.Entries.{IsEntryOf};
 ghost use Rattle.tangle_plans.specs.ItemTags.{uses_in, uses_resolved, pieces_uses};
 ghost use Rattle.tangle_plans.specs.ItemTags.{shape_of};
-ghost use Rattle.tangle_plans.specs.Tags.{piece_end};
 ghost use Rattle.tangle_plans.specs.ItemSlots.{pieces_at, pieces_slots};
 ghost use Rattle.tangle_plans.specs.NodeBodies.{body_title, plan_slots, plan_uses, HoldsShape};
-ghost use Rattle.tangle_plans.specs.Ranges.{IsRangeOfSource, range_bytes};
+ghost use Rattle.tangle_plans.specs.UnfoldedTags.{run_tags};
+ghost use Rattle.tangle_plans.specs.declared.tags.ItemTag.{ItemTag as TagRead};
 
 use crate::nodes::NodeBody;
-use crate::ranges::{LineRange, end_of, no_range, pass_same, range_of, span_of};
-use crate::tags::{ItemKind, ItemTag, piece_end, same_tag, tag_of, tag_of_span};
+use crate::tags::{piece_end, tag_of};
+use crate::tags_left::{TagsLeft, tag_of_part};
 use itoa::Buffer;
 use tangle_names::{NameTable, Resolved};
-use tangle_scan::{Item, Span, Web};
+use tangle_scan::{Entry, Item, Span, Web};
+use tangle_text::RunParts;
 
 /// The tags, bytes and uses of a body that remain to be compared.
-#[derive(Clone, Copy)]
+#[derive(Drop)]
 pub(crate) struct Left<'o> {
-    pub(crate) tags: &'o [ItemTag],
-    pub(crate) bytes: &'o [u8],
-    pub(crate) uses: &'o [usize],
-}
-
-/// A position within a piece: the bytes and uses that remain to be compared, and a pending range of
-/// the source, with which these bytes have to begin.
-#[derive(Clone, Copy)]
-pub(crate) struct Position<'w, 'o> {
-    pub(crate) range: LineRange<'w>,
-    pub(crate) bytes: &'o [u8],
+    pub(crate) tags: TagsLeft<'o>,
     pub(crate) uses: &'o [usize],
 }
 
@@ -59,20 +53,6 @@ fn after_byte<'o>(bytes: &'o [u8], byte: u8) -> Option<&'o [u8]>
 {
     let (first, rest) = bytes.split_first()?;
     if *first == byte { Some(rest) } else { None }
-}
-
-/// The rest of the bytes, if they begin with those of a range of a source line.
-fn after_range<'o>(bytes: &'o [u8], range: LineRange) -> Option<&'o [u8]>
-    requires start { range.start ≤ range.end }
-    requires end { range.end ≤ length range.line.now }
-    ensures { MatchOption result
-        ((rest : List ℕ) → bytes.now ≢ range_bytes range.entry ++ rest)
-        (λ rest. bytes.now ≡ range_bytes range.entry ++ rest.now) }
-{
-    if range.start == range.end {
-        return Some(bytes);
-    }
-    after_bytes(bytes, &range.line[range.start..range.end])
 }
 
 /// The rest of the bytes, if they begin with those of an item.
@@ -125,147 +105,145 @@ fn after_use_of<'o>(uses: &'o [usize], table: &NameTable, item: &Item) -> Option
     }
 }
 
-/// The position after a span of this kind, if the span comes next and has this tag. The span begins
-/// a pending range, which `pass_same` makes longer.
-#[inline(always)]
-fn after_span<'w, 'o>(
-    position: Position<'w, 'o>,
-    tag: ItemTag,
-    web: &'w Web,
-    kind: ItemKind,
-    span: Span,
-) -> Option<Position<'w, 'o>>
-    requires range { IsRangeOfSource web.now.texts position.range }
-    requires span { IsSpan web.now.texts span }
-    ensures range { IfSome result (λ next. IsRangeOfSource web.now.texts next.range) }
-    ensures position { GoesAfter (with_span web.now.texts kind span) tag position.entry result }
+/// Passes an item, and says whether it came next.
+fn pass_item(left: &mut Left, web: &Web, table: &NameTable, item: &Item) -> bool
+    requires span { IsInRange web.now.texts item.now }
+    requires name { IsUseBelow (length table.now.resolved) item.now }
+    ensures passed { result ≡ true → lists_left left.old
+        ≡ followed_by (item_lists web.now.texts table.now item.now) (lists_left left.new) }
+    ensures other { result ≡ false
+        → IsNotNext (item_lists web.now.texts table.now item.now) (lists_left left.old) }
 {
-    if !same_tag(tag, tag_of_span(kind, span)) {
-        return None;
+    let bytes = left.tags.bytes();
+    if !left.tags.pass_tag(tag_of(item, table)) {
+        return false;
     }
-    let bytes = after_range(position.bytes, position.range)?;
-    let range = range_of(web, span);
-    Some(Position {
-        range,
-        bytes,
-        ..position
-    })
-}
-
-/// The position after an item, if the item comes next and has this tag. The pending range is empty
-/// then; `after_span` passes an item that begins a range.
-#[inline(always)]
-fn after_item<'w, 'o>(
-    position: Position<'w, 'o>,
-    tag: ItemTag,
-    web: &'w Web,
-    table: &NameTable,
-    item: &Item,
-) -> Option<Position<'w, 'o>>
-    requires { CanComeNext web.now.texts table.now position item.now }
-    ensures { GoesAfterItem web.now.texts table.now item.now tag position.entry result }
-{
-    if !same_tag(tag, tag_of(item, table)) {
-        return None;
-    }
-    let bytes = after_range(position.bytes, position.range)?;
-    let bytes = after_bytes_of(bytes, web, item)?;
-    let uses = after_use_of(position.uses, table, item)?;
-    let range = end_of(position.range);
-    Some(Position { range, bytes, uses })
-}
-
-/// The position after these items, if they come next and have these tags. Items that are side by
-/// side in the source are compared at once.
-fn after_items<'w, 'o>(
-    left: Left<'o>,
-    web: &'w Web,
-    table: &NameTable,
-    items: &[Item],
-) -> Option<Position<'w, 'o>>
-    requires spans { All (IsInRange web.now.texts) items.now }
-    requires names { All (IsUseBelow (length table.now.resolved)) items.now }
-    requires tags { length items.now < length left.tags.now }
-    ensures range { IfSome result (λ next. IsRangeOfSource web.now.texts next.range) }
-    ensures position { MatchOption result
-        (IsNotAfter (with_items web.now.texts table.now items.now) (lists_left left.entry))
-        (λ next. GoOnAs (lists_left left.entry) (with_items web.now.texts table.now items.now)
-        (lists_at (drop (length items.now) left.entry.tags.now) next)
-        (λ more. with_range next (with_tag piece_end more))) }
-{
-    let tags = left.tags;
-    let mut position = Position {
-        range: no_range(web),
-        bytes: left.bytes,
-        uses: left.uses,
+    let Some(_) = after_bytes_of(bytes, web, item) else {
+        return false;
     };
-    let mut i = 0;
-    while i < items.len() {
-        let item = &items[i];
-        if let Some((kind, span)) = span_of(item) {
-            let next = after_span(position, tags[i], web, kind, span)?;
-            i += 1;
-            let (end, passed) = pass_same(&tags[i..], web, next.range, &items[i..]);
-            i += passed;
-            position = Position {
-                range: LineRange { end, ..next.range },
-                ..next
-            };
-        } else {
-            position = after_item(position, tags[i], web, table, item)?;
-            i += 1;
+    let Some(uses) = after_use_of(left.uses, table, item) else {
+        return false;
+    };
+    left.uses = uses;
+    true
+}
+
+/// Passes the tags of the parts of a run, and says whether they came next.
+fn pass_parts(tags: &mut TagsLeft, web: &Web, span: Span) -> bool
+    requires { IsSpan web.now.texts span }
+    ensures tags { result ≡ true
+        → tags.old.tags ≡ run_tags (span_text web.now.texts span) ++ tags.new.tags }
+    ensures bytes { result ≡ true
+        → tags.new.bytes ≡ drop (length (span_text web.now.texts span)) tags.old.bytes }
+    ensures other { result ≡ false → (more : List TagRead)
+        → tags.old.tags ≢ run_tags (span_text web.now.texts span) ++ more }
+{
+    let mut parts = RunParts::new(web.line(span.line), span);
+    while let Some(part) = parts.next() {
+        if !tags.pass_tag(tag_of_part(part)) {
+            return false;
         }
     }
-    Some(position)
+    true
 }
 
-/// The rest of the lists, if they begin with a piece that has these items.
-fn after_piece<'o>(left: Left<'o>, web: &Web, table: &NameTable, items: &[Item]) -> Option<Left<'o>>
-    requires spans { All (IsInRange web.now.texts) items.now }
-    requires names { All (IsUseBelow (length table.now.resolved)) items.now }
-    ensures { LeavesAfter (with_items web.now.texts table.now items.now) left.entry result }
+/// Passes a run, and says whether its words, signs and spaces came next. The body may have other
+/// runs there.
+fn pass_run(left: &mut Left, web: &Web, span: Span) -> bool
+    requires { IsSpan web.now.texts span }
+    ensures passed { result ≡ true → lists_left left.old
+        ≡ followed_by (run_lists web.now.texts span) (lists_left left.new) }
+    ensures other { result ≡ false
+        → IsNotNext (run_lists web.now.texts span) (lists_left left.old) }
 {
-    let count = items.len();
-    if left.tags.len() <= count {
-        return None;
+    let Some(_) = after_bytes(left.tags.bytes(), web.text(span)) else {
+        return false;
+    };
+    if left.tags.pass_run(span.end - span.start) {
+        return true;
     }
-    let position = after_items(left, web, table, items)?;
-    if !same_tag(left.tags[count], piece_end()) {
-        return None;
-    }
-    let bytes = after_range(position.bytes, position.range)?;
-    Some(Left {
-        tags: &left.tags[count + 1..],
-        bytes,
-        uses: position.uses,
-    })
+    pass_parts(&mut left.tags, web, span)
 }
 
-/// The rest of the lists, if they begin with the pieces that have these numbers.
-fn after_pieces<'o>(
-    left: Left<'o>,
-    web: &Web,
-    table: &NameTable,
-    numbers: &[usize],
-) -> Option<Left<'o>>
+/// Passes an entry that is a line end, if one is next in memory; else passes nothing.
+// Most entries besides runs are line ends.
+#[inline(always)]
+fn pass_line_end(left: &mut Left, entry: &Entry) -> bool
+    ensures passed { result ≡ true → (texts : List (List ℕ)) (table : TableRead)
+        → lists_left left.old ≡ followed_by (entry_lists texts table entry.now)
+        (lists_left left.new) }
+    ensures kept { result ≡ false → lists_left left.new ≡ lists_left left.old }
+{
+    match entry {
+        Entry::Item(Item::LineEnd) => left.tags.pass_line_end(),
+        _ => false,
+    }
+}
+
+/// Passes an entry, and says whether its items came next.
+#[inline(always)]
+fn pass_entry(left: &mut Left, web: &Web, table: &NameTable, entry: &Entry) -> bool
+    requires { IsEntryOf web.now.texts table.now entry.now }
+    ensures passed { result ≡ true → lists_left left.old
+        ≡ followed_by (entry_lists web.now.texts table.now entry.now) (lists_left left.new) }
+    ensures other { result ≡ false
+        → IsNotNext (entry_lists web.now.texts table.now entry.now) (lists_left left.old) }
+{
+    if pass_line_end(left, entry) {
+        return true;
+    }
+    match entry {
+        Entry::Item(item) => pass_item(left, web, table, item),
+        Entry::Run(span) => pass_run(left, web, *span),
+    }
+}
+
+/// Passes a piece that has these entries, and says whether it came next.
+fn pass_piece(left: &mut Left, web: &Web, table: &NameTable, entries: &[Entry]) -> bool
+    requires { All (IsEntryOf web.now.texts table.now) entries.now }
+    ensures passed { result ≡ true → lists_left left.old ≡ followed_by
+        (piece_lists web.now.texts table.now (items_of web.now.texts entries.now))
+        (lists_left left.new) }
+    ensures other { result ≡ false → IsNotNext
+        (piece_lists web.now.texts table.now (items_of web.now.texts entries.now))
+        (lists_left left.old) }
+{
+    for entry in entries {
+        if !pass_entry(left, web, table, entry) {
+            return false;
+        }
+    }
+    left.tags.pass_tag(piece_end())
+}
+
+/// Passes the pieces that have these numbers, and says whether they came next.
+fn pass_pieces(left: &mut Left, web: &Web, table: &NameTable, numbers: &[usize]) -> bool
     requires numbers { All (λ n. n < length web.now.pieces) numbers.now }
     requires ours { length table.now.resolved ≡ length web.now.occurrences }
-    ensures { LeavesAfter
-        (with_shape web.now.texts table.now (pieces_at web.now.pieces numbers.now))
-        left.entry result }
+    ensures passed { result ≡ true → lists_left left.old ≡ followed_by
+        (pieces_lists web.now.texts table.now (pieces_at web.now.pieces numbers.now))
+        (lists_left left.new) }
+    ensures other { result ≡ false → IsNotNext
+        (pieces_lists web.now.texts table.now (pieces_at web.now.pieces numbers.now))
+        (lists_left left.old) }
 {
     let pieces = web.pieces();
-    let mut left = left;
     for number in numbers {
-        left = after_piece(left, web, table, pieces[*number].items())?;
+        if !pass_piece(left, web, table, pieces[*number].entries()) {
+            return false;
+        }
     }
-    Some(left)
+    true
 }
 
-fn is_nothing(left: Left) -> bool
-    ensures { (result ≡ true) ↔ (lists_left left.entry ≡ no_lists) }
+/// Whether nothing remains.
+fn is_nothing(left: &mut Left) -> bool
+    ensures { (result ≡ true) ↔ (lists_left left.old ≡ no_lists) }
 {
-    left.tags.is_empty() && left.bytes.is_empty() && left.uses.is_empty()
+    if !left.tags.bytes().is_empty() || !left.uses.is_empty() {
+        return false;
+    }
+    left.tags.next().is_none()
 }
 
 /// Whether a body has the tags, bytes and uses of these pieces. If so, planning these pieces makes
@@ -284,13 +262,9 @@ pub fn has_items_of(old: &NodeBody, web: &Web, table: &NameTable, numbers: &[usi
         → plan_uses old.now ≡ filter has_piece (pieces_uses table.now
         (pieces_at web.now.pieces numbers.now)) }
 {
-    let left = Left {
-        tags: &old.tags,
-        bytes: &old.bytes,
+    let mut left = Left {
+        tags: TagsLeft::new(&old.tags, &old.bytes),
         uses: &old.uses,
     };
-    match after_pieces(left, web, table, numbers) {
-        Some(left) => is_nothing(left),
-        None => false,
-    }
+    pass_pieces(&mut left, web, table, numbers) && is_nothing(&mut left)
 }

@@ -9,10 +9,10 @@ mod counting;
 mod laws;
 mod nodes;
 mod planning;
-mod ranges;
 mod shapes;
 mod steps;
 mod tags;
+mod tags_left;
 
 pub use comparing::has_items_of;
 pub use laws::{names_resolve_inside, tags_settle_the_shape};

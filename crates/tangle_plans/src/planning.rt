@@ -1,36 +1,40 @@
 //! Makes the body of a node, item by item.
-ghost use Rattle.tangle_names.specs.NameTable.{TableRead};
-ghost use Rattle.std.specs.Prelude.{◌≡◌, false, length, map, take, slice_index_or, ◌++◌, flat_map};
-ghost use Rattle.std.specs.Prelude.{filter, [], IfOk, OnOk, OnErr, ◌+◌, ◌<◌, ◌≤◌, ◌∷◌};
-ghost use Rattle.tangle_plans.specs.Meaning.{title_of, pieces_after_step, marks_after_step};
-ghost use Rattle.tangle_plans.specs.Slots.{slots, byte_slots, step_slots, is_run, last_run};
+ghost use Rattle.std.specs.Prelude.{◌≡◌, false, length, slice_index_or, ◌++◌, flat_map};
+ghost use Rattle.std.specs.Prelude.{filter, [], IfOk, OnOk, OnErr, ◌+◌, ◌<◌, ◌∷◌};
 ghost use Rattle.std.specs.List.{All};
+ghost use Rattle.tangle_files.specs.Bytes.{line_feed};
+ghost use Rattle.tangle_scan.specs.Entries.{items_of};
+ghost use Rattle.tangle_scan.specs.ItemBytes.{bytes_in};
+ghost use Rattle.tangle_scan.specs.Rules.{span_text};
 ghost use Rattle.tangle_scan.specs.SourceOrder.{IsInRange, IsSpan};
 ghost use Rattle.tangle_scan.specs.WellFormed.{IsUseBelow};
-ghost use Rattle.tangle_scan.specs.ItemBytes.{bytes_in};
-ghost use Rattle.tangle_plans.specs.ItemTags.{tag_in, uses_in, piece_tags};
-ghost use Rattle.tangle_plans.specs.ItemTags.{pieces_bytes, pieces_uses, shape_of};
-ghost use Rattle.tangle_plans.specs.Tags.{shape_tags};
+ghost use Rattle.tangle_plans.specs.Meaning.{title_of, pieces_after_step, marks_after_step};
+ghost use Rattle.tangle_plans.specs.Slots.{slots, byte_slots, step_slots, is_run, last_run};
+ghost use Rattle.tangle_plans.specs.Entries.{IsEntryOf, entries_tags, entry_bytes, entry_slots};
+ghost use Rattle.tangle_plans.specs.Entries.{entry_tag, entry_uses, marks_after_entry, run_tag};
+ghost use Rattle.tangle_plans.specs.ItemTags.{tag_in, uses_in, pieces_bytes, pieces_uses};
+ghost use Rattle.tangle_plans.specs.ItemTags.{shape_of};
+ghost use Rattle.tangle_plans.specs.Tags.{line_end_tag, shape_tags};
 ghost use Rattle.tangle_plans.specs.MakingBodies.{nothing_made};
 ghost use Rattle.tangle_plans.specs.Shapes.{Program};
 ghost use Rattle.tangle_plans.specs.NodeBodies.{body_title, body_bytes, body_tags, body_uses};
 ghost use Rattle.tangle_plans.specs.NodeBodies.{plan_slots, plan_uses, HoldsShape};
-ghost use Rattle.tangle_plans.specs.Ranges.{AddsItem, AddsSpan, IsRangeOfSource, IsRangeOver};
-ghost use Rattle.tangle_plans.specs.Ranges.{range_bytes};
+ghost use Rattle.tangle_plans.specs.UnfoldedTags.{unfolded_tags};
 ghost use Rattle.tangle_plans.specs.ItemSlots.{marks_after_item, name_slots, item_slots};
 ghost use Rattle.tangle_plans.specs.ItemSlots.{piece_slots, pieces_slots, pieces_at};
 
 use crate::nodes::NodeBody;
-use crate::ranges::{LineRange, end_of, no_range, pass_items, range_of, span_of};
 use crate::steps::{Step, marks_after_step, pieces_after_step};
-use crate::tags::{ItemKind, ItemTag, add_name, piece_end, tag_count, tag_of, tag_of_span};
+use crate::tags::{
+    ItemKind, ItemTag, add_name, line_end_tag, piece_end, tag_count, tag_of, tag_of_span,
+};
 use itoa::Buffer;
 use std::alloc::Global;
 use std::marker::Model;
 use std::mem::replace;
 use tangle_lines::NoMemory;
 use tangle_names::{NameTable, Resolved};
-use tangle_scan::{Item, Span, Web};
+use tangle_scan::{Entry, Item, Span, Web};
 
 /// Buffers in which the bodies of nodes are made, one after another. They are kept for the next
 /// node, so that a finished body takes only the memory that it needs.
@@ -150,23 +154,6 @@ impl Planning {
         Ok(())
     }
 
-    /// Makes a range longer by the items that come next in the source, as far as the tags have
-    /// capacity. Returns the new end of the range, and the number of these items.
-    fn pass(&mut self, web: &Web, range: LineRange, items: &[Item]) -> (usize, usize)
-        requires range { IsRangeOfSource web.now.texts range }
-        requires spans { All (IsInRange web.now.texts) items.now }
-        ensures few { result.1 ≤ length items.now }
-        ensures range { IsRangeOver web.now.texts range.entry (take result.1 items.now)
-            (record range.entry { end = result.0 }) }
-        ensures tags { (table : TableRead) → self.new
-            ≡ record self.old {
-              tags = self.old.tags
-                  ++ map (tag_in table) (take result.1 items.now);
-            } }
-    {
-        pass_items(&mut self.tags, web, range, items)
-    }
-
     /// Adds the number of the name that an item uses, if it uses one.
     fn add_name(&mut self, table: &NameTable, item: &Item) -> Result<(), NoMemory>
         requires { IsUseBelow (length table.now.resolved) item.now }
@@ -185,7 +172,8 @@ impl Planning {
         ensures made { IfOk result (λ body. slots self.old.node (body_bytes body) 0 0 0
             body.plan.items ≡ self.old.made) }
         ensures bytes { IfOk result (λ body. body_bytes body ≡ self.old.bytes) }
-        ensures tags { IfOk result (λ body. body_tags body ≡ self.old.tags) }
+        ensures tags { IfOk result (λ body. body_tags body
+            ≡ unfolded_tags self.old.tags self.old.bytes) }
         ensures uses { IfOk result (λ body. body_uses body ≡ self.old.uses) }
     {
         let mut plan = Vec::with_capacity(alloc, self.plan.len().saturating_add(1))?;
@@ -237,8 +225,8 @@ fn add_use(planning: &mut Planning, resolved: Resolved, has_piece: &[bool]) -> R
     }
 }
 
-/// Adds an item of a piece.
-fn add_item(
+/// Adds the symbols of an item.
+fn add_symbols(
     planning: &mut Planning,
     web: &Web,
     table: &NameTable,
@@ -272,106 +260,112 @@ fn add_item(
     }
 }
 
-/// Adds the bytes of a pending range.
-fn add_range(planning: &mut Planning, range: LineRange) -> Result<(), NoMemory>
-    requires start { range.start ≤ range.end }
-    requires end { range.end ≤ length range.line.now }
-    ensures { OnOk result (planning.new ≡ record planning.old {
-      made = planning.old.made ++ byte_slots (range_bytes range.entry);
-      bytes = planning.old.bytes
-          ++ range_bytes range.entry;
-    }) }
-{
-    if range.start == range.end {
-        return Ok(());
-    }
-    planning.add_bytes(&range.line[range.start..range.end])
-}
-
-/// Adds a span after a pending range. Returns the range that is pending then.
-fn add_span<'w>(
+/// Adds an item of a piece.
+fn add_item(
     planning: &mut Planning,
-    web: &'w Web,
-    range: LineRange<'w>,
-    kind: ItemKind,
-    span: Span,
-) -> Result<LineRange<'w>, NoMemory>
-    requires range { IsRangeOfSource web.now.texts range }
-    requires span { IsSpan web.now.texts span }
-    ensures range { IfOk result (IsRangeOfSource web.now.texts) }
-    ensures added { IfOk result
-        (λ next. AddsSpan web.now.texts kind span range.entry next planning.old planning.new) }
-{
-    planning.add_tag(tag_of_span(kind, span))?;
-    add_range(planning, range)?;
-    Ok(range_of(web, span))
-}
-
-/// Adds an item without a span after a pending range. Returns the range that is pending then, which
-/// is empty.
-fn add_other<'w>(
-    planning: &mut Planning,
-    web: &'w Web,
+    web: &Web,
     table: &NameTable,
     has_piece: &[bool],
-    range: LineRange<'w>,
     item: &Item,
-) -> Result<LineRange<'w>, NoMemory>
+) -> Result<(), NoMemory>
     requires span { IsInRange web.now.texts item.now }
     requires name { IsUseBelow (length table.now.resolved) item.now }
-    requires range { IsRangeOfSource web.now.texts range }
-    ensures range { IfOk result (IsRangeOfSource web.now.texts) }
-    ensures added { IfOk result
-        (λ next. AddsItem web.now.texts table.now (λ id. slice_index_or has_piece.now id false)
-        item.now range.entry next planning.old planning.new) }
+    ensures { OnOk result (planning.new ≡ record planning.old {
+      marks = marks_after_item planning.old.marks item.now;
+      made = planning.old.made ++ item_slots web.now.texts table.now
+          (λ id. slice_index_or has_piece.now id false) planning.old.node planning.old.piece
+          planning.old.marks item.now;
+      bytes = planning.old.bytes ++ bytes_in web.now.texts item.now;
+      tags = planning.old.tags ++ tag_in table.now item.now ∷ [];
+      uses = planning.old.uses ++ uses_in table.now item.now;
+    }) }
 {
     planning.add_tag(tag_of(item, table))?;
     planning.add_name(table, item)?;
-    add_range(planning, range)?;
-    add_item(planning, web, table, has_piece, *item)?;
-    Ok(end_of(range))
+    add_symbols(planning, web, table, has_piece, *item)
 }
 
-/// Adds a piece. The bytes of items that are side by side in the source are copied at once.
+/// Adds a line end. Line ends are frequent, and need no look-up.
+#[inline(always)]
+fn add_line_end(planning: &mut Planning) -> Result<(), NoMemory>
+    ensures { OnOk result (planning.new ≡ record planning.old {
+      made = planning.old.made ++ byte_slots (line_feed ∷ []);
+      bytes = planning.old.bytes ++ line_feed ∷ [];
+      tags = planning.old.tags ++ line_end_tag ∷ [];
+    }) }
+{
+    planning.add_tag(line_end_tag())?;
+    planning.add_byte(b'\n')
+}
+
+/// Adds a run of items. All its bytes are copied at once, and it has one tag.
+#[inline(always)]
+fn add_run(planning: &mut Planning, web: &Web, span: Span) -> Result<(), NoMemory>
+    requires { IsSpan web.now.texts span }
+    ensures { OnOk result (planning.new ≡ record planning.old {
+      made = planning.old.made ++ byte_slots (span_text web.now.texts span);
+      bytes = planning.old.bytes ++ span_text web.now.texts span;
+      tags = planning.old.tags ++ run_tag span ∷ [];
+    }) }
+{
+    planning.add_tag(tag_of_span(ItemKind::Run, span))?;
+    planning.add_bytes(web.text(span))
+}
+
+/// Adds an entry of a piece.
+fn add_entry(
+    planning: &mut Planning,
+    web: &Web,
+    table: &NameTable,
+    has_piece: &[bool],
+    entry: &Entry,
+) -> Result<(), NoMemory>
+    requires { IsEntryOf web.now.texts table.now entry.now }
+    ensures { OnOk result (planning.new ≡ record planning.old {
+      marks = marks_after_entry planning.old.marks entry.now;
+      made = planning.old.made ++ entry_slots web.now.texts table.now
+          (λ id. slice_index_or has_piece.now id false) planning.old.node planning.old.piece
+          planning.old.marks entry.now;
+      bytes = planning.old.bytes ++ entry_bytes web.now.texts entry.now;
+      tags = planning.old.tags ++ entry_tag table.now entry.now ∷ [];
+      uses = planning.old.uses ++ entry_uses table.now entry.now;
+    }) }
+{
+    match entry {
+        Entry::Run(span) => add_run(planning, web, *span),
+        Entry::Item(Item::LineEnd) => add_line_end(planning),
+        Entry::Item(item) => add_item(planning, web, table, has_piece, item),
+    }
+}
+
+/// Adds a piece.
 fn add_piece(
     planning: &mut Planning,
     web: &Web,
     table: &NameTable,
     has_piece: &[bool],
-    items: &[Item],
+    entries: &[Entry],
 ) -> Result<(), NoMemory>
-    requires spans { All (IsInRange web.now.texts) items.now }
-    requires names { All (IsUseBelow (length table.now.resolved)) items.now }
+    requires { All (IsEntryOf web.now.texts table.now) entries.now }
     ensures { OnOk result (planning.new ≡ record {
       node = planning.old.node;
       piece = planning.old.piece + 1;
       marks = 0;
       made = planning.old.made ++ piece_slots web.now.texts table.now
           (λ id. slice_index_or has_piece.now id false) planning.old.node planning.old.piece
-          items.now;
-      bytes = planning.old.bytes ++ flat_map (bytes_in web.now.texts) items.now;
-      tags = planning.old.tags ++ piece_tags table.now items.now;
-      uses = planning.old.uses ++ flat_map (uses_in table.now) items.now;
+          (items_of web.now.texts entries.now);
+      bytes = planning.old.bytes ++ flat_map (entry_bytes web.now.texts) entries.now;
+      tags = planning.old.tags ++ entries_tags table.now entries.now;
+      uses = planning.old.uses ++ flat_map (entry_uses table.now) entries.now;
     }) }
 {
     planning.add_step(Step::Open)?;
-    let mut range = no_range(web);
-    let mut i = 0;
-    while i < items.len() {
-        let item = &items[i];
-        i += 1;
-        if let Some((kind, span)) = span_of(item) {
-            let after = add_span(planning, web, range, kind, span)?;
-            let (end, passed) = planning.pass(web, after, &items[i..]);
-            range = LineRange { end, ..after };
-            i += passed;
-        } else {
-            range = add_other(planning, web, table, has_piece, range, item)?;
-        }
+    for entry in entries {
+        add_entry(planning, web, table, has_piece, entry)?;
     }
+    planning.add_step(Step::Close)?;
     planning.add_tag(piece_end())?;
-    add_range(planning, range)?;
-    planning.add_step(Step::Close)
+    Ok(())
 }
 
 /// Adds the pieces with these numbers.
@@ -392,14 +386,14 @@ fn add_pieces(
     ensures bytes { OnOk result
         (planning.new.bytes ≡ pieces_bytes web.now.texts (pieces_at web.now.pieces numbers.now)) }
     ensures tags { OnOk result
-        (planning.new.tags ≡ shape_tags
+        (unfolded_tags planning.new.tags planning.new.bytes ≡ shape_tags
         (shape_of web.now.texts table.now (pieces_at web.now.pieces numbers.now))) }
     ensures uses { OnOk result
         (planning.new.uses ≡ pieces_uses table.now (pieces_at web.now.pieces numbers.now)) }
 {
     let pieces = web.pieces();
     for number in numbers {
-        add_piece(planning, web, table, has_piece, pieces[*number].items())?;
+        add_piece(planning, web, table, has_piece, pieces[*number].entries())?;
     }
     Ok(())
 }

@@ -4,14 +4,14 @@ ghost use Rattle.std.specs.Prelude.{◌≡◌, ◌↔◌, true, ◌++◌, ◌-�
 ghost use Rattle.std.specs.List.{All};
 ghost use Rattle.tangle_scan.specs.WellFormed.{IsUseBelow};
 ghost use Rattle.tangle_plans.specs.ItemTags.{use_tag as tag_of_use, tag_in, uses_resolved};
-ghost use Rattle.tangle_plans.specs.Tags.{blank_tag, piece_end};
+ghost use Rattle.tangle_plans.specs.Tags.{blank_tag, line_end_tag, piece_end};
 
 use itoa::Buffer;
 use tangle_lines::NoMemory;
 use tangle_names::{NameTable, Resolved};
 use tangle_scan::{Item, Piece, Span};
 
-/// The kind of an item of a shape, or the end of a piece.
+/// The kind of an item of a shape, a run of items, or the end of a piece.
 #[derive(Clone, Copy, Debug, PartialEq, Eq)]
 pub(crate) enum ItemKind {
     Word,
@@ -27,13 +27,15 @@ pub(crate) enum ItemKind {
     Use,
     NoUse,
     PieceEnd,
+    /// Words, signs and single spaces of one line.
+    Run,
 }
 
 /// An item in four bytes: its kind, and the number of its bytes.
 #[derive(Clone, Copy, Debug, PartialEq, Eq)]
 pub(crate) struct ItemTag {
-    kind: ItemKind,
-    size: u16,
+    pub(crate) kind: ItemKind,
+    pub(crate) size: u16,
 }
 
 /// The tag of an item whose bytes are a span of the source.
@@ -109,6 +111,13 @@ pub(crate) fn blank_tag() -> ItemTag
     fixed_tag(ItemKind::Blank, 1)
 }
 
+/// The tag of a line end, which is one byte.
+pub(crate) fn line_end_tag() -> ItemTag
+    ensures { result ≡ line_end_tag }
+{
+    fixed_tag(ItemKind::LineEnd, 1)
+}
+
 /// The tag that ends a piece.
 pub(crate) fn piece_end() -> ItemTag
     ensures { result ≡ piece_end }
@@ -122,7 +131,7 @@ pub(crate) fn tag_count(pieces: &[Piece], numbers: &[usize]) -> usize
 {
     let mut count = numbers.len();
     for number in numbers {
-        count = count.saturating_add(pieces[*number].items().len());
+        count = count.saturating_add(pieces[*number].entries().len());
     }
     count
 }

@@ -1,4 +1,7 @@
+pub mod ItemViews
+pub mod StoredPieces
 pub mod TextLemmas
+pub mod UnfoldedTokens
 pub mod Gaps
 pub mod WebBuilderLemmas
 pub mod ItemsByOrigin
@@ -7,5 +10,6 @@ pub mod PartLemmas
 pub mod PlainPartLemmas
 pub mod RarePartLemmas
 pub mod RuleLemmas
+pub mod RunItems
 pub mod ScanLemmas
 pub mod SpacingLemmas

@@ -9,3 +9,4 @@ pub mod KeptBytes
 pub mod ItemBytes
 pub mod MacroBytes
 pub mod Apart
+pub mod Entries

@@ -8,6 +8,8 @@ use Rattle.tangle_lexer.specs.declared.tokens.Token.{Token}
 use Rattle.tangle_lexer.specs.declared.tokens.Token.TheVariants as token
 use Rattle.tangle_scan.specs.declared.items.Item.{Item}
 use Rattle.tangle_scan.specs.declared.items.Item.TheVariants as item
+use Rattle.tangle_scan.specs.declared.items.Entry.{Entry}
+use Rattle.tangle_scan.specs.declared.items.Entry.TheVariants as entry
 use Rattle.tangle_scan.specs.declared.spacing.Run.{Run}
 use Rattle.tangle_scan.specs.declared.spacing.Stage.{Stage}
 use Rattle.tangle_scan.specs.declared.spacing.Spacing.{Spacing}
@@ -135,18 +137,22 @@ counted_after_token lines counted (token.AllMacros line) = origin_at lines line
 counted_after_token lines counted token.QuoteBreak = next_line counted
 counted_after_token lines counted e = counted
 
--- whether the next line continues a line whose last item is this one, or that ends after these
--- items
+-- whether the next line continues a line whose last item is this one, whose last entry is this
+-- one, or that ends after these entries
 
 abbrev pub item_continues : List (List ℕ) → Item → Bool
 item_continues texts (item.Sign s) = first_byte texts s == backslash
 item_continues texts (item.Verbatim s) = last_byte texts s == backslash
 item_continues texts _ = false
 
-abbrev pub items_continue : List (List ℕ) → List Item → Bool
-items_continue texts [] = false
-items_continue texts (x ∷ []) = item_continues texts x
-items_continue texts (x ∷ y ∷ items) = items_continue texts (y ∷ items)
+abbrev pub entry_continues : List (List ℕ) → Entry → Bool
+entry_continues texts (entry.Item x) = item_continues texts x
+entry_continues texts (entry.Run s) = last_byte texts s == backslash
+
+abbrev pub entries_continue : List (List ℕ) → List Entry → Bool
+entries_continue texts [] = false
+entries_continue texts (x ∷ []) = entry_continues texts x
+entries_continue texts (x ∷ y ∷ entries) = entries_continue texts (y ∷ entries)
 
 -- The items for tokens that were not read yet. `keeps`: white space before an item is a blank.
 -- `continues`: the next line continues this one if it ends here. `white`: white space is directly
@@ -166,11 +172,11 @@ plain_items_ahead lines keeps continues white counted (e ∷ es) =
     ++ plain_items_ahead lines true (ends_in_backslash (texts_of lines) e)
     false (counted_after_token lines counted e) es)
 
--- the items for tokens that were not read yet, after these items
-unfoldable pub items_ahead : List SourceLine → PartState → List Item → List Token → List Item
-items_ahead lines at items es =
+-- the items for tokens that were not read yet, after these entries
+unfoldable pub items_ahead : List SourceLine → PartState → List Entry → List Token → List Item
+items_ahead lines at entries es =
     plain_items_ahead lines at.keeps_white
-    (items_continue (texts_of lines) items) at.has_white (origin_of at.counted) es
+    (entries_continue (texts_of lines) entries) at.has_white (origin_of at.counted) es
 
 -- all rules in one pass over a C part that has rare tokens
 
@@ -267,8 +273,8 @@ unfoldable pub all_items : List SourceLine → List Item → RarePartState → L
 all_items lines items at es =
     if takes_back at.last es
     then take at.start.items items
-    ++ rare_items_ahead lines last.Joined at.item.now (origin_of at.start.counted) es
-    else items ++ rare_items_ahead lines at.last at.item.now (origin_of at.counted) es
+    ++ rare_items_ahead lines last.Joined at.item (origin_of at.start.counted) es
+    else items ++ rare_items_ahead lines at.last at.item (origin_of at.counted) es
 
 -- the higher of the two counted lines of the state, for which a limit is proved
 abbrev pub highest : RarePartState → ℕ

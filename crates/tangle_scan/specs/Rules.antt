@@ -2,7 +2,7 @@
 -- turn, so that it can be read, and proved, alone.
 use Rattle.std.specs.Prelude.{ℕ, ◌+◌, Bool, true, false, ◌==◌, nat_le, ◌&&◌, ◌||◌, not, ◌-◌}
 use Rattle.std.specs.Prelude.{if◌then◌else◌, codes, Option, None, Some, is_some}
-use Rattle.std.specs.Prelude.{List, [], ◌∷◌, ◌++◌, length, take, drop, get_or, map}
+use Rattle.std.specs.Prelude.{List, [], ◌∷◌, ◌++◌, length, get_or}
 use Rattle.std.specs.List.{list_any}
 use Rattle.tangle_faults.specs.declared.faults.Origin.{Origin}
 use Rattle.tangle_lines.specs.Reading.{SourceLine, origin_at}
@@ -16,15 +16,8 @@ use Rattle.tangle_lexer.specs.declared.tokens.Token.{Token}
 use Rattle.tangle_lexer.specs.declared.tokens.SpanKind.{SpanKind}
 use Rattle.tangle_lexer.specs.declared.tokens.SpanKind.TheVariants as span_kind
 use Rattle.tangle_lexer.specs.declared.tokens.Token.TheVariants as token
+pub use Rattle.tangle_text.specs.Text.{texts_of, span_text}
 use Rattle.tangle_text.specs.Bytes.{left_parenthesis, backslash, is_digit}
-
--- the bytes of the source lines
-abbrev pub texts_of : List SourceLine → List (List ℕ)
-texts_of lines = map (λ l. l.bytes) lines
-
--- the bytes of a span
-abbrev pub span_text : List (List ℕ) → Span → List ℕ
-span_text texts s = take (s.end - s.start) (drop s.start (get_or texts s.line []))
 
 -- the first byte of a span
 abbrev pub first_byte : List (List ℕ) → Span → ℕ

@@ -1,16 +1,11 @@
 -- The texts of items are ranges of source lines, in the order of the source.
-use Rattle.std.specs.Prelude.{◌≡◌, ◌≤◌, ◌<◌, ℕ, List, [], ◌∷◌, length, get_or, flat_map}
+use Rattle.std.specs.Prelude.{◌≡◌, ◌≤◌, ℕ, List, [], ◌∷◌, flat_map}
 use Rattle.std.specs.List.{All, AllPairs}
 use Rattle.tangle_text.specs.declared.spans.Span.{Span}
 use Rattle.tangle_scan.specs.declared.items.Item.{Item}
 use Rattle.tangle_scan.specs.declared.items.Item.TheVariants as item
+pub use Rattle.tangle_text.specs.Text.{IsSpan}
 use Rattle.tangle_scan.specs.Web.{WebRead}
-
--- a span is a range of a source line
-pub record IsSpan (texts : List (List ℕ)) (s : Span) : Type 0 where
-  pub line : s.line < length texts
-  pub start : s.start ≤ s.end
-  pub end : s.end ≤ length (get_or texts s.line [])
 
 -- the span of an item, if it has one, is a range of a source line
 abbrev pub IsInRange : List (List ℕ) → Item → Type 0

@@ -7,6 +7,7 @@ use Rattle.tangle_lines.specs.Reading.{SourceLine, SourceRead}
 use Rattle.tangle_scan.specs.declared.items.Item.{Item}
 use Rattle.tangle_lexer.specs.declared.tokens.Token.{Token}
 use Rattle.tangle_lexer.specs.declared.tokens.Token.TheVariants as token
+use Rattle.tangle_scan.specs.Entries.{StoredPiece, piece_read}
 use Rattle.tangle_scan.specs.Rules.{texts_of}
 use Rattle.tangle_scan.specs.Web.{PieceRead, WebRead, blocks, block_at, section_after}
 use Rattle.tangle_scan.specs.Web.{section_count, piece_of, macro_of, block_has_all_macros}
@@ -23,6 +24,28 @@ pub record WebBuilderRead : Type 0 where
 
 abbrev pub nothing : WebBuilderRead
 nothing = record { sections = 0; pieces = []; macros = []; has_all_macros = false; faults = [] }
+
+-- what was gathered so far as it is stored: the pieces have entries in place of items
+pub record StoredBuilder : Type 0 where
+  pub sections : ℕ
+  pub pieces : List StoredPiece
+  pub macros : List (List Item)
+  pub has_all_macros : Bool
+  pub faults : List FaultRead
+
+abbrev pub nothing_stored : StoredBuilder
+nothing_stored =
+    record { sections = 0; pieces = []; macros = []; has_all_macros = false; faults = [] }
+
+-- what is stored, with the items of the pieces
+abbrev pub builder_read : List (List ℕ) → StoredBuilder → WebBuilderRead
+builder_read texts builder = record {
+  sections = builder.sections;
+  pieces = map (piece_read texts) builder.pieces;
+  macros = builder.macros;
+  has_all_macros = builder.has_all_macros;
+  faults = builder.faults;
+}
 
 -- a builder with what these tokens add to it
 unfoldable pub builder_with : SourceRead → WebBuilderRead → List Token → WebBuilderRead
@@ -63,3 +86,8 @@ web_from source builder occurrences = record {
   has_all_macros = builder.has_all_macros;
   faults = builder.faults;
 }
+
+-- the web of a source, from what is stored and from these occurrences
+abbrev pub stored_web : SourceRead → StoredBuilder → List OccurrenceRead → WebRead
+stored_web source builder occurrences =
+    web_from source (builder_read (texts_of source.lines) builder) occurrences

@@ -80,3 +80,12 @@ pub enum Item {
     /// `@h`: all macros of the web are written here.
     Defs,
 }
+
+/// An entry of a piece: an item, or a run of items.
+#[derive(Clone, Copy, Debug, PartialEq, Eq)]
+pub enum Entry {
+    /// One item.
+    Item(Item),
+    /// Words, signs and single spaces of a line, which are items one by one: each space is a blank.
+    Run(Span),
+}

@@ -12,15 +12,17 @@ mod rare_parts;
 mod scanning;
 mod spacing;
 mod touching;
+mod views;
 mod web_builder;
 mod webs;
 
 pub use apart::what_is_apart_stays_apart;
-pub use items::{Item, OccurrenceNumber};
+pub use items::{Entry, Item, OccurrenceNumber};
 pub use kept_bytes::no_byte_is_lost;
 pub use line_truth::pieces_are_at_their_lines;
 pub use pieces::{Macro, Piece};
 pub use scanning::scan;
 pub use tangle_lexer::{Occurrence, OccurrenceRole};
 pub use tangle_text::Span;
+pub use views::Items;
 pub use webs::Web;

@@ -9,7 +9,7 @@ ghost use Rattle.tangle_scan.specs.Passes.{item_before, unmarked_from};
 ghost use Rattle.tangle_scan.specs.declared.items.Item.TheVariants as item;
 
 use crate::items::Item;
-use crate::plain_parts::{item_of, push_blank, push_some, span_item};
+use crate::plain_parts::{blank, item_of, push_some, span_item};
 use crate::touching::may_touch;
 use tangle_lexer::{SpanKind, Token};
 use tangle_lines::{NoMemory, Source};
@@ -123,12 +123,12 @@ fn add_macro_token<'t>(
             })
         }
         Token::Span(kind, span) => {
-            push_blank(items, at.has_item, at.has_white)?;
+            push_some(items, blank(at.has_item, at.has_white))?;
             items.push(span_item(kind, span))?;
             Ok(after_item(at, token))
         }
         _ => {
-            push_blank(items, at.has_item, at.has_white)?;
+            push_some(items, blank(at.has_item, at.has_white))?;
             push_some(items, item_of(*token))?;
             Ok(after_item(at, token))
         }

@@ -1,19 +1,20 @@
 //! The pieces and the macros of a web.
-ghost use Rattle.std.specs.Prelude.{◌≡◌, List, false};
+ghost use Rattle.std.specs.Prelude.{◌≡◌, List, ℕ, false};
 ghost use Rattle.std.specs.List.{list_any};
+ghost use Rattle.tangle_scan.specs.Entries.{entry_is_mark, items_of};
 ghost use Rattle.tangle_scan.specs.Web.{is_line_mark};
 
-use crate::items::{Item, OccurrenceNumber};
+use crate::items::{Entry, Item, OccurrenceNumber};
 use std::marker::Model;
 use tangle_lines::Origin;
 
-/// A piece: a C part with its items.
+/// A piece: a C part with its items, of which runs are one entry each.
 #[derive(Drop)]
 pub struct Piece {
     section: usize,
     origin: Origin,
     occurrence: Option<OccurrenceNumber>,
-    items: Vec<Item>,
+    entries: Vec<Entry>,
     /// Whether some item may be a line mark. If `false`, none is.
     may_have_mark: bool,
 }
@@ -21,45 +22,45 @@ pub struct Piece {
 impl Model for Piece {
     ghost use Rattle.std.specs.Prelude.{◌≡◌, false};
     ghost use Rattle.std.specs.List.{list_any};
-    ghost use Rattle.tangle_scan.specs.Web.{PieceRead, is_line_mark};
+    ghost use Rattle.tangle_scan.specs.Entries.{StoredPiece, entry_is_mark};
 
-    ghost Value = { PieceRead };
+    ghost Value = { StoredPiece };
 
     ghost view = { λ p. record {
       section = p.section;
       origin = p.origin;
       occurrence =
           p.occurrence;
-      items = p.items.items;
+      entries = p.entries.items;
     } };
 
-    ghost invariant = { λ p. p.may_have_mark ≡ false → list_any is_line_mark p.items.items
+    ghost invariant = { λ p. p.may_have_mark ≡ false → list_any entry_is_mark p.entries.items
         ≡ false };
 }
 
 impl Piece {
-    /// A piece with these items. If `may_have_mark` is `false`, none of them is a line mark.
+    /// A piece with these entries. If `may_have_mark` is `false`, none of them is a line mark.
     pub(crate) fn new(
         section: usize,
         origin: Origin,
         occurrence: Option<OccurrenceNumber>,
-        items: Vec<Item>,
+        entries: Vec<Entry>,
         may_have_mark: bool,
     ) -> Self
-        requires { may_have_mark ≡ false → list_any is_line_mark items.items ≡ false }
+        requires { may_have_mark ≡ false → list_any entry_is_mark entries.items ≡ false }
         ensures { result ≡ record {
           section = section;
           origin = origin;
           occurrence =
               occurrence;
-          items = items.items;
+          entries = entries.items;
         } }
     {
         Piece {
             section,
             origin,
             occurrence,
-            items,
+            entries,
             may_have_mark,
         }
     }
@@ -88,16 +89,17 @@ impl Piece {
 
     /// Whether some item may be a line mark. If it returns `false`, none is.
     pub fn may_have_mark(&self) -> bool
-        ensures { result ≡ false → list_any is_line_mark self.now.items ≡ false }
+        ensures { result ≡ false → (texts : List (List ℕ))
+            → list_any is_line_mark (items_of texts self.now.entries) ≡ false }
     {
         self.may_have_mark
     }
 
-    /// The items, in the order of the source.
-    pub fn items(&self) -> &[Item]
-        ensures { result.now ≡ self.now.items }
+    /// The items, in the order of the source, of which runs are one entry each.
+    pub fn entries(&self) -> &[Entry]
+        ensures { result.now ≡ self.now.entries }
     {
-        &self.items
+        &self.entries
     }
 }
 

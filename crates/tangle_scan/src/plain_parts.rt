@@ -2,21 +2,24 @@
 //! line, and at the start of a line that continues another; other white space is dropped. A line
 //! mark follows each use and each `@h`. It also replaces a line end if a compiler would count
 //! another origin for the next source line, except at the end of a continued line.
-ghost use Rattle.std.specs.Prelude.{◌≡◌, ◌≤◌, ◌<◌, ◌+◌, ◌^◌, ◌++◌, ◌∷◌, ◌&&◌, ◌||◌, []};
+ghost use Rattle.std.specs.Prelude.{◌≡◌, ◌≤◌, ◌<◌, ◌+◌, ◌^◌, ◌++◌, ◌∷◌, ◌&&◌, ◌||◌, [], map};
 ghost use Rattle.std.specs.Prelude.{List, max, if◌then◌else◌, true, false, None};
 ghost use Rattle.std.specs.Prelude.{Some, option_to_list, IfOk, OnOk};
-ghost use Rattle.std.specs.List.{list_any};
+ghost use Rattle.std.specs.List.{list_any, All};
 ghost use Rattle.tangle_scan.specs.Rules as rules;
 ghost use Rattle.tangle_lines.specs.Reading.{origin_at};
+ghost use Rattle.tangle_scan.specs.Entries.{IsEntryInRange, entry_is_mark, items_of};
 ghost use Rattle.tangle_scan.specs.Passes as passes;
 ghost use Rattle.tangle_scan.specs.Rules.{texts_of};
 ghost use Rattle.tangle_scan.specs.LineTruth.{is_expected, counted_after_line_end};
 ghost use Rattle.tangle_scan.specs.Web.{is_line_mark};
 ghost use Rattle.tangle_scan.specs.Passes.{origin_of, items_ahead};
+ghost use Rattle.tangle_lexer.specs.Runs.{IsRunIn, unfolded, unfolded_token};
 ghost use Rattle.tangle_lexer.specs.declared.tokens.Token.{Token};
 ghost use Rattle.tangle_scan.specs.declared.items.Item.TheVariants as item;
+ghost use Rattle.tangle_scan.specs.declared.items.Entry.TheVariants as entry;
 
-use crate::items::{Item, OccurrenceNumber};
+use crate::items::{Entry, Item, OccurrenceNumber};
 use crate::spacing::is_rare;
 use crate::touching::{first_byte, last_byte};
 use tangle_lexer::{SpanKind, Token};
@@ -85,66 +88,59 @@ fn unexpected_origin(source: &Source, counted: CountedOrigin, line: u32) -> Opti
     Some(origin)
 }
 
-/// Adds a mark with this origin, and returns it as the counted origin.
-fn push_mark(items: &mut Vec<Item>, origin: Origin) -> Result<CountedOrigin, NoMemory>
-    ensures items { OnOk result (items.new.items ≡ items.old.items ++ item.LineMark origin ∷ []) }
-    ensures counted { IfOk result (λ counted. origin_of counted ≡ origin) }
-    ensures limit { IfOk result (λ counted. counted.line < 2 ^ 32) }
-    ensures mark { IfOk result (λ counted. counted.has_mark ≡ true) }
+/// A mark with this origin, which is the counted one after it.
+#[inline(always)]
+fn mark_at(origin: Origin) -> (Item, CountedOrigin)
+    ensures made { result.0 ≡ item.LineMark origin }
+    ensures counted { origin_of result.1 ≡ origin }
+    ensures limit { result.1.line < 2 ^ 32 }
+    ensures mark { result.1.has_mark ≡ true }
 {
-    items.push(Item::LineMark(origin))?;
-    Ok(CountedOrigin {
+    let counted = CountedOrigin {
         file: origin.file as usize,
         line: origin.line as usize,
         has_mark: true,
-    })
+    };
+    (Item::LineMark(origin), counted)
 }
 
-/// Adds the item for the end of a source line, and returns the counted origin after it. The item is
-/// a line end if the count expects the next source line or the line is continued, else a mark.
+/// The item for the end of a source line, and the counted origin after it. The item is a line end
+/// if the count expects the next source line or the line is continued, else a mark.
 // It is inlined into both loops over the tokens of C parts, so that the counted origin stays in
 // registers.
 #[inline(always)]
-pub(crate) fn push_line_end(
+pub(crate) fn line_end_item(
     source: &Source,
-    items: &mut Vec<Item>,
     counted: CountedOrigin,
     line: u32,
     is_continued: bool,
-) -> Result<CountedOrigin, NoMemory>
+) -> (Item, CountedOrigin)
     requires { counted.line < 2 ^ 63 }
-    ensures items { OnOk result (items.new.items ≡ items.old.items
-        ++ passes.line_item source.now.lines is_continued (origin_of counted) line ∷ []) }
-    ensures counted { IfOk result (λ next. origin_of next
-        ≡ counted_after_line_end source.now.lines is_continued (origin_of counted) line) }
-    ensures limit { IfOk result (λ next. next.line ≤ max (2 ^ 32) (counted.line + 1)) }
-    ensures mark { IfOk result (λ next. next.has_mark
+    ensures made { result.0
+        ≡ passes.line_item source.now.lines is_continued (origin_of counted) line }
+    ensures counted { origin_of result.1
+        ≡ counted_after_line_end source.now.lines is_continued (origin_of counted) line }
+    ensures limit { result.1.line ≤ max (2 ^ 32) (counted.line + 1) }
+    ensures mark { result.1.has_mark
         ≡ (is_line_mark (passes.line_item source.now.lines is_continued (origin_of counted) line)
-        || counted.has_mark)) }
+        || counted.has_mark) }
 {
     let unexpected = unexpected_origin(source, counted, line);
     match unexpected {
-        Some(origin) if !is_continued => push_mark(items, origin),
-        _ => {
-            items.push(Item::LineEnd)?;
-            Ok(next_line(counted))
-        }
+        Some(origin) if !is_continued => mark_at(origin),
+        _ => (Item::LineEnd, next_line(counted)),
     }
 }
 
-/// Adds a blank if there is white space and it is kept.
-pub(crate) fn push_blank(
-    items: &mut Vec<Item>,
-    keeps_white: bool,
-    has_white: bool,
-) -> Result<(), NoMemory>
-    ensures { OnOk result (items.new.items ≡ items.old.items
-        ++ (if keeps_white && has_white then item.Blank ∷ [] else [])) }
+/// The blank before an item, if there is white space and it is kept.
+#[inline(always)]
+pub(crate) fn blank(keeps_white: bool, has_white: bool) -> Option<Item>
+    ensures { option_to_list result ≡ (if keeps_white && has_white then item.Blank ∷ [] else []) }
 {
     if keeps_white && has_white {
-        items.push(Item::Blank)?;
+        return Some(Item::Blank);
     }
-    Ok(())
+    None
 }
 
 /// The item for a span of this kind.
@@ -173,6 +169,67 @@ pub(crate) fn item_of(token: Token) -> Option<Item>
     }
 }
 
+/// The items of a token, and the counted origin after them.
+#[derive(Clone, Copy)]
+pub(crate) struct TokenItems {
+    pub(crate) item: Option<Item>,
+    /// The mark after a use or `@h`.
+    pub(crate) mark: Option<Item>,
+    pub(crate) counted: CountedOrigin,
+}
+
+/// An item and the mark with this origin after it.
+#[inline(always)]
+fn with_mark(marked: Item, origin: Origin) -> TokenItems
+    ensures items { option_to_list result.item ++ option_to_list result.mark
+        ≡ marked ∷ item.LineMark origin ∷ [] }
+    ensures counted { origin_of result.counted ≡ origin }
+    ensures limit { result.counted.line < 2 ^ 32 }
+    ensures mark { result.counted.has_mark ≡ true }
+{
+    let (mark, counted) = mark_at(origin);
+    TokenItems {
+        item: Some(marked),
+        mark: Some(mark),
+        counted,
+    }
+}
+
+/// The items of a token other than white space and line ends, with a mark after a use or `@h`.
+// It is inlined for the same reason as `line_end_item`.
+#[inline(always)]
+pub(crate) fn token_items(source: &Source, counted: CountedOrigin, token: Token) -> TokenItems
+    requires { counted.line < 2 ^ 63 }
+    ensures items { option_to_list result.item ++ option_to_list result.mark
+        ≡ passes.items_at source.now.lines token }
+    ensures counted { origin_of result.counted
+        ≡ passes.counted_after_token source.now.lines (origin_of counted) token }
+    ensures limit { result.counted.line ≤ max (2 ^ 32) (counted.line + 1) }
+    ensures mark { result.counted.has_mark
+        ≡ (list_any is_line_mark (passes.items_at source.now.lines token) || counted.has_mark) }
+{
+    match token {
+        Token::UseOf(occurrence, line) => {
+            let item = Item::UseOf(OccurrenceNumber::new(occurrence));
+            with_mark(item, source.origin(line as usize))
+        }
+        Token::AllMacros(line) => with_mark(Item::Defs, source.origin(line as usize)),
+        Token::QuoteBreak => TokenItems {
+            item: Some(Item::QuoteBreak),
+            mark: None,
+            counted: next_line(counted),
+        },
+        _ => TokenItems {
+            item: item_of(token),
+            mark: None,
+            counted,
+        },
+    }
+}
+
+/// Adds an item, if there is one.
+// It is inlined, so that no item is made where the caller knows that there is none.
+#[inline(always)]
 pub(crate) fn push_some(items: &mut Vec<Item>, item: Option<Item>) -> Result<(), NoMemory>
     ensures { OnOk result (items.new.items ≡ items.old.items ++ option_to_list item) }
 {
@@ -182,42 +239,39 @@ pub(crate) fn push_some(items: &mut Vec<Item>, item: Option<Item>) -> Result<(),
     Ok(())
 }
 
-/// Adds the item of a token, with a mark after a use or `@h`. Returns the counted origin after it.
-// It is inlined for the same reason as `push_line_end`.
+/// Adds an item as an entry, if there is one.
 #[inline(always)]
-pub(crate) fn push_item(
+fn push_entry(entries: &mut Vec<Entry>, item: Option<Item>) -> Result<(), NoMemory>
+    ensures { OnOk result (entries.new.items
+        ≡ entries.old.items ++ map entry.Item (option_to_list item)) }
+{
+    if let Some(item) = item {
+        entries.push(Entry::Item(item))?;
+    }
+    Ok(())
+}
+
+/// Adds the items of a token as entries, and returns the counted origin after them.
+#[inline(always)]
+fn push_token(
     source: &Source,
-    items: &mut Vec<Item>,
+    entries: &mut Vec<Entry>,
     counted: CountedOrigin,
     token: Token,
 ) -> Result<CountedOrigin, NoMemory>
     requires { counted.line < 2 ^ 63 }
-    ensures items { OnOk result
-        (items.new.items ≡ items.old.items ++ passes.items_at source.now.lines token) }
+    ensures items { OnOk result (entries.new.items
+        ≡ entries.old.items ++ map entry.Item (passes.items_at source.now.lines token)) }
     ensures counted { IfOk result (λ next. origin_of next
         ≡ passes.counted_after_token source.now.lines (origin_of counted) token) }
     ensures limit { IfOk result (λ next. next.line ≤ max (2 ^ 32) (counted.line + 1)) }
     ensures mark { IfOk result (λ next. next.has_mark
         ≡ (list_any is_line_mark (passes.items_at source.now.lines token) || counted.has_mark)) }
 {
-    match token {
-        Token::UseOf(occurrence, line) => {
-            items.push(Item::UseOf(OccurrenceNumber::new(occurrence)))?;
-            push_mark(items, source.origin(line as usize))
-        }
-        Token::AllMacros(line) => {
-            items.push(Item::Defs)?;
-            push_mark(items, source.origin(line as usize))
-        }
-        Token::QuoteBreak => {
-            items.push(Item::QuoteBreak)?;
-            Ok(next_line(counted))
-        }
-        _ => {
-            push_some(items, item_of(token))?;
-            Ok(counted)
-        }
-    }
+    let items = token_items(source, counted, token);
+    push_entry(entries, items.item)?;
+    push_entry(entries, items.mark)?;
+    Ok(items.counted)
 }
 
 /// The state directly after a token other than white space.
@@ -245,34 +299,53 @@ fn item_continues(source: &Source, item: Item) -> bool
     }
 }
 
-/// Whether the next line continues a line that ends after these items.
+/// Whether the next line continues a line whose last entry is this one.
 #[inline(always)]
-fn is_continued(source: &Source, items: &[Item]) -> bool
-    ensures { result ≡ passes.items_continue (texts_of source.now.lines) items.now }
+fn entry_continues(source: &Source, entry: Entry) -> bool
+    ensures { result ≡ passes.entry_continues (texts_of source.now.lines) entry }
 {
-    match items.last() {
-        Some(item) => item_continues(source, *item),
+    match entry {
+        Entry::Item(item) => item_continues(source, item),
+        Entry::Run(span) => last_byte(source, span) == b'\\',
+    }
+}
+
+/// Whether the next line continues a line that ends after these entries.
+#[inline(always)]
+fn is_continued(source: &Source, entries: &[Entry]) -> bool
+    ensures { result ≡ passes.entries_continue (texts_of source.now.lines) entries.now }
+{
+    match entries.last() {
+        Some(entry) => entry_continues(source, *entry),
         None => false,
     }
 }
 
-/// Adds the items of a token of a C part, and sets `has_rare` if the token is rare.
+/// Adds the entries of a token of a C part, and sets `has_rare` if the token is rare.
 #[inline(always)]
 fn add_token(
     source: &Source,
-    items: &mut Vec<Item>,
+    entries: &mut Vec<Entry>,
     at: PartState,
     token: &Token,
     has_rare: &mut bool,
 ) -> Result<PartState, NoMemory>
-    requires { at.counted.line < 2 ^ 63 }
+    requires line { at.counted.line < 2 ^ 63 }
+    requires run { IsRunIn (texts_of source.now.lines) token.now }
     ensures items { IfOk result (λ next. passes.is_rare token.now ≡ false → (rest : List Token) →
-        items.new.items ++ items_ahead source.now.lines next items.new.items rest ≡ items.old.items
-        ++ items_ahead source.now.lines at items.old.items (token.now ∷ rest)) }
+        items_of (texts_of source.now.lines) entries.new.items
+        ++ items_ahead source.now.lines next entries.new.items rest
+        ≡ items_of (texts_of source.now.lines) entries.old.items
+        ++ items_ahead source.now.lines at entries.old.items
+        (unfolded_token (texts_of source.now.lines) token.now ++ rest)) }
     ensures limit { IfOk result (λ next. next.counted.line ≤ max (2 ^ 32) (at.counted.line + 1)) }
     ensures rare { OnOk result (has_rare.new ≡ (passes.is_rare token.now || has_rare.old)) }
-    ensures mark { IfOk result (λ next. list_any is_line_mark items.old.items ≡ at.counted.has_mark
-        → list_any is_line_mark items.new.items ≡ next.counted.has_mark) }
+    ensures mark { IfOk result
+        (λ next. list_any entry_is_mark entries.old.items ≡ at.counted.has_mark
+        → list_any entry_is_mark entries.new.items ≡ next.counted.has_mark) }
+    ensures runs { OnOk result
+        (All (IsEntryInRange (texts_of source.now.lines)) entries.old.items
+        → All (IsEntryInRange (texts_of source.now.lines)) entries.new.items) }
 {
     match *token {
         Token::White => Ok(PartState {
@@ -280,19 +353,25 @@ fn add_token(
             ..at
         }),
         Token::LineEnd(line) => {
-            let is_continued = is_continued(source, items);
-            let counted = push_line_end(source, items, at.counted, line, is_continued)?;
+            let is_continued = is_continued(source, entries);
+            let (item, counted) = line_end_item(source, at.counted, line, is_continued);
+            entries.push(Entry::Item(item))?;
             Ok(part_state(is_continued, counted))
         }
+        Token::Run(span) => {
+            push_entry(entries, blank(at.keeps_white, at.has_white))?;
+            entries.push(Entry::Run(span))?;
+            Ok(part_state(true, at.counted))
+        }
         Token::Span(kind, span) => {
-            push_blank(items, at.keeps_white, at.has_white)?;
-            items.push(span_item(kind, span))?;
+            push_entry(entries, blank(at.keeps_white, at.has_white))?;
+            entries.push(Entry::Item(span_item(kind, span)))?;
             Ok(part_state(true, at.counted))
         }
         _ => {
             *has_rare = is_rare(*token) || *has_rare;
-            push_blank(items, at.keeps_white, at.has_white)?;
-            let counted = push_item(source, items, at.counted, *token)?;
+            push_entry(entries, blank(at.keeps_white, at.has_white))?;
+            let counted = push_token(source, entries, at.counted, *token)?;
             Ok(part_state(true, counted))
         }
     }
@@ -307,25 +386,30 @@ pub(crate) struct PartFlags {
     pub(crate) may_have_mark: bool,
 }
 
-/// Replaces `items` by those of a C part whose head ends on this line. At a rare token it stops:
-/// `has_rare` is then set, and the items are not complete.
+/// Replaces `entries` by those of a C part whose head ends on this line. At a rare token it stops:
+/// `has_rare` is then set, and the entries are not complete.
 pub(crate) fn fill_plain_part(
     source: &Source,
-    items: &mut Vec<Item>,
+    entries: &mut Vec<Entry>,
     line: u32,
     tokens: &[Token],
 ) -> Result<PartFlags, NoMemory>
+    requires { All (IsRunIn (texts_of source.now.lines)) tokens.now }
     ensures items { IfOk result (λ flags. flags.has_rare ≡ false →
-        items.new.items ≡ rules.part_items source.now.lines line tokens.now) }
+        items_of (texts_of source.now.lines) entries.new.items
+        ≡ rules.part_items source.now.lines line
+        (unfolded (texts_of source.now.lines) tokens.now)) }
+    ensures runs { OnOk result
+        (All (IsEntryInRange (texts_of source.now.lines)) entries.new.items) }
     ensures rare { IfOk result (λ flags. flags.has_rare ≡ list_any passes.is_rare tokens.now) }
     ensures mark { IfOk result (λ flags. flags.may_have_mark ≡ false →
-        list_any is_line_mark items.new.items ≡ false) }
+        list_any entry_is_mark entries.new.items ≡ false) }
 {
-    items.clear();
+    entries.clear();
     let mut has_rare = false;
     let mut at = part_state(false, counted_on(source, line));
     for token in tokens {
-        at = add_token(source, items, at, token, &mut has_rare)?;
+        at = add_token(source, entries, at, token, &mut has_rare)?;
         if has_rare {
             return Ok(PartFlags {
                 has_rare: true,

@@ -3,21 +3,27 @@
 //! order, and between two constants that touch. The line ends of a run are added at once, and
 //! removed again if a join follows in the run.
 ghost use Rattle.std.specs.Prelude.{◌≡◌, ◌≤◌, ◌<◌, ◌+◌, ◌^◌, max, if◌then◌else◌, IfOk, OnOk};
-ghost use Rattle.std.specs.Prelude.{List, [], ◌∷◌, ◌++◌, length};
+ghost use Rattle.std.specs.Prelude.{List, [], ◌∷◌, ◌++◌, length, option_to_list};
+ghost use Rattle.std.specs.List.{All};
 ghost use Rattle.tangle_lines.specs.Reading.{SourceLine};
+ghost use Rattle.tangle_text.specs.Text.{IsSpan};
+ghost use Rattle.tangle_lexer.specs.Runs.{IsRunIn, part_token, unfolded, unfolded_token};
 ghost use Rattle.tangle_lexer.specs.declared.tokens.Token.{Token};
 ghost use Rattle.tangle_lexer.specs.declared.tokens.Token.TheVariants as token;
 ghost use Rattle.tangle_scan.specs.Rules as rules;
 ghost use Rattle.tangle_scan.specs.Rules.{texts_of};
 ghost use Rattle.tangle_scan.specs.Passes as passes;
-ghost use Rattle.tangle_scan.specs.Passes.{all_items, highest};
+ghost use Rattle.tangle_scan.specs.Passes.{all_items, highest, origin_of};
 ghost use Rattle.tangle_scan.specs.declared.items.Item.TheVariants as item;
 
 use crate::items::Item;
-use crate::plain_parts::{CountedOrigin, counted_on, push_item, push_line_end, span_item};
+use crate::plain_parts::{
+    CountedOrigin, counted_on, line_end_item, push_some, span_item, token_items,
+};
 use crate::touching::ends_in_backslash;
 use tangle_lexer::{SpanKind, Token};
 use tangle_lines::{NoMemory, Source};
+use tangle_text::{RunPart, RunParts, Span};
 
 /// What is directly before a position, if faults are left out.
 #[derive(Clone, Copy)]
@@ -49,9 +55,9 @@ struct Start {
 /// The state of a C part while its items are made. `item` is the token of the last item. `start` is
 /// the start of the current run; it has no meaning unless that run has a line end.
 #[derive(Clone, Copy)]
-struct RarePartState<'t> {
+struct RarePartState {
     last: Last,
-    item: &'t Token,
+    item: Token,
     counted: CountedOrigin,
     start: Start,
 }
@@ -83,16 +89,16 @@ fn needs_blank(last: Last, token: Token) -> bool
     }
 }
 
-/// Adds a blank if one goes between `last` and this token.
+/// The blank between `last` and a token that is an item, if one goes there.
 #[inline(always)]
-fn push_needed_blank(items: &mut Vec<Item>, last: Last, token: Token) -> Result<(), NoMemory>
-    ensures { OnOk result (items.new.items
-        ≡ items.old.items ++ (if passes.needs_blank last token then item.Blank ∷ [] else [])) }
+fn needed_blank(last: Last, token: Token) -> Option<Item>
+    ensures { option_to_list result
+        ≡ (if passes.needs_blank last token then item.Blank ∷ [] else []) }
 {
     if needs_blank(last, token) {
-        items.push(Item::Blank)?;
+        return Some(Item::Blank);
     }
-    Ok(())
+    None
 }
 
 /// What `last` becomes after white space.
@@ -134,9 +140,8 @@ fn last_after_line_end(is_continued: bool) -> Last
 
 /// The state after items that end with these.
 #[inline(always)]
-fn rare_state(last: Last, item: &Token, counted: CountedOrigin, start: Start) -> RarePartState<'_>
-    ensures { result
-        ≡ record { last = last; item = item.entry; counted = counted; start = start } }
+fn rare_state(last: Last, item: Token, counted: CountedOrigin, start: Start) -> RarePartState
+    ensures { result ≡ record { last = last; item = item; counted = counted; start = start } }
 {
     RarePartState {
         last,
@@ -172,8 +177,8 @@ fn continues_after(source: &Source, last: Last, item: Token) -> bool
 /// after the items so far.
 #[inline(always)]
 fn start_of_run(at: RarePartState, item_count: usize) -> Start
-    ensures { result ≡ (if passes.is_after_line_end at.entry.last then at.entry.start
-        else record { items = item_count; counted = at.entry.counted }) }
+    ensures { result ≡ (if passes.is_after_line_end at.last then at.start
+        else record { items = item_count; counted = at.counted }) }
 {
     if is_after_line_end(at.last) {
         return at.start;
@@ -186,38 +191,39 @@ fn start_of_run(at: RarePartState, item_count: usize) -> Start
 
 /// Adds the item for the end of a source line, unless a join before it in its run removes it.
 #[inline(always)]
-fn add_line_end<'t>(
+fn add_line_end(
     source: &Source,
     items: &mut Vec<Item>,
-    at: RarePartState<'t>,
+    at: RarePartState,
     line: u32,
-) -> Result<RarePartState<'t>, NoMemory>
+) -> Result<RarePartState, NoMemory>
     requires line { at.counted.line < 2 ^ 63 }
     requires start { at.start.items ≤ length items.old.items }
     ensures items { IfOk result (λ next. (rest : List Token) →
         all_items source.now.lines items.new.items next rest
-        ≡ all_items source.now.lines items.old.items at.entry (token.LineEnd line ∷ rest)) }
-    ensures limit { IfOk result (λ next. highest next ≤ max (2 ^ 32) (highest at.entry + 1)) }
+        ≡ all_items source.now.lines items.old.items at (token.LineEnd line ∷ rest)) }
+    ensures limit { IfOk result (λ next. highest next ≤ max (2 ^ 32) (highest at + 1)) }
     ensures start { IfOk result (λ next. next.start.items ≤ length items.new.items) }
 {
     if let Last::Joined = at.last {
         return Ok(at);
     }
     let start = start_of_run(at, items.len());
-    let is_continued = continues_after(source, at.last, *at.item);
-    let counted = push_line_end(source, items, at.counted, line, is_continued)?;
+    let is_continued = continues_after(source, at.last, at.item);
+    let (item, counted) = line_end_item(source, at.counted, line, is_continued);
+    items.push(item)?;
     let last = last_after_line_end(is_continued);
     Ok(rare_state(last, at.item, counted, start))
 }
 
 /// Applies a join: removes the line ends of its run, and sets the counted origin back to that at
 /// the start of the run.
-fn apply_join<'t>(items: &mut Vec<Item>, at: RarePartState<'t>) -> RarePartState<'t>
+fn apply_join(items: &mut Vec<Item>, at: RarePartState) -> RarePartState
     requires { at.start.items ≤ length items.old.items }
     ensures items { (lines : List SourceLine) (rest : List Token) →
         all_items lines items.new.items result rest
-        ≡ all_items lines items.old.items at.entry (token.Join ∷ rest) }
-    ensures limit { highest result ≤ highest at.entry }
+        ≡ all_items lines items.old.items at (token.Join ∷ rest) }
+    ensures limit { highest result ≤ highest at }
     ensures start { result.start.items ≤ length items.new.items }
 {
     if is_after_line_end(at.last) {
@@ -227,39 +233,130 @@ fn apply_join<'t>(items: &mut Vec<Item>, at: RarePartState<'t>) -> RarePartState
     rare_state(Last::Joined, at.item, at.counted, at.start)
 }
 
-/// Adds the items of a token.
+/// The state after white space.
 #[inline(always)]
-fn add_rare_part_token<'t>(
+fn after_white(at: RarePartState) -> RarePartState
+    ensures { result ≡ record at { last = passes.last_after_white at.last } }
+{
+    rare_state(last_after_white(at.last), at.item, at.counted, at.start)
+}
+
+/// Adds the item of a span of this kind.
+#[inline(always)]
+fn add_span(
+    items: &mut Vec<Item>,
+    at: RarePartState,
+    kind: SpanKind,
+    span: Span,
+) -> Result<RarePartState, NoMemory>
+    requires { at.start.items ≤ length items.old.items }
+    ensures items { IfOk result (λ next. (lines : List SourceLine) (rest : List Token) →
+        all_items lines items.new.items next rest
+        ≡ all_items lines items.old.items at (token.Span kind span ∷ rest)) }
+    ensures limit { IfOk result (λ next. highest next ≤ highest at) }
+    ensures start { IfOk result (λ next. next.start.items ≤ length items.new.items) }
+{
+    let token = Token::Span(kind, span);
+    push_some(items, needed_blank(at.last, token))?;
+    items.push(span_item(kind, span))?;
+    Ok(rare_state(last_of(token), token, at.counted, at.start))
+}
+
+/// Adds the items of a part of a run.
+#[inline(always)]
+fn add_run_part(
+    items: &mut Vec<Item>,
+    at: RarePartState,
+    part: RunPart,
+) -> Result<RarePartState, NoMemory>
+    requires { at.start.items ≤ length items.old.items }
+    ensures items { IfOk result (λ next. (lines : List SourceLine) (rest : List Token) →
+        all_items lines items.new.items next rest
+        ≡ all_items lines items.old.items at (part_token part ∷ rest)) }
+    ensures limit { IfOk result (λ next. highest next ≤ highest at) }
+    ensures start { IfOk result (λ next. next.start.items ≤ length items.new.items) }
+{
+    match part {
+        RunPart::Word(span) => add_span(items, at, SpanKind::Word, span),
+        RunPart::Sign(span) => add_span(items, at, SpanKind::Sign, span),
+        RunPart::Space => Ok(after_white(at)),
+    }
+}
+
+/// Adds the items of a run, part by part.
+fn add_run(
     source: &Source,
     items: &mut Vec<Item>,
-    at: RarePartState<'t>,
-    token: &'t Token,
-) -> Result<RarePartState<'t>, NoMemory>
-    requires line { at.counted.line < 2 ^ 63 }
+    at: RarePartState,
+    span: Span,
+) -> Result<RarePartState, NoMemory>
+    requires span { IsSpan (texts_of source.now.lines) span }
     requires start { at.start.items ≤ length items.old.items }
     ensures items { IfOk result (λ next. (rest : List Token) →
         all_items source.now.lines items.new.items next rest
-        ≡ all_items source.now.lines items.old.items at.entry (token.now ∷ rest)) }
-    ensures limit { IfOk result (λ next. highest next ≤ max (2 ^ 32) (highest at.entry + 1)) }
+        ≡ all_items source.now.lines items.old.items at
+        (unfolded_token (texts_of source.now.lines) (token.Run span) ++ rest)) }
+    ensures limit { IfOk result (λ next. highest next ≤ highest at) }
     ensures start { IfOk result (λ next. next.start.items ≤ length items.new.items) }
 {
-    match *token {
-        Token::White => {
-            let last = last_after_white(at.last);
-            Ok(rare_state(last, at.item, at.counted, at.start))
-        }
+    let mut parts = RunParts::new(source.line(span.line as usize), span);
+    let mut at = at;
+    while let Some(part) = parts.next() {
+        at = add_run_part(items, at, part)?;
+    }
+    Ok(at)
+}
+
+/// Adds the items of a token, and returns the counted origin after them.
+#[inline(always)]
+fn push_token(
+    source: &Source,
+    items: &mut Vec<Item>,
+    counted: CountedOrigin,
+    token: Token,
+) -> Result<CountedOrigin, NoMemory>
+    requires { counted.line < 2 ^ 63 }
+    ensures items { OnOk result
+        (items.new.items ≡ items.old.items ++ passes.items_at source.now.lines token) }
+    ensures counted { IfOk result (λ next. origin_of next
+        ≡ passes.counted_after_token source.now.lines (origin_of counted) token) }
+    ensures limit { IfOk result (λ next. next.line ≤ max (2 ^ 32) (counted.line + 1)) }
+{
+    let made = token_items(source, counted, token);
+    push_some(items, made.item)?;
+    push_some(items, made.mark)?;
+    Ok(made.counted)
+}
+
+/// Adds the items of a token.
+#[inline(always)]
+fn add_rare_part_token(
+    source: &Source,
+    items: &mut Vec<Item>,
+    at: RarePartState,
+    token: Token,
+) -> Result<RarePartState, NoMemory>
+    requires line { at.counted.line < 2 ^ 63 }
+    requires start { at.start.items ≤ length items.old.items }
+    requires run { IsRunIn (texts_of source.now.lines) token }
+    ensures items { IfOk result (λ next. (rest : List Token) →
+        all_items source.now.lines items.new.items next rest
+        ≡ all_items source.now.lines items.old.items at
+        (unfolded_token (texts_of source.now.lines) token ++ rest)) }
+    ensures limit { IfOk result (λ next. highest next ≤ max (2 ^ 32) (highest at + 1)) }
+    ensures start { IfOk result (λ next. next.start.items ≤ length items.new.items) }
+{
+    match token {
+        Token::White => Ok(after_white(at)),
         Token::LineEnd(line) => add_line_end(source, items, at, line),
-        Token::Span(kind, span) => {
-            push_needed_blank(items, at.last, *token)?;
-            items.push(span_item(kind, span))?;
-            Ok(rare_state(last_of(*token), token, at.counted, at.start))
-        }
+        Token::Run(span) => add_run(source, items, at, span),
+        Token::Span(kind, span) => add_span(items, at, kind, span),
         Token::Join => Ok(apply_join(items, at)),
         Token::Fault(..) => Ok(at),
         _ => {
-            push_needed_blank(items, at.last, *token)?;
-            let counted = push_item(source, items, at.counted, *token)?;
-            Ok(rare_state(last_of(*token), token, counted, at.start))
+            push_some(items, needed_blank(at.last, token))?;
+            let counted = push_token(source, items, at.counted, token)?;
+            Ok(rare_state(last_of(token), token, counted, at.start))
         }
     }
 }
@@ -271,14 +368,20 @@ pub(crate) fn fill_rare_part(
     line: u32,
     tokens: &[Token],
 ) -> Result<(), NoMemory>
-    ensures { OnOk result (items.new.items ≡ rules.part_items source.now.lines line tokens.now) }
+    requires { All (IsRunIn (texts_of source.now.lines)) tokens.now }
+    ensures { OnOk result (items.new.items ≡ rules.part_items source.now.lines line
+        (unfolded (texts_of source.now.lines) tokens.now)) }
 {
     items.clear();
-    let front = Token::White;
     let counted = counted_on(source, line);
-    let mut at = rare_state(Last::Front, &front, counted, Start { items: 0, counted });
+    let mut at = rare_state(
+        Last::Front,
+        Token::White,
+        counted,
+        Start { items: 0, counted },
+    );
     for token in tokens {
-        at = add_rare_part_token(source, items, at, token)?;
+        at = add_rare_part_token(source, items, at, *token)?;
     }
     Ok(())
 }

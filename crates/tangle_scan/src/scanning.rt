@@ -8,7 +8,9 @@ ghost use Rattle.tangle_scan.specs.SourceOrder.{SpansAreInOrder};
 ghost use Rattle.tangle_scan.specs.LineTruth.{PiecesAreAtTheirLines};
 ghost use Rattle.tangle_scan.specs.Apart.{StaysApart};
 ghost use Rattle.tangle_scan.specs.WellFormed.{IsWellFormed};
-ghost use Rattle.tangle_scan.specs.WebBuilder.{nothing, builder_with};
+ghost use Rattle.tangle_scan.specs.Entries.{RunsAreInRange};
+ghost use Rattle.tangle_scan.specs.Rules.{texts_of};
+ghost use Rattle.tangle_scan.specs.WebBuilder.{nothing, builder_read, builder_with};
 
 use crate::web_builder::{MacroBuffer, WebBuilder};
 use crate::webs::Web;
@@ -20,8 +22,9 @@ use tangle_text::Reader;
 /// Gathers the pieces, macros and faults of a source, and the occurrences of its names.
 fn gather(alloc: Global, source: &Source) -> Result<(WebBuilder, Vec<Occurrence>), NoMemory>
     requires { length (text_from 0 source.now.lines) + 1 < 2 ^ 64 }
-    ensures builder { IfOk result
-        (λ r. r.0 ≡ builder_with source.now nothing (all_tokens source.now.lines)) }
+    ensures builder { IfOk result (λ r. builder_read (texts_of source.now.lines) r.0
+        ≡ builder_with source.now nothing (all_tokens source.now.lines)) }
+    ensures runs { IfOk result (λ r. RunsAreInRange (texts_of source.now.lines) r.0.pieces) }
     ensures occurrences { IfOk result
         (λ r. r.1.items ≡ map (occurrence_of source.now.lines) (all_occurrences source.now.lines)) }
 {

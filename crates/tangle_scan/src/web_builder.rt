@@ -1,18 +1,23 @@
 //! Gathers the pieces, macros and faults of a web from the tokens of its C parts and macros.
-ghost use Rattle.std.specs.Prelude.{◌≡◌, ◌≤◌, ◌<◌, ◌+◌, ◌^◌, ◌++◌, ◌∷◌, ◌||◌, []};
-ghost use Rattle.std.specs.Prelude.{flat_map, if◌then◌else◌, true, false, IfOk, OnOk};
-ghost use Rattle.std.specs.List.{list_any};
+ghost use Rattle.std.specs.Prelude.{◌≡◌, ◌≤◌, ◌<◌, ◌+◌, ◌^◌, ◌++◌, ◌∷◌, ◌||◌, ℕ, []};
+ghost use Rattle.std.specs.Prelude.{flat_map, map, if◌then◌else◌, true, false, IfOk, OnOk};
+ghost use Rattle.std.specs.List.{All, list_any};
 ghost use Rattle.tangle_faults.specs.declared.faults.FaultKind.TheVariants as fault;
 ghost use Rattle.tangle_scan.specs.Passes as passes;
 ghost use Rattle.tangle_scan.specs.Rules as rules;
 ghost use Rattle.tangle_lines.specs.Reading.{origin_at};
 ghost use Rattle.tangle_scan.specs.Web as web;
 ghost use Rattle.tangle_lexer.specs.Heads.{is_head};
+ghost use Rattle.tangle_lexer.specs.Runs.{unfolded, HasNoRun, IsRunIn};
+ghost use Rattle.tangle_lexer.specs.declared.tokens.Token.TheVariants as token;
+ghost use Rattle.tangle_scan.specs.declared.items.Entry.TheVariants as entry;
+ghost use Rattle.tangle_scan.specs.Entries.{IsEntryInRange, RunsAreInRange};
+ghost use Rattle.tangle_scan.specs.Entries.{entry_is_mark, items_of};
 ghost use Rattle.tangle_scan.specs.Rules.{texts_of};
-ghost use Rattle.tangle_scan.specs.Web.{is_line_mark};
-ghost use Rattle.tangle_scan.specs.WebBuilder.{own_fault, nothing, builder_with, with_head};
+ghost use Rattle.tangle_scan.specs.WebBuilder.{own_fault, nothing_stored, builder_read};
+ghost use Rattle.tangle_scan.specs.WebBuilder.{builder_with, with_head};
 
-use crate::items::{Item, OccurrenceNumber};
+use crate::items::{Entry, Item, OccurrenceNumber};
 use crate::macro_items::fill_macro;
 use crate::pieces::{Macro, Piece};
 use crate::plain_parts::{PartFlags, fill_plain_part};
@@ -89,50 +94,90 @@ fn add_faults(
     Ok(())
 }
 
-/// Replaces `items` by those of a C part whose head ends on this line. Most parts have no rare
-/// token. If a part has one, the items before that token are made a second time.
-fn fill_part(
+/// Replaces `entries` by these items.
+fn replace_entries(entries: &mut Vec<Entry>, items: &[Item]) -> Result<(), NoMemory>
+    ensures { OnOk result (entries.new.items ≡ map entry.Item items.now) }
+{
+    entries.clear();
+    entries.reserve(items.len())?;
+    for item in items {
+        entries.push(Entry::Item(*item))?;
+    }
+    Ok(())
+}
+
+/// Replaces `entries` by those of a C part whose head ends on this line, which has rare tokens.
+// It is not inlined into the long function that adds a piece, since most parts have no rare token.
+#[inline(never)]
+fn fill_part_with_rare(
+    alloc: Global,
     source: &Source,
-    items: &mut Vec<Item>,
+    entries: &mut Vec<Entry>,
+    line: u32,
+    tokens: &[Token],
+) -> Result<(), NoMemory>
+    requires { All (IsRunIn (texts_of source.now.lines)) tokens.now }
+    ensures { OnOk result (entries.new.items ≡ map entry.Item (rules.part_items source.now.lines
+        line (unfolded (texts_of source.now.lines) tokens.now))) }
+{
+    let mut items = Vec::with_capacity(alloc, tokens.len())?;
+    fill_rare_part(source, &mut items, line, tokens)?;
+    replace_entries(entries, &items)
+}
+
+/// Replaces `entries` by those of a C part whose head ends on this line. Most parts have no rare
+/// token. If a part has one, the entries before that token are made a second time.
+fn fill_part(
+    alloc: Global,
+    source: &Source,
+    entries: &mut Vec<Entry>,
     line: u32,
     tokens: &[Token],
 ) -> Result<PartFlags, NoMemory>
-    ensures items { OnOk result (items.new.items
-        ≡ rules.part_items source.now.lines line tokens.now) }
+    requires { All (IsRunIn (texts_of source.now.lines)) tokens.now }
+    ensures items { OnOk result (items_of (texts_of source.now.lines) entries.new.items
+        ≡ rules.part_items source.now.lines line
+        (unfolded (texts_of source.now.lines) tokens.now)) }
+    ensures runs { OnOk result
+        (All (IsEntryInRange (texts_of source.now.lines)) entries.new.items) }
     ensures rare { IfOk result (λ flags. flags.has_rare ≡ list_any passes.is_rare tokens.now) }
     ensures mark { IfOk result (λ flags. flags.may_have_mark ≡ false →
-        list_any is_line_mark items.new.items ≡ false) }
+        list_any entry_is_mark entries.new.items ≡ false) }
 {
-    let flags = fill_plain_part(source, items, line, tokens)?;
+    let flags = fill_plain_part(source, entries, line, tokens)?;
     if !flags.has_rare {
         return Ok(flags);
     }
-    fill_rare_part(source, items, line, tokens)?;
+    fill_part_with_rare(alloc, source, entries, line, tokens)?;
     Ok(PartFlags {
         has_rare: true,
         may_have_mark: true,
     })
 }
 
-/// The items of a C part whose head ends on this line, with their flags.
-// The vector has capacity for one item for each token. A part has at most a few items more, and
+/// The entries of a C part whose head ends on this line, with their flags.
+// The vector has capacity for one entry for each token. A part has at most a few entries more, and
 // capacity that is left is freed.
 fn part_items(
     alloc: Global,
     source: &Source,
     line: u32,
     tokens: &[Token],
-) -> Result<(Vec<Item>, PartFlags), NoMemory>
-    ensures items { IfOk result (λ r. r.0.items
-        ≡ rules.part_items source.now.lines line tokens.now) }
+) -> Result<(Vec<Entry>, PartFlags), NoMemory>
+    requires runs { All (IsRunIn (texts_of source.now.lines)) tokens.now }
+    ensures items { IfOk result (λ r. items_of (texts_of source.now.lines) r.0.items
+        ≡ rules.part_items source.now.lines line
+        (unfolded (texts_of source.now.lines) tokens.now)) }
+    ensures runs { IfOk result
+        (λ r. All (IsEntryInRange (texts_of source.now.lines)) r.0.items) }
     ensures rare { IfOk result (λ r. r.1.has_rare ≡ list_any passes.is_rare tokens.now) }
     ensures mark { IfOk result (λ r. r.1.may_have_mark ≡ false →
-        list_any is_line_mark r.0.items ≡ false) }
+        list_any entry_is_mark r.0.items ≡ false) }
 {
-    let mut items = Vec::with_capacity(alloc, tokens.len())?;
-    let flags = fill_part(source, &mut items, line, tokens)?;
-    items.shrink_to_fit();
-    Ok((items, flags))
+    let mut entries = Vec::with_capacity(alloc, tokens.len())?;
+    let flags = fill_part(alloc, source, &mut entries, line, tokens)?;
+    entries.shrink_to_fit();
+    Ok((entries, flags))
 }
 
 /// A buffer that holds the tokens of one macro at a time.
@@ -189,9 +234,9 @@ pub(crate) struct WebBuilder {
 }
 
 impl Model for WebBuilder {
-    ghost use Rattle.tangle_scan.specs.WebBuilder.{WebBuilderRead};
+    ghost use Rattle.tangle_scan.specs.WebBuilder.{StoredBuilder};
 
-    ghost Value = { WebBuilderRead };
+    ghost Value = { StoredBuilder };
 
     ghost view = { λ g. record {
       sections = g.sections;
@@ -205,7 +250,7 @@ impl Model for WebBuilder {
 impl WebBuilder {
     /// An empty builder.
     pub(crate) fn new(alloc: Global) -> Self
-        ensures { result ≡ nothing }
+        ensures { result ≡ nothing_stored }
     {
         WebBuilder {
             sections: 0,
@@ -224,7 +269,10 @@ impl WebBuilder {
         tokens: &[Token],
     ) -> Result<(), NoMemory>
         requires { list_any is_head tokens.now ≡ false }
-        ensures builder { OnOk result (self.new ≡ builder_with source.now self.old tokens.now) }
+        ensures builder { OnOk result (let texts = texts_of source.now.lines in
+            builder_read texts self.new
+            ≡ builder_with source.now (builder_read texts self.old) (unfolded texts tokens.now)) }
+        ensures pieces { OnOk result (self.new.pieces ≡ self.old.pieces) }
         ensures sections { OnOk result (self.new.sections ≡ self.old.sections) }
     {
         add_faults(alloc, source, &mut self.faults, tokens, has_rare(tokens))?;
@@ -241,24 +289,29 @@ impl WebBuilder {
         line: u32,
         tokens: &[Token],
     ) -> Result<bool, NoMemory>
-        ensures piece { OnOk result (self.new ≡ record self.old {
-          pieces = self.old.pieces ++ record {
-            section = self.old.sections;
-            origin = origin_at source.now.lines line;
-            occurrence = occurrence;
-            items = rules.part_items source.now.lines line tokens.now;
-          } ∷ [];
-          has_all_macros = self.old.has_all_macros || list_any web.is_all_macros tokens.now;
-        }) }
+        requires runs { All (IsRunIn (texts_of source.now.lines)) tokens.now }
+        requires kept { RunsAreInRange (texts_of source.now.lines) self.old.pieces }
+        ensures piece { OnOk result (let texts = texts_of source.now.lines in
+            builder_read texts self.new ≡ record (builder_read texts self.old) {
+              pieces = (builder_read texts self.old).pieces ++ record {
+                section = self.old.sections;
+                origin = origin_at source.now.lines line;
+                occurrence = occurrence;
+                items = rules.part_items source.now.lines line (unfolded texts tokens.now);
+              } ∷ [];
+              has_all_macros =
+                  self.old.has_all_macros || list_any web.is_all_macros (unfolded texts tokens.now);
+            }) }
+        ensures kept { OnOk result (RunsAreInRange (texts_of source.now.lines) self.new.pieces) }
         ensures rare { IfOk result (λ rare. rare ≡ list_any passes.is_rare tokens.now) }
     {
-        let (items, flags) = part_items(alloc, source, line, tokens)?;
+        let (entries, flags) = part_items(alloc, source, line, tokens)?;
         let origin = source.origin(line as usize);
         let piece = Piece::new(
             self.sections,
             origin,
             occurrence,
-            items,
+            entries,
             flags.may_have_mark,
         );
         self.pieces.push(piece)?;
@@ -308,8 +361,16 @@ impl WebBuilder {
     ) -> Result<bool, NoMemory>
         requires limit { self.old.sections + 1 < 2 ^ 64 }
         requires head { is_head head ≡ true }
-        requires whole { web.body tokens.now ≡ tokens.now }
-        ensures head { OnOk result (self.new ≡ with_head source.now self.old head tokens.now) }
+        requires whole { let texts = texts_of source.now.lines in
+            web.body (unfolded texts tokens.now) ≡ unfolded texts tokens.now }
+        requires runs { All (IsRunIn (texts_of source.now.lines)) tokens.now }
+        requires no_run { (line : ℕ) → head ≡ token.MacroStart line → HasNoRun tokens.now }
+        requires kept { RunsAreInRange (texts_of source.now.lines) self.old.pieces }
+        ensures head { OnOk result (let texts = texts_of source.now.lines in
+            builder_read texts self.new
+            ≡ with_head source.now (builder_read texts self.old) head
+            (unfolded texts tokens.now)) }
+        ensures kept { OnOk result (RunsAreInRange (texts_of source.now.lines) self.new.pieces) }
         ensures rare { IfOk result (λ rare. rare ≡ list_any passes.is_rare tokens.now) }
     {
         match head {
@@ -339,8 +400,14 @@ impl WebBuilder {
         requires limit { self.old.sections + 1 < 2 ^ 64 }
         requires head { is_head head ≡ true }
         requires no_head { list_any is_head tokens.now ≡ false }
-        ensures builder { OnOk result
-            (self.new ≡ builder_with source.now self.old (head ∷ tokens.now)) }
+        requires runs { All (IsRunIn (texts_of source.now.lines)) tokens.now }
+        requires no_run { (line : ℕ) → head ≡ token.MacroStart line → HasNoRun tokens.now }
+        requires kept { RunsAreInRange (texts_of source.now.lines) self.old.pieces }
+        ensures builder { OnOk result (let texts = texts_of source.now.lines in
+            builder_read texts self.new
+            ≡ builder_with source.now (builder_read texts self.old)
+            (head ∷ unfolded texts tokens.now)) }
+        ensures kept { OnOk result (RunsAreInRange (texts_of source.now.lines) self.new.pieces) }
         ensures sections { OnOk result (self.new.sections ≤ self.old.sections + 1) }
     {
         let rare = self.add_head(alloc, source, macro_buffer, head, tokens)?;

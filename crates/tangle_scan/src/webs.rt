@@ -1,12 +1,15 @@
 //! The scanned web.
-ghost use Rattle.std.specs.Prelude.{◌≡◌, ◌≤◌, [], get_or, length};
+ghost use Rattle.std.specs.Prelude.{◌≡◌, ◌≤◌, [], get_or, length, map};
+ghost use Rattle.std.specs.List.{All};
+ghost use Rattle.tangle_scan.specs.Entries.{IsEntryInRange, RunsAreInRange, items_of, piece_read};
 ghost use Rattle.tangle_files.specs.Adding.{most_files};
-ghost use Rattle.tangle_scan.specs.Rules.{span_text};
+ghost use Rattle.tangle_scan.specs.Rules.{span_text, texts_of};
 ghost use Rattle.tangle_scan.specs.SourceOrder.{IsSpan};
 ghost use Rattle.tangle_scan.specs.WellFormed.{IsWellFormed};
-ghost use Rattle.tangle_scan.specs.WebBuilder.{web_from};
+ghost use Rattle.tangle_scan.specs.WebBuilder.{stored_web};
 
 use crate::pieces::{Macro, Piece};
+use crate::views::Items;
 use crate::web_builder::WebBuilder;
 use std::marker::Model;
 use tangle_lexer::Occurrence;
@@ -24,15 +27,18 @@ pub struct Web<'s, 'a> {
 }
 
 impl<'s, 'a> Model for Web<'s, 'a> {
+    ghost use Rattle.tangle_scan.specs.Entries.{RunsAreInRange};
+    ghost use Rattle.tangle_scan.specs.Rules.{texts_of};
     ghost use Rattle.tangle_scan.specs.Web.{WebRead};
-    ghost use Rattle.tangle_scan.specs.WebBuilder.{web_from};
+    ghost use Rattle.tangle_scan.specs.WebBuilder.{stored_web};
     ghost use Rattle.tangle_scan.specs.WellFormed.{IsWellFormed};
 
     ghost Value = { WebRead };
 
-    ghost view = { λ w. web_from w.source.now w.builder w.occurrences.items };
+    ghost view = { λ w. stored_web w.source.now w.builder w.occurrences.items };
 
-    ghost invariant = { λ w. IsWellFormed (web_from w.source.now w.builder w.occurrences.items) };
+    ghost invariant = { λ w. IsWellFormed (stored_web w.source.now w.builder w.occurrences.items)
+        × RunsAreInRange (texts_of w.source.now.lines) w.builder.pieces };
 }
 
 impl<'s, 'a> Web<'s, 'a> {
@@ -42,8 +48,9 @@ impl<'s, 'a> Web<'s, 'a> {
         builder: WebBuilder,
         occurrences: Vec<Occurrence>,
     ) -> Self
-        requires { IsWellFormed (web_from source.now builder occurrences.items) }
-        ensures { result ≡ web_from source.now builder occurrences.items }
+        requires well_formed { IsWellFormed (stored_web source.now builder occurrences.items) }
+        requires runs { RunsAreInRange (texts_of source.now.lines) builder.pieces }
+        ensures { result ≡ stored_web source.now builder occurrences.items }
     {
         Web {
             source,
@@ -62,10 +69,19 @@ impl<'s, 'a> Web<'s, 'a> {
     /// The pieces, in the order of the source. A use in a piece has the number of an occurrence,
     /// which is its position in `occurrences`.
     pub fn pieces(&self) -> &[Piece]
-        ensures pieces { result.now ≡ self.now.pieces }
+        ensures pieces { map (piece_read self.now.texts) result.now ≡ self.now.pieces }
+        ensures runs { All (λ p. All (IsEntryInRange self.now.texts) p.entries) result.now }
         ensures well_formed { IsWellFormed self.now }
     {
         self.builder.pieces.as_slice()
+    }
+
+    /// The items of a piece of this web, one by one.
+    pub fn items<'w>(&'w self, piece: &'w Piece) -> Items<'w, 'a>
+        requires { All (IsEntryInRange self.now.texts) piece.now.entries }
+        ensures { result ≡ items_of self.now.texts piece.now.entries }
+    {
+        Items::new(self.source, piece.entries())
     }
 
     /// The macros, in the order of the source, without those that are dropped since they do not

@@ -1,7 +1,9 @@
 pub mod AheadLemmas
-pub mod ByteLemmas
 pub mod ChunkLemmas
+pub mod ClassLemmas
 pub mod OrdinaryBytes
 pub mod RegionLemmas
+pub mod RunChunks
 pub mod RunLemmas
+pub mod RunPartLemmas
 pub mod UnitLemmas

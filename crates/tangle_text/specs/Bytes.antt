@@ -1,7 +1,7 @@
 -- Bytes and their classes. A cell of the text has a byte, or `None` at a line end.
 use Rattle.std.specs.Prelude.{ℕ, ◌+◌, Bool, true, false, ◌==◌, nat_le, ◌&&◌, ◌||◌, if◌then◌else◌}
-use Rattle.std.specs.Prelude.{Option, Some, None}
-use Rattle.tangle_lines.specs.Bytes.{at_sign, is_white}
+use Rattle.std.specs.Prelude.{not, Option, Some, None}
+use Rattle.tangle_lines.specs.Bytes.{at_sign, double_quote, is_white}
 
 -- the bytes with a meaning in CWEB or in C, besides those of the rules of reading
 
@@ -48,6 +48,14 @@ abbrev pub is_word_byte : ℕ → Bool
 is_word_byte b =
     is_between 97 122 b || is_between 65 90 b || is_digit b
     || b == 95 || b == 36 || is_between 128 255 b
+
+-- a byte that may open something longer
+abbrev pub is_opener : ℕ → Bool
+is_opener b = b == at_sign || b == slash || b == double_quote || b == apostrophe || b == less_sign
+
+-- a byte that is a sign wherever a lexeme begins with it
+abbrev pub is_sign_byte : ℕ → Bool
+is_sign_byte b = not (is_opener b || is_white b || is_word_byte b)
 
 -- the small letter of a capital one; any other byte unchanged
 abbrev pub lower : ℕ → ℕ

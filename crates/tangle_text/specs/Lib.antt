@@ -4,3 +4,4 @@ pub mod Ahead
 pub mod Regions
 pub mod NameBytes
 pub mod Words
+pub mod Runs

@@ -1,6 +1,6 @@
 -- The text that is scanned: the source lines, each followed by a line end.
 use Rattle.std.specs.Prelude.{ℕ, zero, suc, ◌+◌, List, [], ◌∷◌, ◌++◌, flat_map, Option, Some, None}
-use Rattle.std.specs.Prelude.{option_to_list}
+use Rattle.std.specs.Prelude.{◌≡◌, ◌≤◌, ◌<◌, ◌-◌, option_to_list, length, take, drop, get_or, map}
 use Rattle.tangle_lines.specs.Reading.{SourceLine}
 use Rattle.tangle_text.specs.declared.spans.Span.{Span}
 
@@ -52,3 +52,21 @@ span_at count (c ∷ cs) = record { line = c.line; start = c.column; end = c.col
 abbrev pub front_cell : ℕ → List Cell → Cell
 front_cell last text =
     record { line = front_line last text; column = front_column text; byte = byte_at 0 text }
+
+-- the bytes of the source lines
+abbrev pub texts_of : List SourceLine → List (List ℕ)
+texts_of lines = map (λ l. l.bytes) lines
+
+-- the bytes of a span
+abbrev pub span_text : List (List ℕ) → Span → List ℕ
+span_text texts s = take (s.end - s.start) (drop s.start (get_or texts s.line []))
+
+-- a span is a range of a source line
+pub record IsSpan (texts : List (List ℕ)) (s : Span) : Type 0 where
+  pub line : s.line < length texts
+  pub start : s.start ≤ s.end
+  pub end : s.end ≤ length (get_or texts s.line [])
+
+-- the text is that of these lines from some position on
+abbrev pub IsRestOf : List SourceLine → List Cell → Type 0
+IsRestOf lines text = (k : ℕ) × (text ≡ drop k (text_from 0 lines))

@@ -1,7 +1,9 @@
-//! Classes of bytes. Each position of the text has a byte, or `None` at a line end.
+//! Tests of bytes. Each position of the text has a byte, or `None` at a line end.
 ghost use Rattle.std.specs.Prelude.{◌≡◌};
 ghost use Rattle.tangle_lines.specs.Bytes as lines;
 ghost use Rattle.tangle_text.specs.Bytes as spec;
+
+use crate::classes::is_word_byte;
 
 /// Whether the byte at a position is the expected one; false at a line end.
 pub fn holds(expected: u8, byte: Option<u8>) -> bool
@@ -18,35 +20,6 @@ pub fn is_white(byte: u8) -> bool
     ensures { result ≡ lines.is_white byte }
 {
     byte == b' ' || byte == b'\t' || byte == b'\r' || byte == 11 || byte == 12
-}
-
-/// A flag for each byte: whether it is a letter, a digit, `_`, `$` or past 127. This is a table for
-/// speed, since most bytes of C text are in words.
-const WORD_BYTES: [bool; 256] = [
-    false, false, false, false, false, false, false, false, false, false, false, false, false,
-    false, false, false, false, false, false, false, false, false, false, false, false, false,
-    false, false, false, false, false, false, false, false, false, false, true, false, false,
-    false, false, false, false, false, false, false, false, false, true, true, true, true, true,
-    true, true, true, true, true, false, false, false, false, false, false, false, true, true,
-    true, true, true, true, true, true, true, true, true, true, true, true, true, true, true, true,
-    true, true, true, true, true, true, true, true, false, false, false, false, true, false, true,
-    true, true, true, true, true, true, true, true, true, true, true, true, true, true, true, true,
-    true, true, true, true, true, true, true, true, true, false, false, false, false, false, true,
-    true, true, true, true, true, true, true, true, true, true, true, true, true, true, true, true,
-    true, true, true, true, true, true, true, true, true, true, true, true, true, true, true, true,
-    true, true, true, true, true, true, true, true, true, true, true, true, true, true, true, true,
-    true, true, true, true, true, true, true, true, true, true, true, true, true, true, true, true,
-    true, true, true, true, true, true, true, true, true, true, true, true, true, true, true, true,
-    true, true, true, true, true, true, true, true, true, true, true, true, true, true, true, true,
-    true, true, true, true, true, true, true, true, true, true, true, true, true, true, true, true,
-    true, true, true, true, true, true, true, true, true, true, true, true, true, true, true,
-];
-
-/// Whether a byte is a letter, a digit, `_`, `$` or past 127.
-pub fn is_word_byte(byte: u8) -> bool
-    ensures { result ≡ spec.is_word_byte byte }
-{
-    WORD_BYTES[byte as usize]
 }
 
 /// The small letter of a capital one; any other byte unchanged.

@@ -5,11 +5,15 @@
 #![tactic(auto)]
 
 mod bytes;
+mod classes;
 mod reader;
 mod regions;
+mod runs;
 mod spans;
 
-pub use bytes::{holds, is_end_code, is_octal, is_section_start, is_white, is_word_byte, lower};
+pub use bytes::{holds, is_end_code, is_octal, is_section_start, is_white, lower};
+pub use classes::{is_sign_byte, is_word_byte};
 pub use reader::{Front, Reader};
 pub use regions::{Region, Unit, unit_of};
+pub use runs::{RunPart, RunParts};
 pub use spans::Span;

@@ -10,11 +10,14 @@ ghost use Rattle.tangle_text.specs.declared.regions.Region.TheVariants as region
 ghost use Rattle.tangle_text.specs.Words.{word_more, is_include_word};
 ghost use Rattle.tangle_text.specs.Text.{text_from, byte_at, bytes_of, front_line, front_column};
 ghost use Rattle.tangle_text.specs.Text.{span_at};
+ghost use Rattle.tangle_text.specs.Runs.{run_count};
 ghost use Rattle.tangle_text.specs.Regions as regions;
 ghost use Rattle.tangle_text.specs.Regions.{count_before, more_by, region_end};
 
-use crate::bytes::{holds, is_white, is_word_byte};
+use crate::bytes::{holds, is_white};
+use crate::classes::{is_ordinary, is_word_byte};
 use crate::regions::{Region, Unit, skips_ordinary, unit_of};
+use crate::runs::run_end;
 use crate::spans::Span;
 use memchr::memchr;
 use std::marker::Model;
@@ -107,41 +110,12 @@ macro_rules! run_end {
 
 /// The column after the run of word bytes from this column on.
 #[inline(always)]
-fn word_end(bytes: &[u8], from: usize) -> usize
+pub(crate) fn word_end(bytes: &[u8], from: usize) -> usize
     requires { from ≤ length bytes.now }
     ensures end { result ≡ from + run_length byte.is_word_byte (drop from bytes.now) }
     ensures inside { result ≤ length bytes.now }
 {
     run_end!(is_word_byte, bytes, from)
-}
-
-/// A flag for each byte: whether it is ordinary, so that it has no meaning in comments, control
-/// texts, quoted and verbatim texts.
-const ORDINARY_BYTES: [bool; 256] = [
-    true, true, true, true, true, true, true, true, true, true, true, true, true, true, true, true,
-    true, true, true, true, true, true, true, true, true, true, true, true, true, true, true, true,
-    true, true, false, true, true, true, true, false, true, true, false, true, true, true, true,
-    true, true, true, true, true, true, true, true, true, true, true, true, true, true, true,
-    false, true, false, true, true, true, true, true, true, true, true, true, true, true, true,
-    true, true, true, true, true, true, true, true, true, true, true, true, true, true, true,
-    false, true, true, true, true, true, true, true, true, true, true, true, true, true, true,
-    true, true, true, true, true, true, true, true, true, true, true, true, true, true, true, true,
-    true, true, true, true, true, true, true, true, true, true, true, true, true, true, true, true,
-    true, true, true, true, true, true, true, true, true, true, true, true, true, true, true, true,
-    true, true, true, true, true, true, true, true, true, true, true, true, true, true, true, true,
-    true, true, true, true, true, true, true, true, true, true, true, true, true, true, true, true,
-    true, true, true, true, true, true, true, true, true, true, true, true, true, true, true, true,
-    true, true, true, true, true, true, true, true, true, true, true, true, true, true, true, true,
-    true, true, true, true, true, true, true, true, true, true, true, true, true, true, true, true,
-    true, true, true, true, true, true, true, true, true, true, true, true, true, true, true, true,
-    true, true, true, true, true,
-];
-
-/// Whether a byte has no meaning in comments, control texts, quoted and verbatim texts.
-fn is_ordinary(byte: u8) -> bool
-    ensures { result ≡ regions.is_ordinary byte }
-{
-    ORDINARY_BYTES[byte as usize]
 }
 
 /// The column after the run of ordinary bytes from this column on.
@@ -382,6 +356,24 @@ impl<'s, 'a> Reader<'s, 'a> {
     {
         let start = self.column;
         let end = word_end(self.bytes, start + 1);
+        self.column = end;
+        Span {
+            line: self.line as u32,
+            start: start as u16,
+            end: end as u16,
+        }
+    }
+
+    /// Advances over the run at the position: words, signs that open nothing, and single spaces
+    /// between them. Returns the run's span.
+    #[inline(always)]
+    pub fn take_run(&mut self) -> Span
+        requires { IsSome (byte_at 0 self.old) }
+        ensures span { result ≡ span_at (run_count self.old) self.old }
+        ensures ahead { self.new ≡ drop (run_count self.old) self.old }
+    {
+        let start = self.column;
+        let end = run_end(self.bytes, start);
         self.column = end;
         Span {
             line: self.line as u32,

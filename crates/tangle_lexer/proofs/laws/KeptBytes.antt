@@ -21,15 +21,14 @@ use Rattle.tangle_text.specs.declared.regions.Region.TheVariants as region
 use Rattle.tangle_text.specs.declared.regions.Unit.{Unit as Unit-of}
 use Rattle.tangle_text.specs.declared.regions.Unit.TheVariants as unit
 use Rattle.tangle_lexer.specs.declared.constants.AsciiConstant.{AsciiConstant}
-use Rattle.tangle_lines.specs.Bytes.{at_sign, double_quote}
-use Rattle.tangle_text.specs.Bytes.{apostrophe, greater_sign, holds, is_line_end}
-use Rattle.tangle_text.specs.Text.{Cell, byte_at, front_column, front_line, span_at}
+use Rattle.tangle_lines.specs.Bytes.{at_sign}
+use Rattle.tangle_text.specs.Bytes.{holds, is_line_end}
+use Rattle.tangle_text.specs.Text.{Cell, byte_at, front_line, span_at}
 use Rattle.tangle_text.specs.Regions.{count_before, unless_stop, unit_at, more_by}
 use Rattle.tangle_lexer.proofs.lemmas.LexemeLemmas.{line_end_of, line_ends-are}
 use Rattle.tangle_text.proofs.UnitLemmas.{from_units}
 use Rattle.tangle_lexer.specs.Lexemes.{Lexeme, lexeme_of, fault_if, in_mode}
 use Rattle.tangle_lexer.specs.Comments.{line_ends, ends_comment, starts_section, has_end_code}
-use Rattle.tangle_lexer.specs.Quoted.{quote_end}
 use Rattle.tangle_lexer.specs.Constants.{constant_at, constant_lexeme}
 use Rattle.tangle_lexer.specs.Names.{name_end, is_ended, name_faults, after_name, has_single_equals}
 use Rattle.tangle_lexer.specs.Names.{definition_or_mention, definition_count}
@@ -38,9 +37,8 @@ use Rattle.tangle_lexer.specs.Steps.{c_code, c_lexeme, macro_code, macro_lexeme,
 use Rattle.tangle_lexer.specs.Segments.{Segment, segment, span_points, byte_points, kept_points, code_segments}
 use Rattle.tangle_lexer.specs.Segments.{c_segments, segments_in, segments, text_segments, verbatim_segments}
 use Rattle.tangle_lexer.specs.Segments.SegmentKind.{ControlBytes}
-use Rattle.tangle_lexer.proofs.lemmas.PlainTokens.{AreNoHeadsOrUses, is_head_or_use, seen, plain-append, fault_if-plain}
-use Rattle.tangle_lexer.proofs.lemmas.PlainTokens.{white-plain, line_ends-plain, verbatim_tokens-plain}
-use Rattle.tangle_lexer.proofs.lemmas.PlainTokens.{cut_tokens-plain, quote_end-plain, constant-plain}
+use Rattle.tangle_lexer.proofs.lemmas.PlainTokens.{is_not_plain, fault_if-plain}
+use Rattle.tangle_lexer.proofs.lemmas.PlainLexemes.{IsPlainLexeme, use-plain, code-plain, kind-plain}
 use Rattle.tangle_lexer.proofs.laws.Points.{Point, after_cell, after_cells, HoldsBytes, IsTextAt, text-after_cells}
 use Rattle.tangle_lexer.proofs.laws.RegionOrder.{more-bytes}
 use Rattle.tangle_lexer.proofs.laws.WhiteOrder.{word-bytes}
@@ -85,26 +83,28 @@ part_points within (token.Span kind s ∷ us) = (if within then span_points s el
 part_points within (_ ∷ us) = part_points within us
 
 part_points-within : (ts us : List Token)
-    → list_any is_head_or_use ts ≡ false → part_points true (ts ++ us) ≡ token_points ts ++ part_points true us
+    → list_any is_not_plain ts ≡ false → part_points true (ts ++ us) ≡ token_points ts ++ part_points true us
 part_points-within [] us h = refl
 part_points-within (token.Section ∷ ts) us h = cc
 part_points-within (token.MacroStart line ∷ ts) us h = cc
 part_points-within (token.UnnamedPart line ∷ ts) us h = cc
 part_points-within (token.NamedPart occurrence line ∷ ts) us h = cc
 part_points-within (token.UseOf occurrence line ∷ ts) us h = cc
+part_points-within (token.Run s ∷ ts) us h = cc
 part_points-within (token.Span kind s ∷ ts) us h =
     ap (λ ps. span_points s ++ ps) (part_points-within ts us h)
     ∙ sym (append_assoc (span_points s) (token_points ts) (part_points true us))
 part_points-within (_ ∷ ts) us h = part_points-within ts us h
 
 part_points-outside : (ts us : List Token)
-    → list_any is_head_or_use ts ≡ false → part_points false (ts ++ us) ≡ part_points false us
+    → list_any is_not_plain ts ≡ false → part_points false (ts ++ us) ≡ part_points false us
 part_points-outside [] us h = refl
 part_points-outside (token.Section ∷ ts) us h = cc
 part_points-outside (token.MacroStart line ∷ ts) us h = cc
 part_points-outside (token.UnnamedPart line ∷ ts) us h = cc
 part_points-outside (token.NamedPart occurrence line ∷ ts) us h = cc
 part_points-outside (token.UseOf occurrence line ∷ ts) us h = cc
+part_points-outside (token.Run s ∷ ts) us h = cc
 part_points-outside (_ ∷ ts) us h = part_points-outside ts us h
 
 -- tokens without a span have no points
@@ -146,55 +146,6 @@ constant-points : (k : Option AsciiConstant) (s : LexerState) (text : List Cell)
     → token_points (constant_lexeme k s text).tokens ≡ []
 constant-points None s text = refl
 constant-points (Some k) s text = refl
-
-constant-mode : (k : Option AsciiConstant) (s : LexerState) (text : List Cell)
-    → (constant_lexeme k s text).after.mode ≡ s.mode
-constant-mode None s text = refl
-constant-mode (Some k) s text = refl
-
--- a lexeme without a head or a use, after which the mode is unchanged
-record IsPlain (s : LexerState) (here : Lexeme) : Type 0 where
-  tokens : AreNoHeadsOrUses here.tokens
-  mode : here.after.mode ≡ s.mode
-
-plain : (s : LexerState) (here : Lexeme) → AreNoHeadsOrUses here.tokens → here.after.mode ≡ s.mode → IsPlain s here
-plain s here q m = record { tokens = q; mode = m }
-
-code-plain : (kind : ControlCode) (s : LexerState) (text : List Cell)
-    → (kind ≡ code.SectionStart → ⊥) → (kind ≡ code.Name → ⊥) → IsPlain s (c_code kind s text)
-code-plain code.SectionStart s text h k = absurd (h refl)
-code-plain code.Name s text h k = absurd (k refl)
-code-plain code.ControlText s text h k = plain s _
-    (white-plain _ _ (line_ends-plain region.ControlText (drop 2 text)) (fault_if-plain _ fault.ControlText _)) refl
-code-plain code.Verbatim s text h k = plain s _ (verbatim_tokens-plain (drop 2 text)) refl
-code-plain code.AsciiConstant s text h k =
-    plain s _ (constant-plain (constant_at (drop 2 text)) s text) (constant-mode (constant_at (drop 2 text)) s text)
-code-plain _ s text h k = plain s _ (seen _ refl) refl
-
-abbrev IsCode : LexemeKind → Type 0
-IsCode (lexeme_kind.Control code) = Unit {0}
-IsCode _ = ⊥
-
-kind-plain : (kind : LexemeKind) (s : LexerState) (text : List Cell)
-    → (IsCode kind → ⊥) → IsPlain s (c_lexeme kind s text)
-kind-plain (lexeme_kind.Control code) s text h = absurd (h tt)
-kind-plain lexeme_kind.BlockComment s text h = plain s _
-    (white-plain _ _ (line_ends-plain region.BlockComment (drop 2 text)) (fault_if-plain _ fault.CommentEnd _)) refl
-kind-plain lexeme_kind.LineComment s text h =
-    plain s _ (white-plain [] _ (seen [] refl) (fault_if-plain _ fault.CommentEnd _)) refl
-kind-plain lexeme_kind.DoubleQuote s text h =
-    plain s _
-    (cut_tokens-plain (quote_end region.DoubleQuote double_quote s.last_line) region.DoubleQuote 0
-    (front_column text) (drop 1 text) (quote_end-plain region.DoubleQuote double_quote s.last_line)) refl
-kind-plain lexeme_kind.Apostrophe s text h =
-    plain s _
-    (cut_tokens-plain (quote_end region.Apostrophe apostrophe s.last_line) region.Apostrophe 0
-    (front_column text) (drop 1 text) (quote_end-plain region.Apostrophe apostrophe s.last_line)) refl
-kind-plain lexeme_kind.HeaderName s text h =
-    plain s _
-    (cut_tokens-plain (quote_end region.HeaderName greater_sign s.last_line) region.HeaderName 0
-    (front_column text) (drop 1 text) (quote_end-plain region.HeaderName greater_sign s.last_line)) refl
-kind-plain _ s text h = plain s _ (seen _ refl) refl
 
 module _ (width : ℕ → ℕ) (count : ℕ) where
   -- the points of a span are those of its bytes
@@ -283,20 +234,15 @@ module _ (width : ℕ → ℕ) (count : ℕ) where
       ≡ flat_map kept_points ss ++ part_points (in_part here.after.mode) us
 
   plain-within : (s : LexerState) (here : Lexeme) (ss : List Segment) → s.mode ≡ mode.CPart
-      → IsPlain s here → token_points here.tokens ≡ flat_map kept_points ss → Keeps mode.CPart here ss
+      → IsPlainLexeme s here → token_points here.tokens ≡ flat_map kept_points ss → Keeps mode.CPart here ss
   plain-within s here ss m p e us =
       part_points-within here.tokens us p.tokens.none
       ∙ rw e (ap (λ x. flat_map kept_points ss ++ part_points (in_part x) us) (sym (p.mode ∙ m)))
 
-  plain-outside : (s : LexerState) (here : Lexeme) → in_part s.mode ≡ false → IsPlain s here → (us : List Token)
+  plain-outside : (s : LexerState) (here : Lexeme) → in_part s.mode ≡ false → IsPlainLexeme s here → (us : List Token)
       → part_points false (here.tokens ++ us) ≡ part_points (in_part here.after.mode) us
   plain-outside s here m p us =
       part_points-outside here.tokens us p.tokens.none ∙ ap (λ x. part_points x us) (sym (ap in_part p.mode ∙ m))
-
-  use-plain : (s : LexerState) (text : List Cell) → AreNoHeadsOrUses (name_faults s.last_line text
-      ++ fault_if (has_single_equals (after_name text)) fault.NameEquals (front_line s.last_line text))
-  use-plain s text = plain-append _ _ (fault_if-plain _ fault.NameEnd _)
-      (fault_if-plain (has_single_equals (after_name text)) fault.NameEquals (front_line s.last_line text))
 
   code-within : (kind : ControlCode) (s : LexerState) (c : Cell) (cs : List Cell)
       → s.mode ≡ mode.CPart → CodeKeeps kind s (c ∷ cs)

@@ -1,6 +1,6 @@
 -- Occurrences are numbered one after another, so their numbers in tokens are below their count.
 use Rattle.std.proofs.Common.{◌≡◌, ◌≤◌, ◌<◌, ℕ, zero, suc, ◌+◌, Bool, true, false, ◌||◌, List, [], ◌∷◌, ◌++◌, length}
-use Rattle.std.proofs.Common.{drop, flat_map, refl, ap, arith, if◌then◌else◌, Option, None, Some, option_to_list}
+use Rattle.std.proofs.Common.{flat_map, refl, ap, arith, if◌then◌else◌, Option, None, Some, option_to_list}
 use Rattle.std.proofs.Common.{length-append}
 use Rattle.std.specs.List.{list_any, AllByRecursion}
 use Rattle.tangle_faults.specs.declared.faults.FaultKind.TheVariants as fault
@@ -13,21 +13,16 @@ use Rattle.tangle_lexer.specs.declared.lexeme_kinds.ControlCode.{ControlCode}
 use Rattle.tangle_lexer.specs.declared.lexeme_kinds.ControlCode.TheVariants as code
 use Rattle.tangle_lexer.specs.declared.lexeme_kinds.LexemeKind.{LexemeKind}
 use Rattle.tangle_lexer.specs.declared.lexeme_kinds.LexemeKind.TheVariants as lexeme_kind
-use Rattle.tangle_text.specs.declared.regions.Region.TheVariants as region
-use Rattle.tangle_lines.specs.Bytes.{at_sign, double_quote}
-use Rattle.tangle_text.specs.Bytes.{holds, apostrophe, greater_sign}
-use Rattle.tangle_text.specs.Text.{Cell, byte_at, front_column, front_line}
+use Rattle.tangle_lines.specs.Bytes.{at_sign}
+use Rattle.tangle_text.specs.Bytes.{holds}
+use Rattle.tangle_text.specs.Text.{Cell, byte_at}
 use Rattle.tangle_lexer.specs.Lexemes.{Lexeme, lexeme_of, in_mode}
 use Rattle.tangle_lexer.specs.Comments.{starts_section}
-use Rattle.tangle_lexer.specs.Quoted.{quote_end}
-use Rattle.tangle_lexer.specs.declared.constants.AsciiConstant.{AsciiConstant}
-use Rattle.tangle_lexer.specs.Constants.{constant_lexeme, constant_at}
-use Rattle.tangle_lexer.specs.Names.{definition_or_mention, definition_count, has_single_equals, after_name}
+use Rattle.tangle_lexer.specs.Names.{definition_or_mention, definition_count}
 use Rattle.tangle_lexer.specs.Steps.{documentation_code, c_code, c_lexeme, macro_code, macro_lexeme, lexeme_in, lexeme}
 use Rattle.tangle_lexer.specs.Steps.{lexemes, tokens_from, occurrences_from, kind_at, code_at, prose}
-use Rattle.tangle_lexer.proofs.lemmas.PlainTokens.{AreNoHeadsOrUses, is_head_or_use, seen, plain-append, fault_if-plain}
-use Rattle.tangle_lexer.proofs.lemmas.PlainTokens.{white-plain, line_ends-plain, verbatim_tokens-plain}
-use Rattle.tangle_lexer.proofs.lemmas.PlainTokens.{cut_tokens-plain, quote_end-plain, constant-plain}
+use Rattle.tangle_lexer.proofs.lemmas.PlainTokens.{ArePlain, is_not_plain, seen, fault_if-plain}
+use Rattle.tangle_lexer.proofs.lemmas.PlainLexemes.{IsPlainLexeme, use-plain, code-plain, kind-plain}
 
 -- a token has no number of an occurrence, or one below `count`
 abbrev pub IsBelow : ℕ → Token → Type 0
@@ -47,26 +42,30 @@ pub record Keeps (s : LexerState) (l : Lexeme) : Type 0 where
   pub count : l.after.occurrences ≡ s.occurrences + length (option_to_list l.occurrence)
   pub below : AreBelow (s.occurrences + length (option_to_list l.occurrence)) l.tokens
 
-plain-below : (count : ℕ) (ts : List Token) → list_any is_head_or_use ts ≡ false → AreBelow count ts
+plain-below : (count : ℕ) (ts : List Token) → list_any is_not_plain ts ≡ false → AreBelow count ts
 plain-below count [] h = tt
 plain-below count (t ∷ ts) h = both t (λ k. plain-below count ts k) h
   where
-    both : (t : Token) → (list_any is_head_or_use ts ≡ false → AreBelow count ts)
-        → (is_head_or_use t || list_any is_head_or_use ts) ≡ false → IsBelow count t × AreBelow count ts
+    both : (t : Token) → (list_any is_not_plain ts ≡ false → AreBelow count ts)
+        → (is_not_plain t || list_any is_not_plain ts) ≡ false → IsBelow count t × AreBelow count ts
     both token.Section more h = cc
     both (token.MacroStart line) more h = cc
     both (token.UnnamedPart line) more h = cc
     both (token.NamedPart occurrence line) more h = cc
     both (token.UseOf occurrence line) more h = cc
+    both (token.Run s) more h = cc
     both _ more h = (tt, more h)
 
 -- a lexeme without an occurrence
 plain-keeps : (s : LexerState) (l : Lexeme)
-    → l.occurrence ≡ None → l.after.occurrences ≡ s.occurrences → AreNoHeadsOrUses l.tokens → Keeps s l
+    → l.occurrence ≡ None → l.after.occurrences ≡ s.occurrences → ArePlain l.tokens → Keeps s l
 plain-keeps s l none same q = record {
   count = omega (arith, same, ap (λ n. length (option_to_list n)) none);
   below = plain-below _ l.tokens q.none;
 }
+
+lexeme-plain : (s : LexerState) (l : Lexeme) → IsPlainLexeme s l → Keeps s l
+lexeme-plain s l h = plain-keeps s l h.none h.count h.tokens
 
 head-keeps : (s : LexerState) (l : Lexeme) (h : Token) → l.occurrence ≡ None → l.after.occurrences ≡ s.occurrences
     → l.tokens ≡ h ∷ [] → IsBelow (s.occurrences + length (option_to_list l.occurrence)) h → Keeps s l
@@ -78,11 +77,6 @@ head-keeps s l h none same is below = record {
 if-keeps : (b : Bool) (s : LexerState) (x y : Lexeme) → Keeps s x → Keeps s y → Keeps s (if b then x else y)
 if-keeps true s x y h k = h
 if-keeps false s x y h k = k
-
-constant-keeps : (constant : Option AsciiConstant) (s : LexerState) (text : List Cell)
-    → Keeps s (constant_lexeme constant s text)
-constant-keeps None s text = plain-keeps s _ refl refl (constant-plain None s text)
-constant-keeps (Some constant) s text = plain-keeps s _ refl refl (constant-plain (Some constant) s text)
 
 name-keeps : (count : Option ℕ) (s : LexerState) (text : List Cell) → Keeps s (definition_or_mention count s text)
 name-keeps None s text =
@@ -99,40 +93,13 @@ documentation-keeps _ s text = plain-keeps s _ refl refl (seen _ refl)
 
 code-keeps : (kind : ControlCode) (s : LexerState) (text : List Cell) → Keeps s (c_code kind s text)
 code-keeps code.SectionStart s text = head-keeps s _ token.Section refl refl refl tt
-code-keeps code.Name s text = record {
-  count = refl;
-  below = (
-    omega arith,
-    plain-below (s.occurrences + 1) _
-        (plain-append _ _ (fault_if-plain _ fault.NameEnd _)
-        (fault_if-plain (has_single_equals (after_name text)) fault.NameEquals (front_line s.last_line text))).none,
-  );
-}
-code-keeps code.ControlText s text = plain-keeps s _ refl refl
-    (white-plain _ _ (line_ends-plain region.ControlText (drop 2 text)) (fault_if-plain _ fault.ControlText _))
-code-keeps code.Verbatim s text = plain-keeps s _ refl refl (verbatim_tokens-plain (drop 2 text))
-code-keeps code.AsciiConstant s text = constant-keeps (constant_at (drop 2 text)) s text
-code-keeps _ s text = plain-keeps s _ refl refl (seen _ refl)
+code-keeps code.Name s text =
+    record { count = refl; below = (omega arith, plain-below (s.occurrences + 1) _ (use-plain s text).none) }
+code-keeps kind s text = lexeme-plain s _ (code-plain kind s text (λ e. cc) (λ e. cc))
 
 c-keeps : (kind : LexemeKind) (s : LexerState) (text : List Cell) → Keeps s (c_lexeme kind s text)
 c-keeps (lexeme_kind.Control code) s text = code-keeps code s text
-c-keeps lexeme_kind.BlockComment s text = plain-keeps s _ refl refl
-    (white-plain _ _ (line_ends-plain region.BlockComment (drop 2 text)) (fault_if-plain _ fault.CommentEnd _))
-c-keeps lexeme_kind.LineComment s text =
-    plain-keeps s _ refl refl (white-plain [] _ (seen [] refl) (fault_if-plain _ fault.CommentEnd _))
-c-keeps lexeme_kind.DoubleQuote s text =
-    plain-keeps s _ refl refl
-    (cut_tokens-plain (quote_end region.DoubleQuote double_quote s.last_line) region.DoubleQuote 0
-    (front_column text) (drop 1 text) (quote_end-plain region.DoubleQuote double_quote s.last_line))
-c-keeps lexeme_kind.Apostrophe s text =
-    plain-keeps s _ refl refl
-    (cut_tokens-plain (quote_end region.Apostrophe apostrophe s.last_line) region.Apostrophe 0
-    (front_column text) (drop 1 text) (quote_end-plain region.Apostrophe apostrophe s.last_line))
-c-keeps lexeme_kind.HeaderName s text =
-    plain-keeps s _ refl refl
-    (cut_tokens-plain (quote_end region.HeaderName greater_sign s.last_line) region.HeaderName 0
-    (front_column text) (drop 1 text) (quote_end-plain region.HeaderName greater_sign s.last_line))
-c-keeps _ s text = plain-keeps s _ refl refl (seen _ refl)
+c-keeps kind s text = lexeme-plain s _ (kind-plain kind s text (λ h. h))
 
 macro_code-keeps : (kind : ControlCode) (s : LexerState) (text : List Cell) → Keeps s (macro_code kind s text)
 macro_code-keeps code.Macro s text = documentation-keeps code.Macro s text

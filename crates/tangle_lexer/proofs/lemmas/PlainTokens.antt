@@ -1,7 +1,8 @@
--- Tokens that are neither heads nor uses.
-use Rattle.std.proofs.Common.{◌≡◌, ℕ, zero, suc, ◌+◌, Bool, true, false, ◌&&◌, ◌||◌, nat_lt, List, [], ◌∷◌, ◌++◌, refl}
-use Rattle.std.proofs.Common.{sym, subst, if◌then◌else◌, Option, None, Some}
+-- Tokens that are neither heads nor uses nor runs.
+use Rattle.std.proofs.Common.{◌≡◌, ℕ, zero, suc, ◌+◌, Bool, true, false, ◌&&◌, nat_lt, List, [], ◌∷◌, ◌++◌, refl, sym}
+use Rattle.std.proofs.Common.{subst, if◌then◌else◌, Option}
 use Rattle.std.specs.List.{list_any}
+use Rattle.std.proofs.lemmas.List.Folds.{list_any-append}
 use Rattle.tangle_faults.specs.declared.faults.FaultKind.{FaultKind}
 use Rattle.tangle_lexer.specs.declared.tokens.Token.{Token}
 use Rattle.tangle_lexer.specs.declared.tokens.Token.TheVariants as token
@@ -10,7 +11,6 @@ use Rattle.tangle_text.specs.declared.regions.Region.{Region}
 use Rattle.tangle_text.specs.declared.regions.Region.TheVariants as region
 use Rattle.tangle_text.specs.declared.regions.Unit.{Unit as Unit-of}
 use Rattle.tangle_text.specs.declared.regions.Unit.TheVariants as unit
-use Rattle.tangle_lexer.specs.declared.modes.LexerState.{LexerState}
 use Rattle.tangle_lines.specs.Bytes.{at_sign}
 use Rattle.tangle_text.specs.Bytes.{holds, backslash, is_line_end}
 use Rattle.tangle_faults.specs.declared.faults.FaultKind.TheVariants as fault
@@ -22,51 +22,48 @@ use Rattle.tangle_lexer.specs.Lexemes.{fault_if}
 use Rattle.tangle_lexer.specs.Comments.{line_ends}
 use Rattle.tangle_lexer.specs.Quoted.{range_token, cut_range, unit_tokens, next_start, at_stop, cut_tokens, quote_end}
 use Rattle.tangle_lexer.specs.Quoted.{verbatim_end, verbatim_tokens, empty_end, ends_at_once}
-use Rattle.tangle_lexer.specs.declared.constants.AsciiConstant.{AsciiConstant}
-use Rattle.tangle_lexer.specs.Constants.{constant_lexeme}
 use Rattle.tangle_lexer.specs.Heads.{is_head}
 
--- a token that is a head or a use
-abbrev pub is_head_or_use : Token → Bool
-is_head_or_use (token.UseOf occurrence line) = true
-is_head_or_use t = is_head t
+-- no token passes this test
+abbrev pub HasNone : (Token → Bool) → List Token → Type 0
+HasNone test ts = list_any test ts ≡ false
 
-pub record AreNoHeadsOrUses (ts : List Token) : Type 0 where
-  pub none : list_any is_head_or_use ts ≡ false
+pub none-append : (test : Token → Bool) (ts us : List Token)
+    → HasNone test ts → HasNone test us → HasNone test (ts ++ us)
+none-append test ts us h j = rw (list_any-append test ts us, h) j
 
--- tokens are neither heads nor uses if a search finds none
-pub seen : (ts : List Token) → list_any is_head_or_use ts ≡ false → AreNoHeadsOrUses ts
+-- a token that is a head, a use or a run
+abbrev pub is_not_plain : Token → Bool
+is_not_plain (token.UseOf occurrence line) = true
+is_not_plain (token.Run s) = true
+is_not_plain t = is_head t
+
+pub record ArePlain (ts : List Token) : Type 0 where
+  pub none : HasNone is_not_plain ts
+
+-- tokens are plain if a search finds no other
+pub seen : (ts : List Token) → HasNone is_not_plain ts → ArePlain ts
 seen ts h = record { none = h }
 
-append-plain : (xs ys : List Token) → list_any is_head_or_use xs ≡ false → list_any is_head_or_use ys ≡ false
-    → list_any is_head_or_use (xs ++ ys) ≡ false
-append-plain [] ys h k = k
-append-plain (x ∷ xs) ys h k = both (is_head_or_use x) (λ h. append-plain xs ys h k) h
-  where
-    both : (b : Bool) → (list_any is_head_or_use xs ≡ false → list_any is_head_or_use (xs ++ ys) ≡ false) →
-        (b || list_any is_head_or_use xs) ≡ false → (b || list_any is_head_or_use (xs ++ ys)) ≡ false
-    both true more h = cc
-    both false more h = more h
-
-pub plain-append : (xs ys : List Token) → AreNoHeadsOrUses xs → AreNoHeadsOrUses ys → AreNoHeadsOrUses (xs ++ ys)
-plain-append xs ys h k = seen (xs ++ ys) (append-plain xs ys h.none k.none)
+pub plain-append : (xs ys : List Token) → ArePlain xs → ArePlain ys → ArePlain (xs ++ ys)
+plain-append xs ys h k = seen (xs ++ ys) (none-append is_not_plain xs ys h.none k.none)
 
 plain-if : (b : Bool) (xs ys : List Token)
-    → AreNoHeadsOrUses xs → AreNoHeadsOrUses ys → AreNoHeadsOrUses (if b then xs else ys)
+    → ArePlain xs → ArePlain ys → ArePlain (if b then xs else ys)
 plain-if true xs ys h k = h
 plain-if false xs ys h k = k
 
-pub fault_if-plain : (b : Bool) (kind : FaultKind) (line : ℕ) → AreNoHeadsOrUses (fault_if b kind line)
+pub fault_if-plain : (b : Bool) (kind : FaultKind) (line : ℕ) → ArePlain (fault_if b kind line)
 fault_if-plain true kind line = seen _ refl
 fault_if-plain false kind line = seen _ refl
 
 -- line ends
 
-stop-plain : (u : Unit-of) (ts : List Token) → AreNoHeadsOrUses ts → AreNoHeadsOrUses (unless_stop u ts)
+stop-plain : (u : Unit-of) (ts : List Token) → ArePlain ts → ArePlain (unless_stop u ts)
 stop-plain unit.Stop ts h = seen [] refl
 stop-plain _ ts h = h
 
-units-plain : (r : Region) (k : ℕ) (text : List Cell) → AreNoHeadsOrUses (from_units line_end_of r k text)
+units-plain : (r : Region) (k : ℕ) (text : List Cell) → ArePlain (from_units line_end_of r k text)
 units-plain r zero [] = seen [] refl
 units-plain r (suc k) [] = seen [] refl
 units-plain r (suc k) (c ∷ cs) = units-plain r k cs
@@ -75,25 +72,25 @@ units-plain r zero (c ∷ cs) =
     (plain-append _ _ (plain-if (is_line_end c.byte) (token.LineEnd c.line ∷ []) [] (seen _ refl) (seen _ refl))
     (units-plain r (more_by (unit_at r (c ∷ cs))) cs))
 
-pub line_ends-plain : (r : Region) (text : List Cell) → AreNoHeadsOrUses (line_ends r text)
-line_ends-plain r text = subst AreNoHeadsOrUses (sym (line_ends-are r text)) (units-plain r 0 text)
+pub line_ends-plain : (r : Region) (text : List Cell) → ArePlain (line_ends r text)
+line_ends-plain r text = subst ArePlain (sym (line_ends-are r text)) (units-plain r 0 text)
 
 pub white-plain : (ends faults : List Token)
-    → AreNoHeadsOrUses ends → AreNoHeadsOrUses faults → AreNoHeadsOrUses (token.White ∷ ends ++ faults)
-white-plain ends faults h k = seen _ (append-plain ends faults h.none k.none)
+    → ArePlain ends → ArePlain faults → ArePlain (token.White ∷ ends ++ faults)
+white-plain ends faults h k = seen _ (none-append is_not_plain ends faults h.none k.none)
 
 -- ranges of quoted and verbatim texts
 
-range-plain : (r : Region) (s : Span) → AreNoHeadsOrUses (range_token r s ∷ [])
+range-plain : (r : Region) (s : Span) → ArePlain (range_token r s ∷ [])
 range-plain region.Verbatim s = seen _ refl
 range-plain _ s = seen _ refl
 
-cut_range-plain : (r : Region) (line start end : ℕ) → AreNoHeadsOrUses (cut_range r line start end)
+cut_range-plain : (r : Region) (line start end : ℕ) → ArePlain (cut_range r line start end)
 cut_range-plain r line start end =
     plain-if (nat_lt start end) _ [] (range-plain r (record { line = line; start = start; end = end })) (seen [] refl)
 
 unit_tokens-plain : (r : Region) (u : Unit-of) (start : ℕ) (c : Cell) (next : Option ℕ)
-    → AreNoHeadsOrUses (unit_tokens r u start c next)
+    → ArePlain (unit_tokens r u start c next)
 unit_tokens-plain r unit.Two start c next =
     plain-if (holds at_sign c.byte) _ _ (cut_range-plain r c.line start (c.column + 1))
     (plain-if (holds backslash c.byte && is_line_end next) _ _
@@ -101,13 +98,13 @@ unit_tokens-plain r unit.Two start c next =
 unit_tokens-plain r _ start c next = fault_if-plain (holds at_sign c.byte) fault.StringAt c.line
 
 at_stop-plain : (u : Unit-of) (ending others : List Token)
-    → AreNoHeadsOrUses ending → AreNoHeadsOrUses others → AreNoHeadsOrUses (at_stop u ending others)
+    → ArePlain ending → ArePlain others → ArePlain (at_stop u ending others)
 at_stop-plain unit.Stop ending others h k = h
 at_stop-plain _ ending others h k = k
 
 pub cut_tokens-plain : (ends : ℕ → List Cell → List Token) (r : Region) (k start : ℕ) (text : List Cell)
-    → ((start : ℕ) (text : List Cell) → AreNoHeadsOrUses (ends start text))
-    → AreNoHeadsOrUses (cut_tokens ends r k start text)
+    → ((start : ℕ) (text : List Cell) → ArePlain (ends start text))
+    → ArePlain (cut_tokens ends r k start text)
 cut_tokens-plain ends r zero start [] h = h start []
 cut_tokens-plain ends r (suc k) start [] h = h start []
 cut_tokens-plain ends r (suc k) start (c ∷ cs) h = cut_tokens-plain ends r k start cs h
@@ -118,28 +115,23 @@ cut_tokens-plain ends r zero start (c ∷ cs) h =
     (next_start (unit_at r (c ∷ cs)) start c (byte_at 0 cs)) cs h))
 
 pub quote_end-plain : (r : Region) (close last start : ℕ) (text : List Cell)
-    → AreNoHeadsOrUses (quote_end r close last start text)
+    → ArePlain (quote_end r close last start text)
 quote_end-plain r close last start [] = seen _ refl
 quote_end-plain r close last start (c ∷ cs) =
     plain-if (holds close c.byte) _ _ (cut_range-plain r c.line start (c.column + 1))
     (plain-append _ _ (cut_range-plain r c.line start c.column) (seen _ refl))
 
-verbatim_end-plain : (start : ℕ) (text : List Cell) → AreNoHeadsOrUses (verbatim_end start text)
+verbatim_end-plain : (start : ℕ) (text : List Cell) → ArePlain (verbatim_end start text)
 verbatim_end-plain start [] = seen [] refl
 verbatim_end-plain start (c ∷ cs) =
     plain-append _ _ (cut_range-plain region.Verbatim c.line start c.column)
     (fault_if-plain (is_line_end c.byte) fault.VerbatimEnd c.line)
 
-empty_end-plain : (text : List Cell) → AreNoHeadsOrUses (empty_end text)
+empty_end-plain : (text : List Cell) → ArePlain (empty_end text)
 empty_end-plain [] = seen [] refl
 empty_end-plain (c ∷ cs) = fault_if-plain (is_line_end c.byte) fault.VerbatimEnd c.line
 
-pub verbatim_tokens-plain : (text : List Cell) → AreNoHeadsOrUses (verbatim_tokens text)
+pub verbatim_tokens-plain : (text : List Cell) → ArePlain (verbatim_tokens text)
 verbatim_tokens-plain text =
     plain-if (ends_at_once region.Verbatim text) _ _ (seen _ (empty_end-plain text).none)
     (cut_tokens-plain verbatim_end region.Verbatim 0 (front_column text) text verbatim_end-plain)
-
-pub constant-plain : (constant : Option AsciiConstant) (s : LexerState) (text : List Cell)
-    → AreNoHeadsOrUses (constant_lexeme constant s text).tokens
-constant-plain None s text = seen _ refl
-constant-plain (Some constant) s text = seen _ refl

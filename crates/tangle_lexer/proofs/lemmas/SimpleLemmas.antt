@@ -1,24 +1,27 @@
 -- Simple lexemes: words, white space, signs and line ends of C text.
 use Rattle.std.proofs.Common.{◌≡◌, ◌<◌, ℕ, ◌==◌, Bool, true, false, if◌then◌else◌, List, [], ◌∷◌, ◌++◌, length, drop}
 use Rattle.std.proofs.Common.{arith, Option, Some, None, option_to_list, subst, refl, ap, sym, ◌∙◌}
+use Rattle.std.specs.List.{list_any}
 use Rattle.std.specs.Option.{IfSome}
 use Rattle.std.proofs.lemmas.Bool.{or_parts}
 use Rattle.tangle_lines.specs.Bytes.{at_sign, double_quote, is_white}
 use Rattle.tangle_lexer.specs.declared.modes.IncludeState.{IncludeState}
 use Rattle.tangle_lexer.specs.declared.lexeme_kinds.LexemeKind.TheVariants as lexeme_kind
-use Rattle.tangle_text.specs.Bytes.{slash, apostrophe, less_sign, is_word_byte}
+use Rattle.tangle_text.specs.Bytes.{slash, apostrophe, less_sign, is_opener, is_word_byte}
 use Rattle.tangle_lexer.specs.declared.modes.Mode.{Mode}
 use Rattle.tangle_lexer.specs.declared.modes.Mode.TheVariants as mode
 use Rattle.tangle_lexer.specs.declared.modes.LexerState.{LexerState}
 use Rattle.tangle_lexer.specs.declared.simple.SimpleLexeme.{SimpleLexeme}
 use Rattle.tangle_lexer.specs.declared.simple.SimpleLexeme.TheVariants as simple
 use Rattle.tangle_text.specs.Text.{Cell, byte_at}
-use Rattle.tangle_lexer.specs.Lexemes.{with_include}
+use Rattle.tangle_text.specs.Runs.{is_plain}
+use Rattle.tangle_lexer.specs.Lexemes.{Lexeme, with_include}
 use Rattle.tangle_lexer.specs.Steps.{kind_by, occurrences_from, lexeme, lexeme_in, c_lexeme, macro_lexeme}
-use Rattle.tangle_lexer.specs.Simple.{IsSimple, is_opener, simple_of, simple_kind, is_c_text}
+use Rattle.tangle_lexer.specs.Simple.{IsSimple, simple_of, simple_kind, is_word_or_sign, is_c_text}
 use Rattle.tangle_lexer.specs.declared.tokens.Token.{Token}
 use Rattle.tangle_lexer.specs.Reads.{IsRead}
-use Rattle.tangle_lexer.specs.Heads.{HasNoHead}
+use Rattle.tangle_lexer.proofs.lemmas.HeadLemmas.{is_special}
+use Rattle.tangle_lexer.proofs.lemmas.PlainTokens.{HasNone}
 use Rattle.tangle_lexer.proofs.lemmas.StepLemmas.{occurrences_from-step}
 
 -- a simple lexeme is the same in C parts and in macros
@@ -28,10 +31,8 @@ unfolding lexeme
 lexeme-simple s text p here h = go s.mode h
   where
     alike : (p : SimpleLexeme) → macro_lexeme (simple_kind p) s text ≡ c_lexeme (simple_kind p) s text
-    alike simple.Word = refl
     alike simple.White = refl
-    alike simple.Sign = refl
-    alike simple.LineEnd = refl
+    alike _ = refl
 
     not-true : false ≡ true → ⊥
     not-true h = cc
@@ -46,10 +47,8 @@ lexeme-simple s text p here h = go s.mode h
 pub simple-after : (p : SimpleLexeme) (inc : IncludeState) (s : LexerState) (text : List Cell)
     → (c_lexeme (simple_kind p) (with_include inc s) text).after
     ≡ with_include (c_lexeme (simple_kind p) (with_include inc s) text).after.include s
-simple-after simple.Word inc s text = refl
 simple-after simple.White inc s text = refl
-simple-after simple.Sign inc s text = refl
-simple-after simple.LineEnd inc s text = refl
+simple-after _ inc s text = refl
 
 pub simple-again : (old new : List Token) (inc : IncludeState)
     (s state after : LexerState) (text rest : List Cell) (p : SimpleLexeme)
@@ -64,20 +63,21 @@ simple-again old new inc s state after text rest p is read =
       state = ap (λ t. with_include t.include s) again.state ∙ sym (simple-after p inc s text);
     }
 
--- a simple lexeme has no occurrence and no head
+-- a simple lexeme has no occurrence, no head and no run
 pub simple-none : (p : SimpleLexeme) (s : LexerState) (text : List Cell)
     → (c_lexeme (simple_kind p) s text).occurrence ≡ None
-simple-none simple.Word s text = refl
 simple-none simple.White s text = refl
-simple-none simple.Sign s text = refl
-simple-none simple.LineEnd s text = refl
+simple-none _ s text = refl
 
-pub simple-no_head : (p : SimpleLexeme) (s : LexerState) (text : List Cell)
-    → HasNoHead (c_lexeme (simple_kind p) s text).tokens
-simple-no_head simple.Word s text = refl
-simple-no_head simple.White s text = refl
-simple-no_head simple.Sign s text = refl
-simple-no_head simple.LineEnd s text = refl
+simple-plain : (p : SimpleLexeme) (s : LexerState) (text : List Cell)
+    → HasNone is_special (c_lexeme (simple_kind p) s text).tokens
+simple-plain simple.White s text = refl
+simple-plain _ s text = refl
+
+pub simple-special : (s : LexerState) (text : List Cell) (p : SimpleLexeme) → IsSimple text p → is_c_text s.mode ≡ true
+    → HasNone is_special (lexeme s text).tokens
+simple-special s text p here h =
+    ap (λ (l : Lexeme). list_any is_special l.tokens) (lexeme-simple s text p here h) ∙ simple-plain p s text
 
 pub simple-read : (old new : List Token) (s after : LexerState) (text rest : List Cell) (p : SimpleLexeme)
     → IsSimple text p → is_c_text s.mode ≡ true
@@ -113,6 +113,14 @@ closed-kind inc b next h =
     let slashes = or_parts (b == at_sign) (b == slash) quotes.0 in
     rw (slashes.0, slashes.1, quotes.1, apostrophes.1, less.1) refl
 
+closed-plain : (b : ℕ) → is_opener b ≡ false → is_white b ≡ false → is_plain b ≡ true
+closed-plain b h white =
+    let less = or_parts _ (b == less_sign) h in
+    let apostrophes = or_parts _ (b == apostrophe) less.0 in
+    let quotes = or_parts _ (b == double_quote) apostrophes.0 in
+    let slashes = or_parts (b == at_sign) (b == slash) quotes.0 in
+    rw (white, quotes.1, apostrophes.1, slashes.1, slashes.0) refl
+
 pub simple-is : (text : List Cell) (b : ℕ)
     → byte_at 0 text ≡ Some b → IfSome (simple_of b) (λ simple. IsSimple text simple)
 simple-is text b is = by (is_opener b) refl (is_white b) refl (is_word_byte b) refl
@@ -120,17 +128,18 @@ simple-is text b is = by (is_opener b) refl (is_white b) refl (is_word_byte b) r
     kind : (s : SimpleLexeme) → is_opener b ≡ false
         → (if is_white b then lexeme_kind.White else if is_word_byte b then lexeme_kind.Word else lexeme_kind.Other)
         ≡ simple_kind s
-        → IsSimple text s
-    kind s closed k = record {
+        → (is_word_or_sign s ≡ true → is_plain b ≡ true) → IsSimple text s
+    kind s closed k plain = record {
       inside = some-inside text b is;
       lexeme_kind =
           λ inc. ap (λ x. kind_by inc x (byte_at 1 text)) is ∙ (closed-kind inc b (byte_at 1 text) closed ∙ k);
       byte = λ other. rw is refl;
+      plain = λ holds. rw is (plain holds);
     }
 
     by : (o : Bool) → is_opener b ≡ o → (w : Bool) → is_white b ≡ w → (d : Bool)
         → is_word_byte b ≡ d → IfSome (simple_of b) (λ simple. IsSimple text simple)
     by true o w e d f = rw o tt
-    by false o true e d f = rw (o, e) (kind simple.White o (rw e refl))
-    by false o false e true f = rw (o, e, f) (kind simple.Word o (rw (e, f) refl))
-    by false o false e false f = rw (o, e, f) (kind simple.Sign o (rw (e, f) refl))
+    by false o true e d f = rw (o, e) (kind simple.White o (rw e refl) (λ holds. cc))
+    by false o false e true f = rw (o, e, f) (kind simple.Word o (rw (e, f) refl) (λ holds. closed-plain b o e))
+    by false o false e false f = rw (o, e, f) (kind simple.Sign o (rw (e, f) refl) (λ holds. closed-plain b o e))

@@ -1,28 +1,37 @@
 -- The items of a C part, token by token.
 use Rattle.std.proofs.Common.{◌≡◌, ℕ, suc, ◌+◌, ◌-◌, length, slice_get, arith, Bool, true, false, ◌&&◌, ◌||◌, List, []}
 use Rattle.std.proofs.Common.{◌∷◌, ◌++◌, refl, ap, sym, ◌∙◌, if◌then◌else◌, Option, Some, None, is_some, append_assoc}
-use Rattle.std.proofs.Common.{append-nil}
+use Rattle.std.proofs.Common.{append-nil, map, subst}
 use Rattle.tangle_lexer.specs.declared.tokens.Token.{Token}
 use Rattle.tangle_lexer.specs.declared.tokens.Token.TheVariants as token
 use Rattle.tangle_scan.specs.declared.items.Item.{Item}
 use Rattle.tangle_scan.specs.declared.items.Item.TheVariants as item
+use Rattle.tangle_scan.specs.declared.items.Entry.{Entry}
+use Rattle.tangle_scan.specs.declared.items.Entry.TheVariants as entry
 use Rattle.tangle_faults.specs.declared.faults.Origin.{Origin}
-use Rattle.tangle_lines.specs.Reading.{SourceLine}
-use Rattle.tangle_lines.specs.Reading.{origin_at}
+use Rattle.tangle_lines.specs.Reading.{SourceLine, origin_at}
 use Rattle.tangle_text.specs.declared.spans.Span.{Span}
 use Rattle.tangle_lexer.specs.declared.tokens.SpanKind.{SpanKind}
 use Rattle.tangle_lexer.specs.declared.tokens.SpanKind.TheVariants as span_kind
 use Rattle.tangle_scan.specs.declared.plain_parts.PartState.{PartState}
-use Rattle.tangle_scan.specs.Rules.{texts_of, is_continued, at_line_front, blanks}
-use Rattle.tangle_scan.specs.Rules.{ends_in_backslash, span_item}
+use Rattle.tangle_scan.specs.Rules.{texts_of, is_continued, at_line_front, blanks, ends_in_backslash, span_item}
 use Rattle.tangle_scan.specs.LineTruth.{is_expected, counted_after_line_end}
-use Rattle.std.specs.List.{list_any}
+use Rattle.std.specs.List.{list_any, All}
+use Rattle.std.proofs.lemmas.List.Elements.{All-nil, All-cons, All-append}
+use Rattle.std.proofs.lemmas.List.{map-append}
+use Rattle.std.proofs.lemmas.List.Concat.{flat_map-append}
 use Rattle.std.proofs.lemmas.List.Folds.{list_any-append}
-use Rattle.std.proofs.Math.Bool.{or_comm, or-false}
+use Rattle.std.proofs.Math.Bool.{or_comm}
 use Rattle.tangle_scan.specs.Web.{is_line_mark}
-use Rattle.tangle_scan.specs.Passes.{origin_of, items_at, counted_after_token, is_rare, item_continues, items_continue}
-use Rattle.tangle_scan.specs.Passes.{line_item, plain_items_ahead, items_ahead}
+use Rattle.tangle_text.specs.declared.runs.RunPart.{RunPart}
+use Rattle.tangle_text.specs.declared.runs.RunPart.TheVariants as part
+use Rattle.tangle_text.specs.Runs.{run_parts}
+use Rattle.tangle_lexer.specs.Runs.{IsRunOf, unfolded_token}
+use Rattle.tangle_scan.specs.Entries.{entry_items, items_of, entry_is_mark, part_item, IsEntryInRange}
+use Rattle.tangle_scan.specs.Passes.{origin_of, items_at, counted_after_token, is_rare, item_continues}
+use Rattle.tangle_scan.specs.Passes.{entry_continues, entries_continue, line_item, plain_items_ahead, items_ahead}
 use Rattle.tangle_scan.proofs.lemmas.ItemsByOrigin.{items_by_origin}
+use Rattle.tangle_scan.proofs.lemmas.RunItems.{run-ahead, unfolded-one}
 
 -- the items after a blank and then other items were added
 pub pushed-twice : (old blank middle more new rest : List Item)
@@ -70,38 +79,67 @@ plain-rules lines b white counted (e ∷ es) =
       plain-rules lines (Some e) false (counted_after_token lines counted e) es,
     ) refl
 
--- whether the next line continues this one depends only on the last item that was made
+-- the items of entries that were added
 
-pub last-continues : (texts : List (List ℕ)) (items : List Item) (x : Item)
-    → items_continue texts (items ++ x ∷ []) ≡ item_continues texts x
+pub items-push : (texts : List (List ℕ)) (entries : List Entry) (x : Entry)
+    → items_of texts (entries ++ x ∷ []) ≡ items_of texts entries ++ entry_items texts x
+items-push texts entries x =
+    flat_map-append (entry_items texts) entries (x ∷ [])
+    ∙ ap (λ t. items_of texts entries ++ t) (append-nil (entry_items texts x))
+
+pub items-of-items : (texts : List (List ℕ)) (items : List Item) → items_of texts (map entry.Item items) ≡ items
+items-of-items texts [] = refl
+items-of-items texts (x ∷ items) = ap (λ t. x ∷ t) (items-of-items texts items)
+
+items-more : (texts : List (List ℕ)) (entries : List Entry) (items : List Item)
+    → items_of texts (entries ++ map entry.Item items) ≡ items_of texts entries ++ items
+items-more texts entries items =
+    flat_map-append (entry_items texts) entries (map entry.Item items)
+    ∙ ap (λ t. items_of texts entries ++ t) (items-of-items texts items)
+
+-- an item of a token and the mark after it, added one after the other
+pub pushed-pair : (middle one new : List Entry) (first second items : List Item)
+    → one ≡ middle ++ map entry.Item first → new ≡ one ++ map entry.Item second → first ++ second ≡ items
+    → new ≡ middle ++ map entry.Item items
+pushed-pair middle one new first second items is_one is_new is =
+    is_new
+    ∙ (ap (λ t. t ++ map entry.Item second) is_one
+    ∙ (append_assoc middle (map entry.Item first) (map entry.Item second)
+    ∙ (ap (λ t. middle ++ t) (sym (map-append entry.Item first second))
+    ∙ ap (λ t. middle ++ map entry.Item t) is)))
+
+-- whether the next line continues this one depends only on the last entry that was made
+
+pub last-continues : (texts : List (List ℕ)) (entries : List Entry) (x : Entry)
+    → entries_continue texts (entries ++ x ∷ []) ≡ entry_continues texts x
 last-continues texts [] x = refl
 last-continues texts (y ∷ []) x = refl
-last-continues texts (y ∷ z ∷ items) x = last-continues texts (z ∷ items) x
+last-continues texts (y ∷ z ∷ entries) x = last-continues texts (z ∷ entries) x
 
--- the item at the last position of the vector is that last item
-at-last : List (List ℕ) → Option Item → Bool
+-- the entry at the last position of the vector is that last entry
+at-last : List (List ℕ) → Option Entry → Bool
 at-last texts None = false
-at-last texts (Some x) = item_continues texts x
+at-last texts (Some x) = entry_continues texts x
 
-continues-at : (texts : List (List ℕ)) (items : List Item)
-    → items_continue texts items ≡ at-last texts (slice_get items (length items - 1))
+continues-at : (texts : List (List ℕ)) (entries : List Entry)
+    → entries_continue texts entries ≡ at-last texts (slice_get entries (length entries - 1))
 unfolding at-last
 continues-at texts [] = refl
 continues-at texts (x ∷ []) = refl
-continues-at texts (x ∷ y ∷ items) =
-    let next : length (x ∷ y ∷ items) - 1 ≡ suc (length (y ∷ items) - 1) = omega arith in
-    continues-at texts (y ∷ items) ∙ ap (λ n. at-last texts (slice_get (x ∷ y ∷ items) n)) (sym next)
+continues-at texts (x ∷ y ∷ entries) =
+    let next : length (x ∷ y ∷ entries) - 1 ≡ suc (length (y ∷ entries) - 1) = omega arith in
+    continues-at texts (y ∷ entries) ∙ ap (λ n. at-last texts (slice_get (x ∷ y ∷ entries) n)) (sym next)
 
-pub continues-last : (texts : List (List ℕ)) (items : List Item) (x : Item)
-    → Some x ≡ slice_get items (length items - 1)
-    → items_continue texts items ≡ item_continues texts x
+pub continues-last : (texts : List (List ℕ)) (entries : List Entry) (x : Entry)
+    → Some x ≡ slice_get entries (length entries - 1)
+    → entries_continue texts entries ≡ entry_continues texts x
 unfolding at-last
-continues-last texts items x is = continues-at texts items ∙ ap (at-last texts) (sym is)
+continues-last texts entries x is = continues-at texts entries ∙ ap (at-last texts) (sym is)
 
-pub continues-none : (texts : List (List ℕ)) (items : List Item)
-    → None ≡ slice_get items (length items - 1) → items_continue texts items ≡ false
+pub continues-none : (texts : List (List ℕ)) (entries : List Entry)
+    → None ≡ slice_get entries (length entries - 1) → entries_continue texts entries ≡ false
 unfolding at-last
-continues-none texts items is = continues-at texts items ∙ ap (at-last texts) (sym is)
+continues-none texts entries is = continues-at texts entries ∙ ap (at-last texts) (sym is)
 
 pub line-continues : (texts : List (List ℕ)) (lines : List SourceLine) (continued : Bool) (counted : Origin) (line : ℕ)
     → item_continues texts (line_item lines continued counted line) ≡ false
@@ -119,58 +157,103 @@ span-continues texts span_kind.Sign s = refl
 span-continues texts span_kind.Quoted s = refl
 span-continues texts span_kind.Verbatim s = refl
 
-pub item-continues : (lines : List SourceLine) (items : List Item) (e : Token)
+item-continues : (lines : List SourceLine) (entries : List Entry) (e : Token)
     → is_rare e ≡ false → (e ≡ token.White → ⊥) → ((line : ℕ) → e ≡ token.LineEnd line → ⊥)
-    → items_continue (texts_of lines) (items ++ items_at lines e) ≡ ends_in_backslash (texts_of lines) e
-item-continues lines items (token.Span kind s) plain white end =
-    last-continues (texts_of lines) items (span_item kind s) ∙ span-continues (texts_of lines) kind s
-item-continues lines items token.QuoteBreak plain white end = last-continues (texts_of lines) items item.QuoteBreak
-item-continues lines items (token.UseOf occurrence line) plain white end =
-    ap (items_continue (texts_of lines))
-    (sym (append_assoc items (item.UseOf occurrence ∷ []) (item.LineMark (origin_at lines line) ∷ [])))
-    ∙ last-continues (texts_of lines) (items ++ item.UseOf occurrence ∷ []) (item.LineMark (origin_at lines line))
-item-continues lines items token.White plain white end = absurd (white refl)
-item-continues lines items (token.LineEnd line) plain white end = absurd (end line refl)
-item-continues lines items _ plain white end = cc
+    → ((s : Span) → e ≡ token.Run s → ⊥)
+    → entries_continue (texts_of lines) (entries ++ map entry.Item (items_at lines e))
+    ≡ ends_in_backslash (texts_of lines) e
+item-continues lines entries (token.Span kind s) plain white end run =
+    last-continues (texts_of lines) entries (entry.Item (span_item kind s)) ∙ span-continues (texts_of lines) kind s
+item-continues lines entries token.QuoteBreak plain white end run =
+    last-continues (texts_of lines) entries (entry.Item item.QuoteBreak)
+item-continues lines entries (token.UseOf occurrence line) plain white end run =
+    let mark = entry.Item (item.LineMark (origin_at lines line)) in
+    let named = entry.Item (item.UseOf occurrence) in
+    ap (entries_continue (texts_of lines)) (sym (append_assoc entries (named ∷ []) (mark ∷ [])))
+    ∙ last-continues (texts_of lines) (entries ++ named ∷ []) mark
+item-continues lines entries token.White plain white end run = absurd (white refl)
+item-continues lines entries (token.LineEnd line) plain white end run = absurd (end line refl)
+item-continues lines entries (token.Run s) plain white end run = absurd (run s refl)
+item-continues lines entries _ plain white end run = cc
 
 -- the items that are added for the next token
 
-pub plain-line : (lines : List SourceLine) (items new : List Item) (at next : PartState) (line : ℕ) (es : List Token) →
-    let continued : Bool = items_continue (texts_of lines) items in
-    new ≡ items ++ line_item lines continued (origin_of at.counted) line ∷ [] →
+pub plain-white : (lines : List SourceLine) (entries : List Entry) (at : PartState) (e : Token) (es : List Token)
+    → e ≡ token.White
+    → items_of (texts_of lines) entries ++ items_ahead lines (record at { has_white = true }) entries es
+    ≡ items_of (texts_of lines) entries ++ items_ahead lines at entries (unfolded_token (texts_of lines) e ++ es)
+unfolding items_ahead
+plain-white lines entries at e es is = rw is refl
+
+pub plain-line : (lines : List SourceLine) (entries new : List Entry) (at next : PartState)
+    (e : Token) (line : ℕ) (es : List Token) →
+    let continued : Bool = entries_continue (texts_of lines) entries in
+    e ≡ token.LineEnd line →
+    new ≡ entries ++ entry.Item (line_item lines continued (origin_of at.counted) line) ∷ [] →
     next.keeps_white ≡ continued → next.has_white ≡ false →
     origin_of next.counted ≡ counted_after_line_end lines continued (origin_of at.counted) line →
-    new ++ items_ahead lines next new es ≡ items ++ items_ahead lines at items (token.LineEnd line ∷ es)
+    items_of (texts_of lines) new ++ items_ahead lines next new es
+    ≡ items_of (texts_of lines) entries ++ items_ahead lines at entries (unfolded_token (texts_of lines) e ++ es)
 unfolding items_ahead
-plain-line lines items new at next line es is keeps white counted =
-    let continued = items_continue (texts_of lines) items in
+plain-line lines entries new at next e line es is_end is keeps white counted =
+    let continued = entries_continue (texts_of lines) entries in
     let made = line_item lines continued (origin_of at.counted) line in
-    let none = last-continues (texts_of lines) items made
+    let none = last-continues (texts_of lines) entries (entry.Item made)
     ∙ line-continues (texts_of lines) lines continued (origin_of at.counted) line in
-    rw (is, keeps, white, counted, none) (append_assoc items (made ∷ []) _)
+    rw (is_end, is, keeps, white, counted, none, items-push (texts_of lines) entries (entry.Item made))
+    (append_assoc (items_of (texts_of lines) entries) (made ∷ []) _)
 
-pub plain-item : (lines : List SourceLine) (items middle new : List Item)
+pub plain-run : (lines : List SourceLine) (entries middle new : List Entry)
+    (at next : PartState) (e : Token) (s : Span) (es : List Token)
+    → e ≡ token.Run s → IsRunOf (texts_of lines) s
+    → middle ≡ entries ++ map entry.Item (if at.keeps_white && at.has_white then item.Blank ∷ [] else [])
+    → new ≡ middle ++ entry.Run s ∷ []
+    → next.keeps_white ≡ true → next.has_white ≡ false → origin_of next.counted ≡ origin_of at.counted
+    → items_of (texts_of lines) new ++ items_ahead lines next new es
+    ≡ items_of (texts_of lines) entries ++ items_ahead lines at entries (unfolded_token (texts_of lines) e ++ es)
+unfolding items_ahead
+plain-run lines entries middle new at next e s es is run first second keeps white counted =
+    let texts = texts_of lines in
+    let continues = ap (entries_continue texts) second ∙ last-continues texts middle (entry.Run s) in
+    let ahead =
+    run-ahead lines at.keeps_white (entries_continue texts entries) at.has_white (origin_of at.counted) s es run in
+    let blank : List Item = if at.keeps_white && at.has_white then item.Blank ∷ [] else [] in
+    rw (is, keeps, white, counted, continues, ahead)
+    (pushed-twice (items_of texts entries) blank (items_of texts middle) (map part_item (run_parts texts s))
+    (items_of texts new) _
+    (ap (items_of texts) first ∙ items-more texts entries blank)
+    (ap (items_of texts) second ∙ items-push texts middle (entry.Run s)))
+
+pub plain-item : (lines : List SourceLine) (entries middle new : List Entry)
     (at next : PartState) (e : Token) (es : List Token)
     → is_rare e ≡ false → (e ≡ token.White → ⊥) → ((line : ℕ) → e ≡ token.LineEnd line → ⊥)
-    → middle ≡ items ++ (if at.keeps_white && at.has_white then item.Blank ∷ [] else [])
-    → new ≡ middle ++ items_at lines e
+    → ((s : Span) → e ≡ token.Run s → ⊥)
+    → middle ≡ entries ++ map entry.Item (if at.keeps_white && at.has_white then item.Blank ∷ [] else [])
+    → new ≡ middle ++ map entry.Item (items_at lines e)
     → next.keeps_white ≡ true → next.has_white ≡ false
     → origin_of next.counted ≡ counted_after_token lines (origin_of at.counted) e
-    → new ++ items_ahead lines next new es ≡ items ++ items_ahead lines at items (e ∷ es)
+    → items_of (texts_of lines) new ++ items_ahead lines next new es
+    ≡ items_of (texts_of lines) entries ++ items_ahead lines at entries (unfolded_token (texts_of lines) e ++ es)
 unfolding items_ahead
-plain-item lines items middle new at next e es plain other end first second keeps white counted =
-    let made = plain_items_ahead lines true (ends_in_backslash (texts_of lines) e)
+plain-item lines entries middle new at next e es plain other end run first second keeps white counted =
+    let texts = texts_of lines in
+    let made = plain_items_ahead lines true (ends_in_backslash texts e)
     false (counted_after_token lines (origin_of at.counted) e) es in
-    let continues = ap (items_continue (texts_of lines)) second ∙ item-continues lines middle e plain other end in
+    let continues =
+    ap (entries_continue texts) second ∙ item-continues lines middle e plain other end run in
+    let blank : List Item = if at.keeps_white && at.has_white then item.Blank ∷ [] else [] in
     rw (
+      unfolded-one texts e run,
       keeps,
       white,
       counted,
       continues,
-      step lines at.keeps_white (items_continue (texts_of lines) items)
+      step lines at.keeps_white (entries_continue texts entries)
           at.has_white (origin_of at.counted) e es other end,
     )
-    (pushed-twice items _ middle _ new made first second)
+    (pushed-twice (items_of texts entries) blank (items_of texts middle) (items_at lines e) (items_of texts new) made
+    (ap (items_of texts) first ∙ items-more texts entries blank)
+    (ap (items_of texts) second ∙ items-more texts middle (items_at lines e)))
   where
     step : (lines : List SourceLine) (keeps continues white : Bool) (counted : Origin) (e : Token) (es : List Token) →
         (e ≡ token.White → ⊥) → ((line : ℕ) → e ≡ token.LineEnd line → ⊥) →
@@ -184,30 +267,85 @@ plain-item lines items middle new at next e es plain other end first second keep
     step lines keeps continues white counted _ es other end = refl
 
 -- at the end of the tokens all items were made
-pub plain-end : (lines : List SourceLine) (at : PartState) (items left : List Item) (es : List Token) → es ≡ [] →
-    items ++ items_ahead lines at items es ≡ left → items ≡ left
+pub plain-end : (lines : List SourceLine) (at : PartState) (entries : List Entry) (left : List Item) (es : List Token)
+    → es ≡ [] → items_of (texts_of lines) entries ++ items_ahead lines at entries es ≡ left
+    → items_of (texts_of lines) entries ≡ left
 unfolding items_ahead
-plain-end lines at items left es none is =
-    sym (append-nil items) ∙ (sym (ap (λ t. items ++ items_ahead lines at items t) none) ∙ is)
+plain-end lines at entries left es none is =
+    sym (append-nil (items_of (texts_of lines) entries))
+    ∙ (sym (ap (λ t. items_of (texts_of lines) entries ++ items_ahead lines at entries t) none) ∙ is)
 
--- whether the items made so far have a mark
+-- whether the entries made so far have a mark
 
-marked : (items more : List Item)
-    → list_any is_line_mark (items ++ more) ≡ (list_any is_line_mark more || list_any is_line_mark items)
-marked items more =
-    list_any-append is_line_mark items more ∙ or_comm (list_any is_line_mark items) (list_any is_line_mark more)
+marked : (entries more : List Entry) → list_any entry_is_mark (entries ++ more)
+    ≡ (list_any entry_is_mark more || list_any entry_is_mark entries)
+marked entries more =
+    list_any-append entry_is_mark entries more
+    ∙ or_comm (list_any entry_is_mark entries) (list_any entry_is_mark more)
 
-pub marked-one : (items : List Item) (i : Item) (has : Bool) → list_any is_line_mark items ≡ has →
-    list_any is_line_mark (items ++ i ∷ []) ≡ (is_line_mark i || has)
-marked-one items i has is = rw (marked items (i ∷ []), or-false (is_line_mark i), is) refl
+marks-of-items : (items : List Item) → list_any entry_is_mark (map entry.Item items) ≡ list_any is_line_mark items
+marks-of-items [] = refl
+marks-of-items (x ∷ items) = ap (λ b. is_line_mark x || b) (marks-of-items items)
 
-pub marked-more : (old : List Item) (blank : Bool) (middle more new : List Item) (has : Bool) →
-    middle ≡ old ++ (if blank then item.Blank ∷ [] else []) → new ≡ middle ++ more → list_any is_line_mark old ≡ has →
-    list_any is_line_mark new ≡ (list_any is_line_mark more || has)
-marked-more old blank middle more new has first second is =
-    rw (second, marked middle more, first, marked old (if blank then item.Blank ∷ [] else []), is)
-    (ap (λ b. list_any is_line_mark more || (b || has)) (unmarked blank))
+no-mark-in-run : (parts : List RunPart) (items : List Item)
+    → list_any is_line_mark (map part_item parts ++ items) ≡ list_any is_line_mark items
+no-mark-in-run [] items = refl
+no-mark-in-run (part.Word s ∷ parts) items = no-mark-in-run parts items
+no-mark-in-run (part.Sign s ∷ parts) items = no-mark-in-run parts items
+no-mark-in-run (part.Space ∷ parts) items = no-mark-in-run parts items
+
+pub marks-of-entries : (texts : List (List ℕ)) (entries : List Entry)
+    → list_any is_line_mark (items_of texts entries) ≡ list_any entry_is_mark entries
+marks-of-entries texts [] = refl
+marks-of-entries texts (entry.Item x ∷ entries) = ap (λ b. is_line_mark x || b) (marks-of-entries texts entries)
+marks-of-entries texts (entry.Run s ∷ entries) =
+    no-mark-in-run (run_parts texts s) (items_of texts entries) ∙ marks-of-entries texts entries
+
+-- a blank is no mark
+marked-blank : (old middle : List Entry) (blank : Bool)
+    → middle ≡ old ++ map entry.Item (if blank then item.Blank ∷ [] else [])
+    → list_any entry_is_mark middle ≡ list_any entry_is_mark old
+marked-blank old middle blank is =
+    ap (list_any entry_is_mark) is
+    ∙ (marked old (map entry.Item (if blank then item.Blank ∷ [] else [])) ∙ unmarked blank)
   where
-    unmarked : (b : Bool) → list_any is_line_mark (if b then item.Blank ∷ [] else []) ≡ false
+    unmarked : (b : Bool) → (list_any entry_is_mark (map entry.Item (if b then item.Blank ∷ [] else []))
+        || list_any entry_is_mark old) ≡ list_any entry_is_mark old
     unmarked true = refl
     unmarked false = refl
+
+pub marked-more : (old : List Entry) (blank : Bool) (middle : List Entry) (more : List Item) (new : List Entry)
+    (has : Bool) → middle ≡ old ++ map entry.Item (if blank then item.Blank ∷ [] else [])
+    → new ≡ middle ++ map entry.Item more → list_any entry_is_mark old ≡ has
+    → list_any entry_is_mark new ≡ (list_any is_line_mark more || has)
+marked-more old blank middle more new has first second is =
+    ap (list_any entry_is_mark) second
+    ∙ (marked middle (map entry.Item more)
+    ∙ (ap (λ b. b || list_any entry_is_mark middle) (marks-of-items more)
+    ∙ ap (λ b. list_any is_line_mark more || b) (marked-blank old middle blank first ∙ is)))
+
+-- the runs among the entries are ranges of lines
+
+items-in-range : (texts : List (List ℕ)) (items : List Item) → All (IsEntryInRange texts) (map entry.Item items)
+items-in-range texts [] = All-nil (IsEntryInRange texts)
+items-in-range texts (x ∷ items) =
+    All-cons (IsEntryInRange texts) (entry.Item x) (map entry.Item items) tt (items-in-range texts items)
+
+pub all-items-in-range : (texts : List (List ℕ)) (entries : List Entry) (items : List Item)
+    → entries ≡ map entry.Item items → All (IsEntryInRange texts) entries
+all-items-in-range texts entries items is =
+    subst (All (IsEntryInRange texts)) (sym is) (items-in-range texts items)
+
+pub range-items : (texts : List (List ℕ)) (entries new : List Entry) (items : List Item)
+    → new ≡ entries ++ map entry.Item items → All (IsEntryInRange texts) entries → All (IsEntryInRange texts) new
+range-items texts entries new items is old =
+    subst (All (IsEntryInRange texts)) (sym is)
+    (All-append (IsEntryInRange texts) entries (map entry.Item items) old (items-in-range texts items))
+
+pub range-push : (texts : List (List ℕ)) (entries new : List Entry) (x : Entry)
+    → IsEntryInRange texts x → new ≡ entries ++ x ∷ []
+    → All (IsEntryInRange texts) entries → All (IsEntryInRange texts) new
+range-push texts entries new x inside is old =
+    subst (All (IsEntryInRange texts)) (sym is)
+    (All-append (IsEntryInRange texts) entries (x ∷ []) old
+    (All-cons (IsEntryInRange texts) x [] inside (All-nil (IsEntryInRange texts))))

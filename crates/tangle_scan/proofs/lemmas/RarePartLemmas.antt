@@ -1,6 +1,7 @@
 -- The items that the one pass adds for each token of a C part with rare tokens.
 use Rattle.std.proofs.Common.{◌≡◌, ◌≤◌, ℕ, Bool, true, false, ◌&&◌, if◌then◌else◌, Option, Some, is_some, refl, ap}
 use Rattle.std.proofs.Common.{List, [], ◌∷◌, ◌++◌, length, take, append_assoc, append-nil, sym, ◌∙◌, arith}
+use Rattle.std.proofs.Common.{zero, suc, ◌-◌, map, drop, get_or, slice_get}
 use Rattle.std.proofs.lemmas.List.{take_all, take-append-le}
 use Rattle.std.proofs.Math.Bool.{and-false, or-true}
 use Rattle.tangle_lexer.specs.declared.tokens.Token.{Token}
@@ -8,7 +9,11 @@ use Rattle.tangle_lexer.specs.declared.tokens.Token.TheVariants as token
 use Rattle.tangle_lexer.specs.declared.tokens.SpanKind.TheVariants as span_kind
 use Rattle.tangle_faults.specs.declared.faults.Origin.{Origin}
 use Rattle.tangle_faults.specs.declared.faults.FaultKind.{FaultKind}
-use Rattle.tangle_lines.specs.Reading.{SourceLine}
+use Rattle.tangle_lines.specs.Reading.{SourceLine, line_at}
+use Rattle.tangle_text.specs.declared.spans.Span.{Span}
+use Rattle.tangle_text.specs.declared.runs.RunPart.{RunPart}
+use Rattle.tangle_text.specs.Runs.{chunks, parts_of, run_parts}
+use Rattle.tangle_lexer.specs.Runs.{part_token}
 use Rattle.tangle_scan.specs.declared.items.Item.{Item}
 use Rattle.tangle_scan.specs.declared.items.Item.TheVariants as item
 use Rattle.tangle_scan.specs.declared.plain_parts.CountedOrigin.{CountedOrigin}
@@ -83,13 +88,52 @@ pub rare-white : (lines : List SourceLine) (items : List Item) (at : RarePartSta
     ≡ all_items lines items at (token.White ∷ es)
 unfolding all_items
 rare-white lines items at es =
-    from-white lines items at.start.items (origin_of at.start.counted) at.last at.item.now (origin_of at.counted) es
+    from-white lines items at.start.items (origin_of at.start.counted) at.last at.item (origin_of at.counted) es
 
 pub rare-fault : (lines : List SourceLine) (items : List Item)
     (at : RarePartState) (kind : FaultKind) (line : ℕ) (es : List Token)
     → all_items lines items at es ≡ all_items lines items at (token.Fault kind line ∷ es)
 unfolding all_items
 rare-fault lines items at kind line es = refl
+
+-- the tokens of a run, part by part
+
+pub rare-part : (lines : List SourceLine) (items new : List Item) (at next : RarePartState)
+    (p : RunPart) (parts rest : List RunPart) (left : List Token → List Item)
+    → ((es : List Token) → all_items lines items at (map part_token parts ++ es) ≡ left es)
+    → Some p ≡ slice_get parts 0 → rest ≡ drop 1 parts
+    → ((ls : List SourceLine) (es : List Token) → all_items ls new next es ≡ all_items ls items at (part_token p ∷ es))
+    → (es : List Token) → all_items lines new next (map part_token rest ++ es) ≡ left es
+rare-part lines items new at next p [] rest left before is others added es = cc
+rare-part lines items new at next p (q ∷ parts) rest left before is others added es =
+    let same : p ≡ q = cc in
+    ap (λ ps. all_items lines new next (map part_token ps ++ es)) others
+    ∙ (added lines (map part_token parts ++ es)
+    ∙ (ap (λ x. all_items lines items at (part_token x ∷ map part_token parts ++ es)) same
+    ∙ before es))
+
+pub rare-parts-end : (lines : List SourceLine) (items : List Item) (at : RarePartState)
+    (parts : List RunPart) (found : Option RunPart) (left : List Token → List Item)
+    → ((es : List Token) → all_items lines items at (map part_token parts ++ es) ≡ left es)
+    → found ≡ slice_get parts 0 → ((p : RunPart) → found ≡ Some p → ⊥)
+    → (es : List Token) → all_items lines items at es ≡ left es
+rare-parts-end lines items at [] found left before is none es = before es
+rare-parts-end lines items at (p ∷ parts) found left before is none es = absurd (none p is)
+
+pub line-bytes : (lines : List SourceLine) (k : ℕ) → (line_at lines k).bytes ≡ get_or (texts_of lines) k []
+line-bytes [] k = refl
+line-bytes (l ∷ lines) zero = refl
+line-bytes (l ∷ lines) (suc k) = line-bytes lines k
+
+pub parts-begin : (lines : List SourceLine) (s : Span) (bytes : List ℕ) (parts : List RunPart)
+    → bytes ≡ (line_at lines s.line).bytes
+    → parts ≡ parts_of s.line s.start (chunks (take (s.end - s.start) (drop s.start bytes)))
+    → parts ≡ run_parts (texts_of lines) s
+unfolding run_parts
+parts-begin lines s bytes parts is are =
+    are
+    ∙ ap (λ t. parts_of s.line s.start (chunks (take (s.end - s.start) (drop s.start t))))
+    (is ∙ line-bytes lines s.line)
 
 -- a join after line ends
 pub rare-join-back : (lines : List SourceLine) (items : List Item) (at : RarePartState) (es : List Token) →
@@ -125,7 +169,7 @@ unjoined _ h = refl
 pub rare-line : (lines : List SourceLine) (items new : List Item)
     (at : RarePartState) (line many : ℕ) (counted : CountedOrigin) (es : List Token)
     → (at.last ≡ last.Joined → ⊥) → at.start.items ≤ length items → many ≡ length items →
-    let continued : Bool = continues_after (texts_of lines) at.last at.item.now in
+    let continued : Bool = continues_after (texts_of lines) at.last at.item in
     new ≡ items ++ line_item lines continued (origin_of at.counted) line ∷ [] →
     origin_of counted ≡ counted_after_line_end lines continued (origin_of at.counted) line →
     all_items lines new
@@ -138,22 +182,22 @@ pub rare-line : (lines : List SourceLine) (items new : List Item)
     ≡ all_items lines items at (token.LineEnd line ∷ es)
 unfolding all_items
 rare-line lines items new at line many counted es other within long is is_counted =
-    rw (after-end (continues_after (texts_of lines) at.last at.item.now), unjoined at.last other, is, is_counted, long)
+    rw (after-end (continues_after (texts_of lines) at.last at.item), unjoined at.last other, is, is_counted, long)
     (settled (is_after_line_end at.last) (joins_ahead es) _
-    (rare_items_ahead lines last.Joined at.item.now (origin_of at.start.counted) es)
-    (rare_items_ahead lines last.Joined at.item.now (origin_of at.counted) es) _)
+    (rare_items_ahead lines last.Joined at.item (origin_of at.start.counted) es)
+    (rare_items_ahead lines last.Joined at.item (origin_of at.counted) es) _)
   where
     settled : (a j : Bool) (i : Item) (back joined front : List Item)
         → (if j
         then take (if a then at.start else record { items = length items; counted = at.counted }).items
         (items ++ i ∷ [])
-        ++ rare_items_ahead lines last.Joined at.item.now
+        ++ rare_items_ahead lines last.Joined at.item
         (origin_of (if a then at.start else record { items = length items; counted = at.counted }).counted) es
         else (items ++ i ∷ []) ++ front)
         ≡ (if a && j
-        then take at.start.items items ++ rare_items_ahead lines last.Joined at.item.now (origin_of at.start.counted) es
+        then take at.start.items items ++ rare_items_ahead lines last.Joined at.item (origin_of at.start.counted) es
         else items
-        ++ (if j then rare_items_ahead lines last.Joined at.item.now (origin_of at.counted) es else i ∷ front))
+        ++ (if j then rare_items_ahead lines last.Joined at.item (origin_of at.counted) es else i ∷ front))
     settled true true i back joined front = rw (take-append-le at.start.items items (i ∷ []) within) refl
     settled true false i back joined front = append_assoc items (i ∷ []) front
     settled false true i back joined front =
@@ -189,13 +233,13 @@ solid-stays at e es h = ap (λ j. is_after_line_end at && j) (no-join e es h) �
 
 pub rare-item : (lines : List SourceLine) (old middle new : List Item)
     (at next : RarePartState) (e : Token) (es : List Token)
-    → is_solid e ≡ true → next.last ≡ last_of e → next.item.now ≡ e →
+    → is_solid e ≡ true → next.last ≡ last_of e → next.item ≡ e →
     middle ≡ old ++ (if needs_blank at.last e then item.Blank ∷ [] else []) →
     new ≡ middle ++ items_at lines e → origin_of next.counted ≡ counted_after_token lines (origin_of at.counted) e →
     all_items lines new next es ≡ all_items lines old at (e ∷ es)
 unfolding all_items
 rare-item lines old middle new at next e es h is_last is_item first second is =
-    let step = rare-solid lines at.last at.item.now (origin_of at.counted) e es h in
+    let step = rare-solid lines at.last at.item (origin_of at.counted) e es h in
     rw (is_last, is_item, last-stays e es, solid-stays at.last e es h, step, is)
     (pushed-twice old _ middle _ new _ first second)
 
@@ -212,15 +256,15 @@ joined-ahead lines at e counted (f ∷ es) h = cc
 -- at the beginning no token was read
 pub rare-begin : (lines : List SourceLine) (items : List Item) (at : RarePartState) (es : List Token) →
     items ≡ [] → at.last ≡ last.Front → at.start.items ≡ 0 → at.start.counted ≡ at.counted →
-    all_items lines items at es ≡ rare_items_ahead lines last.Front at.item.now (origin_of at.counted) es
+    all_items lines items at es ≡ rare_items_ahead lines last.Front at.item (origin_of at.counted) es
 unfolding all_items
 rare-begin lines items at es is front none same = rw (is, front, none, same) (settled (joins_ahead es) refl)
   where
     settled : (j : Bool) → joins_ahead es ≡ j →
-        (if j then take 0 [] ++ rare_items_ahead lines last.Joined at.item.now (origin_of at.counted) es
-        else [] ++ rare_items_ahead lines last.Front at.item.now (origin_of at.counted) es)
-        ≡ rare_items_ahead lines last.Front at.item.now (origin_of at.counted) es
-    settled true h = sym (joined-ahead lines last.Front at.item.now (origin_of at.counted) es h)
+        (if j then take 0 [] ++ rare_items_ahead lines last.Joined at.item (origin_of at.counted) es
+        else [] ++ rare_items_ahead lines last.Front at.item (origin_of at.counted) es)
+        ≡ rare_items_ahead lines last.Front at.item (origin_of at.counted) es
+    settled true h = sym (joined-ahead lines last.Front at.item (origin_of at.counted) es h)
     settled false h = refl
 
 -- at the end of the tokens all items were made

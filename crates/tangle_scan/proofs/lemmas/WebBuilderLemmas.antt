@@ -5,13 +5,15 @@ use Rattle.std.proofs.lemmas.Grind.{flat_map-append}
 use Rattle.std.proofs.lemmas.List.Folds.{list_any-append}
 use Rattle.std.proofs.lemmas.Bool.{or_parts}
 use Rattle.std.proofs.Math.Bool.{or_assoc, or-false}
+use Rattle.tangle_faults.specs.declared.faults.FaultKind.TheVariants as fault
 use Rattle.tangle_files.specs.Lines.{FileTable}
 use Rattle.tangle_lines.specs.Reading.{SourceLine, SourceRead}
 use Rattle.tangle_lexer.specs.declared.tokens.Token.{Token}
 use Rattle.tangle_lexer.specs.declared.tokens.Token.TheVariants as token
 use Rattle.tangle_scan.specs.Passes.{is_rare}
 use Rattle.tangle_scan.specs.Web.{is_all_macros, body, blocks, block_at, section_after, section_count, scan_faults}
-use Rattle.tangle_scan.specs.Web.{faults_at}
+use Rattle.tangle_scan.specs.Rules.{texts_of, macro_items, is_macro}
+use Rattle.tangle_scan.specs.Web.{faults_at, fault_on}
 use Rattle.tangle_lexer.specs.Heads.{is_head}
 use Rattle.tangle_scan.specs.WebBuilder.{WebBuilderRead, builder_with, with_head, own_fault}
 
@@ -153,6 +155,24 @@ front-whole source before es h =
       append-nil before.macros,
       or-false before.has_all_macros,
       faults-own source.files source.lines es h,
+    ) refl
+
+-- a macro without a head inside, whose items were added or whose fault
+pub macro-gathered : (source : SourceRead) (before : WebBuilderRead) (line : ℕ) (es : List Token) → body es ≡ es →
+    (let items = macro_items (texts_of source.lines) es in
+    let is_macro = is_macro (texts_of source.lines) items in
+    record before {
+      macros = before.macros ++ (if is_macro then items ∷ [] else []);
+      faults = before.faults
+          ++ (if is_macro then [] else fault_on source.files source.lines fault.MacroName line ∷ []);
+    } ≡ with_head source before (token.MacroStart line) es)
+macro-gathered source before line es whole =
+    rw (
+      whole,
+      append-nil before.pieces,
+      append-nil (if is_macro (texts_of source.lines) (macro_items (texts_of source.lines) es)
+          then macro_items (texts_of source.lines) es ∷ [] else []),
+      or-false before.has_all_macros,
     ) refl
 
 -- a head begins one section at most

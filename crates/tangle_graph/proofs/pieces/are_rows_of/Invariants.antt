@@ -7,5 +7,5 @@ abbrev pub invariant-loop-i : goal.invariant-loop-i
 invariant-loop-i l = record {
   size : length l.passed.items ≡ length l.rows;
   rows : (n : ℕ)
-      → n < length l.rows → passed_of (rows_of l.rows) l.passed.items n ≡ positions_of l.table (take l.i l.pieces) n;
+      → n < length l.rows → passed_of (rows_of l.rows) l.passed.items n ≡ positions_of l.table (take l.i l.web.pieces) n;
 }

@@ -6,4 +6,4 @@ use Rattle.tangle_graph.proofs.pieces.pieces_by_node.Given as goal
 
 abbrev pub invariant-loop-i : goal.invariant-loop-i
 invariant-loop-i l =
-    IsRowsOf (length l.table.names + 1) (positions_of l.table (take l.i l.pieces)) (rows_of l.rows.items)
+    IsRowsOf (length l.table.names + 1) (positions_of l.table (take l.i l.web.pieces)) (rows_of l.rows.items)

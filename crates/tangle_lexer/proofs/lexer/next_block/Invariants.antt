@@ -1,13 +1,21 @@
 use Rattle.std.proofs.Common.{◌≡◌, ◌≤◌, ◌++◌, false, length, map}
-use Rattle.std.specs.List.{list_any}
+use Rattle.std.specs.List.{list_any, All}
+use Rattle.tangle_text.specs.Text.{texts_of, IsRestOf}
+use Rattle.tangle_lexer.specs.declared.modes.Mode.TheVariants as mode
 use Rattle.tangle_lexer.specs.Steps.{tokens_from, occurrences_from}
 use Rattle.tangle_lexer.specs.Occurrences.{occurrence_of}
 use Rattle.tangle_lexer.specs.Heads.{is_head}
+use Rattle.tangle_lexer.specs.Runs.{unfolded, is_run, IsRunIn}
 use Rattle.tangle_lexer.proofs.lexer.next_block.Given as goal
 
 abbrev pub invariant-loop-front : goal.invariant-loop-front
 invariant-loop-front l = record {
-  tokens : l.buffers.tokens.items ++ tokens_from l.state l.reader ≡ tokens_from l.fn.from l.fn.reader;
+  tokens : unfolded (texts_of l.source.lines) l.buffers.tokens.items ++ tokens_from l.state l.reader
+      ≡ tokens_from l.fn.from l.fn.reader;
+  ours : IsRestOf l.source.lines l.reader;
+  runs : All (IsRunIn (texts_of l.source.lines)) l.buffers.tokens.items;
+  no_run : (l.fn.from.mode ≡ mode.CPart → ⊥) → list_any is_run l.buffers.tokens.items ≡ false;
+  mode : l.state.mode ≡ mode.CPart → l.fn.from.mode ≡ mode.CPart;
   no_head : list_any is_head l.buffers.tokens.items ≡ false;
   occurrences : l.buffers.occurrences.items ++ map (occurrence_of l.source.lines) (occurrences_from l.state l.reader)
       ≡ l.fn.buffers.occurrences.items ++ map (occurrence_of l.source.lines) (occurrences_from l.fn.from l.fn.reader);

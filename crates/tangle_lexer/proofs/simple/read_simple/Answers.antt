@@ -1,28 +1,46 @@
-use Rattle.std.proofs.Common.{ap, ◌∙◌, arith}
-use Rattle.std.specs.List.{list_any}
+use Rattle.std.proofs.Common.{length, ap, sym, subst, ◌∙◌, arith}
 use Rattle.tangle_lexer.specs.Lexemes.{with_include}
-use Rattle.tangle_lexer.specs.Heads.{is_head}
-use Rattle.tangle_lexer.proofs.lemmas.HeadLemmas.{no_head-append}
-use Rattle.tangle_lexer.proofs.lemmas.SimpleLemmas.{simple-again, simple-read, simple-occurrences_from, simple-no_head}
-use Rattle.tangle_lexer.proofs.lemmas.StepLemmas.{step-tokens, step-shorter}
+use Rattle.tangle_lexer.specs.Reads.{ReadsOn, AddsSimple}
+use Rattle.tangle_lexer.proofs.lemmas.BlockLemmas.{reads-nothing, reads-trans}
 use Rattle.tangle_lexer.proofs.simple.read_simple.Goals as goal
+
+pub returns-then-not-is_c_text-clause-read : goal.returns-then-not-is_c_text-clause-read
+returns-then-not-is_c_text-clause-read c = λ lines ours. reads-nothing lines _ c.args.from c.args.reader.now ours
+
+pub loop-simple-init : goal.loop-simple-init
+loop-simple-init c = record {
+  read = λ lines ours.
+      subst (λ t. ReadsOn lines c.args.tokens.now.items c.args.tokens.now.items c.args.from c.args.from
+      c.args.reader.now t) (sym c.copy-here.ensures)
+      (reads-nothing lines c.args.tokens.now.items c.args.from c.args.reader.now ours);
+  adds = record { no_head = λ none. none; no_run = λ other none. none };
+  shorter = omega (arith, ap length c.copy-here.ensures);
+  mode = sym c.is_c_text.ensures ∙ c.if-not-is_c_text.false;
+}
 
 pub loop-simple-preserved : goal.loop-simple-preserved
 loop-simple-preserved c =
     let before = c.loop-simple.invariant in
-    let here = c.in-Some.ensures in
-    let state = with_include c.loop-simple.include c.args.from in
-    let simple = simple-again _ _ c.loop-simple.include c.args.from _ _ c.loop-simple.here
-    _ c.in-Some.simple c.with_include-state.ensures c.in_ok-include.ensures in
-    let read = simple-read _ _ state _ c.loop-simple.here _ c.in-Some.simple here before.mode simple in
+    let step = c.in_ok-include.ensures in
+    let adds = subst (λ t. AddsSimple t.mode c.loop-simple.tokens.items c.run_or_simple.new.tokens.items)
+    c.with_include-state.ensures step.adds in
     record {
-      tokens = step-tokens _ _ state _ c.loop-simple.here _ here.inside read ∙ before.tokens;
-      no_head = λ none. ap (list_any is_head) simple.tokens
-          ∙ no_head-append c.loop-simple.tokens.items _ (before.no_head none)
-          (simple-no_head c.in-Some.simple state c.loop-simple.here);
-      occurrences =
-          simple-occurrences_from _ _ state _ c.loop-simple.here _ c.in-Some.simple here before.mode simple
-          ∙ before.occurrences;
-      shorter = omega (arith, step-shorter _ _ state _ c.loop-simple.here _ here.inside read, before.shorter);
+      read = λ lines ours.
+          let first = before.read lines ours in
+          reads-trans lines _ _ _ c.args.from (with_include c.loop-simple.include c.args.from) _ c.args.reader.now
+          c.loop-simple.here _ first
+          (subst (λ t. ReadsOn lines c.loop-simple.tokens.items c.run_or_simple.new.tokens.items t
+          (with_include c.in_ok-include.include t) c.loop-simple.here c.run_or_simple.new.reader)
+          c.with_include-state.ensures (step.read lines first.ours));
+      adds = record {
+        no_head = λ none. adds.no_head (before.adds.no_head none);
+        no_run = λ other none. adds.no_run other (before.adds.no_run other none);
+      };
+      shorter = omega (arith, step.shorter, before.shorter);
       mode = before.mode;
     }
+
+pub returns-clause-read : goal.returns-clause-read
+returns-clause-read c = λ lines ours.
+    subst (λ t. ReadsOn lines c.args.tokens.now.items c.loop-simple.tokens.items c.args.from t
+    c.args.reader.now c.loop-simple.here) (sym c.with_include.ensures) (c.loop-simple.invariant.read lines ours)

@@ -27,25 +27,29 @@ returns-in_ok-push_macro_line_end-in-LineEnd c =
 pub returns-in_ok-push-in-Span : goal.returns-in_ok-push-in-Span
 returns-in_ok-push-in-Span c =
     let e = c.args.token.now in
+    let old = c.args.items.now.items in
     let is = c.in-Span.is in
     let white : e ≡ token.White → ⊥ =
     λ h. (let k : token.Span c.in-Span.kind c.in-Span.span ≡ token.White = sym is ∙ h in cc) in
     let end : (line : ℕ) → e ≡ token.LineEnd line → ⊥ =
     λ line h. (let k : token.Span c.in-Span.kind c.in-Span.span ≡ token.LineEnd line = sym is ∙ h in cc) in
     let item : span_item c.in-Span.kind c.in-Span.span ∷ [] ≡ option_to_list (item_of e) = rw is refl in
-    let pushed = ap (λ i. c.push_blank.new.items.items ++ i ∷ []) c.span_item.ensures
-    ∙ ap (λ i. c.push_blank.new.items.items ++ i) item in
+    let pushed = ap (λ i. c.push_some.new.items.items ++ i ∷ []) c.span_item.ensures
+    ∙ ap (λ i. c.push_some.new.items.items ++ i) item in
+    let blank = c.in_ok-push_some-in-Span.ensures ∙ ap (λ i. old ++ i) c.blank.ensures in
     rw c.after_item.ensures
-    (pushed-twice _ _ _ _ _ _ c.in_ok-push_blank-in-Span.ensures (c.in_ok-push-in-Span.ensures.items ∙ pushed)
-    ∙ ap (λ t. c.args.items.now.items ++ t)
+    (pushed-twice _ _ _ _ _ _ blank (c.in_ok-push-in-Span.ensures.items ∙ pushed)
+    ∙ ap (λ t. old ++ t)
     (unmarked-item (texts_of c.args.source.now.lines) c.args.at _ e c.args.rest.now white end refl refl refl))
 
-pub returns-in_ok-push_some-in_default : goal.returns-in_ok-push_some-in_default
-returns-in_ok-push_some-in_default c =
-    let pushed = c.in_ok-push_some-in_default.ensures
-    ∙ ap (λ i. c.push_blank-in_default.new.items.items ++ option_to_list i) c.item_of.ensures in
+pub returns-in_ok-push_some-in_default-2 : goal.returns-in_ok-push_some-in_default-2
+returns-in_ok-push_some-in_default-2 c =
+    let old = c.args.items.now.items in
+    let pushed = c.in_ok-push_some-in_default-2.ensures
+    ∙ ap (λ i. c.push_some-in_default.new.items.items ++ option_to_list i) c.item_of.ensures in
+    let blank = c.in_ok-push_some-in_default.ensures ∙ ap (λ i. old ++ i) c.blank-in_default.ensures in
     rw c.after_item-in_default.ensures
-    (pushed-twice _ _ _ _ _ _ c.in_ok-push_blank-in_default.ensures pushed
-    ∙ ap (λ t. c.args.items.now.items ++ t)
+    (pushed-twice _ _ _ _ _ _ blank pushed
+    ∙ ap (λ t. old ++ t)
     (unmarked-item (texts_of c.args.source.now.lines) c.args.at _ c.args.token.now c.args.rest.now
     c.in_default.not-White c.in_default.not-LineEnd refl refl refl))

@@ -1,61 +1,100 @@
-use Rattle.std.proofs.Common.{◌≡◌, ℕ, ◌&&◌, [], ◌∷◌, ◌++◌, ap, ◌∙◌, sym, refl}
+use Rattle.std.proofs.Common.{◌≡◌, ℕ, ◌&&◌, [], ◌∷◌, ◌++◌, ap, ◌∙◌, sym, refl, map, subst}
 use Rattle.tangle_lexer.specs.declared.tokens.Token.TheVariants as token
+use Rattle.tangle_lexer.specs.Runs.{IsRunIn, IsRunOf}
+use Rattle.tangle_text.specs.declared.spans.Span.{Span}
+use Rattle.tangle_scan.specs.declared.items.Entry.TheVariants as entry
 use Rattle.tangle_scan.specs.Rules.{texts_of, span_item}
-use Rattle.tangle_scan.specs.Passes.{items_at, items_continue, items_ahead, counted_after_token, origin_of}
-use Rattle.tangle_scan.proofs.lemmas.PlainPartLemmas.{plain-line, plain-item, marked-one, marked-more}
+use Rattle.tangle_scan.specs.Passes.{items_at, entries_continue, counted_after_token, origin_of}
+use Rattle.tangle_scan.proofs.lemmas.PlainPartLemmas.{plain-white, plain-line, plain-item, plain-run}
+use Rattle.tangle_scan.proofs.lemmas.PlainPartLemmas.{marked-more, range-items, range-push}
 use Rattle.tangle_scan.proofs.plain_parts.add_token.Goals as goal
 
 pub returns-in-White-clause-items : goal.returns-in-White-clause-items
-unfolding items_ahead
-returns-in-White-clause-items c = λ plain es. rw c.in-White.is refl
+returns-in-White-clause-items c = λ plain es.
+    plain-white c.args.source.now.lines c.args.entries.now.items c.args.at c.args.token.now es c.in-White.is
 
-pub returns-in_ok-counted-in-LineEnd-clause-items : goal.returns-in_ok-counted-in-LineEnd-clause-items
-returns-in_ok-counted-in-LineEnd-clause-items c = λ plain es.
-    let pushed = c.in_ok-counted-in-LineEnd.ensures in
+pub returns-in_ok-push-in-LineEnd-clause-items : goal.returns-in_ok-push-in-LineEnd-clause-items
+returns-in_ok-push-in-LineEnd-clause-items c = λ plain es.
+    let lines = c.args.source.now.lines in
+    let entries = c.args.entries.now.items in
+    let made = c.line_end_item-item.ensures in
+    let continued =
+    c.is_continued-is_continued.ensures ∙ ap (entries_continue (texts_of lines)) c.deref.ensures.value in
+    let item = rw continued at made.made in
+    let counted = rw continued at made.counted in
+    rw c.part_state.ensures
+    (plain-line lines entries _ c.args.at _ c.args.token.now c.in-LineEnd.line es c.in-LineEnd.is
+    (c.in_ok-push-in-LineEnd.ensures.items ∙ ap (λ i. entries ++ entry.Item i ∷ []) item) continued refl counted)
+
+pub returns-in_ok-push-in-Run-clause-items : goal.returns-in_ok-push-in-Run-clause-items
+returns-in_ok-push-in-Run-clause-items c = λ plain es.
+    let lines = c.args.source.now.lines in
+    let run : IsRunOf (texts_of lines) c.in-Run.span = subst (IsRunIn (texts_of lines)) c.in-Run.is c.requires.run in
+    let blank = c.in_ok-push_entry-in-Run.ensures
+    ∙ ap (λ i. c.args.entries.now.items ++ map entry.Item i) c.blank.ensures in
+    rw c.part_state-in-Run.ensures
+    (plain-run lines c.args.entries.now.items c.push_entry.new.entries.items _ c.args.at _ c.args.token.now
+    c.in-Run.span es c.in-Run.is run blank c.in_ok-push-in-Run.ensures.items refl refl refl)
+
+pub returns-in_ok-push-in-Run-clause-runs : goal.returns-in_ok-push-in-Run-clause-runs
+returns-in_ok-push-in-Run-clause-runs c = λ old.
     let texts = texts_of c.args.source.now.lines in
-    let continued = c.is_continued-is_continued.ensures ∙ ap (items_continue texts) c.deref.ensures.value in
-    let new = rw continued at pushed.items in
-    let counted = rw continued at pushed.counted in
-    rw (c.part_state.ensures, c.in-LineEnd.is)
-    (plain-line c.args.source.now.lines c.args.items.now.items _
-    c.args.at _ c.in-LineEnd.line es new continued refl counted)
-
-pub returns-in_ok-counted-in_default-clause-items : goal.returns-in_ok-counted-in_default-clause-items
-returns-in_ok-counted-in_default-clause-items c = λ plain es.
-    let pushed = c.in_ok-counted-in_default.ensures in
-    let other = c.in_default in
-    rw c.part_state-in_default.ensures
-    (plain-item c.args.source.now.lines c.args.items.now.items _ _
-    c.args.at _ c.args.token.now es plain other.not-White other.not-LineEnd
-    c.in_ok-push_blank-in_default.ensures pushed.items refl refl pushed.counted)
+    let run : IsRunOf texts c.in-Run.span = subst (IsRunIn texts) c.in-Run.is c.requires.run in
+    range-push texts c.push_entry.new.entries.items _ (entry.Run c.in-Run.span) run.span
+    c.in_ok-push-in-Run.ensures.items
+    (range-items texts c.args.entries.now.items _ _ c.in_ok-push_entry-in-Run.ensures old)
 
 pub returns-in_ok-push-in-Span-clause-items : goal.returns-in_ok-push-in-Span-clause-items
 returns-in_ok-push-in-Span-clause-items c = λ plain es.
     let lines = c.args.source.now.lines in
     let e = c.args.token.now in
     let is = c.in-Span.is in
-    let white : e ≡ token.White → ⊥ =
-    λ h. (let k : token.Span c.in-Span.kind c.in-Span.span ≡ token.White = sym is ∙ h in cc) in
+    let made = token.Span c.in-Span.kind c.in-Span.span in
+    let white : e ≡ token.White → ⊥ = λ h. (let k : made ≡ token.White = sym is ∙ h in cc) in
     let end : (line : ℕ) → e ≡ token.LineEnd line → ⊥ =
-    λ line h. (let k : token.Span c.in-Span.kind c.in-Span.span ≡ token.LineEnd line = sym is ∙ h in cc) in
-    let item : span_item c.in-Span.kind c.in-Span.span ∷ [] ≡ items_at lines e = rw is refl in
+    λ line h. (let k : made ≡ token.LineEnd line = sym is ∙ h in cc) in
+    let run : (s : Span) → e ≡ token.Run s → ⊥ = λ s h. (let k : made ≡ token.Run s = sym is ∙ h in cc) in
+    let item : map entry.Item (span_item c.in-Span.kind c.in-Span.span ∷ []) ≡ map entry.Item (items_at lines e) =
+    rw is refl in
     let counted : origin_of c.args.at.counted ≡ counted_after_token lines (origin_of c.args.at.counted) e =
     rw is refl in
-    let pushed = ap (λ i. c.push_blank.new.items.items ++ i ∷ []) c.span_item.ensures
-    ∙ ap (λ i. c.push_blank.new.items.items ++ i) item in
+    let middle = c.push_entry-in-Span.new.entries.items in
+    let pushed = ap (λ i. middle ++ entry.Item i ∷ []) c.span_item.ensures ∙ ap (λ i. middle ++ i) item in
+    let blank = c.in_ok-push_entry-in-Span.ensures
+    ∙ ap (λ i. c.args.entries.now.items ++ map entry.Item i) c.blank-in-Span.ensures in
     rw c.part_state-in-Span.ensures
-    (plain-item lines c.args.items.now.items _ _ c.args.at _ e es plain white end
-    c.in_ok-push_blank-in-Span.ensures (c.in_ok-push-in-Span.ensures.items ∙ pushed) refl refl counted)
+    (plain-item lines c.args.entries.now.items middle _ c.args.at _ e es plain white end run
+    blank (c.in_ok-push-in-Span.ensures.items ∙ pushed) refl refl counted)
 
-pub returns-in_ok-counted-in-LineEnd-clause-mark : goal.returns-in_ok-counted-in-LineEnd-clause-mark
-returns-in_ok-counted-in-LineEnd-clause-mark c = λ was.
-    let pushed = c.in_ok-counted-in-LineEnd.ensures in
-    rw (c.part_state.ensures, pushed.items, pushed.mark) (marked-one c.args.items.now.items _ _ was)
+pub returns-in_ok-push-in-Span-clause-runs : goal.returns-in_ok-push-in-Span-clause-runs
+returns-in_ok-push-in-Span-clause-runs c = λ old.
+    let texts = texts_of c.args.source.now.lines in
+    range-push texts c.push_entry-in-Span.new.entries.items _ (entry.Item c.span_item.result) tt
+    c.in_ok-push-in-Span.ensures.items
+    (range-items texts c.args.entries.now.items _ _ c.in_ok-push_entry-in-Span.ensures old)
+
+pub returns-in_ok-counted-in_default-clause-items : goal.returns-in_ok-counted-in_default-clause-items
+returns-in_ok-counted-in_default-clause-items c = λ plain es.
+    let pushed = c.in_ok-counted-in_default.ensures in
+    let other = c.in_default in
+    let blank = c.in_ok-push_entry-in_default.ensures
+    ∙ ap (λ i. c.args.entries.now.items ++ map entry.Item i) c.blank-in_default.ensures in
+    rw c.part_state-in_default.ensures
+    (plain-item c.args.source.now.lines c.args.entries.now.items _ _
+    c.args.at _ c.args.token.now es plain other.not-White other.not-LineEnd other.not-Run
+    blank pushed.items refl refl pushed.counted)
 
 pub returns-in_ok-counted-in_default-clause-mark : goal.returns-in_ok-counted-in_default-clause-mark
 returns-in_ok-counted-in_default-clause-mark c = λ was.
     let pushed = c.in_ok-counted-in_default.ensures in
+    let blank = c.in_ok-push_entry-in_default.ensures
+    ∙ ap (λ i. c.args.entries.now.items ++ map entry.Item i) c.blank-in_default.ensures in
     rw (c.part_state-in_default.ensures, pushed.mark)
-    (marked-more c.args.items.now.items (c.args.at.keeps_white && c.args.at.has_white)
-    c.push_blank-in_default.new.items.items _
-    c.push_item.new.items.items _ c.in_ok-push_blank-in_default.ensures pushed.items was)
+    (marked-more c.args.entries.now.items (c.args.at.keeps_white && c.args.at.has_white)
+    c.push_entry-in_default.new.entries.items _ _ _ blank pushed.items was)
+
+pub returns-in_ok-counted-in_default-clause-runs : goal.returns-in_ok-counted-in_default-clause-runs
+returns-in_ok-counted-in_default-clause-runs c = λ old.
+    let texts = texts_of c.args.source.now.lines in
+    range-items texts c.push_entry-in_default.new.entries.items _ _ c.in_ok-counted-in_default.ensures.items
+    (range-items texts c.args.entries.now.items _ _ c.in_ok-push_entry-in_default.ensures old)

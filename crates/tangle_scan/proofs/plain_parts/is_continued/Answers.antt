@@ -5,8 +5,8 @@ use Rattle.tangle_scan.proofs.plain_parts.is_continued.Goals as goal
 
 pub returns-in-Some : goal.returns-in-Some
 returns-in-Some c =
-    c.item_continues.ensures
-    ∙ sym (continues-last (texts_of c.args.source.now.lines) c.args.items.now _ c.in-Some.ensures.value)
+    c.entry_continues.ensures
+    ∙ sym (continues-last (texts_of c.args.source.now.lines) c.args.entries.now _ c.in-Some.ensures.value)
 
 pub returns-in-None : goal.returns-in-None
-returns-in-None c = sym (continues-none (texts_of c.args.source.now.lines) c.args.items.now c.in-None.ensures.value)
+returns-in-None c = sym (continues-none (texts_of c.args.source.now.lines) c.args.entries.now c.in-None.ensures.value)

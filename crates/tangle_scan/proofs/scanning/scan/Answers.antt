@@ -14,8 +14,8 @@ web-well-formed source = record { spans = web-in-range source; occurrences = occ
 pub gather-requires : goal.gather-requires
 gather-requires c = omega (arith, c.text_is_short.ensures)
 
-pub new-requires : goal.new-requires
-new-requires c =
+pub new-requires-clause-well_formed : goal.new-requires-clause-well_formed
+new-requires-clause-well_formed c =
     let builder = c.in_ok-builder.ensures in
     rw (web-whole c.args.source.now _ _ builder.builder builder.occurrences) (web-well-formed c.args.source.now)
 

@@ -1,0 +1,227 @@
+-- The tokens of a block: those before its head, in which runs stand for the tokens that they consist of.
+use Rattle.std.proofs.Common.{◌≡◌, ◌<◌, ℕ, ◌+◌, Bool, true, false, ◌||◌, List, [], ◌∷◌, ◌++◌, length, drop, inl, inr}
+use Rattle.std.proofs.Common.{refl, ap, sym, subst, ◌∙◌, append_assoc, drop-drop}
+use Rattle.std.specs.List.{list_any, All}
+use Rattle.std.proofs.lemmas.List.Elements.{All-append, All-cons, All-nil}
+use Rattle.std.proofs.lemmas.Bool.{or_parts}
+use Rattle.std.proofs.lemmas.Grind.{flat_map-append}
+use Rattle.tangle_lines.specs.Reading.{SourceLine}
+use Rattle.tangle_text.specs.Text.{Cell, IsRestOf, texts_of}
+use Rattle.tangle_lexer.specs.declared.modes.LexerState.{LexerState}
+use Rattle.tangle_lexer.specs.declared.tokens.Token.{Token}
+use Rattle.tangle_lexer.specs.declared.tokens.Token.TheVariants as token
+use Rattle.tangle_lexer.specs.Lexemes.{Lexeme}
+use Rattle.tangle_lexer.specs.Heads.{is_head}
+use Rattle.tangle_lexer.specs.Reads.{IsRead, ReadsOn}
+use Rattle.tangle_lexer.specs.Runs.{is_run, unfolded, unfolded_token, IsRunIn}
+use Rattle.tangle_lexer.specs.Steps.{lexeme, tokens_from, occurrences_from}
+use Rattle.tangle_lexer.proofs.lemmas.HeadLemmas.{is_special, BeginsIn, IsPlain, lexeme-alone}
+use Rattle.tangle_lexer.proofs.lemmas.PlainTokens.{HasNone, none-append}
+use Rattle.tangle_lexer.proofs.lemmas.StepLemmas.{tokens_from-step}
+
+-- tokens that are no runs
+
+pub no-head : (ts : List Token) → HasNone is_special ts → HasNone is_head ts
+no-head [] h = refl
+no-head (t ∷ ts) h =
+    let both = or_parts (is_special t) (list_any is_special ts) h in
+    let parts = or_parts (is_head t) (is_run t) both.0 in rw (parts.0, no-head ts both.1) refl
+
+pub no-run : (ts : List Token) → HasNone is_special ts → HasNone is_run ts
+no-run [] h = refl
+no-run (t ∷ ts) h =
+    let both = or_parts (is_special t) (list_any is_special ts) h in
+    let parts = or_parts (is_head t) (is_run t) both.0 in rw (parts.1, no-run ts both.1) refl
+
+pub head-no-run : (t : Token) → is_head t ≡ true → is_run t ≡ false
+head-no-run (token.Run s) h = cc
+head-no-run _ h = refl
+
+unfolded-one : (texts : List (List ℕ)) (t : Token) → is_run t ≡ false → unfolded_token texts t ≡ t ∷ []
+unfolded-one texts (token.Run s) h = cc
+unfolded-one texts _ h = refl
+
+pub unfolded-plain : (texts : List (List ℕ)) (ts : List Token) → HasNone is_run ts → unfolded texts ts ≡ ts
+unfolded-plain texts [] h = refl
+unfolded-plain texts (t ∷ ts) h =
+    let both = or_parts (is_run t) (list_any is_run ts) h in
+    rw (unfolded-one texts t both.0, unfolded-plain texts ts both.1) refl
+
+pub unfolded-append : (texts : List (List ℕ)) (ts us : List Token)
+    → unfolded texts (ts ++ us) ≡ unfolded texts ts ++ unfolded texts us
+unfolded-append texts ts us = flat_map-append (unfolded_token texts) ts us
+
+run_in-one : (texts : List (List ℕ)) (t : Token) → is_run t ≡ false → IsRunIn texts t
+run_in-one texts (token.Run s) h = cc
+run_in-one texts _ h = tt
+
+pub runs-plain : (texts : List (List ℕ)) (ts : List Token) → HasNone is_run ts → All (IsRunIn texts) ts
+runs-plain texts [] h = All-nil (IsRunIn texts)
+runs-plain texts (t ∷ ts) h =
+    let both = or_parts (is_run t) (list_any is_run ts) h in
+    All-cons (IsRunIn texts) t ts (run_in-one texts t both.0) (runs-plain texts ts both.1)
+
+-- a rest of a rest of the text of lines is a rest of it
+pub rest-drop : (lines : List SourceLine) (n : ℕ) (text : List Cell)
+    → IsRestOf lines text → IsRestOf lines (drop n text)
+rest-drop lines n text ours = (ours.0 + n, ap (drop n) ours.1 ∙ drop-drop n ours.0 _)
+
+-- a step that adds no head
+
+-- a step whose tokens are no runs does not change the list of the tokens read and those ahead
+pub plain-tokens : (texts : List (List ℕ)) (old new : List Token) (s after : LexerState) (text rest : List Cell)
+    → 0 < length text → IsRead old new text rest after (lexeme s text)
+    → HasNone is_run (lexeme s text).tokens
+    → unfolded texts new ++ tokens_from after rest ≡ unfolded texts old ++ tokens_from s text
+plain-tokens texts old new s after text rest inside read none =
+    let here : Lexeme = lexeme s text in
+    let here_are : unfolded texts (old ++ here.tokens) ≡ unfolded texts old ++ here.tokens
+    = unfolded-append texts old here.tokens ∙ ap (λ ts. unfolded texts old ++ ts)
+    (unfolded-plain texts here.tokens none) in
+    let ahead = tokens_from here.after (drop here.more (drop 1 text)) in
+    ap (λ ts. unfolded texts ts ++ tokens_from after rest) read.tokens
+    ∙ (ap (λ ts. ts ++ tokens_from after rest) here_are
+    ∙ (ap (λ t. (unfolded texts old ++ here.tokens) ++ tokens_from t rest) read.state
+    ∙ (ap (λ t. (unfolded texts old ++ here.tokens) ++ tokens_from here.after t) read.ahead
+    ∙ (append_assoc (unfolded texts old) here.tokens ahead
+    ∙ ap (λ ts. unfolded texts old ++ ts) (sym (tokens_from-step s text inside))))))
+
+pub plain-runs : (texts : List (List ℕ)) (old new : List Token) (s after : LexerState) (text rest : List Cell)
+    → IsRead old new text rest after (lexeme s text) → HasNone is_run (lexeme s text).tokens
+    → All (IsRunIn texts) old → All (IsRunIn texts) new
+plain-runs texts old new s after text rest read none runs =
+    subst (All (IsRunIn texts)) (sym read.tokens)
+    (All-append (IsRunIn texts) old (lexeme s text).tokens runs (runs-plain texts (lexeme s text).tokens none))
+
+pub plain-none : (test : Token → Bool) (old new : List Token) (s after : LexerState) (text rest : List Cell)
+    → IsRead old new text rest after (lexeme s text) → HasNone test (lexeme s text).tokens
+    → HasNone test old → HasNone test new
+plain-none test old new s after text rest read here before =
+    ap (list_any test) read.tokens ∙ none-append test old (lexeme s text).tokens before here
+
+pub read-ours : (lines : List SourceLine) (old new : List Token) (s after : LexerState) (text rest : List Cell)
+    → IsRead old new text rest after (lexeme s text) → IsRestOf lines text → IsRestOf lines rest
+read-ours lines old new s after text rest read ours =
+    subst (IsRestOf lines) (sym read.ahead)
+    (rest-drop lines (lexeme s text).more (drop 1 text) (rest-drop lines 1 text ours))
+
+pub plain-reads-on : (lines : List SourceLine) (old new : List Token) (s after : LexerState) (text rest : List Cell)
+    → 0 < length text → IsRead old new text rest after (lexeme s text) → HasNone is_run (lexeme s text).tokens
+    → occurrences_from after rest ≡ occurrences_from s text → IsRestOf lines text
+    → ReadsOn lines old new s after text rest
+plain-reads-on lines old new s after text rest inside read none occurrences ours = record {
+  tokens = plain-tokens (texts_of lines) old new s after text rest inside read none;
+  runs = plain-runs (texts_of lines) old new s after text rest read none;
+  occurrences = occurrences;
+  ours = read-ours lines old new s after text rest read ours;
+}
+
+-- one after another
+
+pub reads-nothing : (lines : List SourceLine) (ts : List Token) (s : LexerState) (text : List Cell)
+    → IsRestOf lines text → ReadsOn lines ts ts s s text text
+reads-nothing lines ts s text ours = record { tokens = refl; runs = λ runs. runs; occurrences = refl; ours = ours }
+
+pub reads-trans : (lines : List SourceLine) (ts us vs : List Token) (s t u : LexerState) (x y z : List Cell)
+    → ReadsOn lines ts us s t x y → ReadsOn lines us vs t u y z → ReadsOn lines ts vs s u x z
+reads-trans lines ts us vs s t u x y z first more = record {
+  tokens = more.tokens ∙ first.tokens;
+  runs = λ runs. more.runs (first.runs runs);
+  occurrences = more.occurrences ∙ first.occurrences;
+  ours = more.ours;
+}
+
+-- the tokens before a head that was removed
+
+init-from : Token → List Token → List Token
+init-from t [] = []
+init-from t (u ∷ ts) = t ∷ init-from u ts
+
+init : List Token → List Token
+init [] = []
+init (t ∷ ts) = init-from t ts
+
+init-from-snoc : (t : Token) (ts : List Token) (a : Token) → init-from t (ts ++ a ∷ []) ≡ t ∷ ts
+unfolding init-from
+init-from-snoc t [] a = refl
+init-from-snoc t (u ∷ ts) a = ap (λ xs. t ∷ xs) (init-from-snoc u ts a)
+
+init-snoc : (ts : List Token) (a : Token) → init (ts ++ a ∷ []) ≡ ts
+unfolding init init-from
+init-snoc [] a = refl
+init-snoc (t ∷ ts) a = init-from-snoc t ts a
+
+last-from : Token → List Token → Token
+last-from t [] = t
+last-from t (u ∷ ts) = last-from u ts
+
+last-snoc : (t : Token) (ts : List Token) (a : Token) → last-from t (ts ++ a ∷ []) ≡ a
+unfolding last-from
+last-snoc t [] a = refl
+last-snoc t (u ∷ ts) a = last-snoc u ts a
+
+no_head-snoc : (ts : List Token) (head : Token) → is_head head ≡ true → HasNone is_head (ts ++ head ∷ []) → ⊥
+no_head-snoc [] head h j = cc
+no_head-snoc (t ∷ ts) head h j = go (is_head t) j (no_head-snoc ts head h)
+  where
+    go : (b : Bool) → (b || list_any is_head (ts ++ head ∷ [])) ≡ false
+        → (HasNone is_head (ts ++ head ∷ []) → ⊥) → ⊥
+    go true j next = cc
+    go false j next = next j
+
+-- a head was removed: it is the lexeme, and the tokens are those from before
+pub record IsTaken (old kept : List Token) (here : Lexeme) (head : Token) : Type 0 where
+  pub same : kept ≡ old
+  pub tokens : here.tokens ≡ head ∷ []
+  pub begins : BeginsIn head here.after.mode
+
+pub taken : (old new kept : List Token) (s after : LexerState) (text rest : List Cell) (head : Token)
+    → HasNone is_head old → IsRead old new text rest after (lexeme s text)
+    → (new ≡ kept ++ head ∷ []) × (is_head head ≡ true) → IsTaken old kept (lexeme s text) head
+taken old new kept s after text rest head none read popped =
+    let here : Lexeme = lexeme s text in
+    let h : new ≡ old ++ here.tokens = read.tokens in
+    let j : new ≡ kept ++ head ∷ [] = popped.0 in
+    elim (lexeme-alone s text) [
+      | inl plain ↦
+          absurd (no_head-snoc kept head popped.1 (ap (list_any is_head) (sym j ∙ h)
+          ∙ none-append is_head old here.tokens none (no-head here.tokens plain.0)))
+      | inr found ↦
+          let e : kept ++ head ∷ [] ≡ old ++ found.0 ∷ [] = sym j ∙ (h ∙ ap (λ xs. old ++ xs) found.1) in
+          let last : head ≡ found.0 =
+          sym (last-snoc head kept head) ∙ (ap (last-from head) e ∙ last-snoc head old found.0) in
+          record {
+            same = sym (init-snoc kept head) ∙ (ap init e ∙ init-snoc old found.0);
+            tokens = found.1 ∙ ap (λ t. t ∷ []) (sym last);
+            begins = subst (λ t. BeginsIn t here.after.mode) (sym last) found.3;
+          }
+    ]
+
+-- no head was removed: the lexeme is none
+pub not-taken : (old new : List Token) (s after : LexerState) (text rest : List Cell)
+    → IsRead old new text rest after (lexeme s text)
+    → ((ts : List Token) (head : Token) → new ≡ ts ++ head ∷ [] → is_head head ≡ false)
+    → IsPlain s (lexeme s text)
+not-taken old new s after text rest read none =
+    elim (lexeme-alone s text) [
+      | inl plain ↦ plain
+      | inr found ↦
+          let never : true ≡ false =
+          sym found.2 ∙ none old found.0 (read.tokens ∙ ap (λ xs. old ++ xs) found.1) in absurd (true-false never)
+    ]
+  where
+    true-false : true ≡ false → ⊥
+    true-false h = cc
+
+pub taken-tokens : (texts : List (List ℕ)) (old new kept : List Token) (s after : LexerState) (text rest : List Cell)
+    (head : Token) → 0 < length text → IsRead old new text rest after (lexeme s text)
+    → (new ≡ kept ++ head ∷ []) × (is_head head ≡ true) → IsTaken old kept (lexeme s text) head
+    → unfolded texts kept ++ head ∷ [] ++ tokens_from after rest ≡ unfolded texts old ++ tokens_from s text
+taken-tokens texts old new kept s after text rest head inside read popped taken =
+    let no_run : HasNone is_run (head ∷ []) = rw (head-no-run head popped.1) refl in
+    let none : HasNone is_run (lexeme s text).tokens = ap (list_any is_run) taken.tokens ∙ no_run in
+    let parts : unfolded texts new ≡ unfolded texts kept ++ head ∷ []
+    = ap (unfolded texts) popped.0 ∙ (unfolded-append texts kept (head ∷ [])
+    ∙ ap (λ ts. unfolded texts kept ++ ts) (unfolded-plain texts (head ∷ []) no_run)) in
+    ap (λ ts. ts ++ tokens_from after rest) (sym parts)
+    ∙ plain-tokens texts old new s after text rest inside read none

@@ -1,0 +1,292 @@
+-- A run of a C part is read: its token stands for those of the words, signs and spaces that it consists of.
+use Rattle.std.proofs.Common.{◌≡◌, ◌<◌, ◌≤◌, ℕ, zero, suc, ◌+◌, ◌-◌, Bool, true, ◌&&◌, List, [], ◌∷◌, ◌++◌, length}
+use Rattle.std.proofs.Common.{take, drop, map, get_or, slice_get, Option, Some, None, IsSome, ◌⊎◌, inl, inr, refl, ap}
+use Rattle.std.proofs.Common.{sym, ◌∙◌, subst, arith, append_assoc, append-nil, length-drop, option_to_list}
+use Rattle.std.specs.List.{All}
+use Rattle.std.proofs.lemmas.Bool.{and_parts, not-true}
+use Rattle.std.proofs.lemmas.List.Elements.{All-push}
+use Rattle.tangle_lines.specs.Reading.{SourceLine}
+use Rattle.tangle_text.specs.declared.spans.Span.{Span}
+use Rattle.tangle_text.specs.Text.{Cell, line_text, text_from, byte_at, bytes_of, span_at, texts_of}
+use Rattle.tangle_text.specs.Text.{IsRestOf}
+use Rattle.tangle_text.specs.Words.{is_include_word, word_more}
+use Rattle.tangle_text.specs.Runs.{holds_plain, run_count, run_size, chunks, parts_of, run_parts, has_single_spaces}
+use Rattle.tangle_text.proofs.RunPartLemmas.{run_count-line, run_size-fits}
+use Rattle.tangle_lexer.specs.declared.modes.Mode.{Mode}
+use Rattle.tangle_lexer.specs.declared.modes.Mode.TheVariants as mode
+use Rattle.tangle_lexer.specs.declared.modes.IncludeState.{IncludeState}
+use Rattle.tangle_lexer.specs.declared.modes.IncludeState.TheVariants as include
+use Rattle.tangle_lexer.specs.declared.modes.LexerState.{LexerState}
+use Rattle.tangle_lexer.specs.declared.simple.SimpleLexeme.{SimpleLexeme}
+use Rattle.tangle_lexer.specs.declared.simple.SimpleLexeme.TheVariants as simple
+use Rattle.tangle_lexer.specs.declared.tokens.SpanKind.TheVariants as span_kind
+use Rattle.tangle_lexer.specs.declared.tokens.Token.{Token}
+use Rattle.tangle_lexer.specs.declared.tokens.Token.TheVariants as token
+use Rattle.tangle_lexer.specs.Lexemes.{Lexeme, lexeme_of, with_include, elsewhere}
+use Rattle.tangle_lexer.specs.Reads.{ReadsOn}
+use Rattle.tangle_lexer.specs.Runs.{part_token, unfolded, IsRunOf, IsRunIn}
+use Rattle.tangle_lexer.specs.Simple.{IsSimple, simple_kind, is_c_text, is_c_part, is_word_or_sign, begins_run}
+use Rattle.tangle_lexer.specs.Simple.{is_apart_from_include}
+use Rattle.tangle_lexer.specs.Steps.{include_after_word, include_after_sign, c_lexeme, lexeme, tokens_from}
+use Rattle.tangle_lexer.specs.Steps.{occurrences_from}
+use Rattle.tangle_lexer.proofs.lemmas.BlockLemmas.{unfolded-append, rest-drop}
+use Rattle.tangle_lexer.proofs.lemmas.RunTokens.{in_part, Reads, front-byte, run-reads, BeginsRun, plain-begins}
+use Rattle.tangle_lexer.proofs.lemmas.RunTokens.{run-single}
+use Rattle.tangle_lexer.proofs.lemmas.SimpleLemmas.{lexeme-simple}
+use Rattle.tangle_lexer.proofs.lemmas.StepLemmas.{tokens_from-step, occurrences_from-step}
+
+-- where a byte of the text is
+
+abbrev InLine : ℕ → ℕ → List ℕ → List Cell → ℕ → Type 0
+InLine line column bytes rest k =
+    (k ≤ length bytes)
+    × (drop k (line_text line column bytes ++ rest) ≡ line_text line (column + k) (drop k bytes) ++ rest)
+
+line-place : (line column : ℕ) (bytes : List ℕ) (rest : List Cell) (k : ℕ) →
+    InLine line column bytes rest k ⊎ ((j : ℕ) × (drop k (line_text line column bytes ++ rest) ≡ drop j rest))
+line-place line column bytes rest zero =
+    inl (omega arith, ap (λ n. line_text line n bytes ++ rest) (omega arith))
+line-place line column [] rest (suc k) = inr (k, refl)
+line-place line column (b ∷ bs) rest (suc k) =
+    elim (line-place line (column + 1) bs rest k) [
+      | inl near ↦
+          let same : column + 1 + k ≡ column + suc k = omega arith in
+          inl (omega (arith, near.0), near.1 ∙ ap (λ n. line_text line n (drop k bs) ++ rest) same)
+      | inr far ↦ inr far
+    ]
+
+byte-some : (line column : ℕ) (bs : List ℕ) (rest : List Cell)
+    → IsSome (byte_at 0 (line_text line column bs ++ rest)) → 0 < length bs
+byte-some line column [] rest h = cc
+byte-some line column (b ∷ bs) rest h = omega arith
+
+-- a byte of these lines is at the front of the text
+pub record IsInLine (texts : List (List ℕ)) (from : ℕ) (text : List Cell) : Type 0 where
+  pub line : ℕ
+  pub column : ℕ
+  pub rest : List Cell
+  pub real : line < length texts
+  pub inside : column < length (get_or texts line [])
+  pub is : text ≡ line_text (from + line) column (drop column (get_or texts line [])) ++ rest
+
+text-place : (from : ℕ) (lines : List SourceLine) (k : ℕ) → IsSome (byte_at 0 (drop k (text_from from lines)))
+    → IsInLine (texts_of lines) from (drop k (text_from from lines))
+text-place from [] zero h = cc
+text-place from [] (suc k) h = cc
+text-place from (l ∷ ls) k h =
+    elim (line-place from 0 l.bytes (text_from (from + 1) ls) k) [
+      | inl near ↦
+          let more : 0 < length (drop k l.bytes)
+          = byte-some from (0 + k) (drop k l.bytes) (text_from (from + 1) ls)
+          (subst (λ t. IsSome (byte_at 0 t)) near.1 h) in
+          let column : 0 + k ≡ k = omega arith in
+          let line : from ≡ from + 0 = omega arith in
+          record {
+            line = 0;
+            column = k;
+            rest = text_from (from + 1) ls;
+            real = omega arith;
+            inside = omega (arith, more, length-drop k l.bytes);
+            is = near.1
+                ∙ (ap (λ n. line_text from n (drop k l.bytes) ++ text_from (from + 1) ls) column
+                ∙ ap (λ n. line_text n k (drop k l.bytes) ++ text_from (from + 1) ls) line);
+          }
+      | inr far ↦
+          let place : IsInLine (texts_of ls) (from + 1) (drop far.0 (text_from (from + 1) ls))
+          = text-place (from + 1) ls far.0 (subst (λ t. IsSome (byte_at 0 t)) far.1 h) in
+          let line : from + 1 + place.line ≡ from + suc place.line = omega arith in
+          record {
+            line = suc place.line;
+            column = place.column;
+            rest = place.rest;
+            real = omega (arith, place.real);
+            inside = place.inside;
+            is = far.1
+                ∙ (place.is
+                ∙ ap (λ n. line_text n place.column (drop place.column (get_or (texts_of ls) place.line []))
+                ++ place.rest) line);
+          }
+    ]
+
+-- the run at the front
+
+pub record IsRunRead (lines : List SourceLine) (s : LexerState) (text : List Cell) : Type 0 where
+  pub some : 0 < run_count text
+  pub tokens : tokens_from s text
+      ≡ map part_token (run_parts (texts_of lines) (span_at (run_count text) text))
+      ++ tokens_from (elsewhere s) (drop (run_count text) text)
+  pub occurrences : occurrences_from s text ≡ occurrences_from (elsewhere s) (drop (run_count text) text)
+  pub run : IsRunOf (texts_of lines) (span_at (run_count text) text)
+
+span-line : (line column n : ℕ) (bs : List ℕ) (rest : List Cell)
+    → span_at n (line_text line column bs ++ rest) ≡ record { line = line; start = column; end = column + n }
+span-line line column n [] rest = refl
+span-line line column n (b ∷ bs) rest = refl
+
+some-size : (bs : List ℕ) → BeginsRun bs → 0 < run_size bs
+some-size [] h = absurd h
+some-size (b ∷ bs) h = let n : run_size (b ∷ bs) ≡ 1 + run_size bs = rw h.0 refl in omega (arith, n)
+
+parts-are : (texts : List (List ℕ)) (line column n : ℕ)
+    → run_parts texts (record { line = line; start = column; end = column + n })
+    ≡ parts_of line column (chunks (take n (drop column (get_or texts line []))))
+unfolding run_parts
+parts-are texts line column n =
+    let same : column + n - column ≡ n = omega arith in
+    ap (λ k. parts_of line column (chunks (take k (drop column (get_or texts line []))))) same
+
+line-run : (lines : List SourceLine) (occurrences last line column : ℕ) (rest : List Cell)
+    → line < length (texts_of lines) → column < length (get_or (texts_of lines) line [])
+    → BeginsRun (drop column (get_or (texts_of lines) line []))
+    → IsRunRead lines (in_part occurrences last)
+    (line_text line column (drop column (get_or (texts_of lines) line [])) ++ rest)
+line-run lines occurrences last line column rest real inside begins =
+    let texts = texts_of lines in
+    let bytes = drop column (get_or texts line []) in
+    let text = line_text line column bytes ++ rest in
+    let n : ℕ = run_size bytes in
+    let here : LexerState = in_part occurrences last in
+    let span : Span = record { line = line; start = column; end = column + n } in
+    let count : run_count text ≡ n = run_count-line line column bytes rest in
+    let span_is : span_at (run_count text) text ≡ span
+    = ap (λ k. span_at k text) count ∙ span-line line column n bytes rest in
+    let parts : run_parts texts span ≡ parts_of line column (chunks (take n bytes)) = parts-are texts line column n in
+    let read : Reads here text (map part_token (parts_of line column (chunks (take n bytes)))) (drop n text)
+    = run-reads occurrences last line rest column bytes in
+    record {
+      some = omega (arith, count, some-size bytes begins);
+      tokens = read.tokens
+          ∙ (ap (λ ps. map part_token ps ++ tokens_from here (drop n text)) (sym parts)
+          ∙ (ap (λ x. map part_token (run_parts texts x) ++ tokens_from here (drop n text)) (sym span_is)
+          ∙ ap (λ k. map part_token (run_parts texts (span_at (run_count text) text)) ++ tokens_from here (drop k text))
+          (sym count)));
+      occurrences = read.occurrences ∙ ap (λ k. occurrences_from here (drop k text)) (sym count);
+      run = subst (IsRunOf texts) (sym span_is) (record {
+        span = record {
+          line = real;
+          start = omega arith;
+          end = omega (arith, run_size-fits bytes, length-drop column (get_or texts line []), inside);
+        };
+        spaces = ap (has_single_spaces true) parts ∙ run-single line column bytes true (λ e. begins);
+      });
+    }
+
+-- the first lexeme of a run is read as if #include could not begin on its line
+
+word-apart : (inc : IncludeState) (b : Option ℕ) (is_include : Bool)
+    → is_apart_from_include inc b ≡ true → include_after_word is_include inc ≡ include.Elsewhere
+word-apart include.AtStart b is_include h = refl
+word-apart include.AfterNumberSign b is_include h = cc
+word-apart include.AfterInclude b is_include h = refl
+word-apart include.Elsewhere b is_include h = refl
+
+sign-apart : (inc : IncludeState) (b : Option ℕ)
+    → is_apart_from_include inc b ≡ true → include_after_sign b inc ≡ include.Elsewhere
+sign-apart include.AtStart b h = rw (not-true _ h) refl
+sign-apart include.AfterNumberSign b h = refl
+sign-apart include.AfterInclude b h = refl
+sign-apart include.Elsewhere b h = refl
+
+kind-apart : (p : SimpleLexeme) (s : LexerState) (text : List Cell)
+    → is_word_or_sign p ≡ true → is_apart_from_include s.include (byte_at 0 text) ≡ true
+    → c_lexeme (simple_kind p) s text ≡ c_lexeme (simple_kind p) (elsewhere s) text
+kind-apart simple.Word s text h apart =
+    ap (λ inc. lexeme_of (token.Span span_kind.Word (span_at (1 + word_more text) text) ∷ []) (word_more text)
+    (with_include inc s))
+    (word-apart s.include (byte_at 0 text) (is_include_word (bytes_of (take (1 + word_more text) text))) apart)
+kind-apart simple.Sign s text h apart =
+    ap (λ inc. lexeme_of (token.Span span_kind.Sign (span_at 1 text) ∷ []) 0 (with_include inc s))
+    (sign-apart s.include (byte_at 0 text) apart)
+kind-apart simple.White s text h apart = cc
+kind-apart simple.LineEnd s text h apart = cc
+
+lexeme-apart : (s : LexerState) (text : List Cell) (p : SimpleLexeme)
+    → IsSimple text p → is_c_text s.mode ≡ true → is_word_or_sign p ≡ true
+    → is_apart_from_include s.include (byte_at 0 text) ≡ true → lexeme s text ≡ lexeme (elsewhere s) text
+lexeme-apart s text p here m h apart =
+    lexeme-simple s text p here m
+    ∙ (kind-apart p s text h apart ∙ sym (lexeme-simple (elsewhere s) text p here m))
+
+tokens-apart : (s t : LexerState) (text : List Cell) → 0 < length text
+    → lexeme s text ≡ lexeme t text → tokens_from s text ≡ tokens_from t text
+tokens-apart s t text inside same =
+    tokens_from-step s text inside
+    ∙ (ap (λ (l : Lexeme). l.tokens ++ tokens_from l.after (drop l.more (drop 1 text))) same
+    ∙ sym (tokens_from-step t text inside))
+
+occurrences-apart : (s t : LexerState) (text : List Cell) → 0 < length text
+    → lexeme s text ≡ lexeme t text → occurrences_from s text ≡ occurrences_from t text
+occurrences-apart s t text inside same =
+    occurrences_from-step s text inside
+    ∙ (ap (λ (l : Lexeme). option_to_list l.occurrence ++ occurrences_from l.after (drop l.more (drop 1 text))) same
+    ∙ sym (occurrences_from-step t text inside))
+
+c_part-is : (m : Mode) → is_c_part m ≡ true → m ≡ mode.CPart
+c_part-is mode.Limbo h = cc
+c_part-is mode.Documentation h = cc
+c_part-is mode.CPart h = refl
+c_part-is mode.Macro h = cc
+
+-- a run that may begin at a simple lexeme is read from there on
+pub run-read : (lines : List SourceLine) (s : LexerState) (text : List Cell) (p : SimpleLexeme)
+    → IsSimple text p → begins_run s.mode s.include p (byte_at 0 text) ≡ true → IsRestOf lines text
+    → IsRunRead lines s text
+run-read lines s text p here begins ours =
+    let all = and_parts (is_c_part s.mode && is_word_or_sign p) _ begins in
+    let both = and_parts (is_c_part s.mode) (is_word_or_sign p) all.0 in
+    let m : s.mode ≡ mode.CPart = c_part-is s.mode both.0 in
+    let plain : holds_plain (byte_at 0 text) ≡ true = here.plain both.1 in
+    let some : IsSome (byte_at 0 text) = plain-some (byte_at 0 text) plain in
+    let place : IsInLine (texts_of lines) 0 (drop ours.0 (text_from 0 lines))
+    = text-place 0 lines ours.0 (subst (λ t. IsSome (byte_at 0 t)) ours.1 some) in
+    let bytes = drop place.column (get_or (texts_of lines) place.line []) in
+    let line : 0 + place.line ≡ place.line = omega arith in
+    let is : text ≡ line_text place.line place.column bytes ++ place.rest
+    = ours.1 ∙ (place.is ∙ ap (λ n. line_text n place.column bytes ++ place.rest) line) in
+    let front : holds_plain (slice_get bytes 0) ≡ true
+    = ap holds_plain (sym (front-byte place.line place.column bytes place.rest) ∙ ap (byte_at 0) (sym is)) ∙ plain in
+    let run : IsRunRead lines (in_part s.occurrences s.last_line) text
+    = subst (IsRunRead lines (in_part s.occurrences s.last_line)) (sym is)
+    (line-run lines s.occurrences s.last_line place.line place.column place.rest place.real place.inside
+    (plain-begins bytes front)) in
+    let state : elsewhere s ≡ in_part s.occurrences s.last_line
+    = ap (λ x. record { occurrences = s.occurrences; last_line = s.last_line; mode = x; include = include.Elsewhere })
+    m in
+    let same = lexeme-apart s text p here (ap is_c_text m) both.1 all.1 in
+    let there : IsRunRead lines (elsewhere s) text = subst (λ t. IsRunRead lines t text) (sym state) run in
+    record {
+      some = there.some;
+      tokens = tokens-apart s (elsewhere s) text here.inside same ∙ there.tokens;
+      occurrences = occurrences-apart s (elsewhere s) text here.inside same ∙ there.occurrences;
+      run = there.run;
+    }
+  where
+    plain-some : (b : Option ℕ) → holds_plain b ≡ true → IsSome b
+    plain-some None h = cc
+    plain-some (Some b) h = refl
+
+-- the token of a run is added
+pub run-reads-on : (lines : List SourceLine) (old new : List Token)
+    (s : LexerState) (text rest : List Cell) (span : Span)
+    → new ≡ old ++ token.Run span ∷ [] → span ≡ span_at (run_count text) text → rest ≡ drop (run_count text) text
+    → IsRestOf lines text → IsRunRead lines s text → ReadsOn lines old new s (elsewhere s) text rest
+run-reads-on lines old new s text rest span added is ahead ours run =
+    let texts = texts_of lines in
+    let run_is : IsRunOf texts span = subst (IsRunOf texts) (sym is) run.run in
+    let parts = map part_token (run_parts texts span) in
+    let after = tokens_from (elsewhere s) rest in
+    let from : tokens_from s text ≡ parts ++ after
+    = run.tokens
+    ∙ (ap (λ x. map part_token (run_parts texts x) ++ tokens_from (elsewhere s) (drop (run_count text) text)) (sym is)
+    ∙ ap (λ t. parts ++ tokens_from (elsewhere s) t) (sym ahead)) in
+    let tokens_are : unfolded texts new ≡ unfolded texts old ++ parts
+    = ap (unfolded texts) added
+    ∙ (unfolded-append texts old (token.Run span ∷ []) ∙ ap (λ ts. unfolded texts old ++ ts) (append-nil parts)) in
+    record {
+      tokens = ap (λ ts. ts ++ after) tokens_are
+          ∙ (append_assoc (unfolded texts old) parts after ∙ ap (λ ts. unfolded texts old ++ ts) (sym from));
+      runs = λ runs. subst (All (IsRunIn texts)) (sym added)
+          (All-push (IsRunIn texts) old (token.Run span) runs run_is);
+      occurrences = ap (occurrences_from (elsewhere s)) ahead ∙ sym run.occurrences;
+      ours = subst (IsRestOf lines) (sym ahead) (rest-drop lines (run_count text) text ours);
+    }

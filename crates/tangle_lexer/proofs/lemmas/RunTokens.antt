@@ -1,0 +1,467 @@
+-- The tokens of a run are those of the words, signs and spaces that it consists of.
+use Rattle.std.proofs.Common.{◌≡◌, ◌<◌, ℕ, zero, suc, ◌+◌, Bool, true, false, ◌==◌, ◌&&◌, ◌||◌, not, List, [], ◌∷◌}
+use Rattle.std.proofs.Common.{◌++◌, length, take, drop, map, Option, Some, None, ◌⊎◌, slice_get, inl, inr, refl, ap}
+use Rattle.std.proofs.Common.{sym, ◌∙◌, subst, arith, option_to_list}
+use Rattle.std.proofs.lemmas.Bool.{or_cases, or_parts, and_parts, not-true}
+use Rattle.std.proofs.lemmas.Bool.Decides.{eqb_tells}
+use Rattle.tangle_lines.specs.Bytes.{at_sign, double_quote, is_white}
+use Rattle.tangle_files.specs.Bytes.{space}
+use Rattle.tangle_text.specs.declared.regions.Region.{Region}
+use Rattle.tangle_text.specs.declared.regions.Region.TheVariants as region
+use Rattle.tangle_text.specs.declared.regions.Unit.TheVariants as unit
+use Rattle.tangle_text.specs.Bytes.{apostrophe, asterisk, slash, less_sign, holds, holds_white, holds_word_byte}
+use Rattle.tangle_text.specs.Bytes.{is_word_byte}
+use Rattle.tangle_text.specs.Text.{Cell, line_text, byte_at, span_at}
+use Rattle.tangle_text.specs.Regions.{unit_at, count_before}
+use Rattle.tangle_text.specs.Runs.{is_plain, holds_plain, is_in_run, run_size, chunks, parts_of, has_single_spaces}
+use Rattle.tangle_text.proofs.RunChunks.{differs, alone-chunk, front-chunk, alone-before, part-word}
+use Rattle.tangle_text.proofs.UnitLemmas.{count-is, count-one}
+use Rattle.tangle_lexer.specs.declared.modes.Mode.TheVariants as mode
+use Rattle.tangle_lexer.specs.declared.modes.IncludeState.TheVariants as include
+use Rattle.tangle_lexer.specs.declared.modes.LexerState.{LexerState}
+use Rattle.tangle_lexer.specs.declared.lexeme_kinds.LexemeKind.{LexemeKind}
+use Rattle.tangle_lexer.specs.declared.lexeme_kinds.LexemeKind.TheVariants as lexeme_kind
+use Rattle.tangle_lexer.specs.declared.tokens.SpanKind.TheVariants as span_kind
+use Rattle.tangle_lexer.specs.declared.tokens.Token.{Token}
+use Rattle.tangle_lexer.specs.declared.tokens.Token.TheVariants as token
+use Rattle.tangle_lexer.specs.Lexemes.{Lexeme}
+use Rattle.tangle_lexer.specs.Runs.{part_token}
+use Rattle.tangle_lexer.specs.Steps.{kind_by, kind_at, lexeme, lexeme_in, c_lexeme, tokens_from, occurrences_from}
+use Rattle.tangle_lexer.proofs.lemmas.StepLemmas.{tokens_from-step, occurrences_from-step}
+
+-- bytes of a run
+
+pub word-plain : (b : ℕ) → is_word_byte b ≡ true → is_plain b ≡ true
+word-plain b h =
+    let other = λ (n : ℕ) (k : is_word_byte n ≡ false). differs is_word_byte b n h k in
+    rw (
+      other 32 refl,
+      other 9 refl,
+      other 13 refl,
+      other 11 refl,
+      other 12 refl,
+      other 34 refl,
+      other 39 refl,
+      other 47 refl,
+      other 64 refl,
+    ) refl
+
+-- the kind of the lexeme that begins with a byte of a run, where no #include was begun
+abbrev kind_of : ℕ → Option ℕ → LexemeKind
+kind_of b next = kind_by include.Elsewhere (Some b) next
+
+-- a byte of a run is a word byte, a sign, or a space before a plain byte
+abbrev IsRunByte : ℕ → Option ℕ → Type 0
+IsRunByte b next =
+    ((kind_of b next ≡ lexeme_kind.Word) × (is_word_byte b ≡ true) × ((b == space) ≡ false))
+    ⊎ (((kind_of b next ≡ lexeme_kind.Other) × (is_word_byte b ≡ false) × ((b == space) ≡ false))
+    ⊎ ((b ≡ space) × (holds_plain next ≡ true)))
+
+pub record ArePlainTests (b : ℕ) : Type 0 where
+  pub white : is_white b ≡ false
+  pub quote : (b == double_quote) ≡ false
+  pub apostrophe : (b == apostrophe) ≡ false
+  pub slash : (b == slash) ≡ false
+  pub at_sign : (b == at_sign) ≡ false
+  pub space : (b == space) ≡ false
+
+pub plain-tests : (b : ℕ) → is_plain b ≡ true → ArePlainTests b
+plain-tests b h =
+    let all = or_parts _ (b == at_sign) (not-true _ h) in
+    let slashes = or_parts _ (b == slash) all.0 in
+    let apostrophes = or_parts _ (b == apostrophe) slashes.0 in
+    let quotes = or_parts (is_white b) (b == double_quote) apostrophes.0 in
+    let spaces = or_parts (b == space) _ quotes.0 in
+    record {
+      white = quotes.0;
+      quote = quotes.1;
+      apostrophe = apostrophes.1;
+      slash = slashes.1;
+      at_sign = all.1;
+      space = spaces.0;
+    }
+
+word-kind : (b : ℕ) (next : Option ℕ) → is_word_byte b ≡ true → kind_of b next ≡ lexeme_kind.Word
+word-kind b next h =
+    let tests = plain-tests b (word-plain b h) in
+    let less = differs is_word_byte b less_sign h refl in
+    rw (tests.at_sign, tests.slash, tests.quote, tests.apostrophe, less, tests.white, h) refl
+
+plain-byte : (b : ℕ) (next : Option ℕ) → is_plain b ≡ true → IsRunByte b next
+plain-byte b next h = by (is_word_byte b) refl (b == less_sign) refl
+  where
+    open plain-tests b h use {white, quote, apostrophe, slash, at_sign, space}
+
+    by : (w : Bool) → is_word_byte b ≡ w → (l : Bool) → (b == less_sign) ≡ l → IsRunByte b next
+    by true w l k = inl (word-kind b next w, w, space)
+    by false w true k = inr (inl (rw (at_sign, slash, quote, apostrophe, k) refl, w, space))
+    by false w false k = inr (inl (rw (at_sign, slash, quote, apostrophe, k, white, w) refl, w, space))
+
+run-byte : (b : ℕ) (next : Option ℕ) → is_in_run b next ≡ true → IsRunByte b next
+run-byte b next h =
+    elim (or_cases _ (b == slash && not (holds asterisk next || holds slash next)) h) [
+      | inl front ↦
+          elim (or_cases (is_plain b) (b == space && holds_plain next) front) [
+            | inl plain ↦ plain-byte b next plain
+            | inr spaces ↦
+                let both = and_parts (b == space) (holds_plain next) spaces in
+                elim (eqb_tells b space) [
+                  | inl same ↦ inr (inr (same.1, both.1))
+                  | inr other ↦ let never : false ≡ true = sym other.0 ∙ both.0 in cc
+                ]
+          ]
+      | inr slashes ↦
+          let both = and_parts (b == slash) _ slashes in
+          let neither = or_parts (holds asterisk next) (holds slash next) (not-true _ both.1) in
+          elim (eqb_tells b slash) [
+            | inl same ↦ subst (λ x. IsRunByte x next) (sym same.1)
+                (inr (inl (rw (neither.0, neither.1) refl, refl, refl)))
+            | inr other ↦ let never : false ≡ true = sym other.0 ∙ both.0 in cc
+          ]
+    ]
+
+-- the rest of a line
+
+pub front-byte : (line column : ℕ) (bs : List ℕ) (rest : List Cell)
+    → byte_at 0 (line_text line column bs ++ rest) ≡ slice_get bs 0
+front-byte line column [] rest = refl
+front-byte line column (b ∷ bs) rest = refl
+
+one-more : (n : ℕ) → 1 + n ≡ suc n
+one-more n = omega arith
+
+front-take : (n c : ℕ) (bs : List ℕ) → is_word_byte c ≡ false → holds_word_byte (slice_get (take n (c ∷ bs)) 0) ≡ false
+front-take zero c bs h = refl
+front-take (suc n) c bs h = h
+
+-- the bytes of a run, one by one
+
+run-taken : (b : ℕ) (bs : List ℕ) → is_in_run b (slice_get bs 0) ≡ true
+    → take (run_size (b ∷ bs)) (b ∷ bs) ≡ b ∷ take (run_size bs) bs
+run-taken b bs h = rw (h, one-more (run_size bs)) refl
+
+word-taken : (b : ℕ) (bs : List ℕ) → is_word_byte b ≡ true
+    → take (run_size (b ∷ bs)) (b ∷ bs) ≡ b ∷ take (run_size bs) bs
+word-taken b bs word = run-taken b bs (rw (word-plain b word) refl)
+
+-- regions that end at once
+
+stop-count : (r : Region) (text : List Cell) → unit_at r text ≡ unit.Stop → count_before r text ≡ 0
+stop-count r [] h = refl
+stop-count r (c ∷ cs) h = count-is r (c ∷ cs) ∙ rw h refl
+
+plain-no_white : (b : Option ℕ) → holds_plain b ≡ true → holds_white b ≡ false
+plain-no_white None h = cc
+plain-no_white (Some b) h = (plain-tests b h).white
+
+white-stop : (text : List Cell) → holds_plain (byte_at 0 text) ≡ true → count_before region.White text ≡ 0
+white-stop text h = stop-count region.White text (rw (plain-no_white (byte_at 0 text) h) refl)
+
+word-stop : (text : List Cell) → holds_word_byte (byte_at 0 text) ≡ false → count_before region.Word text ≡ 0
+word-stop text h = stop-count region.Word text (rw h refl)
+
+-- lexemes of a C part where no #include was begun
+
+abbrev pub in_part : ℕ → ℕ → LexerState
+in_part occurrences last =
+    record { occurrences = occurrences; last_line = last; mode = mode.CPart; include = include.Elsewhere }
+
+lexeme-here : (s : LexerState) (text : List Cell) (kind : LexemeKind)
+    → s.mode ≡ mode.CPart → kind_at s.include text ≡ kind → lexeme s text ≡ c_lexeme kind s text
+unfolding lexeme
+lexeme-here s text kind m h = ap (λ x. lexeme_in x s text) m ∙ ap (λ x. c_lexeme x s text) h
+
+-- these tokens are read from a text on, and no occurrences, up to the front of `rest`
+pub record Reads (s : LexerState) (text : List Cell) (ts : List Token) (rest : List Cell) : Type 0 where
+  pub tokens : tokens_from s text ≡ ts ++ tokens_from s rest
+  pub occurrences : occurrences_from s text ≡ occurrences_from s rest
+
+lexeme-reads : (s : LexerState) (text : List Cell) (here : Lexeme)
+    → 0 < length text → lexeme s text ≡ here → here.occurrence ≡ None → here.after ≡ s
+    → Reads s text here.tokens (drop here.more (drop 1 text))
+lexeme-reads s text here inside is none after =
+    let rest = drop here.more (drop 1 text) in
+    record {
+      tokens = tokens_from-step s text inside
+          ∙ (ap (λ (l : Lexeme). l.tokens ++ tokens_from l.after (drop l.more (drop 1 text))) is
+          ∙ ap (λ t. here.tokens ++ tokens_from t rest) after);
+      occurrences = occurrences_from-step s text inside
+          ∙ (ap
+          (λ (l : Lexeme). option_to_list l.occurrence ++ occurrences_from l.after (drop l.more (drop 1 text))) is
+          ∙ (ap (λ n. option_to_list n ++ occurrences_from here.after rest) none
+          ∙ ap (λ t. occurrences_from t rest) after));
+    }
+
+reads-cons : (s : LexerState) (text : List Cell) (t : Token) (mid : List Cell) (ts : List Token) (rest : List Cell)
+    → Reads s text (t ∷ []) mid → Reads s mid ts rest → Reads s text (t ∷ ts) rest
+reads-cons s text t mid ts rest first more = record {
+  tokens = first.tokens ∙ ap (λ us. t ∷ us) more.tokens;
+  occurrences = first.occurrences ∙ more.occurrences;
+}
+
+end_of : List Token → ℕ
+end_of (token.Span kind s ∷ ts) = s.end
+end_of _ = 0
+
+more_of : List Token → List Token
+more_of [] = []
+more_of (t ∷ ts) = ts
+
+module _ (occurrences last line : ℕ) (rest : List Cell) where
+  abbrev here : LexerState
+  here = in_part occurrences last
+
+  -- the text of the line from a column on, where these are its bytes
+  abbrev at : ℕ → List ℕ → List Cell
+  at column bs = line_text line column bs ++ rest
+
+  abbrev tokens_of : ℕ → List ℕ → List Token
+  tokens_of column bs = map part_token (parts_of line column (chunks bs))
+
+  kind-at : (column b : ℕ) (bs : List ℕ) → kind_at include.Elsewhere (at column (b ∷ bs)) ≡ kind_of b (slice_get bs 0)
+  kind-at column b bs = ap (kind_of b) (front-byte line (column + 1) bs rest)
+
+  inside : (column b : ℕ) (bs : List ℕ) → 0 < length (at column (b ∷ bs))
+  inside column b bs = omega arith
+
+  -- a word is read
+  word-reads : (column b : ℕ) (bs : List ℕ) → kind_of b (slice_get bs 0) ≡ lexeme_kind.Word →
+      Reads here (at column (b ∷ bs))
+      (token.Span span_kind.Word (span_at (1 + count_before region.Word (at (column + 1) bs)) (at column (b ∷ bs)))
+      ∷ [])
+      (drop (count_before region.Word (at (column + 1) bs)) (at (column + 1) bs))
+  word-reads column b bs kind =
+      let text = at column (b ∷ bs) in
+      lexeme-reads here text (c_lexeme lexeme_kind.Word here text) (inside column b bs)
+      (lexeme-here here text lexeme_kind.Word refl (kind-at column b bs ∙ kind)) refl refl
+
+  sign-continues : (column b : ℕ) (bs xs : List ℕ) (after : List Cell)
+      → kind_of b (slice_get bs 0) ≡ lexeme_kind.Other → is_word_byte b ≡ false → (b == space) ≡ false
+      → Reads here (at (column + 1) bs) (tokens_of (column + 1) xs) after
+      → Reads here (at column (b ∷ bs)) (tokens_of column (b ∷ xs)) after
+  sign-continues column b bs xs after kind no_word no_space more =
+      let text = at column (b ∷ bs) in
+      let sign : Token = token.Span span_kind.Sign (record { line = line; start = column; end = column + 1 }) in
+      let first : Reads here text (sign ∷ []) (at (column + 1) bs)
+      = lexeme-reads here text (c_lexeme lexeme_kind.Other here text) (inside column b bs)
+      (lexeme-here here text lexeme_kind.Other refl (kind-at column b bs ∙ kind)) refl refl in
+      let parts : tokens_of column (b ∷ xs) ≡ sign ∷ tokens_of (column + 1) xs
+      = rw (alone-chunk b (chunks xs) no_word, no_space, no_word) refl in
+      subst (λ ts. Reads here text ts after) (sym parts)
+      (reads-cons here text sign (at (column + 1) bs) (tokens_of (column + 1) xs) after first more)
+
+  space-continues : (column : ℕ) (bs xs : List ℕ) (after : List Cell) → holds_plain (slice_get bs 0) ≡ true
+      → Reads here (at (column + 1) bs) (tokens_of (column + 1) xs) after
+      → Reads here (at column (space ∷ bs)) (tokens_of column (space ∷ xs)) after
+  space-continues column bs xs after plain more =
+      let text = at column (space ∷ bs) in
+      let next = at (column + 1) bs in
+      let none : count_before region.White next ≡ 0
+      = white-stop next (ap holds_plain (front-byte line (column + 1) bs rest) ∙ plain) in
+      let first : Reads here text (token.White ∷ []) (drop (count_before region.White next) next)
+      = lexeme-reads here text (c_lexeme lexeme_kind.White here text) (inside column space bs)
+      (lexeme-here here text lexeme_kind.White refl (kind-at column space bs)) refl refl in
+      let parts : tokens_of column (space ∷ xs) ≡ token.White ∷ tokens_of (column + 1) xs
+      = rw (alone-chunk space (chunks xs) refl) refl in
+      subst (λ ts. Reads here text ts after) (sym parts)
+      (reads-cons here text token.White next (tokens_of (column + 1) xs) after
+      (subst (λ n. Reads here text (token.White ∷ []) (drop n next)) none first) more)
+
+  word-continues : (column b : ℕ) (bs xs : List ℕ) (after : List Cell)
+      → kind_of b (slice_get bs 0) ≡ lexeme_kind.Word → is_word_byte b ≡ true
+      → holds_word_byte (slice_get bs 0) ≡ false → holds_word_byte (slice_get xs 0) ≡ false
+      → Reads here (at (column + 1) bs) (tokens_of (column + 1) xs) after
+      → Reads here (at column (b ∷ bs)) (tokens_of column (b ∷ xs)) after
+  word-continues column b bs xs after kind word other first_other more =
+      let text = at column (b ∷ bs) in
+      let next = at (column + 1) bs in
+      let none : count_before region.Word next ≡ 0
+      = word-stop next (ap holds_word_byte (front-byte line (column + 1) bs rest) ∙ other) in
+      let this : Token = token.Span span_kind.Word (record { line = line; start = column; end = column + 1 }) in
+      let first : Reads here text (this ∷ []) next
+      = subst (λ n. Reads here text (token.Span span_kind.Word (span_at (1 + n) text) ∷ []) (drop n next)) none
+      (word-reads column b bs kind) in
+      let parts : tokens_of column (b ∷ xs) ≡ this ∷ tokens_of (column + 1) xs
+      = rw (alone-before b xs word first_other, part-word line column b [] word) refl in
+      subst (λ ts. Reads here text ts after) (sym parts)
+      (reads-cons here text this next (tokens_of (column + 1) xs) after first more)
+
+  -- a word byte before another belongs to the word of that
+  word-joins : (column b c : ℕ) (bs xs : List ℕ) (after : List Cell)
+      → is_word_byte b ≡ true → is_word_byte c ≡ true
+      → Reads here (at (column + 1) (c ∷ bs)) (tokens_of (column + 1) (c ∷ xs)) after
+      → Reads here (at column (b ∷ c ∷ bs)) (tokens_of column (b ∷ c ∷ xs)) after
+  unfolding end_of more_of
+  word-joins column b c bs xs after word next_word more =
+      let text = at column (b ∷ c ∷ bs) in
+      let next = at (column + 1) (c ∷ bs) in
+      let past = at (column + 1 + 1) bs in
+      let n : ℕ = count_before region.Word past in
+      let counts : count_before region.Word next ≡ 1 + n
+      = count-one region.Word (record { line = line; column = column + 1; byte = Some c }) past (rw next_word refl) in
+      let first = word-reads column b (c ∷ bs) (word-kind b (Some c) word) in
+      let second = word-reads (column + 1) c bs (word-kind c (slice_get bs 0) next_word) in
+      let chunk = front-chunk c xs in
+      let zs : List ℕ = chunk.0 in
+      let others = map part_token (parts_of line (column + 1 + length (c ∷ zs)) chunk.1) in
+      let next_parts : tokens_of (column + 1) (c ∷ xs)
+      ≡ token.Span span_kind.Word
+      (record { line = line; start = column + 1; end = column + 1 + length (c ∷ zs) }) ∷ others
+      = rw (chunk.2, part-word line (column + 1) c zs next_word) refl in
+      let both = sym second.tokens ∙ (more.tokens ∙ ap (λ ts. ts ++ tokens_from here after) next_parts) in
+      let ends : column + 1 + (1 + n) ≡ column + 1 + length (c ∷ zs) = ap end_of both in
+      let rests : tokens_from here (drop n past) ≡ others ++ tokens_from here after = ap more_of both in
+      let this : Token = token.Span span_kind.Word
+      (record { line = line; start = column; end = column + length (b ∷ c ∷ zs) }) in
+      let column_is : column + length (b ∷ c ∷ zs) ≡ column + 1 + length (c ∷ zs) = omega arith in
+      let parts : tokens_of column (b ∷ c ∷ xs) ≡ this ∷ others
+      = rw (chunk.2, word, next_word, part-word line column b (c ∷ zs) word)
+      (ap (λ k. this ∷ map part_token (parts_of line k chunk.1)) column_is) in
+      let size_is : 1 + count_before region.Word next ≡ length (b ∷ c ∷ zs) = omega (arith, counts, ends) in
+      let past_is : drop (count_before region.Word next) next ≡ drop n past
+      = ap (λ k. drop k next) (counts ∙ one-more n) in
+      record {
+        tokens =
+            first.tokens
+            ∙ (ap (λ k. token.Span span_kind.Word (record { line = line; start = column; end = column + k })
+            ∷ tokens_from here (drop (count_before region.Word next) next)) size_is
+            ∙ (ap (λ t. this ∷ tokens_from here t) past_is ∙ (ap (λ ts. this ∷ ts) rests
+            ∙ ap (λ ts. ts ++ tokens_from here after) (sym parts))));
+        occurrences =
+            first.occurrences
+            ∙ (ap (occurrences_from here) past_is ∙ (sym second.occurrences ∙ more.occurrences));
+      }
+
+  -- a word byte of a run
+  word-reads-on : (column b : ℕ) (bs : List ℕ) → is_word_byte b ≡ true
+      → Reads here (at (column + 1) bs) (tokens_of (column + 1) (take (run_size bs) bs))
+      (drop (run_size bs) (at (column + 1) bs))
+      → Reads here (at column (b ∷ bs)) (tokens_of column (b ∷ take (run_size bs) bs))
+      (drop (run_size bs) (at (column + 1) bs))
+  word-reads-on column b [] word more =
+      word-continues column b [] [] (at (column + 1) []) (word-kind b None word) word refl refl more
+  word-reads-on column b (c ∷ bs) word more = by (is_word_byte c) refl
+    where
+      after : List Cell
+      after = drop (run_size (c ∷ bs)) (at (column + 1) (c ∷ bs))
+
+      by : (w : Bool) → is_word_byte c ≡ w
+          → Reads here (at column (b ∷ c ∷ bs)) (tokens_of column (b ∷ take (run_size (c ∷ bs)) (c ∷ bs))) after
+      by true next_word =
+          let xs = word-taken c bs next_word in
+          subst (λ ys. Reads here (at column (b ∷ c ∷ bs)) (tokens_of column (b ∷ ys)) after) (sym xs)
+          (word-joins column b c bs (take (run_size bs) bs) after word next_word
+          (subst (λ ys. Reads here (at (column + 1) (c ∷ bs)) (tokens_of (column + 1) ys) after) xs more))
+      by false other =
+          word-continues column b (c ∷ bs) (take (run_size (c ∷ bs)) (c ∷ bs)) after
+          (word-kind b (Some c) word) word other (front-take (run_size (c ∷ bs)) c bs other) more
+
+  -- the run at the front is read
+  pub run-reads : (column : ℕ) (bs : List ℕ)
+      → Reads here (at column bs) (tokens_of column (take (run_size bs) bs)) (drop (run_size bs) (at column bs))
+  run-reads column [] = record { tokens = refl; occurrences = refl }
+  run-reads column (b ∷ bs) = by (is_in_run b (slice_get bs 0)) refl (run-reads (column + 1) bs)
+    where
+      by : (r : Bool) → is_in_run b (slice_get bs 0) ≡ r
+          → Reads here (at (column + 1) bs) (tokens_of (column + 1) (take (run_size bs) bs))
+          (drop (run_size bs) (at (column + 1) bs))
+          → Reads here (at column (b ∷ bs)) (tokens_of column (take (run_size (b ∷ bs)) (b ∷ bs)))
+          (drop (run_size (b ∷ bs)) (at column (b ∷ bs)))
+      by false h more = rw h (record { tokens = refl; occurrences = refl })
+      by true h more = rw (h, one-more (run_size bs)) (elim (run-byte b (slice_get bs 0) h) [
+        | inl word ↦ word-reads-on column b bs word.1 more
+        | inr other ↦
+            elim other [
+              | inl sign ↦ sign-continues column b bs (take (run_size bs) bs) _ sign.0 sign.1 sign.2 more
+              | inr spaces ↦
+                  subst (λ x. Reads here (at column (x ∷ bs)) (tokens_of column (x ∷ take (run_size bs) bs))
+                  (drop (run_size bs) (at (column + 1) bs))) (sym spaces.0)
+                  (space-continues column bs (take (run_size bs) bs) _ spaces.1 more)
+            ]
+      ])
+
+-- single spaces
+
+-- the first byte is in the run and is no space
+abbrev pub BeginsRun : List ℕ → Type 0
+BeginsRun [] = ⊥
+BeginsRun (b ∷ bs) = (is_in_run b (slice_get bs 0) ≡ true) × ((b == space) ≡ false)
+
+-- the parts of the run have single spaces; before the first byte, unless that is no space, stands no space
+abbrev HasSingle : ℕ → ℕ → List ℕ → List ℕ → Type 0
+HasSingle line column bs xs =
+    (before : Bool) → (before ≡ true → BeginsRun bs)
+    → has_single_spaces before (parts_of line column (chunks xs)) ≡ true
+
+pub plain-begins : (bs : List ℕ) → holds_plain (slice_get bs 0) ≡ true → BeginsRun bs
+plain-begins [] h = cc
+plain-begins (b ∷ bs) h = (rw h refl, (plain-tests b h).space)
+
+sign-single : (line column b : ℕ) (bs xs : List ℕ) → is_word_byte b ≡ false → (b == space) ≡ false
+    → HasSingle line (column + 1) bs xs → HasSingle line column (b ∷ bs) (b ∷ xs)
+sign-single line column b bs xs no_word no_space more before h =
+    rw (alone-chunk b (chunks xs) no_word, no_space, no_word) (more false (λ e. cc))
+
+space-single : (line column : ℕ) (bs xs : List ℕ) → holds_plain (slice_get bs 0) ≡ true
+    → HasSingle line (column + 1) bs xs → HasSingle line column (space ∷ bs) (space ∷ xs)
+space-single line column bs xs plain more true h = let never = (h refl).1 in cc
+space-single line column bs xs plain more false h =
+    rw (alone-chunk space (chunks xs) refl) (more true (λ e. plain-begins bs plain))
+
+word-single : (line column b : ℕ) (bs xs : List ℕ) → is_word_byte b ≡ true
+    → holds_word_byte (slice_get xs 0) ≡ false
+    → HasSingle line (column + 1) bs xs → HasSingle line column (b ∷ bs) (b ∷ xs)
+word-single line column b bs xs word other more before h =
+    rw (alone-before b xs word other, part-word line column b [] word) (more false (λ e. cc))
+
+joined-single : (line column b c : ℕ) (bs xs : List ℕ) → is_word_byte b ≡ true → is_word_byte c ≡ true
+    → HasSingle line (column + 1) (c ∷ bs) (c ∷ xs) → HasSingle line column (b ∷ c ∷ bs) (b ∷ c ∷ xs)
+joined-single line column b c bs xs word next_word more before h =
+    let chunk = front-chunk c xs in
+    let column_is : column + length (b ∷ c ∷ chunk.0) ≡ column + 1 + length (c ∷ chunk.0) = omega arith in
+    let others : has_single_spaces false (parts_of line (column + 1 + length (c ∷ chunk.0)) chunk.1) ≡ true
+    = rw (chunk.2, part-word line (column + 1) c chunk.0 next_word) at (more false (λ e. cc)) in
+    rw (chunk.2, word, next_word, part-word line column b (c ∷ chunk.0) word, column_is) others
+
+word-goes-single : (line column b : ℕ) (bs : List ℕ) → is_word_byte b ≡ true
+    → HasSingle line (column + 1) bs (take (run_size bs) bs)
+    → HasSingle line column (b ∷ bs) (b ∷ take (run_size bs) bs)
+word-goes-single line column b [] word more = word-single line column b [] [] word refl more
+word-goes-single line column b (c ∷ bs) word more = by (is_word_byte c) refl
+  where
+    by : (w : Bool) → is_word_byte c ≡ w
+        → HasSingle line column (b ∷ c ∷ bs) (b ∷ take (run_size (c ∷ bs)) (c ∷ bs))
+    by true next_word =
+        let xs = word-taken c bs next_word in
+        subst (λ ys. HasSingle line column (b ∷ c ∷ bs) (b ∷ ys)) (sym xs)
+        (joined-single line column b c bs (take (run_size bs) bs) word next_word
+        (subst (HasSingle line (column + 1) (c ∷ bs)) xs more))
+    by false other =
+        word-single line column b (c ∷ bs) (take (run_size (c ∷ bs)) (c ∷ bs)) word
+        (front-take (run_size (c ∷ bs)) c bs other) more
+
+nothing-single : (line column : ℕ) (bs : List ℕ) → (BeginsRun bs → ⊥) → HasSingle line column bs []
+nothing-single line column bs not true h = absurd (not (h refl))
+nothing-single line column bs not false h = refl
+
+pub run-single : (line column : ℕ) (bs : List ℕ) → HasSingle line column bs (take (run_size bs) bs)
+run-single line column [] = nothing-single line column [] (λ h. h)
+run-single line column (b ∷ bs) = by (is_in_run b (slice_get bs 0)) refl (run-single line (column + 1) bs)
+  where
+    by : (r : Bool) → is_in_run b (slice_get bs 0) ≡ r → HasSingle line (column + 1) bs (take (run_size bs) bs)
+        → HasSingle line column (b ∷ bs) (take (run_size (b ∷ bs)) (b ∷ bs))
+    by true h more =
+        subst (HasSingle line column (b ∷ bs)) (sym (run-taken b bs h)) (elim (run-byte b (slice_get bs 0) h) [
+          | inl word ↦ word-goes-single line column b bs word.1 more
+          | inr other ↦
+              elim other [
+                | inl sign ↦ sign-single line column b bs (take (run_size bs) bs) sign.1 sign.2 more
+                | inr spaces ↦
+                    subst (λ x. HasSingle line column (x ∷ bs) (x ∷ take (run_size bs) bs)) (sym spaces.0)
+                    (space-single line column bs (take (run_size bs) bs) spaces.1 more)
+              ]
+        ])
+    by false h more =
+        let none : take (run_size (b ∷ bs)) (b ∷ bs) ≡ [] = rw h refl in
+        subst (HasSingle line column (b ∷ bs)) (sym none) (nothing-single line column (b ∷ bs)
+        (λ begins. let never : false ≡ true = sym h ∙ begins.0 in cc))

@@ -1,0 +1,44 @@
+-- The tokens of runs. A run of words, signs and single spaces of one line is one token while a C
+-- part is read.
+use Rattle.std.specs.Prelude.{◌≡◌, ℕ, Bool, true, false, List, [], ◌∷◌, map, flat_map}
+use Rattle.std.specs.List.{list_any}
+use Rattle.tangle_lexer.specs.declared.tokens.SpanKind.TheVariants as span_kind
+use Rattle.tangle_lexer.specs.declared.tokens.Token.{Token}
+use Rattle.tangle_lexer.specs.declared.tokens.Token.TheVariants as token
+use Rattle.tangle_text.specs.declared.runs.RunPart.{RunPart}
+use Rattle.tangle_text.specs.declared.runs.RunPart.TheVariants as part
+use Rattle.tangle_text.specs.declared.spans.Span.{Span}
+use Rattle.tangle_text.specs.Runs.{run_parts, has_single_spaces}
+use Rattle.tangle_text.specs.Text.{IsSpan}
+
+-- the token of a part of a run
+abbrev pub part_token : RunPart → Token
+part_token (part.Word s) = token.Span span_kind.Word s
+part_token (part.Sign s) = token.Span span_kind.Sign s
+part_token part.Space = token.White
+
+-- the tokens of a run; any other token by itself
+abbrev pub unfolded_token : List (List ℕ) → Token → List Token
+unfolded_token texts (token.Run s) = map part_token (run_parts texts s)
+unfolded_token texts t = t ∷ []
+
+-- tokens with the tokens of each run in its place
+abbrev pub unfolded : List (List ℕ) → List Token → List Token
+unfolded texts tokens = flat_map (unfolded_token texts) tokens
+
+abbrev pub is_run : Token → Bool
+is_run (token.Run s) = true
+is_run _ = false
+
+abbrev pub HasNoRun : List Token → Type 0
+HasNoRun tokens = list_any is_run tokens ≡ false
+
+-- a range of a line whose spaces each have another part directly before and after them
+pub record IsRunOf (texts : List (List ℕ)) (s : Span) : Type 0 where
+  pub span : IsSpan texts s
+  pub spaces : has_single_spaces true (run_parts texts s) ≡ true
+
+-- the token is no run, or the run is one of these lines
+abbrev pub IsRunIn : List (List ℕ) → Token → Type 0
+IsRunIn texts (token.Run s) = IsRunOf texts s
+IsRunIn texts _ = Unit {0}

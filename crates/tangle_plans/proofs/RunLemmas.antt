@@ -1,0 +1,164 @@
+-- The parts of a run have its bytes.
+use Rattle.std.proofs.Common.{◌≡◌, ◌∙◌, ℕ, ◌+◌, ◌-◌, ◌≤◌, true, eqb, List, [], ◌∷◌, ◌++◌, length, map, take, drop}
+use Rattle.std.proofs.Common.{get_or, refl, ap, sym, subst, arith, append_assoc, slice_get, Some, None, true≢false}
+use Rattle.std.proofs.Common.{length-append, eqb-true}
+use Rattle.std.specs.Prelude.{flat_map}
+use Rattle.std.proofs.Math.Seq.{take-append_seam}
+use Rattle.tangle_files.specs.Bytes.{space}
+use Rattle.tangle_text.specs.Bytes.{is_word_byte}
+use Rattle.tangle_text.specs.Runs.{chunks, part_of, parts_of, run_parts}
+use Rattle.tangle_text.specs.Text.{span_text}
+use Rattle.tangle_text.specs.declared.spans.Span.{Span}
+use Rattle.tangle_text.proofs.RunChunks.{differs, IsChunk, AreChunks, joined, first_size, chunks_are, chunks_joined}
+use Rattle.tangle_text.proofs.RunChunks.{chunks_after, chunk_passed, span_chunks, part-by, part-word}
+use Rattle.tangle_text.specs.declared.runs.RunPart.{RunPart}
+use Rattle.tangle_scan.specs.Entries.{part_item}
+use Rattle.tangle_scan.specs.ItemBytes.{bytes_in}
+use Rattle.tangle_plans.specs.UnfoldedTags.{part_tag, run_tags}
+use Rattle.tangle_plans.specs.declared.tags.ItemTag.{ItemTag}
+use Rattle.tangle_plans.specs.declared.tags.ItemKind.TheVariants as tag
+
+-- the sizes of the parts
+
+-- the size of a tag
+abbrev pub tag_size : ItemTag → ℕ
+tag_size t = t.size
+
+part_size : (line column : ℕ) (c : List ℕ) → IsChunk c → tag_size (part_tag (part_of line column c)) ≡ length c
+part_size line column [] h = absurd h
+part_size line column (b ∷ []) h =
+    part-by (λ p. tag_size (part_tag p) ≡ 1) line column b []
+    (λ is. refl) (λ is word. omega arith) (λ is sign. omega arith)
+part_size line column (b ∷ c ∷ bs) h = rw (part-word line column b (c ∷ bs) h.0) (omega arith)
+
+-- the tags of parts don't depend on their place
+part_moved : (line column : ℕ) (c : List ℕ) → part_tag (part_of line column c) ≡ part_tag (part_of 0 0 c)
+part_moved line column [] = refl
+part_moved line column (b ∷ bs) =
+    part-by (λ p. part_tag p ≡ part_tag (part_of 0 0 (b ∷ bs))) line column b bs (λ is. rw is refl)
+    (λ is word. rw (is, word) (ap (λ n. record { kind = tag.Word; size = n }) (omega arith)))
+    (λ is sign. rw (is, sign) (ap (λ n. record { kind = tag.Sign; size = n }) (omega arith)))
+
+pub tags_moved : (line column : ℕ) (cs : List (List ℕ))
+    → map part_tag (parts_of line column cs) ≡ map part_tag (parts_of 0 0 cs)
+tags_moved line column [] = refl
+tags_moved line column (c ∷ cs) =
+    ap (λ t. t ∷ map part_tag (parts_of line (column + length c) cs)) (part_moved line column c)
+    ∙ ap (λ ts. part_tag (part_of 0 0 c) ∷ ts)
+    (tags_moved line (column + length c) cs ∙ sym (tags_moved 0 (0 + length c) cs))
+
+-- the tags of a run are those of its parts
+pub parts_tags : (line column : ℕ) (bs : List ℕ) → map part_tag (parts_of line column (chunks bs)) ≡ run_tags bs
+unfolding run_tags
+parts_tags line column bs = tags_moved line column (chunks bs)
+
+pub no_run_tags : run_tags [] ≡ []
+unfolding run_tags
+no_run_tags = refl
+
+-- the sizes of tags, one after another
+abbrev pub tags_size : List ItemTag → ℕ
+tags_size [] = 0
+tags_size (t ∷ ts) = t.size + tags_size ts
+
+chunks_size : (line column : ℕ) (cs : List (List ℕ)) → AreChunks cs
+    → tags_size (map part_tag (parts_of line column cs)) ≡ length (joined cs)
+chunks_size line column [] h = refl
+chunks_size line column (c ∷ cs) h =
+    omega (
+      arith,
+      part_size line column c h.0,
+      chunks_size line (column + length c) cs h.1,
+      length-append c (joined cs),
+    )
+
+pub run_tags_size : (bs : List ℕ) → tags_size (run_tags bs) ≡ length bs
+unfolding run_tags
+run_tags_size bs = chunks_size 0 0 (chunks bs) (chunks_are bs) ∙ ap length (chunks_joined bs)
+
+-- the first part of a run
+
+pub record IsFirstPart (bs : List ℕ) (p : RunPart) : Type 0 where
+  pub fits : tag_size (part_tag p) ≤ length bs
+  pub tags : run_tags bs ≡ part_tag p ∷ run_tags (drop (tag_size (part_tag p)) bs)
+
+pub first_part : (bs : List ℕ) (p : RunPart)
+    → slice_get (parts_of 0 0 (chunks bs)) 0 ≡ Some p → IsFirstPart bs p
+unfolding run_tags
+first_part bs p is = go (chunks bs) refl
+  where
+    go : (cs : List (List ℕ)) → chunks bs ≡ cs → IsFirstPart bs p
+    go [] e =
+        let none : slice_get (parts_of 0 0 []) 0 ≡ Some p = ap (λ l. slice_get (parts_of 0 0 l) 0) (sym e) ∙ is in
+        cc
+    go (c ∷ cs) e =
+        let first : Some (part_of 0 0 c) ≡ Some p = ap (λ l. slice_get (parts_of 0 0 l) 0) (sym e) ∙ is in
+        let same : part_of 0 0 c ≡ p = cc in
+        let chunk : AreChunks (c ∷ cs) = subst AreChunks e (chunks_are bs) in
+        let size : tag_size (part_tag p) ≡ length c
+        = ap (λ q. tag_size (part_tag q)) (sym same) ∙ part_size 0 0 c chunk.0 in
+        let after : chunks (drop (length c) bs) ≡ cs =
+        ap (λ l. chunks (drop (first_size l) bs)) (sym e) ∙ chunks_after bs ∙ ap (drop 1) e in
+        record {
+          fits = omega (
+            arith,
+            size,
+            ap length (chunks_joined bs),
+            ap (λ l. length (joined l)) e,
+            length-append c (joined cs),
+          );
+          tags =
+              ap (λ l. map part_tag (parts_of 0 0 l)) e
+              ∙ ap (λ q. part_tag q ∷ map part_tag (parts_of 0 (0 + length c) cs)) same
+              ∙ ap (λ ts. part_tag p ∷ ts) (tags_moved 0 (0 + length c) cs)
+              ∙ ap (λ l. part_tag p ∷ map part_tag (parts_of 0 0 l)) (sym after)
+              ∙ ap (λ n. part_tag p ∷ map part_tag (parts_of 0 0 (chunks (drop n bs)))) (sym size);
+        }
+
+pub no_part : (bs : List ℕ) → slice_get (parts_of 0 0 (chunks bs)) 0 ≡ None → length bs ≡ 0
+no_part bs is = go (chunks bs) refl
+  where
+    go : (cs : List (List ℕ)) → chunks bs ≡ cs → length bs ≡ 0
+    go [] e = ap length (sym (chunks_joined bs) ∙ ap joined e)
+    go (c ∷ cs) e =
+        let some : Some (part_of 0 0 c) ≡ None = ap (λ l. slice_get (parts_of 0 0 l) 0) (sym e) ∙ is in
+        cc
+
+-- the items of a run have its bytes
+
+part_bytes : (texts : List (List ℕ)) (line column : ℕ) (c rest : List ℕ)
+    → IsChunk c → drop column (get_or texts line []) ≡ c ++ rest
+    → bytes_in texts (part_item (part_of line column c)) ≡ c
+part_bytes texts line column [] rest h is = absurd h
+part_bytes texts line column (b ∷ bs) rest h is =
+    part-by (λ p. bytes_in texts (part_item p) ≡ b ∷ bs) line column b bs (one bs h) (λ _ word. own) (λ _ sign. own)
+  where
+    size : column + length (b ∷ bs) - column ≡ length (b ∷ bs)
+    size = omega arith
+
+    own : take (column + length (b ∷ bs) - column) (drop column (get_or texts line [])) ≡ b ∷ bs
+    own =
+        ap (λ n. take n (drop column (get_or texts line []))) size
+        ∙ ap (take (length (b ∷ bs))) is ∙ take-append_seam (b ∷ bs) rest
+
+    one : (l : List ℕ) → IsChunk (b ∷ l) → eqb b space ≡ true → space ∷ [] ≡ b ∷ l
+    one [] chunk same = ap (λ x. x ∷ []) (sym (eqb-true b space same))
+    one (c ∷ cs) words same = absurd (true≢false (sym same ∙ differs is_word_byte b space words.0 refl))
+
+parts_bytes : (texts : List (List ℕ)) (line column : ℕ) (cs : List (List ℕ)) (rest : List ℕ)
+    → AreChunks cs → drop column (get_or texts line []) ≡ joined cs ++ rest
+    → flat_map (bytes_in texts) (map part_item (parts_of line column cs)) ≡ joined cs
+parts_bytes texts line column [] rest h is = refl
+parts_bytes texts line column (c ∷ cs) rest h is =
+    ap (λ l. l ++ flat_map (bytes_in texts) (map part_item (parts_of line (column + length c) cs)))
+    (part_bytes texts line column c (joined cs ++ rest) h.0 (is ∙ append_assoc c (joined cs) rest))
+    ∙ ap (λ l. c ++ l)
+    (parts_bytes texts line (column + length c) cs rest h.1
+    (chunk_passed column (get_or texts line []) c cs rest is))
+
+pub run_bytes : (texts : List (List ℕ)) (s : Span)
+    → flat_map (bytes_in texts) (map part_item (run_parts texts s)) ≡ span_text texts s
+unfolding run_parts
+run_bytes texts s =
+    let text = span_text texts s in
+    parts_bytes texts s.line s.start (chunks text) _ (chunks_are text) (span_chunks texts s) ∙ chunks_joined text

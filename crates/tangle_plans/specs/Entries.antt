@@ -1,0 +1,79 @@
+-- What the entries of a piece give a body: the tags as they are in memory, where a run has one, and
+-- the bytes, names and slots.
+use Rattle.std.specs.Prelude.{ℕ, ◌-◌, Bool, List, [], ◌∷◌, ◌++◌, map, flat_map, length}
+use Rattle.std.specs.Prelude.{slice_index_or, None}
+use Rattle.tangle_text.specs.declared.spans.Span.{Span}
+use Rattle.tangle_text.specs.Text.{span_text}
+use Rattle.tangle_scan.specs.declared.items.Entry.{Entry}
+use Rattle.tangle_scan.specs.declared.items.Entry.TheVariants as entry
+use Rattle.tangle_scan.specs.Entries.{StoredPiece}
+use Rattle.tangle_scan.specs.ItemBytes.{bytes_in}
+use Rattle.tangle_scan.specs.SourceOrder.{IsInRange, IsSpan}
+use Rattle.tangle_scan.specs.WellFormed.{IsUseBelow}
+use Rattle.tangle_names.specs.NameTable.{TableRead}
+use Rattle.tangle_plans.specs.Shapes.{Title}
+use Rattle.tangle_plans.specs.Slots.{Slot, byte_slots}
+use Rattle.tangle_plans.specs.ItemTags.{tag_in, uses_in}
+use Rattle.tangle_plans.specs.ItemSlots.{marks_after_item, item_slots}
+use Rattle.tangle_plans.specs.Tags.{piece_end}
+use Rattle.tangle_plans.specs.declared.tags.ItemKind.TheVariants as tag
+use Rattle.tangle_plans.specs.declared.tags.ItemTag.{ItemTag}
+
+-- the span of an entry is a range of a source line, and a use has a number in the table
+abbrev pub IsEntryOf : List (List ℕ) → TableRead → Entry → Type 0
+IsEntryOf texts table (entry.Item x) = IsInRange texts x × IsUseBelow (length table.resolved) x
+IsEntryOf texts table (entry.Run s) = IsSpan texts s
+
+-- a run has one tag, with the number of all its bytes
+abbrev pub run_tag : Span → ItemTag
+run_tag s = record { kind = tag.Run; size = s.end - s.start }
+
+module _ (table : TableRead) where
+  abbrev pub entry_tag : Entry → ItemTag
+  entry_tag (entry.Item x) = tag_in table x
+  entry_tag (entry.Run s) = run_tag s
+
+  -- the tags of entries, and the end of the piece
+  abbrev pub entries_tags : List Entry → List ItemTag
+  entries_tags entries = map entry_tag entries ++ piece_end ∷ []
+
+  abbrev pub entry_uses : Entry → List ℕ
+  entry_uses (entry.Item x) = uses_in table x
+  entry_uses (entry.Run s) = []
+
+module _ (texts : List (List ℕ)) where
+  abbrev pub entry_bytes : Entry → List ℕ
+  entry_bytes (entry.Item x) = bytes_in texts x
+  entry_bytes (entry.Run s) = span_text texts s
+
+-- the number of marks after an entry, where there are `marks` before it
+abbrev pub marks_after_entry : ℕ → Entry → ℕ
+marks_after_entry marks (entry.Item x) = marks_after_item marks x
+marks_after_entry marks (entry.Run s) = marks
+
+module _ (texts : List (List ℕ)) (table : TableRead) (has_piece : ℕ → Bool) (node : Title) where
+  abbrev pub entry_slots : ℕ → ℕ → Entry → List Slot
+  entry_slots piece marks (entry.Item x) = item_slots texts table has_piece node piece marks x
+  entry_slots piece marks (entry.Run s) = byte_slots (span_text texts s)
+
+-- the stored pieces with these numbers
+
+abbrev pub no_stored_piece : StoredPiece
+no_stored_piece =
+    record { section = 0; origin = record { file = 0; line = 0 }; occurrence = None; entries = [] }
+
+abbrev pub stored_at : List StoredPiece → List ℕ → List StoredPiece
+stored_at pieces numbers = map (λ n. slice_index_or pieces n no_stored_piece) numbers
+
+-- the tags and bytes of stored pieces
+
+abbrev pub stored_tags : TableRead → List StoredPiece → List ItemTag
+stored_tags table pieces = flat_map (λ (p : StoredPiece). entries_tags table p.entries) pieces
+
+abbrev pub stored_bytes : List (List ℕ) → List StoredPiece → List ℕ
+stored_bytes texts pieces =
+    flat_map (λ (p : StoredPiece). flat_map (entry_bytes texts) p.entries) pieces
+
+abbrev pub stored_uses : TableRead → List StoredPiece → List ℕ
+stored_uses table pieces =
+    flat_map (λ (p : StoredPiece). flat_map (entry_uses table) p.entries) pieces

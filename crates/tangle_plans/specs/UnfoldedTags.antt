@@ -1,0 +1,30 @@
+-- The tags of a body as they are in memory, where a run of words, signs and single spaces has one
+-- tag, and the tags of the items that they stand for.
+use Rattle.std.specs.Prelude.{ℕ, ◌-◌, List, [], ◌∷◌, ◌++◌, map, take, drop}
+use Rattle.tangle_text.specs.declared.runs.RunPart.{RunPart}
+use Rattle.tangle_text.specs.declared.runs.RunPart.TheVariants as part
+use Rattle.tangle_text.specs.Runs.{chunks, parts_of}
+use Rattle.tangle_plans.specs.declared.tags.ItemKind.{ItemKind}
+use Rattle.tangle_plans.specs.declared.tags.ItemKind.TheVariants as tag
+use Rattle.tangle_plans.specs.declared.tags.ItemTag.{ItemTag}
+
+-- the tag of a part of a run
+abbrev pub part_tag : RunPart → ItemTag
+part_tag (part.Word s) = record { kind = tag.Word; size = s.end - s.start }
+part_tag (part.Sign s) = record { kind = tag.Sign; size = s.end - s.start }
+part_tag part.Space = record { kind = tag.Blank; size = 1 }
+
+-- the tags of the words, signs and spaces of a run with these bytes
+unfoldable pub run_tags : List ℕ → List ItemTag
+run_tags bytes = map part_tag (parts_of 0 0 (chunks bytes))
+
+-- the tags that a tag of this kind, with these bytes, stands for
+abbrev pub kind_tags : ItemKind → ItemTag → List ℕ → List ItemTag
+kind_tags tag.Run t bytes = run_tags bytes
+kind_tags _ t bytes = t ∷ []
+
+-- The tags of the items, where these tags are in memory and the items have these bytes.
+abbrev pub unfolded_tags : List ItemTag → List ℕ → List ItemTag
+unfolded_tags [] bytes = []
+unfolded_tags (t ∷ tags) bytes =
+    kind_tags t.kind t (take t.size bytes) ++ unfolded_tags tags (drop t.size bytes)

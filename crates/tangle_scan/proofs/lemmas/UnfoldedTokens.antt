@@ -1,0 +1,105 @@
+-- The tokens of runs are no heads, no faults, no @h and not rare.
+use Rattle.std.proofs.Common.{◌≡◌, ℕ, Bool, false, List, [], ◌∷◌, map, refl, ap, sym, ◌∙◌}
+use Rattle.std.specs.List.{list_any, flat_map}
+use Rattle.std.proofs.lemmas.Grind.{flat_map-append}
+use Rattle.std.proofs.lemmas.List.Folds.{list_any-append}
+use Rattle.std.proofs.lemmas.Bool.{or_parts}
+use Rattle.std.proofs.Math.Bool.{or-false}
+use Rattle.tangle_files.specs.Lines.{FileTable}
+use Rattle.tangle_lines.specs.Reading.{SourceLine}
+use Rattle.tangle_text.specs.declared.spans.Span.{Span}
+use Rattle.tangle_text.specs.declared.runs.RunPart.{RunPart}
+use Rattle.tangle_text.specs.declared.runs.RunPart.TheVariants as part
+use Rattle.tangle_text.specs.Runs.{run_parts}
+use Rattle.tangle_lexer.specs.declared.tokens.Token.{Token}
+use Rattle.tangle_lexer.specs.declared.tokens.Token.TheVariants as token
+use Rattle.tangle_lexer.specs.Heads.{is_head}
+use Rattle.tangle_lexer.specs.Runs.{part_token, unfolded_token, unfolded, is_run, HasNoRun}
+use Rattle.tangle_scan.specs.Passes.{is_rare}
+use Rattle.tangle_scan.specs.Web.{is_all_macros, body}
+use Rattle.tangle_scan.specs.WebBuilder.{own_fault}
+use Rattle.tangle_scan.proofs.lemmas.WebBuilderLemmas.{body-whole}
+
+-- a test that neither a run nor a part of one passes
+
+any-parts : (test : Token → Bool) → ((x : RunPart) → test (part_token x) ≡ false) → (xs : List RunPart)
+    → list_any test (map part_token xs) ≡ false
+any-parts test part [] = refl
+any-parts test part (x ∷ xs) = rw (part x) (any-parts test part xs)
+
+any-token : (test : Token → Bool) (texts : List (List ℕ)) → ((s : Span) → test (token.Run s) ≡ false)
+    → ((x : RunPart) → test (part_token x) ≡ false) → (t : Token)
+    → list_any test (unfolded_token texts t) ≡ test t
+any-token test texts run part (token.Run s) = any-parts test part (run_parts texts s) ∙ sym (run s)
+any-token test texts run part t = or-false (test t)
+
+any-unfolded : (test : Token → Bool) (texts : List (List ℕ)) → ((s : Span) → test (token.Run s) ≡ false)
+    → ((x : RunPart) → test (part_token x) ≡ false) → (ts : List Token)
+    → list_any test (unfolded texts ts) ≡ list_any test ts
+any-unfolded test texts run part [] = refl
+any-unfolded test texts run part (t ∷ ts) =
+    rw (list_any-append, any-token test texts run part t, any-unfolded test texts run part ts) refl
+
+part-head : (x : RunPart) → is_head (part_token x) ≡ false
+part-head part.Space = refl
+part-head _ = refl
+
+pub head-unfolded : (texts : List (List ℕ)) (ts : List Token)
+    → list_any is_head (unfolded texts ts) ≡ list_any is_head ts
+head-unfolded texts ts = any-unfolded is_head texts (λ s. refl) part-head ts
+
+part-rare : (x : RunPart) → is_rare (part_token x) ≡ false
+part-rare part.Space = refl
+part-rare _ = refl
+
+pub rare-unfolded : (texts : List (List ℕ)) (ts : List Token)
+    → list_any is_rare (unfolded texts ts) ≡ list_any is_rare ts
+rare-unfolded texts ts = any-unfolded is_rare texts (λ s. refl) part-rare ts
+
+part-all_macros : (x : RunPart) → is_all_macros (part_token x) ≡ false
+part-all_macros part.Space = refl
+part-all_macros _ = refl
+
+pub all_macros-unfolded : (texts : List (List ℕ)) (ts : List Token)
+    → list_any is_all_macros (unfolded texts ts) ≡ list_any is_all_macros ts
+all_macros-unfolded texts ts = any-unfolded is_all_macros texts (λ s. refl) part-all_macros ts
+
+-- no part of a run is a fault
+
+part-fault : (files : FileTable) (lines : List SourceLine) (x : RunPart) → own_fault files lines (part_token x) ≡ []
+part-fault files lines part.Space = refl
+part-fault files lines _ = refl
+
+parts-faults : (files : FileTable) (lines : List SourceLine) (xs : List RunPart)
+    → flat_map (own_fault files lines) (map part_token xs) ≡ []
+parts-faults files lines [] = refl
+parts-faults files lines (x ∷ xs) = rw (part-fault files lines x) (parts-faults files lines xs)
+
+token-faults : (texts : List (List ℕ)) (files : FileTable) (lines : List SourceLine) (t : Token)
+    → flat_map (own_fault files lines) (unfolded_token texts t) ≡ own_fault files lines t
+token-faults texts files lines (token.Run s) = parts-faults files lines (run_parts texts s)
+token-faults texts files lines (token.Fault kind line) = refl
+token-faults texts files lines t = refl
+
+pub faults-unfolded : (texts : List (List ℕ)) (files : FileTable) (lines : List SourceLine) (ts : List Token)
+    → flat_map (own_fault files lines) (unfolded texts ts) ≡ flat_map (own_fault files lines) ts
+faults-unfolded texts files lines [] = refl
+faults-unfolded texts files lines (t ∷ ts) =
+    rw (flat_map-append, token-faults texts files lines t, faults-unfolded texts files lines ts) refl
+
+-- tokens without a head
+
+pub unfolded-no_head : (texts : List (List ℕ)) (ts : List Token) → list_any is_head ts ≡ false
+    → list_any is_head (unfolded texts ts) ≡ false
+unfolded-no_head texts ts none = head-unfolded texts ts ∙ none
+
+pub unfolded-whole : (texts : List (List ℕ)) (ts : List Token) → list_any is_head ts ≡ false
+    → body (unfolded texts ts) ≡ unfolded texts ts
+unfolded-whole texts ts none = body-whole (unfolded texts ts) (unfolded-no_head texts ts none)
+
+-- tokens without a run
+pub unfolded-same : (texts : List (List ℕ)) (ts : List Token) → HasNoRun ts → unfolded texts ts ≡ ts
+unfolded-same texts [] none = refl
+unfolded-same texts (token.Run s ∷ ts) none = cc
+unfolded-same texts (t ∷ ts) none =
+    ap (λ us. t ∷ us) (unfolded-same texts ts (or_parts (is_run t) (list_any is_run ts) none).1)

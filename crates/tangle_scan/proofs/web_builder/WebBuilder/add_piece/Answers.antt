@@ -1,0 +1,58 @@
+use Rattle.std.proofs.Common.{◌≡◌, ◌||◌, ◌++◌, ◌∷◌, [], ◌∙◌, ap, sym}
+use Rattle.std.specs.List.{list_any}
+use Rattle.tangle_faults.specs.declared.faults.Origin.{Origin}
+use Rattle.tangle_lines.specs.Reading.{origin_at}
+use Rattle.tangle_lexer.specs.Runs.{unfolded}
+use Rattle.tangle_scan.specs.Entries.{StoredPiece}
+use Rattle.tangle_scan.specs.Rules.{texts_of, part_items}
+use Rattle.tangle_scan.specs.Web.{is_all_macros}
+use Rattle.tangle_scan.specs.WebBuilder.{StoredBuilder, WebBuilderRead, builder_read}
+use Rattle.tangle_scan.proofs.lemmas.UnfoldedTokens.{all_macros-unfolded}
+use Rattle.tangle_scan.proofs.lemmas.StoredPieces.{piece-added, runs-added}
+use Rattle.tangle_scan.proofs.web_builder.WebBuilder.add_piece.Goals as goal
+use Rattle.tangle_scan.proofs.web_builder.WebBuilder.add_piece.Goals.{then-self, else-self}
+
+pub returns-clause-piece : goal.returns-clause-piece
+returns-clause-piece c =
+    let lines = c.args.source.now.lines in
+    let texts = texts_of lines in
+    let tokens = c.args.tokens.now in
+    let has_all_macros = list_any is_all_macros (unfolded texts tokens) in
+    let items = part_items lines c.args.line (unfolded texts tokens) in
+    let flag : c.if-self.self ≡ (c.self.inside.has_all_macros || has_all_macros) =
+    elim c.if-self.branch [
+      | then-self w ↦ w.self-is ∙ (w.if-self.true ∙ sym (ap (λ b. b || has_all_macros) w.if-self.true))
+      | else-self w ↦
+          w.self-is ∙ (w.has_all_macros-self-inside.ensures ∙ (sym (all_macros-unfolded texts tokens)
+          ∙ sym (ap (λ b. b || has_all_macros) w.if-self.false)))
+    ] in
+    let piece : Origin → StoredPiece =
+    λ origin. record {
+      section = c.self.inside.sections;
+      origin = origin;
+      occurrence = c.args.occurrence;
+      entries = c.in_ok-entries.entries.items;
+    } in
+    let here = c.new-piece.ensures ∙ ap piece c.origin-origin.ensures in
+    let before = c.self.inside.pieces.items in
+    let read = piece-added texts before c.push.new.self.items (piece (origin_at lines c.args.line)) items
+    ((c.in_ok-push.ensures).items ∙ ap (λ p. before ++ p ∷ []) here) c.in_ok-entries.ensures.items in
+    let added : StoredBuilder → WebBuilderRead =
+    λ g. record (builder_read texts g) {
+      pieces = (builder_read texts g).pieces ++ record {
+        section = g.sections;
+        origin = origin_at lines c.args.line;
+        occurrence = c.args.occurrence;
+        items = items;
+      } ∷ [];
+      has_all_macros = g.has_all_macros || has_all_macros;
+    } in
+    rw (read, flag) (ap added c.self.view_is)
+
+pub returns-clause-kept : goal.returns-clause-kept
+returns-clause-kept c =
+    let texts = texts_of c.args.source.now.lines in
+    let entries = ap (λ p. p.entries) c.new-piece.ensures in
+    runs-added texts c.args.self.now.pieces c.push.new.self.items c.new-piece.result
+    ((c.in_ok-push.ensures).items ∙ ap (λ g. g.pieces ++ c.new-piece.result ∷ []) c.self.view_is)
+    c.requires.kept (rw entries c.in_ok-entries.ensures.runs)

@@ -1,0 +1,159 @@
+-- The chunks of bytes, and the parts that they are.
+use Rattle.std.proofs.Common.{◌≡◌, ℕ, ◌+◌, ◌-◌, Bool, true, false, ◌&&◌, ◌==◌, List, [], ◌∷◌, ◌++◌, length, drop}
+use Rattle.std.proofs.Common.{get_or, slice_get, inl, inr, refl, ap, sym, ◌∙◌, append_assoc, drop-drop}
+use Rattle.std.specs.List.{AllByRecursion}
+use Rattle.std.proofs.lemmas.Bool.{and_parts}
+use Rattle.std.proofs.lemmas.Bool.Decides.{eqb_tells}
+use Rattle.std.proofs.lemmas.List.{take-append-drop}
+use Rattle.std.proofs.Math.Seq.{drop-append_seam}
+use Rattle.tangle_files.specs.Bytes.{space}
+use Rattle.tangle_text.specs.Bytes.{is_word_byte, holds_word_byte}
+use Rattle.tangle_text.specs.Text.{span_text}
+use Rattle.tangle_text.specs.Runs.{with_front_byte, chunks, part_of}
+use Rattle.tangle_text.specs.declared.runs.RunPart.{RunPart}
+use Rattle.tangle_text.specs.declared.runs.RunPart.TheVariants as part
+use Rattle.tangle_text.specs.declared.spans.Span.{Span}
+
+-- a byte that passes a test is no byte that fails it
+pub differs : (test : ℕ → Bool) (b n : ℕ) → test b ≡ true → test n ≡ false → (b == n) ≡ false
+differs test b n h k =
+    elim (eqb_tells b n) [
+      | inl same ↦ let never : false ≡ true = sym k ∙ (sym (ap test same.1) ∙ h) in cc
+      | inr other ↦ other.0
+    ]
+
+-- word bytes, or one other byte
+
+abbrev pub AreWordBytes : List ℕ → Type 0
+AreWordBytes bs = AllByRecursion (λ b. is_word_byte b ≡ true) bs
+
+abbrev pub IsChunk : List ℕ → Type 0
+IsChunk [] = ⊥
+IsChunk (b ∷ []) = Unit {0}
+IsChunk (b ∷ c ∷ bs) = AreWordBytes (b ∷ c ∷ bs)
+
+abbrev pub AreChunks : List (List ℕ) → Type 0
+AreChunks cs = AllByRecursion IsChunk cs
+
+abbrev pub joined : List (List ℕ) → List ℕ
+joined [] = []
+joined (c ∷ cs) = c ++ joined cs
+
+-- the number of bytes of the first chunk
+abbrev pub first_size : List (List ℕ) → ℕ
+first_size [] = 0
+first_size (c ∷ cs) = length c
+
+chunk-words : (c : ℕ) (bs : List ℕ) → is_word_byte c ≡ true → IsChunk (c ∷ bs) → AreWordBytes (c ∷ bs)
+chunk-words c [] h k = (h, tt)
+chunk-words c (d ∷ bs) h k = k
+
+-- one more byte in front of chunks
+record IsWithFront (b : ℕ) (cs : List (List ℕ)) : Type 0 where
+  are : AreChunks cs → AreChunks (with_front_byte b cs)
+  joins : joined (with_front_byte b cs) ≡ b ∷ joined cs
+  after : (bs : List ℕ) → chunks bs ≡ cs → chunks (drop (first_size cs) bs) ≡ drop 1 cs
+      → chunks (drop (first_size (with_front_byte b cs)) (b ∷ bs)) ≡ drop 1 (with_front_byte b cs)
+
+front_on : (b c : ℕ) (bs : List ℕ) (cs : List (List ℕ)) → IsWithFront b ((c ∷ bs) ∷ cs)
+front_on b c bs cs = go (is_word_byte b && is_word_byte c) refl
+  where
+    go : (t : Bool) → (is_word_byte b && is_word_byte c) ≡ t → IsWithFront b ((c ∷ bs) ∷ cs)
+    go true h =
+        let words = and_parts (is_word_byte b) (is_word_byte c) h in
+        record {
+          are = rw h (λ a. ((words.0, chunk-words c bs words.1 a.0), a.1));
+          joins = rw h refl;
+          after = rw h (λ l is e. e);
+        }
+    go false h = record {
+      are = rw h (λ a. (tt, a));
+      joins = rw h refl;
+      after = rw h (λ l is e. is);
+    }
+
+front : (b : ℕ) (cs : List (List ℕ)) → IsWithFront b cs
+front b [] = record { are = λ a. (tt, a); joins = refl; after = λ bs is e. is }
+front b ([] ∷ cs) = record { are = λ a. (tt, a); joins = refl; after = λ bs is e. is }
+front b ((c ∷ bs) ∷ cs) = front_on b c bs cs
+
+pub chunks_are : (bs : List ℕ) → AreChunks (chunks bs)
+chunks_are [] = tt
+chunks_are (b ∷ bs) = (front b (chunks bs)).are (chunks_are bs)
+
+pub chunks_joined : (bs : List ℕ) → joined (chunks bs) ≡ bs
+chunks_joined [] = refl
+chunks_joined (b ∷ bs) = (front b (chunks bs)).joins ∙ ap (λ l. b ∷ l) (chunks_joined bs)
+
+-- the chunks after the first one
+pub chunks_after : (bs : List ℕ) → chunks (drop (first_size (chunks bs)) bs) ≡ drop 1 (chunks bs)
+chunks_after [] = refl
+chunks_after (b ∷ bs) = (front b (chunks bs)).after bs refl (chunks_after bs)
+
+-- the bytes of a line after those of a chunk
+pub chunk_passed : (column : ℕ) (bytes c : List ℕ) (cs : List (List ℕ)) (rest : List ℕ)
+    → drop column bytes ≡ joined (c ∷ cs) ++ rest → drop (column + length c) bytes ≡ joined cs ++ rest
+chunk_passed column bytes c cs rest is =
+    sym (drop-drop (length c) column bytes)
+    ∙ ap (drop (length c)) (is ∙ append_assoc c (joined cs) rest)
+    ∙ drop-append_seam c (joined cs ++ rest)
+
+-- the bytes of a line from a range on are those of the chunks of the range, and more
+pub span_chunks : (texts : List (List ℕ)) (s : Span)
+    → let line : List ℕ = drop s.start (get_or texts s.line []) in
+    line ≡ joined (chunks (span_text texts s)) ++ drop (s.end - s.start) line
+span_chunks texts s =
+    let line : List ℕ = drop s.start (get_or texts s.line []) in
+    sym (take-append-drop (s.end - s.start) line)
+    ∙ ap (λ l. l ++ drop (s.end - s.start) line) (sym (chunks_joined (span_text texts s)))
+
+-- the first chunk
+
+-- a byte that is no word byte is a chunk
+pub alone-chunk : (b : ℕ) (more : List (List ℕ)) → is_word_byte b ≡ false → with_front_byte b more ≡ (b ∷ []) ∷ more
+alone-chunk b [] h = refl
+alone-chunk b ([] ∷ more) h = refl
+alone-chunk b ((c ∷ cs) ∷ more) h = rw h refl
+
+-- the first chunk begins with the first byte
+pub front-chunk : (b : ℕ) (bs : List ℕ)
+    → (ys : List ℕ) × (more : List (List ℕ)) × (chunks (b ∷ bs) ≡ (b ∷ ys) ∷ more)
+front-chunk b bs = by (chunks bs)
+  where
+    by : (all : List (List ℕ))
+        → (ys : List ℕ) × (more : List (List ℕ)) × (with_front_byte b all ≡ (b ∷ ys) ∷ more)
+    by [] = ([], [], refl)
+    by ([] ∷ all) = ([], [] ∷ all, refl)
+    by ((c ∷ cs) ∷ all) = joins (is_word_byte b && is_word_byte c) refl
+      where
+        joins : (t : Bool) → (is_word_byte b && is_word_byte c) ≡ t
+            → (ys : List ℕ) × (more : List (List ℕ)) × (with_front_byte b ((c ∷ cs) ∷ all) ≡ (b ∷ ys) ∷ more)
+        joins true h = (c ∷ cs, all, rw h refl)
+        joins false h = ([], (c ∷ cs) ∷ all, rw h refl)
+
+-- a word byte before a byte that is none, or before nothing, is a chunk of its own
+pub alone-before : (b : ℕ) (bs : List ℕ) → is_word_byte b ≡ true → holds_word_byte (slice_get bs 0) ≡ false
+    → with_front_byte b (chunks bs) ≡ (b ∷ []) ∷ chunks bs
+alone-before b [] word other = refl
+alone-before b (c ∷ bs) word other =
+    let first = front-chunk c bs in rw (first.2, word, other) refl
+
+-- the part that a chunk is
+
+-- what holds of a space, a word and a sign holds of the part
+pub part-by : (P : RunPart → Type 0) (line column b : ℕ) (bs : List ℕ) →
+    let s : Span = record { line = line; start = column; end = column + length (b ∷ bs) } in
+    ((b == space) ≡ true → P part.Space)
+    → ((b == space) ≡ false → is_word_byte b ≡ true → P (part.Word s))
+    → ((b == space) ≡ false → is_word_byte b ≡ false → P (part.Sign s)) → P (part_of line column (b ∷ bs))
+part-by P line column b bs blank word sign = go (b == space) (is_word_byte b) refl refl
+  where
+    go : (s w : Bool) → (b == space) ≡ s → is_word_byte b ≡ w → P (part_of line column (b ∷ bs))
+    go true w h k = rw h (blank h)
+    go false true h k = rw (h, k) (word h k)
+    go false false h k = rw (h, k) (sign h k)
+
+pub part-word : (line column b : ℕ) (bs : List ℕ) → is_word_byte b ≡ true
+    → part_of line column (b ∷ bs)
+    ≡ part.Word (record { line = line; start = column; end = column + length (b ∷ bs) })
+part-word line column b bs word = rw (differs is_word_byte b space word refl, word) refl

@@ -1,0 +1,161 @@
+//! Runs: ranges of a line that consist of words, signs and single spaces.
+ghost use Rattle.std.specs.Prelude.{◌≡◌, ◌≤◌, ◌<◌, ◌+◌, ◌-◌, ◌^◌, length, take, drop, get_or};
+ghost use Rattle.std.specs.Prelude.{false, slice_get};
+ghost use Rattle.tangle_text.specs.Runs as runs;
+ghost use Rattle.tangle_text.specs.Runs.{chunks, parts_of, run_size};
+
+use crate::bytes::holds;
+use crate::classes::{is_plain, is_word_byte};
+use crate::reader::word_end;
+use crate::spans::Span;
+use std::marker::Model;
+
+fn holds_plain(byte: Option<u8>) -> bool
+    ensures { result ≡ runs.holds_plain byte }
+{
+    match byte {
+        Some(byte) => is_plain(byte),
+        None => false,
+    }
+}
+
+/// Whether a run goes over the byte at this column, which is not plain.
+#[inline(never)]
+fn goes_on(bytes: &[u8], column: usize) -> bool
+    requires inside { column < length bytes.now }
+    requires other { runs.is_plain (get_or bytes.now column 0) ≡ false }
+    ensures { result
+        ≡ runs.is_in_run (get_or bytes.now column 0) (slice_get bytes.now (column + 1)) }
+{
+    let next = bytes.get(column + 1).copied();
+    match bytes[column] {
+        b' ' => holds_plain(next),
+        b'/' => !(holds(b'*', next) || holds(b'/', next)),
+        _ => false,
+    }
+}
+
+/// Whether a run goes over the byte at this column.
+#[inline(always)]
+fn goes_over(bytes: &[u8], column: usize) -> bool
+    requires { column < length bytes.now }
+    ensures { result
+        ≡ runs.is_in_run (get_or bytes.now column 0) (slice_get bytes.now (column + 1)) }
+{
+    is_plain(bytes[column]) || goes_on(bytes, column)
+}
+
+/// The column after the run that begins at this column of a line.
+// Four bytes are tested in a turn, as for words.
+#[inline(always)]
+pub(crate) fn run_end(bytes: &[u8], from: usize) -> usize
+    requires { from ≤ length bytes.now }
+    ensures end { result ≡ from + run_size (drop from bytes.now) }
+    ensures inside { result ≤ length bytes.now }
+{
+    let mut end = from;
+    while bytes.len() - end >= 4 {
+        if !goes_over(bytes, end) {
+            return end;
+        }
+        if !goes_over(bytes, end + 1) {
+            return end + 1;
+        }
+        if !goes_over(bytes, end + 2) {
+            return end + 2;
+        }
+        if !goes_over(bytes, end + 3) {
+            return end + 3;
+        }
+        end += 4;
+    }
+    while end < bytes.len() && goes_over(bytes, end) {
+        end += 1;
+    }
+    end
+}
+
+/// A part of a run.
+#[derive(Clone, Copy)]
+pub enum RunPart {
+    /// Word bytes, up to the first other byte.
+    Word(Span),
+    /// A byte that is no word byte and no space.
+    Sign(Span),
+    /// A space.
+    Space,
+}
+
+/// The span from one column of a line up to another.
+#[inline(always)]
+fn span_between(line: u32, start: usize, end: usize) -> Span
+    requires start { start < 2 ^ 16 }
+    requires end { end < 2 ^ 16 }
+    ensures { result ≡ record { line = line; start = start; end = end } }
+{
+    Span {
+        line,
+        start: start as u16,
+        end: end as u16,
+    }
+}
+
+/// The parts of a run that remain, one after another.
+#[derive(Drop)]
+pub struct RunParts<'a> {
+    /// The bytes of the line up to the end of the run.
+    bytes: &'a [u8],
+    line: u32,
+    column: usize,
+}
+
+impl<'a> Model for RunParts<'a> {
+    ghost use Rattle.std.specs.Prelude.{List, length, drop, ◌≤◌, ◌<◌, ◌^◌};
+    ghost use Rattle.tangle_text.specs.declared.runs.RunPart.{RunPart};
+    ghost use Rattle.tangle_text.specs.Runs.{chunks, parts_of};
+
+    ghost Value = { List RunPart };
+
+    ghost view = { λ r. parts_of r.line r.column (chunks (drop r.column r.bytes.now)) };
+
+    ghost invariant = { λ r. (r.column ≤ length r.bytes.now) × (length r.bytes.now < 2 ^ 16) };
+}
+
+impl<'a> RunParts<'a> {
+    /// The parts of the run with this span, on a line with these bytes.
+    #[inline(always)]
+    pub fn new(line: &'a [u8], span: Span) -> Self
+        requires start { span.start ≤ span.end }
+        requires end { span.end ≤ length line.now }
+        ensures { result ≡ parts_of span.line span.start
+            (chunks (take (span.end - span.start) (drop span.start line.now))) }
+    {
+        RunParts {
+            bytes: &line[..span.end as usize],
+            line: span.line,
+            column: span.start as usize,
+        }
+    }
+
+    /// The next part of the run; `None` at its end.
+    #[inline(always)]
+    pub fn next(&mut self) -> Option<RunPart>
+        ensures part { result ≡ slice_get self.old 0 }
+        ensures rest { self.new ≡ drop 1 self.old }
+    {
+        let start = self.column;
+        if start >= self.bytes.len() {
+            return None;
+        }
+        let byte = self.bytes[start];
+        self.column = start + 1;
+        if byte == b' ' {
+            return Some(RunPart::Space);
+        }
+        if is_word_byte(byte) {
+            self.column = word_end(self.bytes, start + 1);
+            return Some(RunPart::Word(span_between(self.line, start, self.column)));
+        }
+        Some(RunPart::Sign(span_between(self.line, start, start + 1)))
+    }
+}
