@@ -32,7 +32,7 @@ import webs
 from measuring import HERE, RUNS, UNREPORTED, Bench, Command, lines_of, own_instructions
 
 DROPPED = '...'             # after the names of parts: they are abbreviations of none
-REQUIRED = {'hiformat.w': 0.49, 'mp.w': 0.52, 'hitex.w': 0.57}    # beside CTANGLE 4.11
+REQUIRED = {'hiformat.w': 0.29, 'mp.w': 0.30, 'hitex.w': 0.40}    # beside CTANGLE 4.11
 
 
 def table(title, head, rows):
@@ -127,8 +127,8 @@ def bench_scanning(bench):
         rows.append(['{:,} lines'.format(count), per(until and until - cut, count, 1000),
                      per(whole, count, 1000), run.seconds,
                      (run.kilobytes - bench.least) * 1024 / size_of(lines)])
-    table('Lines of C: reading and scanning (required: at most 1,300,000 instructions per 1,000 '
-          'lines, flat; at most 5.5 bytes of memory a byte)',
+    table('Lines of C: reading and scanning (required: at most 900,000 instructions per 1,000 '
+          'lines, flat; at most 4 bytes of memory a byte)',
           ['', 'instructions per 1,000', 'a whole run, with loading and writing', 'seconds',
            'memory per byte'], rows)
 
@@ -198,9 +198,9 @@ def bench_whole(bench):
                     [ours.seconds * 1000, ours.kilobytes, held, str(ours.status)])
         if other:
             beside.append([web.title] + compared(*runs) + [web.required])
-    table('Whole runs (required: at most 1,700,000 instructions per 1,000 lines of generated webs, '
-          'flat within a tenth, of them at most 700,000 after scanning, for store, expansions and '
-          'writing; at most 7.5 bytes of memory a byte)',
+    table('Whole runs (required from 100,000 lines on: at most 1,100,000 instructions per 1,000 '
+          'lines of generated webs, flat within an eighth, of them at most 250,000 after scanning, '
+          'for store, expansions and writing; at most 5 bytes of memory a byte)',
           ['', 'instructions per 1,000 lines', 'after scanning, at least', 'at most',
            'milliseconds', 'KB', 'memory per byte', 'status'], rows)
     if other:
@@ -283,12 +283,12 @@ def bench_edits(bench):
           'instructions, after scanning %s' % (show(whole), show(of_whole)),
           ['', 'instructions or KB', 'ratio', 'required'],
           [['one replace of a line of a leaf', edit, ratio(edit, whole),
-            'at most 0.76 of a whole run, and 72,000,000'],
+            'at most 0.65 of a whole run, and 43,000,000'],
            ['one line more before all others', moves, ratio(moves, whole), 'no more than it'],
-           ['one use more', use, ratio(use, whole), 'at most 0.95 of a whole run'],
-           ['one name more', name, ratio(name, whole), 'at most 0.95 of a whole run'],
+           ['one use more', use, ratio(use, whole), 'at most 0.9 of a whole run'],
+           ['one name more', name, ratio(name, whole), 'at most 0.9 of a whole run'],
            ['after scanning one replace takes at least', least, ratio(least, of_whole),
-            'at most 0.15 of the same part of a whole run'],
+            'at most 0.05 of the same part of a whole run'],
            ['  at most, with the table of names', most, ratio(most, of_whole), ''],
            ['one refused edit', refused, '', 'under 10,000'],
            ['most memory in 1,000 edits, KB', many, ratio(many, few), 'at most 1.1 of ten']])
