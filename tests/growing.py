@@ -20,7 +20,7 @@ from measuring import find_counter
 
 NAMES = 10000, 40000
 WORDS = 250000, 1000000
-ROW = 10000                 # so many words are on a line
+ROW = 10000                 # the number of words on a line
 MOST = 4.5                  # times as much, where four times is meant
 MOST_TIME = 7               # the same of times, which vary
 NOTHING = os.devnull

@@ -192,7 +192,7 @@ run_timed_case() { # NAME MICROSECONDS
     fi
 }
 
-# The last measured run held less memory than so much.
+# The last measured run held less memory than this number of KB.
 must_have_held() { # NAME KILOBYTES
     kilobytes=$(cut -d ' ' -f 2 "$temporary/used")
     if [ "$kilobytes" -lt "$2" ]; then
@@ -385,8 +385,8 @@ test_rare_tokens() {
     run_timed_case 'joins and line ends in turn' 1000000
 }
 
-# A part of 100 lines with 10,000 words each, this text after each word, and one word more; a line of
-# these words becomes so.
+# A part of 100 lines with 10,000 words each, with TEXT after each word, and of one word more. WRITTEN
+# is what becomes of a line of these words.
 words_with() { # TEXT WRITTEN
     begin_case a
     {
