@@ -89,14 +89,15 @@ def taken(project, before, edit, work):
 def check_one(name, project, before):
     """An edit that affects one node takes ONE_NODE allocations more than one that affects none, and
     one that affects two nodes takes ANOTHER more: whatever else the project has, and after other
-    edits."""
+    edits. Affected nodes are kept after all others, so the list of kept expansions may grow once
+    more."""
     first, second = project.lines_of_files
     nothing = taken(project, before, [(first, '1')], 0)
     one = taken(project, before, [(first, '2')], 1) - nothing
-    check(one == ONE_NODE, name, 'for one node %d allocations, not %d' % (one, ONE_NODE))
+    check(one - ONE_NODE in (0, 1), name, 'for one node %d allocations, not %d' % (one, ONE_NODE))
     two = (taken(project, before, [(first, '2'), (second, '2')], 2)
            - taken(project, before, [(first, '1'), (second, '1')], 0))
-    check(two == ONE_NODE + ANOTHER, name,
+    check(two - ONE_NODE - ANOTHER in (0, 1), name,
           'for two nodes %d allocations, not %d' % (two, ONE_NODE + ANOTHER))
     return nothing
 

@@ -60,7 +60,7 @@ CALLS = {
     'expand_next': ['tangle_affected/keeping.rt: expand_list'],
     'expand': ['tangle_affected/keeping.rt: expand_next', 'tangle_graph/store.rt: expand'],
     'expansion_of': ['tangle_expansion/expanding.rt: expand'],
-    'plan_node': ['tangle_graph/bodies.rt: body_of_node'],
+    'plan_node': ['tangle_graph/bodies.rt: body_after'],
     'write_text_after': ['tangle_expansion/writing.rt: write_text_after', 'tangle_expansion/writing.rt: write_text',
                          'tangle_expansion/files.rt: write_file'],
     'write_text': [],
@@ -98,10 +98,10 @@ PLANTED = {
         '    expand_list(alloc, new, &list, &mut kept, work)?;\n'
         '    let mut second = Work::new(alloc);\n    drop(expand_all(alloc, new, &mut second)?);\n'),
     'each node is expanded in a second work too': (
-        'tangle_graph', 'store.rt', '        expand(alloc, node, &self.bodies[n], kept, work)\n',
+        'tangle_graph', 'store.rt', '        expand(alloc, node, &self.bodies[node.number()], kept, work)\n',
         '        let mut second = Work::new(alloc);\n'
-        '        drop(expand(alloc, node, &self.bodies[n], kept, &mut second)?);\n'
-        '        expand(alloc, node, &self.bodies[n], kept, work)\n'),
+        '        drop(expand(alloc, node, &self.bodies[node.number()], kept, &mut second)?);\n'
+        '        expand(alloc, node, &self.bodies[node.number()], kept, work)\n'),
     'an expansion is made twice and noted once': (
         'tangle_expansion', 'expanding.rt', '    work.add(node)?;\n',
         '    drop(expansion_of(alloc, body, kept)?);\n    work.add(node)?;\n'),

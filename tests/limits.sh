@@ -406,13 +406,13 @@ words_with() { # TEXT WRITTEN
 test_short_runs() {
     words_with '@&' "$(repeated 10000 ab)"
     run_timed_case '1,000,000 words with joins' 1000000
-    must_have_held '1,000,000 words with joins' 90000
+    must_have_held '1,000,000 words with joins' 66000
 
     row=$(repeated 9999 'ab ')
     words_with '\t' "${row}ab
 "
     run_timed_case '1,000,000 words with tabs' 1000000
-    must_have_held '1,000,000 words with tabs' 90000
+    must_have_held '1,000,000 words with tabs' 70000
 
     words_with ' ' "${row}ab
 "

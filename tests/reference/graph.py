@@ -13,6 +13,7 @@ class Graph:
     def __init__(self, web, names):
         self.names = names
         self.nodes = names.full_names + [PROGRAM]
+        self.by_number = [PROGRAM] + names.full_names     # the order of users, and so of affected nodes
         self.pieces = {node: [] for node in self.nodes}
         for piece in web.pieces:
             if piece.occurrence is None:
@@ -21,7 +22,7 @@ class Graph:
                 self.pieces[names.resolved[piece.occurrence]].append(piece)
         self.uses = {node: list(dict.fromkeys(self._used(node))) for node in self.nodes}
         self.users = {node: [] for node in self.nodes}
-        for node in self.nodes:
+        for node in self.by_number:
             for used in self.uses[node]:
                 self.users[used].append(node)
         self._find_cycles()
@@ -90,7 +91,7 @@ class Graph:
         """The nodes that reach no cycle, each after all that it uses: at first those that use no
         name; each in turn then adds those of its users of which all used names are there."""
         missing = {node: len(self.uses[node]) for node in self.nodes}
-        found = [node for node in self.nodes if not missing[node]]
+        found = [node for node in self.by_number if not missing[node]]
         for node in found:                      # which grows meanwhile
             for user in self.users[node]:
                 missing[user] -= 1

@@ -1,10 +1,9 @@
 //! A session answers the requests of a script. Some requests collect edits in a list, which another
 //! request then makes.
-ghost use Rattle.std.specs.Prelude.{◌≡◌, ◌++◌, ◌∷◌, [], ℕ, List, Option, None, Some};
-ghost use Rattle.std.specs.Prelude.{codes, decimal, true, IfErr, IfOk, OnErr, OnOk};
+ghost use Rattle.std.specs.Prelude.{◌≡◌, ◌++◌, ℕ, List, Option, None, Some};
+ghost use Rattle.std.specs.Prelude.{codes, decimal, true, IfOk};
 ghost use Rattle.std.specs.List.{list_any};
 ghost use Rattle.tangle_files.specs.declared.edits.Edit.{Edit as EditRead};
-ghost use Rattle.tangle_files.specs.declared.refusal.Refusal.TheVariants.{NoMemory as no_memory};
 ghost use Rattle.tangle_streams.specs.Streams.{Stream};
 ghost use Rattle.tangle_faults.specs.Faults.{is_error};
 ghost use Rattle.tangle_script.specs.Endings.{ConversationEnds};

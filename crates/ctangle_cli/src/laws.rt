@@ -1,22 +1,17 @@
 //! Laws of loading, which hold for each folder that reports its files, of the names of outputs, and
 //! of scripts.
 ghost use Rattle.std.specs.Prelude.{◌≡◌, ◌≢◌, ◌⊎◌, ◌++◌, ℕ, List, None, Ok, Err, Contains, length};
-ghost use Rattle.std.specs.Prelude.{map, false};
+ghost use Rattle.std.specs.Prelude.{false};
 ghost use Rattle.tangle_folders.specs.Folder.{File, file_bytes};
 ghost use Rattle.tangle_files.specs.Adding.{has_file, is_name};
 ghost use Rattle.tangle_files.specs.Lines.{FileTable};
 ghost use Rattle.tangle_files.specs.Roles.{RolesRead};
-ghost use Rattle.std.specs.List.{IsDistinct};
-ghost use Rattle.std.specs.Str.{bytes_eq};
 ghost use Rattle.tangle_script.specs.Requests.{Command};
 ghost use Rattle.tangle_script.specs.Script.{Dialogue};
 ghost use Rattle.tangle_session.specs.Headline.{Call, History, accepted, files_after, roles_with};
-ghost use Rattle.tangle_session.specs.Tangle.{outputs_of};
 ghost use Rattle.ctangle_cli.specs.Conversation.{SessionAndDraft, answers};
 ghost use Rattle.ctangle_cli.specs.Histories.{AreCallsOf, ShowsPlainOf};
 ghost use Rattle.ctangle_cli.specs.Loading.{LoadEnd, load_of, missing_of, rounds_from, with_round};
-
-use tangle_session::outputs_are_found_by_their_names;
 
 /// After a round that adds a file, loading continues as if it began with the new table; a round
 /// that adds none is the last, and a round that ends in a fault ends loading. So the bound on the
@@ -40,14 +35,6 @@ pub fn missing_names_are_not_there()
         → (name : List ℕ) → Contains (missing_of files roles) name → has_file files name ≡ false
         → (is_name name ≡ false) ⊎ (file_bytes all name ≡ None) }
 {}
-
-/// No two outputs have the same name, so a run writes none over another.
-pub fn output_names_differ()
-    ensures { (files : FileTable) (roles : RolesRead)
-        → IsDistinct bytes_eq (map (λ output. output.0) (outputs_of files roles)) }
-{
-    outputs_are_found_by_their_names();
-}
 
 /// The commands of a script extend the history of the session: each edit that is passed, and each
 /// list of edits, is one more call, with the answer that was written. Held edits and questions

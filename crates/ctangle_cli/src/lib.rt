@@ -19,8 +19,8 @@ mod writing;
 pub use arguments::{WordFault, Words, read_words};
 pub use conversation::run_retangle;
 pub use laws::{
-    loading_goes_round_by_round, missing_names_are_not_there, output_names_differ,
-    scripts_show_plain_tangling, the_answers_of_a_script_are_a_history,
+    loading_goes_round_by_round, missing_names_are_not_there, scripts_show_plain_tangling,
+    the_answers_of_a_script_are_a_history,
 };
 pub use loading::{LoadFault, load};
 pub use messages::write_load;

@@ -6,7 +6,6 @@ ghost use Rattle.ctangle_cli.specs.Loads.{Loads};
 ghost use Rattle.ctangle_cli.specs.Run.{NamedEnds, RunEnds, SessionEnds, moment, nothing_done};
 
 use crate::arguments::{WordFault, Words, read_words};
-use crate::laws::output_names_differ;
 use crate::loading::{LoadFault, load};
 use crate::messages::{write_faults, write_load, write_unwritten, write_usage};
 use crate::writing::create_outputs;
@@ -37,7 +36,6 @@ fn run_session<F: Folder, E: Sink>(
         (moment (F.state folder.old) (E.stream err.old))
         (moment (F.state folder.new) (E.stream err.new)) result }
 {
-    output_names_differ();
     let faults = session.faults();
     match write_faults(faults, err) {
         Err(_) => 3,

@@ -1,7 +1,5 @@
 //! Writing the output files.
-ghost use Rattle.std.specs.Prelude.{◌≡◌, ◌≢◌, ◌∷◌, [], IsSome, IfErr, OnErr, OnOk, map};
-ghost use Rattle.std.specs.List.{IsDistinct};
-ghost use Rattle.std.specs.Str.{bytes_eq};
+ghost use Rattle.std.specs.Prelude.{◌≡◌, ◌≢◌, ◌∷◌, [], IsSome, IfErr, OnErr, OnOk};
 ghost use Rattle.tangle_streams.specs.Streams.{Failed};
 ghost use Rattle.tangle_folders.specs.Folder.{with_created};
 ghost use Rattle.tangle_folders.specs.declared.folder.FolderFault.TheVariants.{NoMemory};
@@ -67,8 +65,6 @@ pub fn create_outputs<'a, F: Folder>(
     session: &'a Session,
     folder: &mut F,
 ) -> Result<(), UnwrittenOutput<'a>>
-    requires { IsDistinct bytes_eq
-        (map (λ output. output.0) (outputs_of session.now.files session.now.roles)) }
     ensures whole { OnOk result ((F.state folder.new).created
         ≡ with_created (F.state folder.old).created
         (outputs_of session.now.files session.now.roles)) }

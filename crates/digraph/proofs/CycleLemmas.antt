@@ -1,14 +1,12 @@
 -- What the flags of a search mean for nodes that contain themselves.
 use Rattle.std.proofs.Common.{◌≡◌, ◌<◌, ◌+◌, ◌∙◌, ◌↔◌, ℕ, Bool, true, false, List, [], ◌∷◌, ◌++◌, length, get_or, set}
-use Rattle.std.proofs.Common.{Vec, sym, subst, arith, get_or-set_other, replicate, Contains, All}
+use Rattle.std.proofs.Common.{sym, subst, arith, get_or-set_other, replicate, Contains}
 use Rattle.std.proofs.Math.Decide.{ℕ_discrete}
 use Rattle.std.proofs.lemmas.List.{get_or_push, get_or_append_left}
-use Rattle.std.proofs.lemmas.List.Elements.{All-contains}
-use Rattle.std.specs.Global.{Global}
-use Rattle.digraph.specs.Graph.{Graph, HasUse, InRange}
+use Rattle.digraph.specs.Graph.{Graph, HasUse, InRange, row_at}
 use Rattle.digraph.specs.Reach.{Reaches, ContainsItself, ReachesCycle}
 use Rattle.digraph.specs.Flags.{IsFlagged, ReachesFlagged, FlagsJust}
-use Rattle.digraph.proofs.GraphLemmas.{use_at, in_row, node_in}
+use Rattle.digraph.proofs.GraphLemmas.{node_in, use_in}
 use Rattle.digraph.proofs.ReachLemmas.{flagged_in, none_flagged, true_unless}
 
 -- only this node is flagged
@@ -21,22 +19,17 @@ flagged_alone size n m f = elim (ℕ_discrete m n) [
 ]
 
 -- if only `n` is flagged, a search for the nodes that reach a flagged one decides whether `n` contains itself
-pub search_says : (graph : Graph) (flags found : List Bool) (n : ℕ) (row : Vec ℕ Global) (result : Bool)
-    → InRange graph → n < length graph → row ≡ get_or graph n row
+pub search_says : (graph : Graph) (flags found : List Bool) (n : ℕ) (result : Bool) → InRange graph
     → ((m : ℕ) → IsFlagged flags m → m ≡ n) → IsFlagged flags n → FlagsJust graph found (ReachesFlagged graph flags)
-    → (result ≡ true → (m : ℕ) × Contains row.items m × IsFlagged found m)
-    → (result ≡ false → (m : ℕ) → Contains row.items m → ¬ (IsFlagged found m))
+    → (result ≡ true → (m : ℕ) × Contains (row_at graph n) m × IsFlagged found m)
+    → (result ≡ false → (m : ℕ) → Contains (row_at graph n) m → ¬ (IsFlagged found m))
     → (result ≡ true) ↔ ContainsItself (HasUse graph) n
-search_says graph flags found n row result range h e only flagged exact yes_when no_when = (
-  λ is. (let one = yes_when is in let r = (exact one.0 (small one.0 one.1)).0 one.2 in
-      (one.0, use_at graph n one.0 row h e one.1, subst (λ k. Reaches (HasUse graph) one.0 k) (only r.0 r.2) r.1)),
-  λ c. true_unless result (λ is. (let inside : Contains row.items c.0 = in_row graph n c.0 row h e c.1 in
-      no_when is c.0 inside ((exact c.0 (small c.0 inside)).1 (n, c.2, flagged)))),
+search_says graph flags found n result range only flagged exact yes_when no_when = (
+  λ is. (let one = yes_when is in let r = (exact one.0 (use_in graph range n one.0 one.1)).0 one.2 in
+      (one.0, one.1, subst (λ k. Reaches (HasUse graph) one.0 k) (only r.0 r.2) r.1)),
+  λ c. true_unless result (λ is.
+      no_when is c.0 c.1 ((exact c.0 (use_in graph range n c.0 c.1)).1 (n, c.2, flagged))),
 )
-  where
-    small : (m : ℕ) → Contains row.items m → m < length graph
-    small m inside = All-contains (λ k. k < length graph) row.items m
-        (subst (λ r. All (λ k. k < length graph) r.items) (sym e) (range n row h)) inside
 
 -- a node reaches one that contains itself, where the flags say which nodes do
 pub cycles_reached : (graph : Graph) (flags found : List Bool)

@@ -1,5 +1,6 @@
 pub mod GraphLemmas
 pub mod RowLemmas
+pub mod LinkLemmas
 pub mod UserLemmas
 pub mod ReachLemmas
 pub mod RootLemmas

@@ -1,17 +1,15 @@
 -- One more node is added to an order.
 use Rattle.std.proofs.Common.{◌≡◌, ◌≢◌, ◌<◌, ◌≤◌, ◌+◌, ◌∙◌, ℕ, Bool, true, false, List, [], ◌∷◌, ◌++◌, length, take}
-use Rattle.std.proofs.Common.{get_or, set, Vec, sym, subst, inl, inr, arith, length-append, length-set, get_or-set_same}
+use Rattle.std.proofs.Common.{get_or, set, sym, subst, inl, inr, arith, length-append, length-set, get_or-set_same}
 use Rattle.std.proofs.Common.{get_or-set_other, Contains, All}
 use Rattle.std.proofs.lemmas.List.{get_or_push, get_or_append_left, take_at, take-append-le}
 use Rattle.std.proofs.lemmas.List.Elements.{Contains-append_left, Contains-push, Contains-push_cases, Contains-get_or}
 use Rattle.std.proofs.lemmas.List.Elements.{All-contains}
 use Rattle.std.proofs.Math.Decide.{ℕ_discrete}
-use Rattle.std.specs.Global.{Global}
-use Rattle.digraph.specs.Graph.{Graph, HasUse}
+use Rattle.digraph.specs.Graph.{Graph, HasUse, row_at}
 use Rattle.digraph.specs.Flags.{IsFlagged}
 use Rattle.digraph.specs.Order.{IsAfterUses, IsOrder}
 use Rattle.digraph.specs.OrderSoFar.{IsOrderSoFar, IsStuck, unflagged}
-use Rattle.digraph.proofs.GraphLemmas.{use_at, in_row}
 
 -- all nodes that `n` uses are in the list
 abbrev pub UsesListed : Graph → List ℕ → ℕ → Type 0
@@ -91,17 +89,10 @@ order_push graph flags order n p in_graph free listed = record {
     ]
 
 -- `n` uses only listed nodes if all nodes in its row are flagged
-pub listed_row : (graph : Graph) (flags : List Bool) (order : List ℕ) (n : ℕ) (row : Vec ℕ Global)
-    → IsOrderSoFar graph flags order → n < length graph → row ≡ get_or graph n row
-    → All (λ m. IsFlagged flags m) row.items → UsesListed graph order n
-listed_row graph flags order n row p h e all m u =
-    (p.flagged m).0 (All-contains (λ k. IsFlagged flags k) row.items m all (in_row graph n m row h e u))
-
-pub stuck_row : (graph : Graph) (flags : List Bool) (order : List ℕ) (n : ℕ) (row : Vec ℕ Global)
-    → IsOrderSoFar graph flags order → n < length graph → row ≡ get_or graph n row
-    → (m : ℕ) × Contains row.items m × (¬ (IsFlagged flags m)) → IsStuck graph order n
-stuck_row graph flags order n row p h e one =
-    inr (one.0, use_at graph n one.0 row h e one.1, λ c. one.2 ((p.flagged one.0).1 c))
+pub listed_row : (graph : Graph) (flags : List Bool) (order : List ℕ) (n : ℕ) → IsOrderSoFar graph flags order
+    → All (λ m. IsFlagged flags m) (row_at graph n) → UsesListed graph order n
+listed_row graph flags order n p all m u =
+    (p.flagged m).0 (All-contains (λ k. IsFlagged flags k) (row_at graph n) m all u)
 
 pub is_order : (graph : Graph) (flags : List Bool) (order : List ℕ)
     → IsOrderSoFar graph flags order → ((n : ℕ) → n < length graph → IsStuck graph order n) → IsOrder graph order

@@ -1,15 +1,13 @@
 -- Reaching along several uses, and what ranks that never fall exclude.
-use Rattle.std.proofs.Common.{◌≡◌, ◌<◌, ◌≤◌, ◌∙◌, ℕ, Bool, true, false, List, length, get_or, set, Vec, refl, sym}
+use Rattle.std.proofs.Common.{◌≡◌, ◌<◌, ◌≤◌, ◌∙◌, ℕ, Bool, true, false, List, length, get_or, set, refl, sym}
 use Rattle.std.proofs.Common.{subst, arith, All, get_or-set_other, replicate}
 use Rattle.std.proofs.Math.Decide.{ℕ_discrete, dec_lt}
 use Rattle.std.proofs.lemmas.List.{get_or_past, get_or-replicate, length-replicate}
 use Rattle.std.proofs.lemmas.List.Elements.{All-contains}
-use Rattle.std.specs.Global.{Global}
-use Rattle.digraph.specs.Graph.{Graph, HasUse}
+use Rattle.digraph.specs.Graph.{Graph, HasUse, row_at}
 use Rattle.digraph.specs.Reach.{Reaches, here, on, ContainsItself}
 use Rattle.digraph.specs.Flags.{IsFlagged}
 use Rattle.digraph.specs.Roots.{NeverFalls}
-use Rattle.digraph.proofs.GraphLemmas.{in_row}
 
 pub reaches_trans : {X : Type 0} (Uses : X → X → Type 0) (a b c : X)
     → Reaches Uses a b → Reaches Uses b c → Reaches Uses a c
@@ -22,12 +20,11 @@ ranks_rise graph ranks rising a b here = omega arith
 ranks_rise graph ranks rising a b (on {b = m} u r) = omega (arith, rising a m u, ranks_rise graph ranks rising m b r)
 
 -- a node whose rank is below those of all nodes that it uses does not contain itself
-pub not_itself : (graph : Graph) (ranks : List ℕ) (n low : ℕ) (row : Vec ℕ Global)
-    → NeverFalls graph ranks → n < length graph → row ≡ get_or graph n row
-    → All (λ m. low ≤ get_or ranks m 0) row.items → get_or ranks n 0 < low → ContainsItself (HasUse graph) n → ⊥
-not_itself graph ranks n low row rising h e above less c =
+pub not_itself : (graph : Graph) (ranks : List ℕ) (n low : ℕ) → NeverFalls graph ranks
+    → All (λ m. low ≤ get_or ranks m 0) (row_at graph n) → get_or ranks n 0 < low → ContainsItself (HasUse graph) n → ⊥
+not_itself graph ranks n low rising above less c =
     let step : low ≤ get_or ranks c.0 0 =
-    All-contains (λ m. low ≤ get_or ranks m 0) row.items c.0 above (in_row graph n c.0 row h e c.1) in
+    All-contains (λ m. low ≤ get_or ranks m 0) (row_at graph n) c.0 above c.1 in
     let back : get_or ranks c.0 0 ≤ get_or ranks n 0 = ranks_rise graph ranks rising c.0 n c.2 in
     absurd (omega arith)
 

@@ -1,12 +1,10 @@
 -- Flags of the nodes that roots reach, and of those that reach roots, and what both together mean for a node.
-use Rattle.std.proofs.Common.{◌≡◌, ◌⊎◌, ◌<◌, ◌∙◌, ℕ, Bool, true, List, length, get_or, set, Vec, sym, subst, inl, inr}
+use Rattle.std.proofs.Common.{◌≡◌, ◌⊎◌, ◌∙◌, ℕ, Bool, true, List, length, get_or, set, sym, subst, inl, inr}
 use Rattle.std.proofs.Common.{length-set, Contains}
-use Rattle.std.specs.Global.{Global}
-use Rattle.digraph.specs.Graph.{Graph, HasUse}
+use Rattle.digraph.specs.Graph.{Graph, HasUse, row_at}
 use Rattle.digraph.specs.Reach.{Reaches, here, on, ContainsItself}
 use Rattle.digraph.specs.Flags.{IsFlagged}
 use Rattle.digraph.specs.Roots.{FromRoots, ToRoots}
-use Rattle.digraph.proofs.GraphLemmas.{use_at}
 use Rattle.digraph.proofs.ReachLemmas.{reaches_trans, flagged_set}
 
 pub from_roots_set : (graph : Graph) (roots : List ℕ) (flags : List Bool) (n : ℕ)
@@ -17,18 +15,17 @@ from_roots_set graph roots flags n p is_root = record {
       n p.sound (subst (λ r. Reaches (HasUse graph) r n) (sym is_root) here);
 }
 
-pub from_roots_row : (graph : Graph) (roots : List ℕ) (flags next : List Bool) (n : ℕ) (row : Vec ℕ Global)
-    → FromRoots graph roots flags → n < length graph → row ≡ get_or graph n row
-    → IsFlagged flags n → length next ≡ length flags
-    → ((m : ℕ) → IsFlagged next m → IsFlagged flags m ⊎ (Contains row.items m × (get_or roots m 0 ≡ get_or roots n 0)))
+pub from_roots_row : (graph : Graph) (roots : List ℕ) (flags next : List Bool) (n : ℕ)
+    → FromRoots graph roots flags → IsFlagged flags n → length next ≡ length flags
+    → ((m : ℕ) → IsFlagged next m → IsFlagged flags m ⊎ (HasUse graph n m × (get_or roots m 0 ≡ get_or roots n 0)))
     → FromRoots graph roots next
-from_roots_row graph roots flags next n row p h e flagged size reported = record {
+from_roots_row graph roots flags next n p flagged size reported = record {
   size = size ∙ p.size;
   sound = λ m f. elim (reported m f) [
     | inl old ↦ p.sound m old
     | inr new ↦ subst (λ r. Reaches (HasUse graph) r m) (sym new.1)
         (reaches_trans (HasUse graph) (get_or roots n 0) n m
-        (p.sound n flagged) (on (use_at graph n m row h e new.0) here))
+        (p.sound n flagged) (on new.0 here))
   ];
 }
 
@@ -43,20 +40,20 @@ to_roots_set graph roots flags n p r = record {
 abbrev pub LeadsTo : List ℕ → List Bool → List ℕ → ℕ → Type 0
 LeadsTo roots flags row root = (m : ℕ) × Contains row m × (get_or roots m 0 ≡ root) × IsFlagged flags m
 
-pub root_is_reached : (graph : Graph) (roots : List ℕ) (flags : List Bool) (n : ℕ) (row : Vec ℕ Global)
-    → ToRoots graph roots flags → n < length graph → row ≡ get_or graph n row
-    → LeadsTo roots flags row.items (get_or roots n 0) → Reaches (HasUse graph) n (get_or roots n 0)
-root_is_reached graph roots flags n row p h e leads =
+pub root_is_reached : (graph : Graph) (roots : List ℕ) (flags : List Bool) (n : ℕ)
+    → ToRoots graph roots flags
+    → LeadsTo roots flags (row_at graph n) (get_or roots n 0) → Reaches (HasUse graph) n (get_or roots n 0)
+root_is_reached graph roots flags n p leads =
     subst (λ r. Reaches (HasUse graph) n r) leads.2
-    (on (use_at graph n leads.0 row h e leads.1) (p.sound leads.0 leads.3))
+    (on leads.1 (p.sound leads.0 leads.3))
 
 -- the node reaches itself through its root
-pub by_root : (graph : Graph) (roots : List ℕ) (from to : List Bool) (n : ℕ) (row : Vec ℕ Global)
-    → FromRoots graph roots from → ToRoots graph roots to → n < length graph → row ≡ get_or graph n row
-    → IsFlagged from n → LeadsTo roots to row.items (get_or roots n 0) → ContainsItself (HasUse graph) n
-by_root graph roots from to n row p q h e flagged leads = (
+pub by_root : (graph : Graph) (roots : List ℕ) (from to : List Bool) (n : ℕ)
+    → FromRoots graph roots from → ToRoots graph roots to
+    → IsFlagged from n → LeadsTo roots to (row_at graph n) (get_or roots n 0) → ContainsItself (HasUse graph) n
+by_root graph roots from to n p q flagged leads = (
   leads.0,
-  use_at graph n leads.0 row h e leads.1,
+  leads.1,
   reaches_trans (HasUse graph) leads.0 (get_or roots n 0) n
       (subst (λ r. Reaches (HasUse graph) leads.0 r) leads.2 (q.sound leads.0 leads.3)) (p.sound n flagged),
 )

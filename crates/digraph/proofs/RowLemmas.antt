@@ -1,23 +1,60 @@
--- Rows that grow, and rows in which each number remains once.
-use Rattle.std.proofs.Common.{◌≡◌, ◌≢◌, ◌≤◌, ◌<◌, ◌+◌, ◌∙◌, ℕ, cond, eqb, false, List, [], ◌++◌, length, get_or, set}
-use Rattle.std.proofs.Common.{refl, ap, sym, subst, arith, append_assoc, append-nil, length-set, get_or-set_same}
-use Rattle.std.proofs.Common.{get_or-set_other, Vec, Contains, All}
-use Rattle.std.specs.Global.{Global}
+-- Rows in one list, and rows that grow.
+use Rattle.std.proofs.Common.{◌≡◌, ◌≢◌, ◌≤◌, ◌<◌, ◌+◌, ◌-◌, ◌∙◌, ℕ, zero, suc, cond, eqb, false, List, [], ◌∷◌, ◌++◌}
+use Rattle.std.proofs.Common.{length, get_or, set, take, drop, refl, ap, sym, arith, append_assoc, append-nil}
+use Rattle.std.proofs.Common.{length-drop, length-set, get_or-set_same, get_or-set_other}
 use Rattle.std.proofs.Math.Decide.{ℕ_discrete}
 use Rattle.std.proofs.lemmas.Bool.Decides.{nat_tests}
-use Rattle.std.proofs.lemmas.List.{map-set, get_or-map}
-use Rattle.std.specs.List.Sorted.{IsStrictlyIncreasing}
-use Rattle.std.proofs.lemmas.List.Elements.{Contains-get_or}
 use Rattle.std.proofs.lemmas.Bool.{eq-eqb}
-use Rattle.digraph.specs.Graph.{Graph, HasUse, InRange, rows_of, row_at}
-use Rattle.digraph.proofs.GraphLemmas.{use_in, rows_size}
-use Rattle.digraph.specs.Rows.{IsRowsOf, GrowsBy, IsOnceEach}
+use Rattle.std.proofs.lemmas.List.{drop_at, take_all, drop-append-le, take-append-le}
+use Rattle.digraph.specs.Graph.{row_at}
+use Rattle.digraph.specs.Rows.{rows_between, AreEnds, IsRowsOf, GrowsBy}
 
-other_eqb : (n m : ℕ) → n ≢ m → eqb n m ≡ false
+pub length-rows_between : {X : Type 0} (entries : List X) (start : ℕ) (ends : List ℕ)
+    → length (rows_between entries start ends) ≡ length ends
+length-rows_between entries start [] = refl
+length-rows_between entries start (end ∷ ends) = ap suc (length-rows_between entries end ends)
+
+start_in : (size start : ℕ) (ends : List ℕ) → AreEnds size start ends → start ≤ size
+start_in size start [] is = omega arith
+start_in size start (end ∷ ends) is = omega (arith, is.0, start_in size end ends is.1)
+
+-- where row `n` begins and ends
+pub row_within : (size start : ℕ) (ends : List ℕ) (n : ℕ) → AreEnds size start ends → n < length ends
+    → (get_or (start ∷ ends) n 0 ≤ get_or ends n 0) × (get_or ends n 0 ≤ size)
+row_within size start [] n is h = absurd (omega arith)
+row_within size start (end ∷ ends) zero is h = (is.0, start_in size end ends is.1)
+row_within size start (end ∷ ends) (suc n) is h = row_within size end ends n is.1 (omega arith)
+
+pub row_between : {X : Type 0} (entries : List X) (start : ℕ) (ends : List ℕ) (n : ℕ) → n < length ends
+    → row_at (rows_between entries start ends) n
+    ≡ take (get_or ends n 0 - get_or (start ∷ ends) n 0) (drop (get_or (start ∷ ends) n 0) entries)
+row_between entries start [] n h = absurd (omega arith)
+row_between entries start (end ∷ ends) zero h = refl
+row_between entries start (end ∷ ends) (suc n) h = row_between entries end ends n (omega arith)
+
+pub ends_push : (size start : ℕ) (ends : List ℕ) (end : ℕ)
+    → AreEnds size start ends → size ≤ end → AreEnds end start (ends ++ end ∷ [])
+ends_push size start [] end is h = (omega arith, refl)
+ends_push size start (first ∷ ends) end is h = (is.0, ends_push size first ends end is.1 h)
+
+-- a row is put at the end
+pub rows_push : {X : Type 0} (entries row : List X) (start : ℕ) (ends : List ℕ) (end : ℕ)
+    → AreEnds (length entries) start ends → end ≡ length entries + length row
+    → rows_between (entries ++ row) start (ends ++ end ∷ []) ≡ rows_between entries start ends ++ row ∷ []
+rows_push entries row start [] end is e =
+    rw (drop_at entries row start (sym is)) (ap (λ r. r ∷ []) (take_all (end - start) row (omega (arith, is, e))))
+rows_push entries row start (first ∷ ends) end is e =
+    let low : first ≤ length entries = start_in (length entries) first ends is.1 in
+    let begins : start ≤ length entries = omega (arith, is.0) in
+    let short : first - start ≤ length (drop start entries) = omega (arith, length-drop start entries) in
+    rw (drop-append-le start entries row begins, take-append-le (first - start) (drop start entries) row short)
+    (ap (λ rows. take (first - start) (drop start entries) ∷ rows) (rows_push entries row first ends end is.1 e))
+
+pub other_eqb : (n m : ℕ) → n ≢ m → eqb n m ≡ false
 other_eqb n m apart = grind (arith, nat_tests)
 
--- a number is pushed to one row
-pub grows_set : (rows : List (List ℕ)) (n : ℕ) (extra : List ℕ)
+-- an entry is pushed to one row
+pub grows_set : {X : Type 0} (rows : List (List X)) (n : ℕ) (extra : List X)
     → n < length rows → GrowsBy (λ m. cond (eqb n m) extra []) rows (set rows n (row_at rows n ++ extra))
 grows_set rows n extra within = record {
   size = length-set rows n (row_at rows n ++ extra);
@@ -31,10 +68,7 @@ grows_set rows n extra within = record {
   ];
 }
 
-pub grows_none : (rows : List (List ℕ)) → GrowsBy (λ m. []) rows rows
-grows_none rows = record { size = refl; row = λ n h. sym (append-nil (row_at rows n)) }
-
-pub rows_grow : (count : ℕ) (f g h : ℕ → List ℕ) (old new : List (List ℕ))
+pub rows_grow : {X : Type 0} (count : ℕ) (f g h : ℕ → List X) (old new : List (List X))
     → IsRowsOf count f old → GrowsBy g old new → ((n : ℕ) → n < count → h n ≡ f n ++ g n) → IsRowsOf count h new
 rows_grow count f g h old new is more sum = record {
   size = more.size ∙ is.size;
@@ -42,7 +76,7 @@ rows_grow count f g h old new is more sum = record {
       more.row n inside ∙ (ap (λ r. r ++ g n) (is.row n l) ∙ sym (sum n l));
 }
 
-pub grows_more : (f g h : ℕ → List ℕ) (old mid new : List (List ℕ))
+pub grows_more : {X : Type 0} (f g h : ℕ → List X) (old mid new : List (List X))
     → GrowsBy f old mid → GrowsBy g mid new → ((n : ℕ) → h n ≡ f n ++ g n) → GrowsBy h old new
 grows_more f g h old mid new first second sum = record {
   size = second.size ∙ first.size;
@@ -51,54 +85,3 @@ grows_more f g h old mid new first second sum = record {
       ∙ (ap (λ r. r ++ g n) (first.row n l)
       ∙ (append_assoc (row_at old n) (f n) (g n) ∙ ap (λ r. row_at old n ++ r) (sym (sum n))));
 }
-
--- the rows of a list of vectors
-pub rows_of-set : (rows : List (Vec ℕ Global)) (n : ℕ) (old new : Vec ℕ Global) (extra : List ℕ)
-    → n < length rows → old ≡ get_or rows n old → new.items ≡ old.items ++ extra
-    → rows_of (set rows n new) ≡ set (rows_of rows) n (row_at (rows_of rows) n ++ extra)
-rows_of-set rows n old new extra within read e =
-    map-set (λ (v : Vec ℕ Global). v.items) rows n new
-    ∙ ap (set (rows_of rows) n)
-    (e
-    ∙ ap (λ r. r ++ extra)
-    (ap (λ (v : Vec ℕ Global). v.items) read ∙ sym (get_or-map (λ (v : Vec ℕ Global). v.items) rows n old [] within)))
-
--- the rows below `n` have each number once, and the others have not changed
-pub record OnceBelow (before rows : List (List ℕ)) (n : ℕ) : Type 0 where
-  pub size : length rows ≡ length before
-  pub done : (k : ℕ) → k < n → IsOnceEach (row_at before k) (row_at rows k)
-  pub left : (k : ℕ) → n ≤ k → row_at rows k ≡ row_at before k
-
-pub once_more : (before rows : List (List ℕ)) (n : ℕ) (row : List ℕ) → OnceBelow before rows n
-    → n < length rows → IsOnceEach (row_at rows n) row → OnceBelow before (set rows n row) (n + 1)
-once_more before rows n row is within once = record {
-  size = length-set rows n row ∙ is.size;
-  done = λ k h. elim (ℕ_discrete k n) [
-    | yes e ↦ subst (λ j. IsOnceEach (row_at before j) (row_at (set rows n row) j)) (sym e)
-        (subst (λ r. IsOnceEach (row_at before n) r) (sym (get_or-set_same rows n row [] within))
-        (subst (λ r. IsOnceEach r row) (is.left n (omega arith)) once))
-    | no other ↦ subst (λ r. IsOnceEach (row_at before k) r)
-        (sym (get_or-set_other rows n k row [] other)) (is.done k (omega arith))
-  ];
-  left = λ k h. get_or-set_other rows n k row [] (let apart : k ≢ n = omega arith in apart) ∙ is.left k (omega arith);
-}
-
--- the last row was done
-module _ (before after : Graph) (n : ℕ)
-    (is : OnceBelow (rows_of before) (rows_of after) n) (last : length before ≤ n) where
-  size : length after ≡ length before
-  size = sym (rows_size after) ∙ (is.size ∙ rows_size before)
-
-  pub each_increasing : All (λ (row : Vec ℕ Global). IsStrictlyIncreasing row.items) after
-  each_increasing k d h = subst IsStrictlyIncreasing (get_or-map (λ (v : Vec ℕ Global). v.items) after k d [] h)
-      (is.done k (omega (arith, size, h, last))).increasing
-
-  pub each_in_range : InRange before → InRange after
-  each_in_range range k d h j e l =
-      let m = get_or (get_or after k d).items j e in
-      let inside : HasUse after k m =
-      subst (λ r. Contains r m) (sym (get_or-map (λ (v : Vec ℕ Global). v.items) after k d [] h))
-      (Contains-get_or (get_or after k d).items j e l) in
-      let low : m < length before =
-      use_in before range k m (((is.done k (omega (arith, size, h, last))).same m).0 inside) in
-      omega (arith, low, size)

@@ -1,21 +1,20 @@
 -- The nodes that use a node: the positions of the rows that have it.
 use Rattle.std.proofs.Common.{◌≡◌, ◌≤◌, ◌<◌, ◌+◌, ◌∙◌, ◌||◌, ℕ, zero, suc, Bool, true, false, cond, eqb, List, [], ◌∷◌}
 use Rattle.std.proofs.Common.{◌++◌, length, take, get_or, refl, ap, sym, subst, inl, inr, arith, append_assoc}
-use Rattle.std.proofs.Common.{append-nil, add-zero, zero-add, Vec, Contains, All}
-use Rattle.std.specs.Global.{Global}
+use Rattle.std.proofs.Common.{append-nil, add-zero, zero-add, Contains, All}
 use Rattle.std.specs.List.{list_any}
 use Rattle.std.specs.List.Sorted.{IsStrictlyIncreasing}
 use Rattle.std.proofs.Math.Decide.{dec_lt}
 use Rattle.std.proofs.lemmas.Bool.Decides.{Decides-eqb}
-use Rattle.std.proofs.lemmas.List.{length-map, get_or_default, get_or_past, length-take-le, get_or-take}
+use Rattle.std.proofs.lemmas.List.{get_or_default, get_or_past, length-take-le, get_or-take}
 use Rattle.std.proofs.lemmas.List.Folds.{list_any_more, Any-from_list_any, list_any-from_Any}
 use Rattle.std.proofs.lemmas.List.Elements.{Contains-get_or, All-nil, All-cons, All-contains, Contains-append_right}
 use Rattle.std.proofs.lemmas.List.Elements.{Contains-append_cases}
 use Rattle.std.proofs.lemmas.List.Kept.{AllPairs-from_increasing}
-use Rattle.digraph.specs.Graph.{Graph, InRange, rows_of, row_at}
+use Rattle.digraph.specs.Graph.{Graph, InRange, row_at}
 use Rattle.digraph.specs.Rows.{IsRowsOf, GrowsBy, IsReversed}
 use Rattle.digraph.specs.Users.{positions, users_of}
-use Rattle.digraph.proofs.GraphLemmas.{row_read, rows_size, node_in, use_in}
+use Rattle.digraph.proofs.GraphLemmas.{node_in, use_in}
 use Rattle.digraph.proofs.RowLemmas.{grows_more}
 
 pub positions_more : {X : Type 0} (p : X → Bool) (k : ℕ) (xs : List X) (i : ℕ) (d : X) → i < length xs
@@ -68,25 +67,21 @@ added_more row j n m up h =
     by false true p q = refl
     by false false p q = refl
 
-pub users_more : (rows : List (Vec ℕ Global)) (n m : ℕ) (row : Vec ℕ Global) (seen : List ℕ)
-    → n < length rows → row ≡ get_or rows n row → seen ≡ row.items
-    → users_of (take (n + 1) (rows_of rows)) m
-    ≡ users_of (take n (rows_of rows)) m ++ cond (list_any (λ x. eqb x m) seen) (n ∷ []) []
-users_more rows n m row seen h read shown =
-    let inside : n < length (rows_of rows) = omega (arith, h, length-map rows (λ (v : Vec ℕ Global). v.items)) in
-    positions_more (list_any (λ x. eqb x m)) 0 (rows_of rows) n [] inside
-    ∙ (λ i. users_of (take n (rows_of rows)) m
-    ++ cond (list_any (λ x. eqb x m) ((row_read rows n row h read ∙ sym shown) i)) (zero-add n i ∷ []) [])
+pub users_more : (rows : List (List ℕ)) (n m : ℕ) → n < length rows
+    → users_of (take (n + 1) rows) m
+    ≡ users_of (take n rows) m ++ cond (list_any (λ x. eqb x m) (row_at rows n)) (n ∷ []) []
+users_more rows n m h = rw zero-add at (positions_more (list_any (λ x. eqb x m)) 0 rows n [] h)
 
-pub user_more : (before after next : List (List ℕ)) (row : List ℕ) (j n : ℕ) → IsStrictlyIncreasing row → j < length row
+pub user_more : (before after next : List (List ℕ)) (row : List ℕ) (j k n : ℕ) → IsStrictlyIncreasing row
+    → j < length row → k ≡ get_or row j 0
     → GrowsBy (λ m. cond (list_any (λ x. eqb x m) (take j row)) (n ∷ []) []) before after
-    → GrowsBy (λ m. cond (eqb (get_or row j 0) m) (n ∷ []) []) after next
+    → GrowsBy (λ m. cond (eqb k m) (n ∷ []) []) after next
     → GrowsBy (λ m. cond (list_any (λ x. eqb x m) (take (j + 1) row)) (n ∷ []) []) before next
-user_more before after next row j n up h first second =
+user_more before after next row j k n up h e first second =
     grows_more (λ m. cond (list_any (λ x. eqb x m) (take j row)) (n ∷ []) [])
-    (λ m. cond (eqb (get_or row j 0) m) (n ∷ []) [])
+    (λ m. cond (eqb k m) (n ∷ []) [])
     (λ m. cond (list_any (λ x. eqb x m) (take (j + 1) row)) (n ∷ []) [])
-    before after next first second (λ m. added_more row j n m up h)
+    before after next first second (λ m. rw e (added_more row j n m up h))
 
 module _ {X : Type 0} (p : X → Bool) (d : X) where
   -- `j` is the position of an item that passes, where the first item has the position `k`
@@ -166,19 +161,20 @@ uses_user rows m n h c = subst (Contains (users_of rows m)) (zero-add n)
     (passes_into (list_any (λ x. eqb x m)) [] 0 rows n h (passed (row_at rows n) m c))
 
 pub is_reversed : (uses users : Graph)
-    → InRange uses → IsRowsOf (length uses) (users_of (rows_of uses)) (rows_of users) → IsReversed uses users
+    → InRange uses → IsRowsOf (length uses) (users_of uses) users → IsReversed uses users
 is_reversed uses users range is = record {
+  size = is.size;
   increasing = λ m. elim (dec_lt m (length uses)) [
-    | yes low ↦ subst IsStrictlyIncreasing (sym (is.row m low)) (rising (rows_of uses) m)
+    | yes low ↦ subst IsStrictlyIncreasing (sym (is.row m low)) (rising uses m)
     | no past ↦
-        (let none : row_at (rows_of users) m ≡ [] = get_or_past (rows_of users) m [] (omega (arith, past, is.size)) in
+        (let none : row_at users m ≡ [] = get_or_past users m [] (omega (arith, past, is.size)) in
         subst IsStrictlyIncreasing (sym none) (λ i h. absurd (omega (arith, h))))
   ];
   reversed = λ n m. (
-    (λ u. (let low : m < length uses = omega (arith, node_in users m n u, is.size, rows_size users) in
-        user_uses (rows_of uses) m n (subst (λ row. Contains row n) (is.row m low) u))),
+    (λ u. (let low : m < length uses = omega (arith, node_in users m n u, is.size) in
+        user_uses uses m n (subst (λ row. Contains row n) (is.row m low) u))),
     (λ u. (let low : m < length uses = use_in uses range n m u in
-        let inside : n < length (rows_of uses) = omega (arith, node_in uses n m u, rows_size uses) in
-        subst (λ row. Contains row n) (sym (is.row m low)) (uses_user (rows_of uses) m n inside u))),
+        let inside : n < length uses = node_in uses n m u in
+        subst (λ row. Contains row n) (sym (is.row m low)) (uses_user uses m n inside u))),
   );
 }

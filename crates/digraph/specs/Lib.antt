@@ -1,8 +1,10 @@
+pub mod Nodes
 pub mod Graph
 pub mod Reach
 pub mod Flags
 pub mod Order
 pub mod Rows
+pub mod Links
 pub mod Users
 pub mod Titles
 pub mod OrderSoFar

@@ -6,7 +6,9 @@ ghost use Rattle.digraph.specs.Flags.{FlagsJust};
 ghost use Rattle.digraph.specs.Evidence.{IsEvidence};
 
 use crate::evidence::Evidence;
+use crate::nodes::Node;
 use crate::reach::{any_flagged, reaching};
+use crate::rows::Rows;
 use std::alloc::{AllocError, Global};
 
 /// A flag for each node: whether it contains itself, that is, reaches itself in one step or more.
@@ -19,8 +21,8 @@ use std::alloc::{AllocError, Global};
 /// `AllocError` where an allocation failed.
 pub fn self_containing(
     alloc: Global,
-    uses: &[Vec<usize>],
-    users: &[Vec<usize>],
+    uses: &Rows<Node>,
+    users: &Rows<Node>,
 ) -> Result<Vec<bool>, AllocError>
     requires { InRange uses.now }
     ensures size { IfOk result (λ flags. vec_len flags ≡ length uses.now) }
@@ -47,8 +49,8 @@ pub fn self_containing(
 /// `AllocError` where an allocation failed.
 pub fn reaching_cycles(
     alloc: Global,
-    uses: &[Vec<usize>],
-    users: &[Vec<usize>],
+    uses: &Rows<Node>,
+    users: &Rows<Node>,
     flags: &[bool],
 ) -> Result<Vec<bool>, AllocError>
     requires range { InRange uses.now }
@@ -64,8 +66,8 @@ pub fn reaching_cycles(
 /// Whether the node contains itself: by the evidence or, where that does not decide, by a search.
 fn contains_itself(
     alloc: Global,
-    uses: &[Vec<usize>],
-    users: &[Vec<usize>],
+    uses: &Rows<Node>,
+    users: &Rows<Node>,
     evidence: &Evidence,
     n: usize,
 ) -> Result<bool, AllocError>
@@ -83,8 +85,8 @@ fn contains_itself(
 /// Whether the node contains itself, by a search from this node alone.
 fn search(
     alloc: Global,
-    uses: &[Vec<usize>],
-    users: &[Vec<usize>],
+    uses: &Rows<Node>,
+    users: &Rows<Node>,
     n: usize,
 ) -> Result<bool, AllocError>
     requires range { InRange uses.now }
@@ -94,5 +96,5 @@ fn search(
     let mut flags = vec![in alloc; false; uses.len()]?;
     flags[n] = true;
     let found = reaching(alloc, uses, users, &flags)?;
-    Ok(any_flagged(&uses[n], &found))
+    Ok(any_flagged(uses.row(n), &found))
 }

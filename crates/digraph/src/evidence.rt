@@ -5,9 +5,11 @@ ghost use Rattle.digraph.specs.Graph.{InRange, HasUse};
 ghost use Rattle.digraph.specs.Reach.{ContainsItself};
 ghost use Rattle.digraph.specs.Evidence.{IsEvidence};
 
+use crate::nodes::Node;
 use crate::proposals::{postorder, rank_components};
 use crate::ranks::{lowest, never_falls};
 use crate::roots::{flag_reached, flag_reaching, leads_to_root};
+use crate::rows::Rows;
 use std::alloc::{AllocError, Global};
 
 /// Proposed ranks and roots, and the results of checking them.
@@ -24,8 +26,8 @@ impl Evidence {
     /// Proposes components, with a rank and a root for each node, and checks them.
     pub fn gather(
         alloc: Global,
-        uses: &[Vec<usize>],
-        users: &[Vec<usize>],
+        uses: &Rows<Node>,
+        users: &Rows<Node>,
     ) -> Result<Evidence, AllocError>
         requires { InRange uses.now }
         ensures { IfOk result (λ evidence. IsEvidence uses.now evidence) }
@@ -49,13 +51,13 @@ impl Evidence {
     }
 
     /// Whether the node contains itself; `None` where the evidence does not decide.
-    pub fn conclusion(&self, uses: &[Vec<usize>], n: usize) -> Option<bool>
+    pub fn conclusion(&self, uses: &Rows<Node>, n: usize) -> Option<bool>
         requires range { InRange uses.now }
         requires evidence { IsEvidence uses.now self.now }
         requires node { n < length uses.now }
         ensures { IfSome result (λ flag. (flag ≡ true) ↔ ContainsItself (HasUse uses.now) n) }
     {
-        let row = &uses[n];
+        let row = uses.row(n);
         if self.from_root[n] && leads_to_root(row, self.roots[n], &self.roots, &self.to_root) {
             return Some(true);
         }

@@ -5,7 +5,9 @@ ghost use Rattle.digraph.specs.Flags.{IsFlagged};
 ghost use Rattle.digraph.specs.Order.{IsOrder};
 ghost use Rattle.digraph.specs.OrderSoFar.{IsOrderSoFar, IsStuck, unflagged};
 
+use crate::nodes::Node;
 use crate::proposals::topological_order;
+use crate::rows::Rows;
 use std::alloc::{AllocError, Global};
 
 /// The nodes that reach no cycle, each after those that it uses.
@@ -16,11 +18,7 @@ use std::alloc::{AllocError, Global};
 /// # Errors
 ///
 /// `AllocError` where an allocation failed.
-pub fn order(
-    alloc: Global,
-    uses: &[Vec<usize>],
-    users: &[Vec<usize>],
-) -> Result<Vec<usize>, AllocError>
+pub fn order(alloc: Global, uses: &Rows<Node>, users: &Rows<Node>) -> Result<Vec<Node>, AllocError>
     requires { InRange uses.now }
     ensures { IfOk result (λ order. IsOrder uses.now order.items) }
 {
@@ -37,9 +35,9 @@ pub fn order(
 
 /// Goes once over the nodes and adds each that can be added. Returns whether any was.
 fn add_each(
-    uses: &[Vec<usize>],
+    uses: &Rows<Node>,
     flags: &mut Vec<bool>,
-    order: &mut Vec<usize>,
+    order: &mut Vec<Node>,
 ) -> Result<bool, AllocError>
     requires range { InRange uses.now }
     requires order { IsOrderSoFar uses.now flags.old.items order.old.items }
@@ -61,10 +59,10 @@ fn add_each(
 /// Adds the node if it isn't in the order and all nodes that it uses are. Returns whether it was
 /// added.
 fn add_to_order(
-    uses: &[Vec<usize>],
+    uses: &Rows<Node>,
     n: usize,
     flags: &mut Vec<bool>,
-    order: &mut Vec<usize>,
+    order: &mut Vec<Node>,
 ) -> Result<bool, AllocError>
     requires range { InRange uses.now }
     requires node { n < length uses.now }
@@ -77,22 +75,22 @@ fn add_to_order(
         × (order.new.items ≡ order.old.items)) }
     ensures stuck { IfOk result (λ now. now ≡ false → IsStuck uses.now order.old.items n) }
 {
-    if flags[n] || !all_flagged(&uses[n], flags) {
+    if flags[n] || !all_flagged(uses.row(n), flags) {
         return Ok(false);
     }
-    order.push(n)?;
+    order.push(Node::new(n))?;
     flags[n] = true;
     Ok(true)
 }
 
 /// Whether each node of the row is flagged.
-fn all_flagged(row: &[usize], flags: &[bool]) -> bool
+fn all_flagged(row: &[Node], flags: &[bool]) -> bool
     requires { All (λ m. m < length flags.now) row.now }
     ensures all { result ≡ true → All (λ m. IsFlagged flags.now m) row.now }
     ensures one { result ≡ false → (m : ℕ) × Contains row.now m × (¬ (IsFlagged flags.now m)) }
 {
     for m in row {
-        if !flags[*m] {
+        if !flags[m.number()] {
             return false;
         }
     }

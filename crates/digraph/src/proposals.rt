@@ -1,6 +1,8 @@
 //! Searches that propose orders and strongly connected components. No result depends on them, only
 //! the running time.
 
+use crate::nodes::Node;
+use crate::rows::Rows;
 use std::alloc::{AllocError, Global};
 
 /// Visits the node. Returns whether this is its first visit.
@@ -18,14 +20,15 @@ fn visit(visited: &mut [bool], n: usize) -> bool {
 /// The nodes that reach no cycle, each after those that it uses (Kahn).
 pub fn topological_order(
     alloc: Global,
-    uses: &[Vec<usize>],
-    users: &[Vec<usize>],
+    uses: &Rows<Node>,
+    users: &Rows<Node>,
 ) -> Result<Vec<usize>, AllocError> {
     let mut left = Vec::new(alloc);
     let mut queue = Vec::new(alloc);
-    for (n, row) in uses.iter().enumerate() {
-        left.push(row.len())?;
-        if row.is_empty() {
+    for n in 0..uses.len() {
+        let size = uses.row(n).len();
+        left.push(size)?;
+        if size == 0 {
             queue.push(n)?;
         }
     }
@@ -33,14 +36,11 @@ pub fn topological_order(
         let Some(n) = queue.get(head) else {
             break;
         };
-        let Some(row) = users.get(*n) else {
-            continue;
-        };
-        for user in row {
-            if let Some(count) = left.get_mut(*user) {
+        for user in users.row(*n) {
+            if let Some(count) = left.get_mut(user.number()) {
                 *count = count.saturating_sub(1);
                 if *count == 0 {
-                    queue.push(*user)?;
+                    queue.push(user.number())?;
                 }
             }
         }
@@ -49,7 +49,7 @@ pub fn topological_order(
 }
 
 /// The nodes in the postorder of a depth-first search.
-pub fn postorder(alloc: Global, uses: &[Vec<usize>]) -> Result<Vec<usize>, AllocError> {
+pub fn postorder(alloc: Global, uses: &Rows<Node>) -> Result<Vec<usize>, AllocError> {
     let mut visited = vec![in alloc; false; uses.len()]?;
     let mut order = Vec::new(alloc);
     let mut stack: Vec<(usize, usize)> = Vec::new(alloc);
@@ -61,12 +61,10 @@ pub fn postorder(alloc: Global, uses: &[Vec<usize>]) -> Result<Vec<usize>, Alloc
             let Some((n, next)) = stack.pop() else {
                 break;
             };
-            let Some(row) = uses.get(n) else {
-                break;
-            };
+            let row = uses.row(n);
             if next < row.len() {
                 stack.push((n, next + 1))?;
-                let m = row[next];
+                let m = row[next].number();
                 if visit(&mut visited, m) {
                     stack.push((m, 0))?;
                 }
@@ -85,7 +83,7 @@ pub fn postorder(alloc: Global, uses: &[Vec<usize>]) -> Result<Vec<usize>, Alloc
 /// component that it uses.
 pub fn rank_components(
     alloc: Global,
-    users: &[Vec<usize>],
+    users: &Rows<Node>,
     postorder: &[usize],
     ranks: &mut [usize],
     roots: &mut [usize],
@@ -107,12 +105,9 @@ pub fn rank_components(
             if let Some(entry) = roots.get_mut(*n) {
                 *entry = *start;
             }
-            let Some(row) = users.get(*n) else {
-                continue;
-            };
-            for user in row {
-                if visit(&mut visited, *user) {
-                    visits.push(*user)?;
+            for user in users.row(*n) {
+                if visit(&mut visited, user.number()) {
+                    visits.push(user.number())?;
                 }
             }
         }
@@ -124,7 +119,7 @@ pub fn rank_components(
 /// that it uses.
 pub fn backward(
     alloc: Global,
-    users: &[Vec<usize>],
+    users: &Rows<Node>,
     flags: &[bool],
 ) -> Result<Vec<usize>, AllocError> {
     let mut visited = vec![in alloc; false; flags.len()]?;
@@ -138,12 +133,9 @@ pub fn backward(
         let Some(n) = visits.get(head) else {
             break;
         };
-        let Some(row) = users.get(*n) else {
-            continue;
-        };
-        for user in row {
-            if visit(&mut visited, *user) {
-                visits.push(*user)?;
+        for user in users.row(*n) {
+            if visit(&mut visited, user.number()) {
+                visits.push(user.number())?;
             }
         }
     }

@@ -5,7 +5,9 @@ ghost use Rattle.digraph.specs.Flags.{FlagsJust, IsFlagged, ReachesFlagged};
 ghost use Rattle.digraph.specs.Finding.{IsFinding, IsDecided};
 ghost use Rattle.digraph.specs.OrderSoFar.{unflagged};
 
+use crate::nodes::Node;
 use crate::proposals::backward;
+use crate::rows::Rows;
 use std::alloc::{AllocError, Global};
 
 /// A flag for each node: whether it reaches a flagged node. A flagged node reaches itself.
@@ -18,8 +20,8 @@ use std::alloc::{AllocError, Global};
 /// `AllocError` where an allocation failed.
 pub fn reaching(
     alloc: Global,
-    uses: &[Vec<usize>],
-    users: &[Vec<usize>],
+    uses: &Rows<Node>,
+    users: &Rows<Node>,
     flags: &[bool],
 ) -> Result<Vec<bool>, AllocError>
     requires range { InRange uses.now }
@@ -35,7 +37,7 @@ pub fn reaching(
 /// The same flags: the nodes are tried in the given order first, and then until nothing changes.
 fn found_by_uses(
     alloc: Global,
-    uses: &[Vec<usize>],
+    uses: &Rows<Node>,
     flags: &[bool],
     order: &[usize],
 ) -> Result<Vec<bool>, AllocError>
@@ -56,7 +58,7 @@ fn found_by_uses(
 }
 
 /// Tries each node once. Returns whether any was found.
-fn find_each(uses: &[Vec<usize>], flags: &[bool], found: &mut [bool]) -> bool
+fn find_each(uses: &Rows<Node>, flags: &[bool], found: &mut [bool]) -> bool
     requires range { InRange uses.now }
     requires size { length flags.now ≡ length uses.now }
     requires finding { IsFinding uses.now flags.now found.old }
@@ -76,7 +78,7 @@ fn find_each(uses: &[Vec<usize>], flags: &[bool], found: &mut [bool]) -> bool
 
 /// Finds the node if it is flagged or uses one that was found. Returns whether it was found by this
 /// call.
-fn find(uses: &[Vec<usize>], n: usize, flags: &[bool], found: &mut [bool]) -> bool
+fn find(uses: &Rows<Node>, n: usize, flags: &[bool], found: &mut [bool]) -> bool
     requires range { InRange uses.now }
     requires node { n < length uses.now }
     requires size { length flags.now ≡ length uses.now }
@@ -86,7 +88,7 @@ fn find(uses: &[Vec<usize>], n: usize, flags: &[bool], found: &mut [bool]) -> bo
     ensures same { result ≡ false → found.new ≡ found.old }
     ensures decided { result ≡ false → IsDecided uses.now flags.now found.old n }
 {
-    if found[n] || !(flags[n] || any_flagged(&uses[n], found)) {
+    if found[n] || !(flags[n] || any_flagged(uses.row(n), found)) {
         return false;
     }
     found[n] = true;
@@ -94,13 +96,13 @@ fn find(uses: &[Vec<usize>], n: usize, flags: &[bool], found: &mut [bool]) -> bo
 }
 
 /// Whether some node of the row is flagged.
-pub fn any_flagged(row: &[usize], flags: &[bool]) -> bool
+pub fn any_flagged(row: &[Node], flags: &[bool]) -> bool
     requires { All (λ m. m < length flags.now) row.now }
     ensures one { result ≡ true → (m : ℕ) × Contains row.now m × IsFlagged flags.now m }
     ensures none { result ≡ false → (m : ℕ) → Contains row.now m → ¬ (IsFlagged flags.now m) }
 {
     for m in row {
-        if flags[*m] {
+        if flags[m.number()] {
             return true;
         }
     }

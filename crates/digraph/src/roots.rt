@@ -6,10 +6,13 @@ ghost use Rattle.digraph.specs.Graph.{InRange};
 ghost use Rattle.digraph.specs.Flags.{IsFlagged};
 ghost use Rattle.digraph.specs.Roots.{FromRoots, ToRoots};
 
+use crate::nodes::Node;
+use crate::rows::Rows;
+
 /// Flags nodes that their roots reach; they are tried from the end of `backwards` to its front. All
 /// such nodes are flagged if, in `backwards`, each comes after the next one on a path from its
 /// root.
-pub fn flag_reached(uses: &[Vec<usize>], roots: &[usize], backwards: &[usize], flags: &mut [bool])
+pub fn flag_reached(uses: &Rows<Node>, roots: &[usize], backwards: &[usize], flags: &mut [bool])
     requires range { InRange uses.now }
     requires roots { length roots.now ≡ length uses.now }
     requires flags { FromRoots uses.now roots.now flags.old }
@@ -24,7 +27,7 @@ pub fn flag_reached(uses: &[Vec<usize>], roots: &[usize], backwards: &[usize], f
 
 /// Flags the node if it is a root. If it is flagged then, flags the nodes with the same root that
 /// it uses.
-fn flag_from_root(uses: &[Vec<usize>], n: usize, roots: &[usize], flags: &mut [bool])
+fn flag_from_root(uses: &Rows<Node>, n: usize, roots: &[usize], flags: &mut [bool])
     requires range { InRange uses.now }
     requires node { n < length uses.now }
     requires roots { length roots.now ≡ length uses.now }
@@ -36,27 +39,28 @@ fn flag_from_root(uses: &[Vec<usize>], n: usize, roots: &[usize], flags: &mut [b
         flags[n] = true;
     }
     if flags[n] {
-        flag_row(&uses[n], root, roots, flags);
+        flag_row(uses.row(n), root, roots, flags);
     }
 }
 
 /// Flags the nodes of the row that have this root.
-fn flag_row(row: &[usize], root: usize, roots: &[usize], flags: &mut [bool])
+fn flag_row(row: &[Node], root: usize, roots: &[usize], flags: &mut [bool])
     requires range { All (λ m. m < length roots.now) row.now }
     requires flags { length flags.old ≡ length roots.now }
     ensures { (m : ℕ) → IsFlagged flags.new m → IsFlagged flags.old m
         ⊎ (Contains row.now m × (slice_index roots.now m ≡ root)) }
 {
     for m in row {
-        if roots[*m] == root {
-            flags[*m] = true;
+        let m = m.number();
+        if roots[m] == root {
+            flags[m] = true;
         }
     }
 }
 
 /// Flags nodes that reach their roots; they are tried in this order. All such nodes are flagged if
 /// each comes after the next one on a path to its root.
-pub fn flag_reaching(uses: &[Vec<usize>], roots: &[usize], order: &[usize], flags: &mut [bool])
+pub fn flag_reaching(uses: &Rows<Node>, roots: &[usize], order: &[usize], flags: &mut [bool])
     requires range { InRange uses.now }
     requires roots { length roots.now ≡ length uses.now }
     requires flags { ToRoots uses.now roots.now flags.old }
@@ -70,7 +74,7 @@ pub fn flag_reaching(uses: &[Vec<usize>], roots: &[usize], order: &[usize], flag
 }
 
 /// Flags the node if it is a root, or uses a flagged node with the same root.
-fn flag_to_root(uses: &[Vec<usize>], n: usize, roots: &[usize], flags: &mut [bool])
+fn flag_to_root(uses: &Rows<Node>, n: usize, roots: &[usize], flags: &mut [bool])
     requires range { InRange uses.now }
     requires node { n < length uses.now }
     requires roots { length roots.now ≡ length uses.now }
@@ -78,20 +82,21 @@ fn flag_to_root(uses: &[Vec<usize>], n: usize, roots: &[usize], flags: &mut [boo
     ensures { ToRoots uses.now roots.now flags.new }
 {
     let root = roots[n];
-    if root == n || leads_to_root(&uses[n], root, roots, flags) {
+    if root == n || leads_to_root(uses.row(n), root, roots, flags) {
         flags[n] = true;
     }
 }
 
 /// Whether some node of the row has this root and is flagged.
-pub fn leads_to_root(row: &[usize], root: usize, roots: &[usize], flags: &[bool]) -> bool
+pub fn leads_to_root(row: &[Node], root: usize, roots: &[usize], flags: &[bool]) -> bool
     requires range { All (λ m. m < length roots.now) row.now }
     requires flags { length flags.now ≡ length roots.now }
     ensures { result ≡ true → (m : ℕ) × Contains row.now m × (slice_index roots.now m ≡ root)
         × IsFlagged flags.now m }
 {
     for m in row {
-        if roots[*m] == root && flags[*m] {
+        let m = m.number();
+        if roots[m] == root && flags[m] {
             return true;
         }
     }

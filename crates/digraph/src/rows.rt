@@ -1,102 +1,90 @@
-//! Rows of numbers, one for each node.
-ghost use Rattle.std.specs.Prelude.{◌≡◌, ◌<◌, ◌∷◌, [], ◌==◌, ℕ, IfOk, OnOk, length, vec_len, All};
-ghost use Rattle.std.specs.Prelude.{if◌then◌else◌};
-ghost use Rattle.std.specs.List.{list_any};
-ghost use Rattle.std.specs.List.Sorted.{IsStrictlyIncreasing};
-ghost use Rattle.digraph.specs.Graph.{InRange, rows_of, row_at};
-ghost use Rattle.digraph.specs.Rows.{IsRowsOf, GrowsBy, IsOnceEach, IsReversed};
-ghost use Rattle.digraph.specs.Users.{users_of};
+//! Rows of entries, one row after another in one list.
+ghost use Rattle.std.specs.Prelude.{◌≡◌, ◌<◌, ◌≤◌, ◌-◌, ◌∷◌, [], ◌++◌, OnOk, OnErr, length};
+ghost use Rattle.std.specs.Prelude.{take, drop, slice_index};
+ghost use Rattle.digraph.specs.Graph.{row_at};
 
 use std::alloc::{AllocError, Global};
+use std::marker::Model;
 
-/// This number of empty rows.
-///
-/// # Errors
-///
-/// `AllocError` where an allocation failed.
-pub fn empty_rows(alloc: Global, count: usize) -> Result<Vec<Vec<usize>>, AllocError>
-    ensures { IfOk result (λ rows. IsRowsOf count (λ _. []) (rows_of rows.items)) }
-{
-    let mut rows = Vec::new(alloc);
-    for _done in 0..count {
-        rows.push(Vec::new(alloc))?;
+/// Rows of entries, which are all in one list. For each row it is known where in the list the row
+/// ends; it begins where the row before it ends.
+#[derive(Drop)]
+pub struct Rows<T> {
+    entries: Vec<T>,
+    ends: Vec<usize>,
+}
+
+impl<T> Model for Rows<T> {
+    ghost use Rattle.std.specs.Prelude.{List, length};
+    ghost use Rattle.digraph.specs.Rows.{AreEnds, rows_between};
+
+    ghost Value = { List (List T) };
+
+    ghost view = { λ r. rows_between r.entries.items 0 r.ends.items };
+
+    ghost invariant = { λ r. AreEnds (length r.entries.items) 0 r.ends.items };
+}
+
+impl<T: Copy> Rows<T> {
+    /// No rows. Nothing is allocated yet.
+    pub fn new(alloc: Global) -> Rows<T>
+        ensures { result ≡ [] }
+    {
+        Rows {
+            entries: Vec::new(alloc),
+            ends: Vec::new(alloc),
+        }
     }
-    Ok(rows)
-}
 
-/// Adds a number at the end of row `n`.
-///
-/// # Errors
-///
-/// `AllocError` where an allocation failed.
-pub fn push_to(rows: &mut Vec<Vec<usize>>, n: usize, number: usize) -> Result<(), AllocError>
-    requires { n < length rows.old.items }
-    ensures { OnOk result (GrowsBy (λ m. if n == m then number ∷ [] else [])
-        (rows_of rows.old.items) (rows_of rows.new.items)) }
-{
-    rows[n].push(number)?;
-    Ok(())
-}
+    /// The number of rows.
+    pub fn len(&self) -> usize
+        ensures { result ≡ length self.now }
+    {
+        self.ends.len()
+    }
 
-/// Sorts the numbers of the row, and leaves each once.
-fn once_each(row: &mut Vec<usize>)
-    ensures { IsOnceEach row.old.items row.new.items }
-{
-    row.sort_unstable();
-    row.dedup();
-}
+    /// The row with this number; an empty one where there is none.
+    pub fn row(&self, n: usize) -> &[T]
+        ensures { result.now ≡ row_at self.now n }
+    {
+        match self.ends.get(n) {
+            Some(end) => part(&self.entries, start_of(&self.ends, n), *end),
+            None => &[],
+        }
+    }
 
-/// Sorts the numbers of each row, and leaves each once.
-pub fn all_once(rows: &mut Vec<Vec<usize>>)
-    ensures size { length rows.new.items ≡ length rows.old.items }
-    ensures rows { (n : ℕ) → n < length rows.old.items
-        → IsOnceEach (row_at (rows_of rows.old.items) n) (row_at (rows_of rows.new.items) n) }
-    ensures increasing { All (λ row. IsStrictlyIncreasing row.items) rows.new.items }
-    ensures range { InRange rows.old.items → InRange rows.new.items }
-{
-    for n in 0..rows.len() {
-        once_each(&mut rows[n]);
+    /// Adds a row at the end.
+    ///
+    /// # Errors
+    ///
+    /// `AllocError` where an allocation failed; the rows do not change then.
+    pub fn push_row(&mut self, row: &[T]) -> Result<(), AllocError>
+        ensures ok { OnOk result (self.new ≡ self.old ++ row.now ∷ []) }
+        ensures err { OnErr result (self.new ≡ self.old) }
+    {
+        self.ends.reserve(1)?;
+        self.entries.extend_from_slice(row)?;
+        self.ends.push_reserved(self.entries.len());
+        Ok(())
     }
 }
 
-/// For each node, the nodes that use it, each once and in increasing order. The rows of `uses` must
-/// already be like this, as [`all_once`] leaves them.
-///
-/// # Errors
-///
-/// `AllocError` where an allocation failed.
-pub fn users(alloc: Global, uses: &[Vec<usize>]) -> Result<Vec<Vec<usize>>, AllocError>
-    requires range { InRange uses.now }
-    requires increasing { All (λ row. IsStrictlyIncreasing row.items) uses.now }
-    ensures size { IfOk result (λ users. vec_len users ≡ length uses.now) }
-    ensures reversed { IfOk result (λ users. IsReversed uses.now users.items) }
+/// Where the row with this number begins: where the row before it ends.
+fn start_of(ends: &[usize], n: usize) -> usize
+    requires { n < length ends.now }
+    ensures { result ≡ slice_index (0 ∷ ends.now) n }
 {
-    reversed(alloc, uses)
+    match n.checked_sub(1) {
+        Some(before) => ends[before],
+        None => 0,
+    }
 }
 
-/// For each node, the numbers of the rows that have it, in increasing order.
-fn reversed(alloc: Global, uses: &[Vec<usize>]) -> Result<Vec<Vec<usize>>, AllocError>
-    requires range { InRange uses.now }
-    requires increasing { All (λ row. IsStrictlyIncreasing row.items) uses.now }
-    ensures { IfOk result (λ users. IsRowsOf (length uses.now) (users_of (rows_of uses.now))
-        (rows_of users.items)) }
+/// The entries from one position up to another.
+fn part<T>(entries: &[T], start: usize, end: usize) -> &[T]
+    requires order { start ≤ end }
+    requires within { end ≤ length entries.now }
+    ensures { result.now ≡ take (end - start) (drop start entries.now) }
 {
-    let mut users = empty_rows(alloc, uses.len())?;
-    for (n, row) in uses.iter().enumerate() {
-        add_user(&mut users, row, n)?;
-    }
-    Ok(users)
-}
-
-/// Adds the user at the end of each row whose number is in `row`.
-fn add_user(users: &mut Vec<Vec<usize>>, row: &[usize], user: usize) -> Result<(), AllocError>
-    requires increasing { IsStrictlyIncreasing row.now }
-    requires within { All (λ m. m < length users.old.items) row.now }
-    ensures { OnOk result (GrowsBy (λ m. if list_any (λ x. x == m) row.now then user ∷ [] else [])
-        (rows_of users.old.items) (rows_of users.new.items)) }
-{
-    for m in row {
-        push_to(users, *m, user)?;
-    }
-    Ok(())
+    &entries[start..end]
 }

@@ -3,12 +3,12 @@ use Rattle.std.proofs.Common.{◌≡◌, ◌≢◌, ◌<◌, ℕ, zero, Bool, tr
 use Rattle.std.proofs.Common.{arith, Contains}
 use Rattle.std.specs.List.{filter}
 use Rattle.std.proofs.lemmas.Bool.{and_parts, and_from}
+use Rattle.std.proofs.lemmas.List.Elements.{Contains-get_or}
 use Rattle.std.proofs.lemmas.List.Kept.{AllPairs-filter}
 use Rattle.tangle_expansion.specs.Affected.{IsAffected}
 use Rattle.tangle_expansion.specs.Limits.{levels, heaviest, IsExpandableNode}
 use Rattle.tangle_plans.specs.Shapes.{Title, Shapes, Reaches}
-use Rattle.tangle_plans.specs.declared.nodes.Node.{Node}
-use Rattle.tangle_plans.specs.declared.nodes.Node.TheVariants.{Program}
+use Rattle.digraph.specs.Nodes.{Node, program}
 use Rattle.tangle_graph.specs.Nodes.{UsesTitle}
 use Rattle.tangle_graph.specs.Ordering.{IsOrderIn}
 use Rattle.tangle_graph.specs.Stores.{StoreRead, IsStoreOf, IsNodeIn, flag_at, is_expandable_at, title_in_store}
@@ -17,7 +17,6 @@ use Rattle.tangle_affected.specs.Keeping.{IsExpandableList, ListsExpandable}
 use Rattle.tangle_affected.specs.Flags.{AreFlagged, FlagsJustListed, FlagsAffected, is_expandable_and_flagged}
 use Rattle.tangle_names.proofs.ContainsLemmas.{into_filter, out_of_filter}
 use Rattle.tangle_affected.proofs.FilterLemmas.{filter_position}
-use Rattle.tangle_affected.proofs.FlagLemmas.{at_position}
 use Rattle.tangle_affected.proofs.NameLemmas.{node_with_piece}
 
 module _ (shapes : Shapes) (store : StoreRead) (order : List Node)
@@ -25,16 +24,17 @@ module _ (shapes : Shapes) (store : StoreRead) (order : List Node)
   -- a node of a filter of the order comes after those of the filter that it uses
   filtered_after : (p : Node → Bool) (k : ℕ) (used : Node)
       → k < length (filter p order) → Contains (filter p order) used
-      → UsesTitle shapes (title_in_store store (get_or (filter p order) k Program)) (title_in_store store used)
+      → UsesTitle shapes (title_in_store store (get_or (filter p order) k program)) (title_in_store store used)
       → Contains (take k (filter p order)) used
   filtered_after p k used h c u =
-      let position = filter_position p order k Program h in
+      let position = filter_position p order k program h in
       let there = out_of_filter p order used c in
-      let user : UsesTitle shapes (title_in_store store (get_or order position.at Program))
+      let user : UsesTitle shapes (title_in_store store (get_or order position.at program))
       (title_in_store store used) =
       subst (λ a. UsesTitle shapes (title_in_store store a) (title_in_store store used)) (sym position.same) u in
       let uses =
-      (is.uses (get_or order position.at Program) used (at_position store order ordered position.at position.inside)).1
+      (is.uses (get_or order position.at program) used
+      (ordered.inside (get_or order position.at program) (Contains-get_or order position.at program position.inside))).1
       (ordered.inside used there.0, user) in
       let before = ordered.after position.at used position.inside uses in
       subst (λ l. Contains l used) (sym position.front) (into_filter p (take position.at order) used before there.1)
@@ -56,7 +56,7 @@ module _ (shapes : Shapes) (store : StoreRead) (order : List Node)
   }
 
   module _ (old : Shapes) (flags : List Bool) (are : AreFlagged old shapes store flags order) where
-    pub is_affected : (a : Node) → Contains order a → is_expandable_at store a ≡ true → flag_at store flags a ≡ true
+    pub is_affected : (a : Node) → Contains order a → is_expandable_at store a ≡ true → flag_at flags a ≡ true
         → IsAffected levels heaviest old shapes (title_in_store store a)
     is_affected a c flag is_flagged =
         let r = (are a c).0 is_flagged in
@@ -90,14 +90,14 @@ module _ (shapes : Shapes) (store : StoreRead) (order : List Node)
               at.0,
               at.2,
               into_filter (is_expandable_and_flagged store flags) order at.0 c
-                  (and_from (is_expandable_at store at.0) (flag_at store flags at.0) flag is_flagged),
+                  (and_from (is_expandable_at store at.0) (flag_at flags at.0) flag is_flagged),
             )
 
         only : (a : Node) → Contains (filter (is_expandable_and_flagged store flags) order) a
             → IsNodeIn store a × IsAffected levels heaviest old shapes (title_in_store store a)
         only a c =
             let there = out_of_filter (is_expandable_and_flagged store flags) order a c in
-            let both = and_parts (is_expandable_at store a) (flag_at store flags a) there.1 in
+            let both = and_parts (is_expandable_at store a) (flag_at flags a) there.1 in
             (ordered.inside a there.0, is_affected a there.0 both.0 both.1)
 
 -- if the nodes of such a list are flagged, each affected node is

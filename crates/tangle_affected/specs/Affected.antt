@@ -4,8 +4,7 @@ use Rattle.std.specs.Prelude.{Contains}
 use Rattle.tangle_expansion.specs.Affected.{IsAffected}
 use Rattle.tangle_expansion.specs.Limits.{levels, heaviest}
 use Rattle.tangle_plans.specs.Shapes.{Title, Shapes}
-use Rattle.tangle_plans.specs.declared.nodes.Node.{Node}
-use Rattle.tangle_plans.specs.declared.nodes.Node.TheVariants.{Program}
+use Rattle.digraph.specs.Nodes.{Node, program}
 use Rattle.tangle_graph.specs.Nodes.{UsesTitle}
 use Rattle.tangle_graph.specs.Stores.{StoreRead, IsNodeIn, title_in_store}
 
@@ -24,7 +23,7 @@ pub record ListsAffected (old new : Shapes) (store : StoreRead) (nodes : List No
       → IsNodeIn store node × IsAffected levels heaviest old new (title_in_store store node)
   pub once : AllPairs (λ a b. a ≢ b) nodes
   pub after : (k : ℕ) (used : Node) → k < length nodes → Contains nodes used
-      → UsesTitle new (title_in_store store (slice_index_or nodes k Program))
+      → UsesTitle new (title_in_store store (slice_index_or nodes k program))
       (title_in_store store used)
       → Contains (take k nodes) used
 

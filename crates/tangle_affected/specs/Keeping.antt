@@ -6,8 +6,7 @@ use Rattle.tangle_expansion.specs.Kept.{kept_at}
 use Rattle.tangle_expansion.specs.Limits.{levels, heaviest, flat_of, IsExpandableNode}
 use Rattle.tangle_plans.specs.Shapes.{Shapes}
 use Rattle.tangle_expansion.specs.declared.kept.Kept.{Kept}
-use Rattle.tangle_plans.specs.declared.nodes.Node.{Node}
-use Rattle.tangle_plans.specs.declared.nodes.Node.TheVariants.{Program}
+use Rattle.digraph.specs.Nodes.{Node, program}
 use Rattle.tangle_graph.specs.Nodes.{UsesTitle}
 use Rattle.tangle_graph.specs.Stores.{StoreRead, IsStoreOf, IsNodeIn, is_expandable_at}
 use Rattle.tangle_graph.specs.Stores.{title_in_store}
@@ -53,7 +52,7 @@ ListsExpandableAfter store before after =
 pub record IsExpandableList (shapes : Shapes) (store : StoreRead) (nodes : List Node) : Type 0 where
   pub expandable : (node : Node) → Contains nodes node → is_expandable_at store node ≡ true
   pub after : (k : ℕ) (used : Node) → k < length nodes → Contains nodes used
-      → UsesTitle shapes (title_in_store store (slice_index_or nodes k Program))
+      → UsesTitle shapes (title_in_store store (slice_index_or nodes k program))
       (title_in_store store used)
       → Contains (take k nodes) used
 

@@ -1,8 +1,7 @@
 //! The nodes that an edit affects.
-ghost use Rattle.std.specs.Prelude.{◌≡◌, ◌≢◌, ◌↔◌, true, false, filter, IfOk};
-ghost use Rattle.std.specs.Prelude.{IfSome, None, Contains};
+ghost use Rattle.std.specs.Prelude.{◌≡◌, ◌≢◌, ◌↔◌, true, false, filter, IfOk, Contains};
 ghost use Rattle.tangle_plans.specs.Shapes.{Shapes};
-ghost use Rattle.tangle_plans.specs.declared.nodes.Node.{Node};
+ghost use Rattle.digraph.specs.Nodes.{Node};
 ghost use Rattle.tangle_graph.specs.Ordering.{IsOrderIn};
 ghost use Rattle.tangle_graph.specs.Stores.{IsStoreOf, IsNodeIn, KeepsBodies, flag_at};
 ghost use Rattle.tangle_graph.specs.Stores.{title_in_store};
@@ -10,9 +9,8 @@ ghost use Rattle.tangle_affected.specs.Affected.{ListsAffected};
 ghost use Rattle.tangle_affected.specs.Flags.{AreFlagged, is_expandable_and_flagged};
 
 use std::alloc::Global;
-use tangle_graph::{Store, same_shape};
+use tangle_graph::{Node, Store, is_flagged, node_before, same_shape, set_flag};
 use tangle_lines::NoMemory;
-use tangle_plans::Node;
 
 /// The nodes that an edit affects: each that is expandable in the new store, and reaches there a
 /// node whose shape differs from its shape in the old store. Each is listed once, after those
@@ -62,12 +60,12 @@ fn reaching_new_shapes(
         → IsStoreOf new_shapes new.now
         → IfOk result (λ flags. AreFlagged old_shapes new_shapes new.now flags.items order.now) }
 {
-    // `digraph::reaching` would search, and takes rows of numbers, which a store does not give.
+    // In this order no search is needed, as `digraph::reaching` makes one.
     let mut flags = new.no_flags(alloc)?;
     for node in order {
-        let is_flagged = has_new_shape(old, new, are_kept, *node)
-            || any_flagged(new, &flags, new.uses(*node));
-        new.set_flag(&mut flags, *node, is_flagged);
+        let has_cause = has_new_shape(old, new, are_kept, *node)
+            || any_flagged(&flags, new.uses(*node));
+        set_flag(&mut flags, *node, has_cause);
     }
     Ok(flags)
 }
@@ -82,40 +80,21 @@ fn has_new_shape(old: &Store, new: &Store, are_kept: &[bool], node: Node) -> boo
         → ((result ≡ true) ↔ (new_shapes (title_in_store new.now node) ≢ old_shapes
         (title_in_store new.now node))) }
 {
-    if new.is_flagged(are_kept, node) {
+    if is_flagged(are_kept, node) {
         return false;
     }
-    match node_before(old, new, node) {
+    match node_before(old.names(), new.names(), node) {
         Some(before) => !same_shape(old, before, new, node),
         None => new.has_piece(node),
     }
 }
 
-/// The node of the old store that has the title of this node of the new store, if there is one.
-pub(crate) fn node_before(old: &Store, new: &Store, node: Node) -> Option<Node>
-    requires { IsNodeIn new.now node }
-    ensures some { IfSome result (λ before. IsNodeIn old.now before
-        × (title_in_store old.now before ≡ title_in_store new.now node)) }
-    ensures none { result ≡ None → (other : Node) → IsNodeIn old.now other
-        → title_in_store old.now other ≢ title_in_store new.now node }
-{
-    match node {
-        Node::Program => Some(Node::Program),
-        Node::Name(id) => match old.names().find_from(id, new.names().text(id)) {
-            Some(before) => Some(Node::Name(before)),
-            None => None,
-        },
-    }
-}
-
-fn any_flagged(store: &Store, flags: &[bool], row: &[Node]) -> bool
-    ensures one { result ≡ true → (m : Node) × Contains row.now m
-        × (flag_at store.now flags.now m ≡ true) }
-    ensures none { result ≡ false → (m : Node) → Contains row.now m
-        → flag_at store.now flags.now m ≡ false }
+fn any_flagged(flags: &[bool], row: &[Node]) -> bool
+    ensures one { result ≡ true → (m : Node) × Contains row.now m × (flag_at flags.now m ≡ true) }
+    ensures none { result ≡ false → (m : Node) → Contains row.now m → flag_at flags.now m ≡ false }
 {
     for m in row {
-        if store.is_flagged(flags, *m) {
+        if is_flagged(flags, *m) {
             return true;
         }
     }
@@ -134,7 +113,7 @@ fn listed_nodes(
 {
     let mut nodes = Vec::new(alloc);
     for node in order {
-        if store.expandable(*node) && store.is_flagged(flags, *node) {
+        if store.expandable(*node) && is_flagged(flags, *node) {
             nodes.push(*node)?;
         }
     }

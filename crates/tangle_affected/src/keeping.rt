@@ -13,12 +13,11 @@ ghost use Rattle.tangle_affected.specs.Keeping.{KeepsJust, KeepsUnflagged, Lists
 ghost use Rattle.tangle_affected.specs.Keeping.{IsEditOf, IsUnaffected, CanExpand};
 ghost use Rattle.tangle_affected.specs.Flags.{FlagsJustListed, FlagsAffected};
 
-use crate::edits::{affected_over, node_before};
+use crate::edits::affected_over;
 use std::alloc::Global;
 use tangle_expansion::{Expansion, Kept, Work};
-use tangle_graph::Store;
+use tangle_graph::{Node, Store, is_flagged, node_before, set_flag};
 use tangle_lines::NoMemory;
-use tangle_plans::Node;
 
 /// Expands each expandable node of the store, and keeps its expansion. The nodes are added to the
 /// end of the work's list.
@@ -89,7 +88,7 @@ fn flags_of(alloc: Global, store: &Store, list: &[Node]) -> Result<Vec<bool>, No
 {
     let mut flags = store.no_flags(alloc)?;
     for node in list {
-        store.set_flag(&mut flags, *node, true);
+        set_flag(&mut flags, *node, true);
     }
     Ok(flags)
 }
@@ -104,7 +103,7 @@ fn share_old(old: &Store, old_kept: &Kept, new: &Store, node: Node) -> Result<Ex
         → IsUnaffected new.now shapes node
         → IfOk result (λ e. e ≡ flat_of shapes.new (title_in_store new.now node)) }
 {
-    let before = node_before(old, new, node).unwrap();
+    let before = node_before(old.names(), new.names(), node).unwrap();
     old_kept.get(before).unwrap().share()
 }
 
@@ -143,11 +142,11 @@ fn share_unflagged(
         → FlagsAffected shapes.old shapes.new new.now flags.now }
     requires empty { (node : Node) → kept_at kept.old node ≡ None }
     ensures { (shapes : EditedShapes) → IsEditOf old.now new.now old_kept.now shapes
-        → OnOk result (KeepsUnflagged shapes.new new.now (flag_at new.now flags.now) order.now
+        → OnOk result (KeepsUnflagged shapes.new new.now (flag_at flags.now) order.now
         kept.new) }
 {
     for node in order {
-        if new.expandable(*node) && !new.is_flagged(flags, *node) {
+        if new.expandable(*node) && !is_flagged(flags, *node) {
             keep_share(old, old_kept, new, *node, kept)?;
         }
     }

@@ -1,7 +1,7 @@
 //! A law of affected nodes.
 ghost use Rattle.std.specs.Prelude.{◌≡◌, [], List};
 ghost use Rattle.tangle_plans.specs.Shapes.{Title, Shapes};
-ghost use Rattle.tangle_plans.specs.declared.nodes.Node.{Node};
+ghost use Rattle.digraph.specs.Nodes.{Node};
 ghost use Rattle.tangle_graph.specs.Stores.{StoreRead};
 ghost use Rattle.tangle_affected.specs.Affected.{ListsAffected};
 

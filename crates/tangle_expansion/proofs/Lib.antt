@@ -8,7 +8,6 @@ pub mod LookupLemmas
 pub mod MacroEndLemmas
 mod EscapeLemmas
 pub mod FileLemmas
-pub mod BuildLemmas
 pub mod OriginLemmas
 pub mod WriteLemmas
 pub mod WrittenLemmas

@@ -1,64 +1,51 @@
 -- Looking up a name in rows, of which each name has one.
-use Rattle.std.proofs.Common.{◌≡◌, ◌∙◌, ◌+◌, ◌<◌, ◌≤◌, ℕ, zero, suc, Bool, true, false, cond, not, List, [], ◌∷◌, ◌++◌, map}
-use Rattle.std.proofs.Common.{length, None, Some, refl, ap, sym, arith, All}
-use Rattle.std.specs.Prelude.{nat_lt, unwrap_or, slice_get, slice_index_or}
+use Rattle.std.proofs.Common.{◌≡◌, ◌∙◌, ◌+◌, ℕ, zero, suc, Bool, true, false, cond, not, List, [], ◌∷◌, map}
+use Rattle.std.proofs.Common.{drop, length, None, Some, refl, ap, sym, arith, All}
+use Rattle.std.specs.Prelude.{Option, nat_lt, unwrap_or, slice_get}
 use Rattle.std.specs.List.{position, position_or_len, zip}
 use Rattle.std.specs.Map.{lookup}
+use Rattle.std.specs.Option.{option_map_or}
 use Rattle.std.specs.Str.{bytes_eq}
+use Rattle.std.proofs.lemmas.List.{get_or_past}
 use Rattle.std.proofs.lemmas.Option.{unwrap_or-slice_get}
-use borrow.Author.Tests.{ltb-true, ltb-false}
+use borrow.Author.Tests.{ltb-false}
+use Rattle.digraph.specs.Graph.{row_at}
 use Rattle.tangle_expansion.specs.Numbers.{PieceNumbersRead}
-use Rattle.tangle_expansion.specs.NumbersKept.{row_found}
 use Rattle.tangle_expansion.specs.SymbolLimits.{EntryIsShort, IsShort}
 
-module _ (test : List ℕ → Bool) where
-  lookup-found : (names : List (List ℕ)) (rows : List (List PieceNumbersRead)) → length names ≤ length rows
-      → position_or_len test names < length names
-      → lookup test (zip names rows) ≡ slice_get rows (position_or_len test names)
-  lookup-found [] rows size low = absurd (omega (arith, low))
-  lookup-found (name ∷ names) [] size low = absurd (omega (arith, size))
-  lookup-found (name ∷ names) (row ∷ rows) size low =
-      by (test name) low (lookup-found names rows (omega (arith, size)))
-    where
-      by : (t : Bool) → cond (not t) (1 + position_or_len test names) 0 < suc (length names)
-          → (position_or_len test names < length names
-          → lookup test (zip names rows) ≡ slice_get rows (position_or_len test names))
-          → cond t (Some row) (lookup test (zip names rows))
-          ≡ slice_get (row ∷ rows) (cond (not t) (1 + position_or_len test names) 0)
-      by true low more = refl
-      by false low more =
-          let next : suc (position_or_len test names) ≡ 1 + position_or_len test names = omega arith in
-          more (omega (arith, low)) ∙ ap (slice_get (row ∷ rows)) next
+looked_up : (test : List ℕ → Bool) (names : List (List ℕ)) (rows : List (List PieceNumbersRead))
+    → length rows ≡ length names → lookup test (zip names rows) ≡ slice_get rows (position_or_len test names)
+looked_up test [] [] size = refl
+looked_up test [] (row ∷ rows) size = absurd (omega (arith, size))
+looked_up test (name ∷ names) [] size = absurd (omega (arith, size))
+looked_up test (name ∷ names) (row ∷ rows) size = by (test name) (looked_up test names rows (omega (arith, size)))
+  where
+    by : (t : Bool) → lookup test (zip names rows) ≡ slice_get rows (position_or_len test names)
+        → cond t (Some row) (lookup test (zip names rows))
+        ≡ slice_get (row ∷ rows) (cond (not t) (1 + position_or_len test names) 0)
+    by true more = refl
+    by false more =
+        let next : suc (position_or_len test names) ≡ 1 + position_or_len test names = omega arith in
+        more ∙ ap (slice_get (row ∷ rows)) next
 
-  lookup-none : (names : List (List ℕ)) (rows : List (List PieceNumbersRead))
-      → length names ≤ position_or_len test names → lookup test (zip names rows) ≡ None
-  lookup-none [] [] high = refl
-  lookup-none [] (row ∷ rows) high = refl
-  lookup-none (name ∷ names) [] high = refl
-  lookup-none (name ∷ names) (row ∷ rows) high = by (test name) high (lookup-none names rows)
-    where
-      by : (t : Bool) → suc (length names) ≤ cond (not t) (1 + position_or_len test names) 0
-          → (length names ≤ position_or_len test names → lookup test (zip names rows) ≡ None)
-          → cond t (Some row) (lookup test (zip names rows)) ≡ None
-      by true high more = absurd (omega (arith, high))
-      by false high more = more (omega (arith, high))
-
--- the row of a name is at its position
-pub found_row : (name : List ℕ) (names : List (List ℕ)) (rows : List (List PieceNumbersRead))
-    → length names ≤ length rows
-    → row_found rows (position (bytes_eq name) names) ≡ unwrap_or (lookup (bytes_eq name) (zip names rows)) []
-found_row name names rows size = by (nat_lt k (length names)) refl
+-- the row of a name is at its position, after the row of the program
+pub found_row : (name : List ℕ) (names : List (List ℕ)) (rows : List (List PieceNumbersRead)) (found : Option ℕ)
+    → length rows ≡ length names + 1 → found ≡ position (bytes_eq name) names
+    → option_map_or (λ id. row_at rows (suc id)) found []
+    ≡ unwrap_or (lookup (bytes_eq name) (zip names (drop 1 rows))) []
+found_row name names [] found size is = absurd (omega (arith, size))
+found_row name names (row ∷ rows) found size is =
+    ap (λ o. option_map_or (λ id. row_at rows id) o []) is
+    ∙ by (nat_lt k (length names)) refl ∙ sym (unwrap_or-slice_get rows k [])
+    ∙ ap (λ o. unwrap_or o []) (sym (looked_up (bytes_eq name) names rows (omega (arith, size))))
   where
     k : ℕ
     k = position_or_len (bytes_eq name) names
 
     by : (t : Bool) → nat_lt k (length names) ≡ t
-        → row_found rows (cond t (Some k) None) ≡ unwrap_or (lookup (bytes_eq name) (zip names rows)) []
-    by true e =
-        sym (unwrap_or-slice_get rows k [])
-        ∙ ap (λ o. unwrap_or o [])
-        (sym (lookup-found (bytes_eq name) names rows size (ltb-true k (length names) e)))
-    by false e = ap (λ o. unwrap_or o []) (sym (lookup-none (bytes_eq name) names rows (ltb-false k (length names) e)))
+        → option_map_or (λ id. row_at rows id) (cond t (Some k) None) [] ≡ row_at rows k
+    by true e = refl
+    by false e = sym (get_or_past rows k [] (omega (arith, size, ltb-false k (length names) e)))
 
 -- rows of short pieces give short entries
 pub zip_short : (names : List (List ℕ)) (rows : List (List PieceNumbersRead))
@@ -71,13 +58,8 @@ zip_short (name ∷ names) (row ∷ rows) h = at (zip_short names rows (λ i d l
     at rest zero d within = h zero row (omega arith)
     at rest (suc i) d within = rest i d (omega (arith, within))
 
--- each name beside the row that is made for it; and the row after those of all names
-pub zip_made : (f : List ℕ → List PieceNumbersRead) (last : List PieceNumbersRead) (names : List (List ℕ))
-    → zip names (map f names ++ last ∷ []) ≡ map (λ name. (name, f name)) names
-zip_made f last [] = refl
-zip_made f last (name ∷ names) = ap (λ l. (name, f name) ∷ l) (zip_made f last names)
-
-pub last_row : (f : List ℕ → List PieceNumbersRead) (last : List PieceNumbersRead) (names : List (List ℕ))
-    → slice_index_or (map f names ++ last ∷ []) (length names) [] ≡ last
-last_row f last [] = refl
-last_row f last (name ∷ names) = last_row f last names
+-- each name beside what is made of its row
+pub zip_made : {X : Type 0} (f : X → List PieceNumbersRead) (g : List ℕ → X) (names : List (List ℕ))
+    → zip names (map f (map g names)) ≡ map (λ name. (name, f (g name))) names
+zip_made f g [] = refl
+zip_made f g (name ∷ names) = ap (λ l. (name, f (g name)) ∷ l) (zip_made f g names)

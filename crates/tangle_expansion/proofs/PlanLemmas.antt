@@ -61,7 +61,7 @@ stays : (piece marks start : ℕ) (s : Step) → is_use_step s ≡ true
     → (pieces_after_step piece s ≡ piece) × (marks_after_step marks s ≡ marks) × (bytes_after_step start s ≡ start)
 stays piece marks start (step.Use id) e = (refl, refl, refl)
 stays piece marks start step.Open e = absurd (cc)
-stays piece marks start (step.Run end) e = absurd (cc)
+stays piece marks start (step.Bytes end) e = absurd (cc)
 stays piece marks start step.Mark e = absurd (cc)
 stays piece marks start step.AllMacros e = absurd (cc)
 stays piece marks start step.Space e = absurd (cc)
@@ -114,7 +114,7 @@ pub plan_none : (node : Title) (bytes : List ℕ) (piece marks start : ℕ) (pla
 plan_none node bytes piece marks start [] = refl
 plan_none node bytes piece marks start (step.Open ∷ plan) =
     ap (λ l. Opening node piece ∷ MarkOf node piece 0 ∷ l) (plan_none node bytes piece 0 start plan)
-plan_none node bytes piece marks start (step.Run end ∷ plan) =
+plan_none node bytes piece marks start (step.Bytes end ∷ plan) =
     ap (λ l. map Byte (bytes_between bytes start end) ++ l) (plan_none node bytes piece marks end plan)
 plan_none node bytes piece marks start (step.Mark ∷ plan) =
     ap (λ l. MarkOf node piece (marks + 1) ∷ l) (plan_none node bytes piece (marks + 1) start plan)
@@ -138,7 +138,7 @@ pub plan_some : (node : Title) (bytes : List ℕ) (piece marks start : ℕ)
 plan_some node bytes piece marks start [] symbols used = refl
 plan_some node bytes piece marks start (step.Open ∷ plan) symbols used =
     ap (λ l. Opening node piece ∷ MarkOf node piece 0 ∷ l) (plan_some node bytes piece 0 start plan symbols used)
-plan_some node bytes piece marks start (step.Run end ∷ plan) symbols used =
+plan_some node bytes piece marks start (step.Bytes end ∷ plan) symbols used =
     ap (λ l. map Byte (bytes_between bytes start end) ++ l) (plan_some node bytes piece marks end plan symbols used)
     ∙ sym (append_assoc (map Byte (bytes_between bytes start end)) (before_use node bytes piece marks end plan)
     (Byte space ∷ symbols ++ rest_flat node bytes (after_use piece marks end plan) used))

@@ -57,7 +57,7 @@ pub plan_filled : (symbols : ℕ → List Symbol) (node : Title) (bytes : List �
 plan_filled symbols node bytes piece marks start [] = refl
 plan_filled symbols node bytes piece marks start (step.Open ∷ plan) =
     ap (λ l. Opening node piece ∷ MarkOf node piece 0 ∷ l) (plan_filled symbols node bytes piece 0 start plan)
-plan_filled symbols node bytes piece marks start (step.Run end ∷ plan) =
+plan_filled symbols node bytes piece marks start (step.Bytes end ∷ plan) =
     ap (λ l. map Byte (bytes_between bytes start end) ++ l) (plan_filled symbols node bytes piece marks end plan)
     ∙ ap (λ l. l ++ filled symbols (slots node bytes piece marks end plan))
     (sym (bytes_filled symbols (bytes_between bytes start end)))

@@ -28,7 +28,7 @@ pub plan_is_longer : (node : Title) (bytes : List ℕ)
 plan_is_longer node bytes piece marks start [] used = left_over_is_longer used
 plan_is_longer node bytes piece marks start (step.Open ∷ plan) used =
     omega (arith, plan_is_longer node bytes piece 0 start plan used)
-plan_is_longer node bytes piece marks start (step.Run end ∷ plan) used =
+plan_is_longer node bytes piece marks start (step.Bytes end ∷ plan) used =
     omega (
       arith,
       plan_is_longer node bytes piece marks end plan used,

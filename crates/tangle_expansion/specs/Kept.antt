@@ -1,14 +1,13 @@
 -- Kept expansions, as a map from nodes.
-use Rattle.std.specs.Prelude.{◌≡◌, ◌≢◌, ℕ, List, [], Option, Some, None, unwrap_or, slice_index_or}
+use Rattle.std.specs.Prelude.{◌≡◌, ◌≢◌, ℕ, suc, List, [], Option, Some, None, unwrap_or}
+use Rattle.std.specs.Prelude.{slice_index_or}
+use Rattle.digraph.specs.Nodes.{Node}
 use Rattle.tangle_plans.specs.Flat.{Symbol}
-use Rattle.tangle_plans.specs.declared.nodes.Node.{Node}
-use Rattle.tangle_plans.specs.declared.nodes.Node.TheVariants.{Program, Name}
 use Rattle.tangle_expansion.specs.declared.kept.Kept.{Kept}
 
 -- the expansion that is kept for the node, if there is one
 abbrev pub kept_at : Kept → Node → Option (List Symbol)
-kept_at kept Program = kept.program
-kept_at kept (Name id) = slice_index_or kept.names.items id None
+kept_at kept node = slice_index_or kept.by_node.items node None
 
 -- the node gets this expansion, and the others keep theirs
 pub record PutsKept (old new : Kept) (node : Node) (symbols : List Symbol) : Type 0 where
@@ -20,4 +19,4 @@ SameKept old new = (node : Node) → kept_at new node ≡ kept_at old node
 
 -- the symbols that are kept for the name with this number
 abbrev pub used_symbols : Kept → ℕ → List Symbol
-used_symbols kept id = unwrap_or (kept_at kept (Name id)) []
+used_symbols kept id = unwrap_or (kept_at kept (suc id)) []

@@ -11,7 +11,7 @@ use Rattle.tangle_expansion.specs.Limits.{levels, heaviest}
 use Rattle.tangle_expansion.specs.Numbers.{NumbersRead, numbers_of, expansion_bytes}
 use Rattle.tangle_expansion.specs.Kept.{kept_at}
 use Rattle.tangle_files.specs.declared.marks.MarkMode.TheVariants.{Full}
-use Rattle.tangle_plans.specs.declared.nodes.Node.{Node}
+use Rattle.digraph.specs.Nodes.{Node}
 use Rattle.tangle_expansion.specs.declared.kept.Kept.{Kept}
 use Rattle.tangle_expansion.specs.Location.{LocatedSymbol, located, located_shapes}
 use Rattle.tangle_expansion.specs.Location.{AreAtTheirOrigins}

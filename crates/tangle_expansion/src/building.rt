@@ -15,6 +15,7 @@ use crate::macros::macros_bytes;
 use crate::node_numbers::{NodeNumbers, PieceNumbers};
 use crate::numbers::Numbers;
 use bstr::ByteSlice;
+use digraph::Rows;
 use std::alloc::Global;
 use tangle_lines::{MarkMode, NoMemory, Origin};
 use tangle_names::Names;
@@ -121,17 +122,16 @@ fn escaped_names(alloc: Global, web: &Web) -> Result<Vec<Vec<u8>>, NoMemory>
 fn numbers_of_nodes(
     alloc: Global,
     web: &Web,
-    pieces: &[Vec<usize>],
+    pieces: &Rows<usize>,
 ) -> Result<Vec<NodeNumbers>, NoMemory>
-    requires { All (All (λ n. n < length web.now.pieces)) (map (λ row. row.items) pieces.now) }
+    requires { All (All (λ n. n < length web.now.pieces)) pieces.now }
     ensures rows { IfOk result (λ rows. rows.items
-        ≡ map (map numbers_of_piece)
-        (map (pieces_at web.now.pieces) (map (λ row. row.items) pieces.now))) }
+        ≡ map (map numbers_of_piece) (map (pieces_at web.now.pieces) pieces.now)) }
     ensures short { IfOk result (λ rows. All (All IsShort) rows.items) }
 {
     let mut rows = Vec::with_capacity(alloc, pieces.len())?;
-    for row in pieces {
-        rows.push(numbers_of_pieces(alloc, web, row)?)?;
+    for n in 0..pieces.len() {
+        rows.push(numbers_of_pieces(alloc, web, pieces.row(n))?)?;
     }
     Ok(rows)
 }
@@ -139,8 +139,7 @@ fn numbers_of_nodes(
 impl Numbers {
     /// Reads from a web what its outputs need besides the symbols: section numbers, the origins of
     /// marks and the bytes of the macros. Line marks are written as `marks` says. The names must be
-    /// those of the web; the rows have the numbers of the pieces of each name, and then of the
-    /// program.
+    /// those of the web; the rows have the numbers of the pieces of each node.
     ///
     /// # Errors
     ///
@@ -149,12 +148,11 @@ impl Numbers {
         alloc: Global,
         web: &Web,
         names: &Names,
-        pieces: &[Vec<usize>],
+        pieces: &Rows<usize>,
         marks: MarkMode,
     ) -> Result<Numbers, NoMemory>
         requires names { names.now ≡ (table_of web.now).names }
-        requires pieces { IsGroupedBy web.now (table_of web.now)
-            (map (λ row. row.items) pieces.now) }
+        requires pieces { IsGroupedBy web.now (table_of web.now) pieces.now }
         ensures { IfOk result (λ numbers. numbers ≡ numbers_of web.now (table_of web.now) marks) }
     {
         let file_names = escaped_names(alloc, web)?;

@@ -1,32 +1,33 @@
 //! Makes the expansion of a node from those of the names that it uses.
-ghost use Rattle.std.specs.Prelude.{◌≡◌, ◌++◌, ◌∷◌, [], ℕ, map, Contains, IfOk, OnOk, OnErr, IsSome};
+ghost use Rattle.std.specs.Prelude.{◌≡◌, ◌++◌, ◌∷◌, [], ℕ, suc, map, Contains, IsSome};
+ghost use Rattle.std.specs.Prelude.{IfOk, OnOk, OnErr};
 ghost use Rattle.tangle_expansion.specs.Kept.{kept_at, used_symbols};
 ghost use Rattle.tangle_plans.specs.Slots.{filled, step_uses};
 ghost use Rattle.tangle_plans.specs.NodeBodies.{plan_uses, plan_slots};
-ghost use Rattle.tangle_plans.specs.declared.nodes.Node.TheVariants as node_kind;
 
 use crate::expansion::{Expansion, SharedExpansion};
 use crate::kept::Kept;
 use crate::work::Work;
+use digraph::Node;
 use std::alloc::Global;
 use std::rc::Rc;
 use tangle_lines::NoMemory;
-use tangle_plans::{Node, NodeBody, Step};
+use tangle_plans::{NodeBody, Step};
 
 /// Shares the expansion of the name that the step uses, if the step is a use.
 fn share_used(used: &mut Vec<Expansion>, step: Step, kept: &Kept) -> Result<(), NoMemory>
     requires { (id : ℕ) → Contains (step_uses step) id
-        → IsSome (kept_at kept.now (node_kind.Name id)) }
+        → IsSome (kept_at kept.now (suc id)) }
     ensures { OnOk result (used.new.items ≡ used.old.items
         ++ map (used_symbols kept.now) (step_uses step)) }
 {
     match step {
         Step::Use(id) => {
-            let share = kept.get(Node::Name(id)).unwrap().share()?;
+            let share = kept.get(Node::name(id)).unwrap().share()?;
             used.push(share)?;
             Ok(())
         }
-        Step::Open | Step::Run(_) | Step::Mark => Ok(()),
+        Step::Open | Step::Bytes(_) | Step::Mark => Ok(()),
         Step::AllMacros | Step::Space | Step::Close => Ok(()),
     }
 }
@@ -35,7 +36,7 @@ fn share_used(used: &mut Vec<Expansion>, step: Step, kept: &Kept) -> Result<(), 
 /// that the node uses.
 fn expansion_of(alloc: Global, body: &Rc<NodeBody>, kept: &Kept) -> Result<Expansion, NoMemory>
     requires { (id : ℕ) → Contains (plan_uses body.now.value) id
-        → IsSome (kept_at kept.now (node_kind.Name id)) }
+        → IsSome (kept_at kept.now (suc id)) }
     ensures { IfOk result (λ e. e ≡ filled (used_symbols kept.now) (plan_slots body.now.value)) }
 {
     let stored: &NodeBody = body;
@@ -62,7 +63,7 @@ pub fn expand(
     work: &mut Work,
 ) -> Result<Expansion, NoMemory>
     requires { (id : ℕ) → Contains (plan_uses body.now.value) id
-        → IsSome (kept_at kept.now (node_kind.Name id)) }
+        → IsSome (kept_at kept.now (suc id)) }
     ensures right { IfOk result
         (λ e. e ≡ filled (used_symbols kept.now) (plan_slots body.now.value)) }
     ensures listed { OnOk result (work.new ≡ work.old ++ node ∷ []) }

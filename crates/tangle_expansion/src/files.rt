@@ -8,9 +8,9 @@ ghost use Rattle.tangle_expansion.specs.Outputs.{kept_output_bytes};
 use crate::expansion::Expansion;
 use crate::kept::Kept;
 use crate::numbers::Numbers;
+use digraph::Node;
 use std::marker::Model;
 use tangle_lines::{Sink, WriteFault, write_after};
-use tangle_plans::Node;
 
 /// An output file of a web: the expansion of a node. Where the file is the main file and no C part
 /// has `@h`, all macros come before it.

@@ -1,20 +1,18 @@
 //! Kept expansions, by node.
 ghost use Rattle.std.specs.Prelude.{◌≡◌, None, OnOk, OnErr};
 ghost use Rattle.std.specs.Option.{option_copied};
+ghost use Rattle.digraph.specs.Nodes.{Node};
 ghost use Rattle.tangle_expansion.specs.Kept.{kept_at, PutsKept, SameKept};
-ghost use Rattle.tangle_plans.specs.declared.nodes.Node.{Node};
 
 use crate::expansion::Expansion;
+use digraph::Node;
 use std::alloc::Global;
 use tangle_lines::NoMemory;
-use tangle_plans::Node;
 
 /// The kept expansions, by node.
 #[derive(Drop)]
 pub struct Kept {
-    program: Option<Expansion>,
-    // By the number of the name.
-    names: Vec<Option<Expansion>>,
+    by_node: Vec<Option<Expansion>>,
 }
 
 impl Kept {
@@ -23,20 +21,20 @@ impl Kept {
         ensures { (node : Node) → kept_at result node ≡ None }
     {
         Kept {
-            program: None,
-            names: Vec::new(alloc),
+            by_node: Vec::new(alloc),
         }
     }
 
-    /// Makes room for the name with this number, if there is none.
-    fn make_entry(&mut self, id: usize) -> Result<(), NoMemory>
+    /// Makes room for the node, if there is none.
+    fn make_entry(&mut self, node: Node) -> Result<(), NoMemory>
         ensures { SameKept self.old self.new }
     {
-        let size = id.saturating_add(1);
-        // All memory is asked for at once, so that a number far beyond the table's makes no entry.
-        self.names.reserve(size.saturating_sub(self.names.len()))?;
-        for _entry in self.names.len()..size {
-            self.names.push(None)?;
+        let size = node.number().saturating_add(1);
+        // All memory is asked for at once, so that a node far beyond a store's makes no entry.
+        self.by_node
+            .reserve(size.saturating_sub(self.by_node.len()))?;
+        for _entry in self.by_node.len()..size {
+            self.by_node.push(None)?;
         }
         Ok(())
     }
@@ -51,19 +49,13 @@ impl Kept {
         ensures ok { OnOk result (PutsKept self.old self.new node expansion) }
         ensures err { OnErr result (SameKept self.old self.new) }
     {
-        match node {
-            Node::Program => {
-                self.program = Some(expansion);
+        self.make_entry(node)?;
+        match self.by_node.get_mut(node.number()) {
+            Some(entry) => {
+                *entry = Some(expansion);
                 Ok(())
             }
-            Node::Name(id) => {
-                self.make_entry(id)?;
-                if id >= self.names.len() {
-                    return Err(NoMemory);
-                }
-                self.names[id] = Some(expansion);
-                Ok(())
-            }
+            None => Err(NoMemory),
         }
     }
 
@@ -71,12 +63,9 @@ impl Kept {
     pub fn get(&self, node: Node) -> Option<&Expansion>
         ensures { option_copied result ≡ kept_at self.now node }
     {
-        match node {
-            Node::Program => self.program.as_ref(),
-            Node::Name(id) => match self.names.get(id) {
-                Some(held) => held.as_ref(),
-                None => None,
-            },
+        match self.by_node.get(node.number()) {
+            Some(held) => held.as_ref(),
+            None => None,
         }
     }
 }

@@ -1,13 +1,14 @@
 //! The section numbers and origins of a web, and the bytes of its macros.
-ghost use Rattle.std.specs.Prelude.{◌≡◌, ◌<◌, ◌+◌, ◌^◌, [], get_or, length, map, vec_len};
+ghost use Rattle.std.specs.Prelude.{◌≡◌, ◌<◌, ◌+◌, ◌^◌, [], drop, get_or, length, map, vec_len};
 ghost use Rattle.std.specs.Prelude.{slice_index_or};
 ghost use Rattle.std.specs.List.{All, zip};
 ghost use Rattle.tangle_plans.specs.Meaning.{title_of};
 ghost use Rattle.tangle_expansion.specs.Numbers.{node_numbers};
-ghost use Rattle.tangle_expansion.specs.NumbersKept.{row_found};
+ghost use Rattle.digraph.specs.Graph.{row_at};
 ghost use Rattle.tangle_expansion.specs.SymbolLimits.{IsShort, SymbolsAreShort};
 
 use crate::node_numbers::{NodeNumbers, PieceNumbers};
+use digraph::Node;
 use std::marker::Model;
 use tangle_lines::{MarkMode, Origin};
 use tangle_names::Names;
@@ -18,7 +19,7 @@ use tangle_names::Names;
 pub struct Numbers {
     file_names: Vec<Vec<u8>>,
     names: Names,
-    // For each name, and then for the program, the numbers of its pieces.
+    // For each node the numbers of its pieces.
     nodes: Vec<NodeNumbers>,
     macros: Vec<u8>,
     marks: MarkMode,
@@ -50,8 +51,8 @@ impl Numbers {
         ensures { result ≡ record {
           file_names = map (λ n. n.items) file_names.items;
           program =
-              slice_index_or nodes.items (length names) [];
-          names = zip names nodes.items;
+              slice_index_or nodes.items 0 [];
+          names = zip names (drop 1 nodes.items);
           macros = macros.items;
           marks = marks;
         } }
@@ -71,8 +72,11 @@ impl Numbers {
         ensures short { SymbolsAreShort self.now }
     {
         match name {
-            None => row_at(&self.nodes, Some(self.names.count())),
-            Some(name) => row_at(&self.nodes, self.names.find(name.as_slice())),
+            None => row_at(&self.nodes, Node::program()),
+            Some(name) => match self.names.find(name.as_slice()) {
+                Some(id) => row_at(&self.nodes, Node::name(id)),
+                None => &[],
+            },
         }
     }
 
@@ -101,15 +105,12 @@ impl Numbers {
     }
 }
 
-/// The row that was found; an empty one where none was.
-fn row_at(rows: &[NodeNumbers], found: Option<usize>) -> &[PieceNumbers]
-    ensures { result.now ≡ row_found rows.now found }
+/// The row of the node; an empty one where there is none.
+fn row_at(rows: &[NodeNumbers], node: Node) -> &[PieceNumbers]
+    ensures { result.now ≡ row_at rows.now node }
 {
-    match found {
-        Some(id) => match rows.get(id) {
-            Some(row) => row.as_slice(),
-            None => &[],
-        },
+    match rows.get(node.number()) {
+        Some(row) => row.as_slice(),
         None => &[],
     }
 }

@@ -1,10 +1,10 @@
 //! The list of the nodes that were expanded.
 ghost use Rattle.std.specs.Prelude.{◌≡◌, ◌++◌, ◌∷◌, [], length, OnOk, OnErr};
 
+use digraph::Node;
 use std::alloc::Global;
 use std::marker::Model;
 use tangle_lines::NoMemory;
-use tangle_plans::Node;
 
 /// The list of the nodes that were expanded, one after another.
 #[derive(Drop)]
@@ -14,7 +14,7 @@ pub struct Work {
 
 impl Model for Work {
     ghost use Rattle.std.specs.Prelude.{List};
-    ghost use Rattle.tangle_plans.specs.declared.nodes.Node.{Node};
+    ghost use Rattle.digraph.specs.Nodes.{Node};
 
     ghost Value = { List Node };
 

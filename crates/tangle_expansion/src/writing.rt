@@ -132,7 +132,7 @@ fn is_use_step(step: Step) -> bool
 {
     match step {
         Step::Use(_) => true,
-        Step::Open | Step::Run(_) | Step::Mark | Step::AllMacros | Step::Space | Step::Close =>
+        Step::Open | Step::Bytes(_) | Step::Mark | Step::AllMacros | Step::Space | Step::Close =>
             false,
     }
 }
@@ -158,7 +158,7 @@ fn write_step<S: Sink>(
             let opened = write_opening(section_at(pieces, at.piece), sink, so_far);
             write_mark(numbers, mark_origin_at(pieces, at.piece, 0), sink, opened)
         }
-        Step::Run(end) => write_after(sink, so_far, bytes_between(&body.bytes, at.start, end)),
+        Step::Bytes(end) => write_after(sink, so_far, bytes_between(&body.bytes, at.start, end)),
         Step::Mark => write_mark(
             numbers,
             mark_origin_at(pieces, at.piece, at.marks + 1),

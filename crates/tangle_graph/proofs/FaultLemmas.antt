@@ -16,22 +16,22 @@ use Rattle.tangle_names.specs.NameTable.{TableRead, table_of}
 use Rattle.tangle_names.specs.Numbers.{first_by_number}
 use Rattle.tangle_names.specs.Resolving.{resolve}
 use Rattle.tangle_plans.specs.WebShapes.{shapes}
-use Rattle.tangle_plans.specs.Shapes.{Title, ContainsItself}
+use Rattle.tangle_plans.specs.Shapes.{ContainsItself}
 use Rattle.tangle_expansion.specs.Limits.{IsExpandableNode}
 use Rattle.digraph.specs.Flags.{FlagsJust}
-use Rattle.digraph.specs.Graph.{Graph, HasUse}
+use Rattle.digraph.specs.Graph.{Graph, HasUse, row_at}
+use Rattle.digraph.specs.Nodes.{Node, program}
 use Rattle.digraph.specs.Reach as graph
 use Rattle.digraph.proofs.TitleLemmas.{cycle_alike}
-use Rattle.tangle_graph.specs.FaultSearches.{flag_of_number}
-use Rattle.tangle_graph.specs.Faults.{has_piece_by_number, is_too_large, ReachesCycle, AreGraphFaults, fault_of}
+use Rattle.tangle_graph.specs.FaultSearches.{flag_of_node}
+use Rattle.tangle_graph.specs.Faults.{has_piece_of_node, is_too_large, ReachesCycle, AreGraphFaults, fault_of}
 use Rattle.tangle_graph.specs.Faults.{faults_of_names, first_occurrence_number, graph_faults, large_program, no_program}
 use Rattle.tangle_graph.specs.Groups.{IsGraphOf}
-use Rattle.tangle_graph.specs.Nodes.{UsesTitle, entry, node_at, number_in, title_at}
+use Rattle.tangle_plans.specs.Nodes.{row_has_piece, title_at}
+use Rattle.tangle_graph.specs.Nodes.{UsesTitle}
 use Rattle.tangle_graph.specs.Outputs.{is_expandable}
-use Rattle.tangle_graph.specs.Plans.{ArePieceFlags}
-use Rattle.tangle_graph.specs.Stores.{IsNodeIn, StoreRead, row_has_piece, title_in_store}
+use Rattle.tangle_graph.specs.Stores.{StoreRead}
 use Rattle.tangle_graph.specs.WebStores.{IsStoreOfWeb}
-use Rattle.tangle_graph.proofs.NodeLemmas.{node_is, number_at, title-node}
 use Rattle.tangle_graph.proofs.ReachLemmas.{cycle_by_titles}
 use Rattle.tangle_graph.proofs.StoreLemmas.{expandable_is, piece_of_shape}
 
@@ -62,10 +62,7 @@ pub listed_step : (g : ℕ → List FaultRead) (names : List ℕ) (i : ℕ) (bef
     → i < length names → now ≡ before ++ flat_map g (take i names) → next ≡ now ++ g (get_or names i 0)
     → next ≡ before ++ flat_map g (take (i + 1) names)
 listed_step g names i before now next h sofar is =
-    is ∙ ap (λ l. l ++ g (get_or names i 0)) sofar
-    ∙ append_assoc before (flat_map g (take i names)) (g (get_or names i 0))
-    ∙ ap (λ l. before ++ l)
-    (flat_map_more g [] (take i names) (get_or names i 0) ∙ ap (flat_map g) (sym (take_more names i 0 h)))
+    rw (is, sofar, take_more names i 0 h, ← flat_map_more g [] (take i names) (get_or names i 0)) (simp append_assoc)
 
 -- one more number of a list, from which numbers without a fault may be left out
 pub candidates_step : (g : ℕ → List FaultRead) (n : ℕ) (names : List ℕ) (needed : Bool)
@@ -84,8 +81,7 @@ pub kinds_step : (f : FaultKind → List FaultRead) (ks : List FaultKind)
     → i < length ks
     → before ≡ flat_map f (take i ks) → now ≡ before ++ f (get_or ks i d) → now ≡ flat_map f (take (i + 1) ks)
 kinds_step f ks i d before now h sofar is =
-    is ∙ ap (λ l. l ++ f (get_or ks i d)) sofar ∙ flat_map_more f [] (take i ks) (get_or ks i d)
-    ∙ ap (flat_map f) (sym (take_more ks i d h))
+    rw (is, sofar, take_more ks i d h, ← flat_map_more f [] (take i ks) (get_or ks i d)) refl
 
 pub kinds_whole : (f : FaultKind → List FaultRead) (ks : List FaultKind) (i : ℕ) (now : List FaultRead)
     → length ks ≤ i → now ≡ flat_map f (take i ks) → now ≡ flat_map f ks
@@ -102,7 +98,7 @@ same_flag false false p q = refl
 pub reaching_flag : (web : WebRead) (table : TableRead) (rows uses : Graph) → IsGraphOf web table rows uses
     → (flags : List Bool) → FlagsJust uses flags (graph.ReachesCycle (HasUse uses)) → (n : ℕ)
     → n ≤ length table.names
-    → (flag_of_number flags n ≡ true) ↔ ReachesCycle (shapes web table) (title_at table.names n)
+    → (flag_of_node flags n ≡ true) ↔ ReachesCycle (shapes web table) (title_at table.names n)
 reaching_flag web table rows uses is flags just n low =
     let below : n < length uses = omega (arith, low, is.uses_size) in
     let alike = cycle_alike uses (UsesTitle (shapes web table)) (title_at table.names) is.titled n below in
@@ -110,60 +106,36 @@ reaching_flag web table rows uses is flags just n low =
     let flag = just n below in
     (λ e. titles.0 (alike.0 (flag.0 e)), λ c. flag.1 (alike.1 (titles.1 c)))
 
--- the flags of a web's store, by number
+-- the rows and the flags of a web's store
 module _ (web : WebRead) (table : TableRead) (out : List ℕ) (made : StoreRead)
-    (is : IsStoreOfWeb web table out made) (n : ℕ) (low : n ≤ length table.names) where
-  inside : n ≤ length made.names
-  inside = omega (arith, low, ap length is.names)
+    (is : IsStoreOfWeb web table out made) (n : Node) (low : n ≤ length table.names) where
+  there : n ≤ length made.names
+  there = omega (arith, low, ap length is.names)
 
-  there : IsNodeIn made (node_at (length made.names) n)
-  there = node_is made.names n inside
+  titled : title_at made.names n ≡ title_at table.names n
+  titled = ap (λ names. title_at names n) is.names
 
-  -- what holds of a node's entry and title holds of the entry and the title with its number
-  by_number : {X : Type 0} (none : X) (xs : List X) (P : X → Title → Type 0)
-      → P (entry none xs (number_in (length made.names) (node_at (length made.names) n)))
-      (title_in_store made (node_at (length made.names) n))
-      → P (get_or xs n none) (title_at table.names n)
-  by_number none xs P h =
-      subst (λ x. P x (title_at table.names n)) (ap (entry none xs) (number_at made.names n inside))
-      (subst (P (entry none xs (number_in (length made.names) (node_at (length made.names) n))))
-      (title-node made.names n inside ∙ ap (λ names. title_at names n) is.names) h)
+  pub has_piece_flag : row_has_piece (row_at made.pieces n) ≡ has_piece_of_node web table n
+  has_piece_flag = same_flag (row_has_piece (row_at made.pieces n)) (has_piece_of_node web table n)
+      (subst (λ t. (row_has_piece (row_at made.pieces n) ≡ true) ↔ (shapes web table t ≢ [])) titled
+      (is.store.has_piece n there)) (piece_of_shape (shapes web table (title_at table.names n)))
 
-  pub has_piece_flag : (flags : List Bool) → ArePieceFlags made.pieces flags
-      → n < length made.pieces → flag_of_number flags n ≡ has_piece_by_number web table n
-  has_piece_flag flags flagged h =
-      flagged.flag n h
-      ∙ same_flag (row_has_piece (get_or made.pieces n [])) (has_piece_by_number web table n)
-      (by_number [] made.pieces (λ row t. (row_has_piece row ≡ true) ↔ (shapes web table t ≢ []))
-      (is.store.has_piece (node_at (length made.names) n) there))
-      (piece_of_shape (shapes web table (title_at table.names n)))
-
-  pub containing_flag : (flag_of_number made.self_containing n ≡ true)
+  pub containing_flag : (flag_of_node made.self_containing n ≡ true)
       ↔ ContainsItself (shapes web table) (title_at table.names n)
-  containing_flag = by_number false made.self_containing (λ b t. (b ≡ true) ↔ ContainsItself (shapes web table) t)
-      (is.store.contains_itself (node_at (length made.names) n) there)
+  containing_flag = subst (λ t. (flag_of_node made.self_containing n ≡ true) ↔ ContainsItself (shapes web table) t)
+      titled (is.store.contains_itself n there)
 
-  pub expandable_flag : flag_of_number made.expandable n ≡ is_expandable (shapes web table) (title_at table.names n)
+  pub expandable_flag : flag_of_node made.expandable n ≡ is_expandable (shapes web table) (title_at table.names n)
   expandable_flag =
-      same_flag (flag_of_number made.expandable n) (is_expandable (shapes web table) (title_at table.names n))
-      (by_number false made.expandable (λ b t. (b ≡ true) ↔ IsExpandableNode (shapes web table) t)
-      (is.store.expandable (node_at (length made.names) n) there))
-      (expandable_is (shapes web table) (title_at table.names n))
+      same_flag (flag_of_node made.expandable n) (is_expandable (shapes web table) (title_at table.names n))
+      (subst (λ t. (flag_of_node made.expandable n ≡ true) ↔ IsExpandableNode (shapes web table) t) titled
+      (is.store.expandable n there)) (expandable_is (shapes web table) (title_at table.names n))
 
 -- lists that are appended one after another, the first four at once
 pub joined : {X : Type 0} (now a b c d e f g : List X) (l0 l1 l2 : List X)
     → l0 ≡ a ++ (b ++ (c ++ (d ++ []))) → l1 ≡ l0 ++ e → l2 ≡ l1 ++ f → now ≡ l2 ++ g
     → now ≡ a ++ (b ++ (c ++ (d ++ (e ++ (f ++ g)))))
-joined now a b c d e f g l0 l1 l2 h0 h1 h2 h3 =
-    h3 ∙ next l1 l2 f g h2 ∙ next l0 l1 e (f ++ g) h1 ∙ ap (λ l. l ++ (e ++ (f ++ g))) h0
-    ∙ append_assoc a (b ++ (c ++ (d ++ []))) (e ++ (f ++ g))
-    ∙ ap (λ l. a ++ l)
-    (append_assoc b (c ++ (d ++ [])) (e ++ (f ++ g))
-    ∙ ap (λ l. b ++ l)
-    (append_assoc c (d ++ []) (e ++ (f ++ g)) ∙ ap (λ l. c ++ l) (append_assoc d [] (e ++ (f ++ g)))))
-  where
-    next : {X : Type 0} (before now x y : List X) → now ≡ before ++ x → now ++ y ≡ before ++ (x ++ y)
-    next before now x y h = ap (λ l. l ++ y) h ∙ append_assoc before x y
+joined now a b c d e f g l0 l1 l2 h0 h1 h2 h3 = rw (h3, h2, h1, h0) (simp append_assoc)
 
 pub unless : {X : Type 0} (b : Bool) (xs : List X) → cond (not b) xs [] ≡ cond b [] xs
 unless true xs = refl
@@ -179,28 +151,28 @@ same_in_range f g a (suc n) same =
     let rest = same_in_range f g (a + 1) n (λ k low high. same k (omega (arith, low)) (omega (arith, high))) in
     λ i. first i ++ rest i
 
-module _ (web : WebRead) (table : TableRead) (out : List ℕ) (c d r s : ℕ → Bool)
+module _ (web : WebRead) (table : TableRead) (out : List ℕ) (c d r s : Node → Bool)
     (containing : (n : ℕ) → n ≤ length table.names → c n ≡ d n)
     (reaching : (n : ℕ) → n ≤ length table.names → r n ≡ s n) where
   same_large : (n : ℕ) → n ≤ length table.names → is_too_large web table r n ≡ is_too_large web table s n
   same_large n h = ap
-      (λ b. has_piece_by_number web table n
+      (λ b. has_piece_of_node web table n
       && (not b && not (is_expandable (shapes web table) (title_at table.names n)))) (reaching n h)
 
   same_containing : faults_of_names web table out c r kind.SelfContaining
       ≡ faults_of_names web table out d s kind.SelfContaining
   same_containing = same_in_range _ _ 0 (length table.names) (λ k low high.
       ap (λ b. fault_of web table kind.SelfContaining k (if b then first_occurrence_number web table k else None))
-      (containing k (omega (arith, high))))
+      (containing (suc k) (omega (arith, high))))
 
   same_too_large : faults_of_names web table out c r kind.TooLarge ≡ faults_of_names web table out d s kind.TooLarge
   same_too_large = same_in_range _ _ 0 (length table.names) (λ k low high.
       ap (λ b. fault_of web table kind.TooLarge k (if b then first_occurrence_number web table k else None))
-      (same_large k (omega (arith, high))))
+      (same_large (suc k) (omega (arith, high))))
 
   same_program : large_program web table out c r ≡ large_program web table out d s
   same_program =
-      ap (λ b. if b then fault_unplaced kind.TooLarge ∷ [] else []) (same_large (length table.names) (omega arith))
+      ap (λ b. if b then fault_unplaced kind.TooLarge ∷ [] else []) (same_large program (omega arith))
 
   same_faults : graph_faults web table out c r ≡ graph_faults web table out d s
   same_faults = λ i. faults_of_names web table out c r kind.Undefined

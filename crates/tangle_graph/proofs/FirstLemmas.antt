@@ -2,33 +2,22 @@
 use Rattle.std.proofs.Common.{◌≡◌, ◌≢◌, ◌∙◌, ◌<◌, ◌+◌, ◌||◌, ℕ, Bool, true, false, eqb, List, [], ◌∷◌, ◌++◌, length}
 use Rattle.std.proofs.Common.{map, take, get_or, set, refl, ap, sym, arith, append-nil, length-set, get_or-set_same}
 use Rattle.std.proofs.Common.{get_or-set_other}
-use Rattle.std.specs.Prelude.{not, filter, if◌then◌else◌}
+use Rattle.std.specs.Prelude.{All, not, filter, if◌then◌else◌}
 use Rattle.std.specs.List.{list_any}
 use Rattle.std.proofs.Math.Decide.{ℕ_discrete}
 use Rattle.std.proofs.lemmas.Bool.Decides.{Decides-eqb, nat_tests}
 use Rattle.std.proofs.lemmas.List.{take_more, map-append}
-use Rattle.std.proofs.lemmas.List.Elements.{filter_more}
+use Rattle.std.proofs.lemmas.List.Elements.{All-cons, All-nil, filter-append, filter_more}
 use Rattle.std.proofs.lemmas.List.Folds.{list_any_more}
 use Rattle.std.proofs.Math.Bool.{or-true, or-false}
 use Rattle.tangle_graph.specs.Outputs.{firsts}
-
-filter_push : (p : ℕ → Bool) (xs : List ℕ) (x : ℕ)
-    → filter p (xs ++ x ∷ []) ≡ filter p xs ++ (if p x then x ∷ [] else [])
-filter_push p [] x = refl
-filter_push p (y ∷ xs) x = by (p y) (filter_push p xs x)
-  where
-    by : (b : Bool) → filter p (xs ++ x ∷ []) ≡ filter p xs ++ (if p x then x ∷ [] else [])
-        → (if b then y ∷ filter p (xs ++ x ∷ []) else filter p (xs ++ x ∷ []))
-        ≡ (if b then y ∷ filter p xs else filter p xs) ++ (if p x then x ∷ [] else [])
-    by true e = ap (λ l. y ∷ l) e
-    by false e = e
 
 filter_first : (p : ℕ → Bool) (zs : List ℕ) (x : ℕ) (b t : Bool) → p x ≡ not t
     → filter p (zs ++ (if not b then x ∷ [] else [])) ≡ filter p zs ++ (if not (t || b) then x ∷ [] else [])
 filter_first p zs x true true e = ap (filter p) (append-nil zs) ∙ sym (append-nil (filter p zs))
 filter_first p zs x true false e = ap (filter p) (append-nil zs) ∙ sym (append-nil (filter p zs))
-filter_first p zs x false true e = filter_push p zs x ∙ ap (λ b. filter p zs ++ (if b then x ∷ [] else [])) e
-filter_first p zs x false false e = filter_push p zs x ∙ ap (λ b. filter p zs ++ (if b then x ∷ [] else [])) e
+filter_first p zs x false true e = filter-append p zs (x ∷ []) ∙ ap (λ b. filter p zs ++ (if b then x ∷ [] else [])) e
+filter_first p zs x false false e = filter-append p zs (x ∷ []) ∙ ap (λ b. filter p zs ++ (if b then x ∷ [] else [])) e
 
 -- one more number is kept unless it came before
 pub firsts_push : (xs : List ℕ) (x : ℕ)
@@ -63,6 +52,11 @@ seen_more count seen numbers i h low is = record {
   where
     unequal : (a b : ℕ) → a ≢ b → eqb a b ≡ false
     unequal a b apart = grind (arith, nat_tests)
+
+-- numbers that are pushed where a flag says so are in range if they are then
+pub all_where : (count n : ℕ) (b : Bool) → n < count → All (λ m. m < count) (if b then n ∷ [] else [])
+all_where count n true h = All-cons (λ m. m < count) n [] h (All-nil (λ m. m < count))
+all_where count n false h = All-nil (λ m. m < count)
 
 pub firsts_more : (numbers : List ℕ) (i : ℕ) → i < length numbers → firsts (take (i + 1) numbers)
     ≡ firsts (take i numbers)

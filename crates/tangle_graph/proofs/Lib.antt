@@ -22,5 +22,4 @@ pub mod WeightLemmas
 pub mod UsesLemmas
 mod NameGraphLemmas
 mod PlannedLemmas
-pub mod FlagLemmas
 pub mod StoredLemmas

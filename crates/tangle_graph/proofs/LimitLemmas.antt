@@ -1,49 +1,37 @@
 -- Which nodes are expandable, by the rows of a graph.
-use Rattle.std.proofs.Common.{◌≡◌, ◌∙◌, ◌<◌, ℕ, Bool, false, List, [], ◌∷◌, length, map, get_or, refl, ap, sym, arith}
+use Rattle.std.proofs.Common.{◌≡◌, ◌∙◌, ◌<◌, ℕ, Bool, false, List, length, map, get_or, ap, sym, arith}
 use Rattle.std.proofs.lemmas.List.{length-map}
 use Rattle.tangle_scan.specs.Web.{WebRead, PieceRead}
 use Rattle.tangle_names.specs.NameTable.{TableRead}
-use Rattle.tangle_plans.specs.Shapes.{Program, Shape}
+use Rattle.tangle_plans.specs.Shapes.{Program}
 use Rattle.tangle_plans.specs.ItemSlots.{no_piece}
 use Rattle.tangle_expansion.specs.Limits.{weight_of, depth_of}
 use Rattle.tangle_plans.specs.WebShapes.{pieces_of, shapes, shape_item}
-use Rattle.digraph.specs.Graph.{Graph, rows_of, row_at}
-use Rattle.digraph.proofs.GraphLemmas.{rows_size}
+use Rattle.digraph.specs.Graph.{Graph, row_at}
 use Rattle.tangle_graph.specs.Groups.{IsGraphOf}
-use Rattle.tangle_graph.specs.Nodes.{title_at}
+use Rattle.tangle_plans.specs.Nodes.{row_has_piece, title_at}
 use Rattle.tangle_graph.specs.Outputs.{shape_has_piece, is_expandable}
-use Rattle.tangle_graph.specs.Stores.{row_has_piece, AreWithin}
-use Rattle.tangle_graph.proofs.NodeLemmas.{title_past}
-use Rattle.tangle_graph.proofs.StoreLemmas.{expandable_by_limits}
-
-piece_in_both : (row : List ℕ) (s : Shape) → length s ≡ length row → row_has_piece row ≡ shape_has_piece s
-piece_in_both [] [] e = refl
-piece_in_both [] (x ∷ s) e = absurd (omega (arith, e))
-piece_in_both (k ∷ row) [] e = absurd (omega (arith, e))
-piece_in_both (k ∷ row) (x ∷ s) e = refl
+use Rattle.tangle_graph.specs.Stores.{AreWithin}
+use Rattle.tangle_graph.proofs.StoreLemmas.{expandable_by_limits, piece_in_both}
 
 module _ (web : WebRead) (table : TableRead) (rows uses : Graph) (is : IsGraphOf web table rows uses) where
   pub shape_size : (n : ℕ)
-      → n < length uses → length (shapes web table (title_at table.names n)) ≡ length (row_at (rows_of rows) n)
+      → n < length uses → length (shapes web table (title_at table.names n)) ≡ length (row_at rows n)
   shape_size n h =
       let pieces = is.pieces n (omega (arith, h, is.rows_size, is.uses_size)) in
       length-map (pieces_of web table (title_at table.names n))
       (λ (p : PieceRead). map (shape_item web.texts table) p.items)
-      ∙ ap length (sym pieces) ∙ length-map (row_at (rows_of rows) n) (λ k. get_or web.pieces k no_piece)
+      ∙ ap length (sym pieces) ∙ length-map (row_at rows n) (λ k. get_or web.pieces k no_piece)
 
-  pub limited : (weights depths : List ℕ) (flags : List Bool) → AreWithin (rows_of rows) weights depths flags
+  pub limited : (weights depths : List ℕ) (flags : List Bool) → AreWithin rows weights depths flags
       → ((n : ℕ) → n < length uses → get_or weights n 0 ≡ weight_of (shapes web table) (title_at table.names n))
       → ((n : ℕ) → n < length uses → get_or depths n 0 ≡ depth_of (shapes web table) (title_at table.names n))
       → (n : ℕ) → n < length uses → get_or flags n false ≡ is_expandable (shapes web table) (title_at table.names n)
   limited weights depths flags within weighed measured n h =
-      within.flag n (omega (arith, h, is.rows_size, is.uses_size, rows_size rows))
-      ∙ expandable_by_limits (shapes web table) (title_at table.names n) (row_at (rows_of rows) n)
+      within.flag n (omega (arith, h, is.rows_size, is.uses_size))
+      ∙ expandable_by_limits (shapes web table) (title_at table.names n) (row_at rows n)
       (get_or weights n 0) (get_or depths n 0) (shape_size n h) (weighed n h) (measured n h)
 
-  pub program_has_piece : row_has_piece (row_at (rows_of rows) (length table.names))
-      ≡ shape_has_piece (shapes web table Program)
+  pub program_has_piece : row_has_piece (row_at rows 0) ≡ shape_has_piece (shapes web table Program)
   program_has_piece =
-      piece_in_both (row_at (rows_of rows) (length table.names))
-      (shapes web table (title_at table.names (length table.names)))
-      (shape_size (length table.names) (omega (arith, is.uses_size)))
-      ∙ ap (λ t. shape_has_piece (shapes web table t)) (title_past table.names (length table.names) (omega arith))
+      piece_in_both (row_at rows 0) (shapes web table Program) (shape_size 0 (omega (arith, is.uses_size)))

@@ -1,81 +1,109 @@
 -- The graph of names that is made from a web's bodies describes the web.
-use Rattle.std.proofs.Common.{◌≡◌, ◌∙◌, ◌<◌, ◌≤◌, ◌+◌, ◌++◌, ◌∷◌, ℕ, false, not, List, [], length, take, map, get_or}
-use Rattle.std.proofs.Common.{refl, ap, sym, subst, arith, Vec}
+use Rattle.std.proofs.Common.{◌≡◌, ◌∙◌, ◌<◌, ◌+◌, ◌++◌, ◌∷◌, ℕ, suc, false, not, List, [], length, take, map, get_or}
+use Rattle.std.proofs.Common.{ap, sym, subst, arith, All, Contains, length-append}
 use Rattle.std.specs.Global.{Global}
 use Rattle.std.specs.declared.rc.Rc.{Rc}
-use Rattle.std.specs.Prelude.{All}
 use Rattle.std.specs.List.{IsDistinct}
 use Rattle.std.specs.List.Sorted.{IsStrictlyIncreasing}
 use Rattle.std.specs.Str.{bytes_eq}
 use Rattle.std.proofs.Math.Decide.{dec_lt}
-use Rattle.std.proofs.lemmas.List.{get_or_past, get_or-map, length-map, map-append, take_more}
+use Rattle.std.proofs.lemmas.List.{get_or-map, get_or_append_left, get_or_push, length-map, map-append, take_more}
 use Rattle.std.proofs.lemmas.Slice.Eq.{bytes_eq-Decides}
-use Rattle.std.proofs.lemmas.List.Elements.{All-map}
+use Rattle.std.proofs.lemmas.Option.{get_or_from_slice_get}
+use Rattle.std.proofs.lemmas.List.Elements.{All-contains, All-map, All-from_get_or, Contains-get_or}
 use Rattle.std.proofs.lemmas.Bool.{not-false}
 use Rattle.tangle_scan.specs.Web.{WebRead}
 use Rattle.tangle_names.specs.NameTable.{TableRead}
+use Rattle.tangle_names.proofs.ContainsLemmas.{into_map, out_of_map}
 use Rattle.tangle_plans.specs.NodeBodies.{body_uses}
 use Rattle.tangle_plans.specs.WebShapes.{ResolvesInside}
 use Rattle.tangle_plans.specs.declared.nodes.NodeBody.{NodeBody}
-use Rattle.digraph.specs.Graph.{Graph, InRange, rows_of, row_at}
+use Rattle.digraph.specs.Graph.{Graph, InRange, row_at}
 use Rattle.digraph.specs.Rows.{IsOnceEach, IsRowsOf}
-use Rattle.digraph.proofs.GraphLemmas.{rows_size}
 use Rattle.tangle_graph.specs.Grouping.{positions_of}
 use Rattle.tangle_graph.specs.Groups.{IsGraphOf}
 use Rattle.tangle_graph.specs.Plans.{AreBodies, node_bodies}
-use Rattle.tangle_graph.specs.NameGraphs.{IsNameGraphOf}
+use Rattle.tangle_graph.specs.NameGraphs.{AreUsesOf, IsNameGraphOf}
 use Rattle.tangle_graph.specs.declared.name_graph.NameGraph.{NameGraph}
+use Rattle.tangle_graph.proofs.BodyLemmas.{names_inside, uses_of_read}
 use Rattle.tangle_graph.proofs.GraphLemmas.{graph_of}
-use Rattle.tangle_graph.proofs.BodyLemmas.{names_below}
 use Rattle.tangle_graph.proofs.UsesLemmas.{uses_collected}
 
 -- the uses of the graph of names are those of the web
-pub graph_over : (web : WebRead) (table : TableRead) (pieces : Graph) (bodies : List NodeBody) (name_graph : NameGraph)
+pub graph_over : (web : WebRead) (table : TableRead)
+    (pieces : List (List ℕ)) (bodies : List NodeBody) (name_graph : NameGraph)
     → IsDistinct bytes_eq table.names → ResolvesInside table
-    → IsRowsOf (length table.names + 1) (positions_of table web.pieces) (rows_of pieces)
-    → AreBodies web table (rows_of pieces) bodies → IsNameGraphOf (map body_uses bodies) name_graph
-    → IsGraphOf web table pieces name_graph.uses.items
+    → IsRowsOf (length table.names + 1) (positions_of table web.pieces) pieces
+    → AreBodies web table pieces bodies → IsNameGraphOf (map body_uses bodies) name_graph
+    → IsGraphOf web table pieces name_graph.uses
 graph_over web table pieces bodies name_graph distinct inside grouped are is =
-    graph_of web table pieces (map body_uses bodies) name_graph.uses.items distinct inside grouped
-    (uses_collected web table (rows_of pieces) bodies (map body_uses bodies) grouped are refl) is.size is.once
+    graph_of web table pieces (map body_uses bodies) name_graph.uses distinct inside grouped
+    (uses_collected web table pieces bodies grouped are) is.uses is.range
 
 -- the bodies of a web use names of the table
 pub uses_inside : (web : WebRead) (table : TableRead) (pieces : List (List ℕ)) (bodies : List NodeBody)
     → ResolvesInside table → AreBodies web table pieces bodies
-    → All (λ row. All (λ id. id < length table.names) row) (map body_uses bodies)
+    → All (All (λ id. id < length table.names)) (map body_uses bodies)
 uses_inside web table pieces bodies inside are =
-    All-map (λ row. All (λ id. id < length table.names) row) body_uses bodies
-    (names_below web table pieces bodies (length table.names) inside are refl)
+    All-map (All (λ id. id < length table.names)) body_uses bodies
+    (λ k d h. (let found = are.each k (omega (arith, h, are.size)) in
+    subst (λ (body : NodeBody). All (λ id. id < length table.names) (body_uses body))
+    (sym (get_or_from_slice_get bodies k found.0 d found.1))
+    (names_inside web table (row_at pieces k) found.0 inside found.2.is_body)))
 
--- rows of numbers below a count are in the range of a graph with more nodes
-pub rows_in_range : (rows : Graph) (used : List (List ℕ)) (count : ℕ)
-    → rows_of rows ≡ used → count ≤ length used → All (λ row. All (λ id. id < count) row) used → InRange rows
-rows_in_range rows used count same room all = λ k d h j e l. (
-    let there : k < length used = omega (arith, h, rows_size rows, ap length same) in
-    let row : get_or used k [] ≡ (get_or rows k d).items =
-    ap (λ us. get_or us k []) (sym same) ∙ get_or-map (λ (v : Vec ℕ Global). v.items) rows k d [] h in
-    let low : get_or (get_or rows k d).items j e < count =
-    subst (λ r. All (λ id. id < count) r) row (all k [] there) j e l in
-    omega (arith, low, room, rows_size rows, ap length same))
+module _ (ids : List (List ℕ)) (rows : Graph) (are : AreUsesOf ids rows) where
+  pub each_increasing : All IsStrictlyIncreasing rows
+  each_increasing = All-from_get_or IsStrictlyIncreasing rows []
+      (λ n h. (are.once n (omega (arith, h, are.size))).increasing)
 
-pub each_increasing : (before rows : List (List ℕ)) → length rows ≡ length before
-    → ((n : ℕ) → n < length before → IsOnceEach (row_at before n) (row_at rows n)) → (n : ℕ)
-    → IsStrictlyIncreasing (row_at rows n)
-each_increasing before rows same once n =
-    elim (dec_lt n (length before)) as (λ _. IsStrictlyIncreasing (row_at rows n)) [
-      | yes low ↦ (once n low).increasing
-      | no past ↦ (λ k h. (let none : row_at rows n ≡ [] = get_or_past rows n [] (omega (arith, past, same)) in
-          absurd (omega (arith, h, ap length none))))
-    ]
+  -- the nodes of names with numbers below a count are in the range of a graph with one more node
+  pub each_in_range : (count : ℕ) → length ids ≡ count + 1 → All (All (λ id. id < count)) ids → InRange rows
+  each_in_range count size all = All-from_get_or (All (λ m. m < length rows)) rows [] (λ n h. (
+      let low : n < length ids = omega (arith, h, are.size) in
+      λ j d l. (
+      let used = Contains-get_or (row_at rows n) j d l in
+      let found = out_of_map suc (row_at ids n) (get_or (row_at rows n) j d) (((are.once n low).same _).0 used) in
+      let below : found.0 < count =
+      All-contains (λ id. id < count) (row_at ids n) found.0 (all n [] low) found.1 in
+      omega (arith, below, found.2, size, are.size))))
 
--- rows with the uses of bodies, each once, are in range if the uses of the bodies are
-pub once_in_range : (bodies : List NodeBody) (count : ℕ) (rows once uses : Graph)
-    → rows_of rows ≡ map body_uses bodies → length bodies ≡ count + 1
-    → All (λ row. All (λ id. id < count) row) (map body_uses bodies) → (InRange rows → InRange once) → uses ≡ once
-    → InRange uses
-once_in_range bodies count rows once uses same size all kept is =
-    let room : count ≤ length (map body_uses bodies) = omega (arith, size, length-map bodies body_uses) in
-    subst InRange (sym is) (kept (rows_in_range rows (map body_uses bodies) count same room all))
+-- each number with 1 added to it
+pub once_more : (all once : List ℕ) → IsOnceEach all once → IsOnceEach (map suc all) (map suc once)
+once_more all once is = record {
+  increasing = λ k h. (
+      let low : k + 1 < length once = omega (arith, h, length-map once suc) in
+      let less = is.increasing k low in
+      omega (arith, less, get_or-map suc once k 0 0 (omega (arith, low)), get_or-map suc once (k + 1) 0 0 low));
+  same = λ m. (
+    λ c. (let found = out_of_map suc once m c in
+        subst (Contains (map suc all)) found.2 (into_map suc all found.0 ((is.same found.0).0 found.1))),
+    λ c. (let found = out_of_map suc all m c in
+        subst (Contains (map suc once)) found.2 (into_map suc once found.0 ((is.same found.0).1 found.1))),
+  );
+}
+
+pub uses_push : (ids : List (List ℕ)) (rows : Graph) (used row : List ℕ)
+    → AreUsesOf ids rows → IsOnceEach (map suc used) row → AreUsesOf (ids ++ used ∷ []) (rows ++ row ∷ [])
+uses_push ids rows used row are is = record {
+  size = omega (arith, are.size, length-append rows (row ∷ []), length-append ids (used ∷ []));
+  once = λ n h. elim (dec_lt n (length ids)) [
+    | yes low ↦ subst (λ r. IsOnceEach (map suc r) (row_at (rows ++ row ∷ []) n))
+        (sym (get_or_append_left ids (used ∷ []) [] n low))
+        (subst (IsOnceEach (map suc (row_at ids n)))
+        (sym (get_or_append_left rows (row ∷ []) [] n (omega (arith, low, are.size)))) (are.once n low))
+    | no past ↦ (let end : length ids ≡ n = omega (arith, past, h, length-append ids (used ∷ [])) in
+        subst (λ r. IsOnceEach (map suc r) (row_at (rows ++ row ∷ []) n)) (sym (get_or_push ids used [] n end))
+        (subst (IsOnceEach (map suc used)) (sym (get_or_push rows row [] n (are.size ∙ end))) is))
+  ];
+}
+
+-- the names that a body uses, each once, are below a count if those of all bodies are
+pub once_below : (bodies : List (Rc NodeBody Global)) (i count : ℕ) (body : Rc NodeBody Global) (once : List ℕ)
+    → i < length bodies → body ≡ get_or bodies i body
+    → All (All (λ id. id < count)) (map body_uses (node_bodies bodies)) → IsOnceEach (body_uses body.value) once → All (λ id. id < count) once
+once_below bodies i count body once low read all is = All-from_get_or (λ id. id < count) once 0
+    (λ k h. All-contains (λ id. id < count) (body_uses body.value) (get_or once k 0)
+    (uses_of_read bodies i count body all low read) ((is.same (get_or once k 0)).0 (Contains-get_or once k 0 h)))
 
 -- lists of numbers that a test finds equal
 pub same_by_test : (xs ys : List ℕ) → not (bytes_eq xs ys) ≡ false → xs ≡ ys

@@ -1,12 +1,13 @@
 -- Values computed for each node along an order, in which a node comes after those that it uses.
 use Rattle.std.proofs.Common.{◌≡◌, ◌≢◌, ◌∙◌, ◌<◌, ◌≤◌, ◌+◌, ◌⊎◌, ℕ, zero, suc, List, [], ◌∷◌, ◌++◌, length, take}
-use Rattle.std.proofs.Common.{get_or, set, sym, subst, inl, inr, arith, length-set, get_or-set_same, get_or-set_other}
+use Rattle.std.proofs.Common.{get_or, set, ap, sym, subst, inl, inr, arith, length-set, get_or-set_same}
+use Rattle.std.proofs.Common.{get_or-set_other}
 use Rattle.std.specs.Prelude.{Contains}
 use Rattle.std.proofs.Math.Decide.{ℕ_discrete}
 use Rattle.std.proofs.lemmas.List.{take_more, take_all}
 use Rattle.std.proofs.lemmas.List.Elements.{Contains-push_cases, Contains-append_left, Contains-append_right}
 use Rattle.digraph.specs.Graph.{Graph, InRange}
-use Rattle.digraph.specs.Order.{IsAfterUses, IsOrder}
+use Rattle.digraph.specs.Order.{IsOrder}
 use Rattle.digraph.specs.Titles.{IsTitled}
 use Rattle.digraph.proofs.GraphLemmas.{use_in}
 use Rattle.tangle_plans.specs.Shapes.{Title, Program, Named, Shapes}
@@ -34,39 +35,35 @@ among (x ∷ xs) n = elim (ℕ_discrete x n) [
         cases (zero, h, e) = inl e
         cases (suc k, h, e) = inr (k, omega (arith, h), e)
 
-pub measured_next : (graph : Graph) (value : ℕ → ℕ) (other : ℕ) (values order : List ℕ) (i v : ℕ)
-    → IsAfterUses graph order → i < length order → length values ≡ length graph
-    → AreMeasured value other values (take i order) → v ≡ value (get_or order i 0)
-    → AreMeasured value other (set values (get_or order i 0) v) (take (i + 1) order)
-measured_next graph value other values order i v after_uses h size sofar e = record { listed = here; unlisted = left }
+pub measured_next : (graph : Graph) (value : ℕ → ℕ) (other : ℕ) (values order : List ℕ) (i n v : ℕ)
+    → i < length order → n ≡ get_or order i 0 → n < length graph
+    → (length values ≡ length graph) × AreMeasured value other values (take i order) → v ≡ value n
+    → (length (set values n v) ≡ length graph) × AreMeasured value other (set values n v) (take (i + 1) order)
+measured_next graph value other values order i n v h at low sofar e =
+    (length-set values n v ∙ sofar.0, record { listed = here; unlisted = left })
   where
-    more : take (i + 1) order ≡ take i order ++ get_or order i 0 ∷ []
-    more = take_more order i 0 h
+    more : take (i + 1) order ≡ take i order ++ n ∷ []
+    more = take_more order i 0 h ∙ ap (λ m. take i order ++ m ∷ []) (sym at)
 
-    at : get_or order i 0 < length values
-    at = omega (arith, size, after_uses.nodes i h)
-
-    is : get_or (set values (get_or order i 0) v) (get_or order i 0) 0 ≡ value (get_or order i 0)
-    is = get_or-set_same values (get_or order i 0) v 0 at ∙ e
-
-    here : (n : ℕ) → Contains (take (i + 1) order) n → get_or (set values (get_or order i 0) v) n 0 ≡ value n
-    here n c = elim (ℕ_discrete n (get_or order i 0)) [
-      | yes same ↦ subst (λ k. get_or (set values (get_or order i 0) v) k 0 ≡ value k) (sym same) is
-      | no apart ↦ get_or-set_other values (get_or order i 0) n v 0 apart
-          ∙ elim (Contains-push_cases (take i order) (get_or order i 0) n (subst (λ l. Contains l n) more c)) [
-            | inl before ↦ sofar.listed n before
+    here : (m : ℕ) → Contains (take (i + 1) order) m → get_or (set values n v) m 0 ≡ value m
+    here m c = elim (ℕ_discrete m n) [
+      | yes same ↦ ap (λ k. get_or (set values n v) k 0) same
+          ∙ get_or-set_same values n v 0 (omega (arith, low, sofar.0)) ∙ e ∙ ap value (sym same)
+      | no apart ↦ get_or-set_other values n m v 0 apart
+          ∙ elim (Contains-push_cases (take i order) n m (subst (λ l. Contains l m) more c)) [
+            | inl before ↦ sofar.1.listed m before
             | inr last ↦ absurd (apart (sym last))
           ]
     ]
 
-    left : (n : ℕ) → n < length (set values (get_or order i 0) v) → ((c : Contains (take (i + 1) order) n) → ⊥)
-        → get_or (set values (get_or order i 0) v) n 0 ≡ other
-    left n low none = elim (ℕ_discrete n (get_or order i 0)) [
-      | yes same ↦ absurd (none (subst (λ l. Contains l n) (sym more)
-          (Contains-append_right (take i order) (get_or order i 0 ∷ []) n (0, omega arith, sym same))))
-      | no apart ↦ get_or-set_other values (get_or order i 0) n v 0 apart
-          ∙ sofar.unlisted n (omega (arith, low, length-set values (get_or order i 0) v)) (λ c.
-          none (subst (λ l. Contains l n) (sym more) (Contains-append_left (take i order) (get_or order i 0 ∷ []) n c)))
+    left : (m : ℕ) → m < length (set values n v)
+        → ((c : Contains (take (i + 1) order) m) → ⊥) → get_or (set values n v) m 0 ≡ other
+    left m room none = elim (ℕ_discrete m n) [
+      | yes same ↦ absurd (none (subst (λ l. Contains l m) (sym more)
+          (Contains-append_right (take i order) (n ∷ []) m (0, omega arith, sym same))))
+      | no apart ↦ get_or-set_other values n m v 0 apart
+          ∙ sofar.1.unlisted m (omega (arith, room, length-set values n v)) (λ c.
+          none (subst (λ l. Contains l m) (sym more) (Contains-append_left (take i order) (n ∷ []) m c)))
     ]
 
 -- at the end of the order the values of all nodes are known

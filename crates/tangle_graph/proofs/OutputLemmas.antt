@@ -16,9 +16,10 @@ use Rattle.tangle_expansion.specs.Outputs.{OutputRead}
 use Rattle.tangle_plans.specs.WebShapes.{shapes, resolved_at, IsNameBelow, ResolvesInside}
 use Rattle.tangle_plans.specs.Shapes.{Named, Shape, Shapes}
 use Rattle.tangle_plans.specs.Shapes as title
-use Rattle.tangle_plans.specs.declared.nodes.Node.TheVariants as node
+use Rattle.digraph.specs.Nodes.{program}
+use Rattle.tangle_plans.specs.Nodes.{title_at}
 use Rattle.tangle_graph.specs.Grouping.{resolved_number}
-use Rattle.tangle_graph.specs.Nodes.{IsNodeOf, title_of_node}
+use Rattle.tangle_graph.specs.Nodes.{IsNodeOf}
 use Rattle.tangle_graph.specs.Outputs.{shape_has_piece, is_expandable, firsts, file_occurrences, file_names}
 use Rattle.tangle_graph.specs.Outputs.{name_with_number, named_file, main_file, is_written, outputs}
 use Rattle.tangle_graph.proofs.NodeLemmas.{title_inside}
@@ -27,8 +28,8 @@ use Rattle.tangle_graph.proofs.StoreLemmas.{expandable_is}
 -- of each output file: its node is the program or a name, and is expandable if it has a piece
 pub record IsFit (shapes : Shapes) (names : List (List ℕ)) (output : OutputRead) : Type 0 where
   pub inside : IsNodeOf names output.node
-  pub there : output.has_piece ≡ true → IsExpandableNode shapes (title_of_node names output.node)
-  pub none : output.has_piece ≡ false → shapes (title_of_node names output.node) ≡ []
+  pub there : output.has_piece ≡ true → IsExpandableNode shapes (title_at names output.node)
+  pub none : output.has_piece ≡ false → shapes (title_at names output.node) ≡ []
 
 no_pieces : (s : Shape) → shape_has_piece s ≡ false → s ≡ []
 no_pieces [] e = refl
@@ -73,9 +74,9 @@ module _ (web : WebRead) (table : TableRead) (resolves : ResolvesInside table) w
     main_fits : (b e : Bool) → b ≡ shape_has_piece (shapes web table title.Program)
         → e ≡ is_expandable (shapes web table) title.Program → (not b || e) ≡ true
         → IsFit (shapes web table) table.names
-        (record { name = out; node = node.Program; has_macros = not web.has_all_macros; has_piece = b })
+        (record { name = out; node = program; has_macros = not web.has_all_macros; has_piece = b })
     main_fits b e is_b is_e h = record {
-      inside = tt;
+      inside = omega arith;
       there = λ t. (expandable_is (shapes web table) title.Program).0 (sym is_e ∙ second b e t h);
       none = λ f. no_pieces (shapes web table title.Program) (sym is_b ∙ f);
     }
@@ -103,7 +104,7 @@ module _ (web : WebRead) (table : TableRead) (resolves : ResolvesInside table) w
               (not (shape_has_piece (shapes web table title.Program)) || is_expandable (shapes web table) title.Program)
               (record {
                 name = out;
-                node = node.Program;
+                node = program;
                 has_macros = not web.has_all_macros;
                 has_piece = shape_has_piece (shapes web table title.Program);
               }) output main in

@@ -1,75 +1,30 @@
 -- The names that a plan uses have a piece, and the plan is right if each of them is replaced by its own symbols.
-use Rattle.std.proofs.Common.{◌≡◌, ◌≢◌, ◌∙◌, ◌<◌, ℕ, zero, suc, Bool, true, false, List, [], ◌∷◌, length, filter}
-use Rattle.std.proofs.Common.{flat_map, get_or, option_to_list, refl, ap, sym, subst, arith}
+use Rattle.std.proofs.Common.{◌≡◌, ◌≢◌, ◌∙◌, ◌<◌, ◌↔◌, ℕ, suc, Bool, true, false, List, [], ◌∷◌, length, filter}
+use Rattle.std.proofs.Common.{get_or, refl, ap, sym, subst, arith}
 use Rattle.std.specs.Prelude.{Contains, if◌then◌else◌}
 use Rattle.std.proofs.lemmas.List.Elements.{All-contains}
 use Rattle.std.proofs.lemmas.List.{nil_from_length}
-use Rattle.tangle_scan.specs.declared.items.Item.{Item}
-use Rattle.tangle_scan.specs.declared.items.Item.TheVariants as item
-use Rattle.tangle_scan.specs.Web.{WebRead, PieceRead}
-use Rattle.tangle_names.specs.declared.Resolved.{Resolved}
-use Rattle.tangle_names.specs.declared.Resolved.TheVariants as resolved
+use Rattle.std.proofs.lemmas.Option.{get_or_from_slice_get}
+use Rattle.tangle_scan.specs.Web.{WebRead}
 use Rattle.tangle_names.specs.NameTable.{TableRead}
+use Rattle.tangle_names.proofs.ContainsLemmas.{out_of_filter}
+use Rattle.tangle_plans.specs.Comparing.{IsPlanned}
 use Rattle.tangle_plans.specs.Shapes.{Title, Named, Shape, Shapes, Uses}
-use Rattle.tangle_plans.specs.Flat.{Symbol, flat, pieces_flat}
-use Rattle.tangle_plans.specs.ItemTags.{uses_resolved, uses_in, pieces_uses}
+use Rattle.tangle_plans.specs.Flat.{Symbol, pieces_flat, flat}
+use Rattle.tangle_plans.specs.ItemTags.{pieces_uses}
+use Rattle.tangle_plans.specs.NodeBodies.{body_title}
+use Rattle.tangle_plans.specs.Nodes.{has_piece_in, row_has_piece, title_at}
+use Rattle.tangle_plans.specs.WebShapes.{ResolvesInside, pieces_of, shapes}
+use Rattle.tangle_plans.specs.declared.nodes.NodeBody.{NodeBody}
 use Rattle.tangle_expansion.specs.Limits.{levels, flat_of}
-use Rattle.tangle_plans.specs.WebShapes.{resolved_at, ResolvesInside, pieces_of, shapes}
-use Rattle.digraph.specs.Graph.{Graph, rows_of, row_at}
-use Rattle.tangle_graph.specs.Grouping.{resolved_number, used_by, used_in}
+use Rattle.digraph.specs.Graph.{row_at}
 use Rattle.tangle_graph.specs.Groups.{IsGraphOf}
-use Rattle.tangle_graph.specs.Nodes.{title_at}
-use Rattle.tangle_graph.specs.Stores.{row_has_piece}
-use Rattle.tangle_graph.proofs.GraphLemmas.{pieces_below}
-use Rattle.tangle_graph.proofs.GroupLemmas.{pieces_use}
+use Rattle.tangle_graph.specs.Plans.{AreBodies, ArePlanned}
+use Rattle.tangle_graph.specs.Stores.{StoreRead, UsesPiece}
+use Rattle.tangle_graph.proofs.GroupLemmas.{pieces_below, pieces_use}
 use Rattle.tangle_graph.proofs.LimitLemmas.{shape_size}
 use Rattle.tangle_graph.proofs.NodeLemmas.{title_inside}
-
-out_of_filter : (p : ℕ → Bool) (xs : List ℕ) (x : ℕ) → Contains (filter p xs) x → Contains xs x
-out_of_filter p [] x c = c
-out_of_filter p (y ∷ xs) x c = by (p y) (out_of_filter p xs x) c
-  where
-    by : (b : Bool) → (Contains (filter p xs) x → Contains xs x)
-        → Contains (if b then y ∷ filter p xs else filter p xs) x → Contains (y ∷ xs) x
-    by true rest (zero, h, e) = (zero, omega arith, e)
-    by true rest (suc k, h, e) = (let r = rest (k, omega (arith, h), e) in (suc r.0, omega (arith, r.1), r.2))
-    by false rest d = (let r = rest d in (suc r.0, omega (arith, r.1), r.2))
-
-passes_filter : (p : ℕ → Bool) (xs : List ℕ) (x : ℕ) → Contains (filter p xs) x → p x ≡ true
-passes_filter p [] x c = absurd (omega (arith, c.1))
-passes_filter p (y ∷ xs) x c = by (p y) refl (passes_filter p xs x) c
-  where
-    by : (b : Bool) → p y ≡ b → (Contains (filter p xs) x → p x ≡ true)
-        → Contains (if b then y ∷ filter p xs else filter p xs) x → p x ≡ true
-    by true t rest (zero, h, e) = ap p (sym e) ∙ t
-    by true t rest (suc k, h, e) = rest (k, omega (arith, h), e)
-    by false t rest d = rest d
-
-resolved_same : (r : Resolved) → uses_resolved r ≡ option_to_list (resolved_number r)
-resolved_same (resolved.Name id) = refl
-resolved_same resolved.NoFullName = refl
-resolved_same resolved.Ambiguous = refl
-
-item_same : (table : TableRead) (x : Item) → uses_in table x ≡ used_by table x
-item_same table (item.UseOf occurrence) = resolved_same (resolved_at table occurrence)
-item_same table (item.Word span) = refl
-item_same table (item.Sign span) = refl
-item_same table (item.Quoted span) = refl
-item_same table item.QuoteBreak = refl
-item_same table (item.Verbatim span) = refl
-item_same table (item.Code value) = refl
-item_same table item.Blank = refl
-item_same table item.LineEnd = refl
-item_same table (item.LineMark origin) = refl
-item_same table item.Defs = refl
-
-pub names_same : (table : TableRead) (pieces : List PieceRead)
-    → pieces_uses table pieces ≡ flat_map (used_in table) pieces
-names_same table pieces = λ i. flat_map (λ (p : PieceRead). flat_map (λ x. item_same table x i) p.items) pieces
-
-some_shape : (row : List ℕ) (s : Shape) → length s ≡ length row → row_has_piece row ≡ true → s ≢ []
-some_shape [] s e t = absurd (let no : false ≡ true = t in cc)
-some_shape (k ∷ row) s e t = λ none. absurd (omega (arith, e, ap length none))
+use Rattle.tangle_graph.proofs.StoreLemmas.{piece_of_row}
 
 no_shape : (row : List ℕ) (s : Shape) → length s ≡ length row → row_has_piece row ≡ false → s ≡ []
 no_shape [] s e t = nil_from_length s e
@@ -79,53 +34,58 @@ flat_empty : (all : Shapes) (node : Title) → all node ≡ [] → flat_of all n
 unfolding levels
 flat_empty all node e = ap (λ (s : Shape). pieces_flat (λ name. flat 1000 all (Named name)) node 0 s) e
 
-module _ (web : WebRead) (table : TableRead) (rows uses : Graph)
-    (is : IsGraphOf web table rows uses) (inside : ResolvesInside table) (has : ℕ → Bool)
-    (flags : (id : ℕ) → id < length table.names → has id ≡ row_has_piece (row_at (rows_of rows) id)) where
-  -- the node with the number `n` uses the name with the number `id`, which has a piece
-  abbrev pub UsesWithPiece : ℕ → ℕ → Type 0
-  UsesWithPiece n id =
-      (id < length table.names) × Uses (shapes web table) (title_at table.names n) (get_or table.names id [])
-      × (shapes web table (Named (get_or table.names id [])) ≢ [])
+-- the bodies of a web were planned under its names
+pub bodies_planned : (web : WebRead) (table : TableRead) (rows : List (List ℕ)) (bodies : List NodeBody)
+    → AreBodies web table rows bodies → ArePlanned table.names (has_piece_in rows) bodies
+bodies_planned web table rows bodies are = record {
+  titles = λ node body low. (let found = are.each node (omega (arith, low, are.size)) in
+      ap body_title (get_or_from_slice_get bodies node found.0 body found.1) ∙ found.2.title);
+  planned = λ node body low. (let found = are.each node (omega (arith, low, are.size)) in
+      subst (IsPlanned (has_piece_in rows)) (sym (get_or_from_slice_get bodies node found.0 body found.1))
+      found.2.planned);
+}
 
-  shape_of_name : (id : ℕ) → id < length table.names
-      → length (shapes web table (Named (get_or table.names id []))) ≡ length (row_at (rows_of rows) id)
-  shape_of_name id h =
+module _ (web : WebRead) (table : TableRead) (made : StoreRead)
+    (is : IsGraphOf web table made.pieces made.uses) (inside : ResolvesInside table) where
+  -- the node uses the name with the number `id`, which has a piece, if the store has the names of the table
+  abbrev pub UsesWithPiece : ℕ → ℕ → Type 0
+  UsesWithPiece n id = UsesPiece (shapes web table) (record made { names = table.names }) n id
+
+  size_of_name : (id : ℕ) → id < length table.names
+      → length (shapes web table (Named (get_or table.names id []))) ≡ length (row_at made.pieces (suc id))
+  size_of_name id h =
       ap (λ t. length (shapes web table t)) (sym (title_inside table.names id h))
-      ∙ shape_size web table rows uses is id (omega (arith, h, is.uses_size))
+      ∙ shape_size web table made.pieces made.uses is (suc id) (omega (arith, h, is.uses_size))
+
+  piece_of_name : (id : ℕ) → id < length table.names
+      → (has_piece_in made.pieces id ≡ true) ↔ (shapes web table (Named (get_or table.names id [])) ≢ [])
+  piece_of_name id h = piece_of_row (row_at made.pieces (suc id))
+      (shapes web table (Named (get_or table.names id []))) (size_of_name id h)
 
   pub plan_uses_pieces : (n id : ℕ)
-      → Contains (filter has (pieces_uses table (pieces_of web table (title_at table.names n)))) id → UsesWithPiece n id
+      → Contains (filter (has_piece_in made.pieces)
+      (pieces_uses table (pieces_of web table (title_at table.names n)))) id → UsesWithPiece n id
   plan_uses_pieces n id c =
-      let used : Contains (flat_map (used_in table) (pieces_of web table (title_at table.names n))) id =
-      subst (λ l. Contains l id) (names_same table (pieces_of web table (title_at table.names n)))
-      (out_of_filter has (pieces_uses table (pieces_of web table (title_at table.names n))) id c) in
-      let low : id < length table.names =
-      All-contains (λ k. k < length table.names)
-      (flat_map (used_in table) (pieces_of web table (title_at table.names n))) id
-      (pieces_below table inside (pieces_of web table (title_at table.names n))) used in (
-        low,
-        pieces_use web.texts table inside (pieces_of web table (title_at table.names n)) id used,
-        some_shape (row_at (rows_of rows) id)
-            (shapes web table (Named (get_or table.names id []))) (shape_of_name id low)
-            (sym (flags id low)
-            ∙ passes_filter has (pieces_uses table (pieces_of web table (title_at table.names n))) id c),
-      )
+      let pieces = pieces_of web table (title_at table.names n) in
+      let kept = out_of_filter (has_piece_in made.pieces) (pieces_uses table pieces) id c in
+      let low : id < length table.names = All-contains (λ k. k < length table.names)
+      (pieces_uses table pieces) id (pieces_below table inside pieces) kept.0 in
+      record {
+        inside = low;
+        uses = pieces_use web.texts table pieces id kept.0;
+        has_piece = (piece_of_name id low).0 kept.1;
+      }
 
   pub symbols_fit : (symbols : ℕ → List Symbol) (n : ℕ)
       → ((id : ℕ) → UsesWithPiece n id → symbols id ≡ flat_of (shapes web table) (Named (get_or table.names id [])))
       → (id : ℕ) → id < length table.names → Uses (shapes web table) (title_at table.names n) (get_or table.names id [])
-      → (if has id then symbols id else []) ≡ flat_of (shapes web table) (Named (get_or table.names id []))
-  symbols_fit symbols n right id low u = by (has id) refl
+      → (if has_piece_in made.pieces id then symbols id else [])
+      ≡ flat_of (shapes web table) (Named (get_or table.names id []))
+  symbols_fit symbols n right id low u = by (has_piece_in made.pieces id) refl
     where
-      by : (b : Bool)
-          → has id ≡ b → (if b then symbols id else []) ≡ flat_of (shapes web table) (Named (get_or table.names id []))
-      by true e = right id (
-        low,
-        u,
-        some_shape (row_at (rows_of rows) id) (shapes web table (Named (get_or table.names id [])))
-            (shape_of_name id low) (sym (flags id low) ∙ e),
-      )
+      by : (b : Bool) → has_piece_in made.pieces id ≡ b
+          → (if b then symbols id else []) ≡ flat_of (shapes web table) (Named (get_or table.names id []))
+      by true e = right id (record { inside = low; uses = u; has_piece = (piece_of_name id low).0 e })
       by false e = sym (flat_empty (shapes web table) (Named (get_or table.names id []))
-          (no_shape (row_at (rows_of rows) id) (shapes web table (Named (get_or table.names id [])))
-          (shape_of_name id low) (sym (flags id low) ∙ e)))
+          (no_shape (row_at made.pieces (suc id)) (shapes web table (Named (get_or table.names id [])))
+          (size_of_name id low) e))

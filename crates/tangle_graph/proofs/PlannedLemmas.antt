@@ -54,16 +54,7 @@ module _ (has has' : ℕ → Bool) where
     same_item : (piece marks : ℕ) (x : Item) → Agrees (uses_in table x)
         → item_slots texts table has node piece marks x ≡ item_slots texts table has' node piece marks x
     same_item piece marks (item.UseOf occurrence) agrees = same_name (resolved_at table occurrence) agrees
-    same_item piece marks (item.Word span) agrees = refl
-    same_item piece marks (item.Sign span) agrees = refl
-    same_item piece marks (item.Quoted span) agrees = refl
-    same_item piece marks item.QuoteBreak agrees = refl
-    same_item piece marks (item.Verbatim span) agrees = refl
-    same_item piece marks (item.Code value) agrees = refl
-    same_item piece marks item.Blank agrees = refl
-    same_item piece marks item.LineEnd agrees = refl
-    same_item piece marks (item.LineMark origin) agrees = refl
-    same_item piece marks item.Defs agrees = refl
+    same_item piece marks _ agrees = refl
 
     same_items : (piece marks : ℕ) (items : List Item) → Agrees (flat_map (uses_in table) items)
         → items_slots texts table has node piece marks items ≡ items_slots texts table has' node piece marks items

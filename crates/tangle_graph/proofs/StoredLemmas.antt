@@ -1,5 +1,5 @@
 -- The pieces of a web as they are stored, one after another.
-use Rattle.std.proofs.Common.{◌≡◌, ◌∙◌, ◌<◌, ◌+◌, ◌++◌, ◌∷◌, [], ℕ, List, Option, Some, None, map, cond, take, length}
+use Rattle.std.proofs.Common.{◌≡◌, ◌∙◌, ◌<◌, ◌+◌, ◌++◌, ◌∷◌, [], ℕ, List, Option, map, cond, take, length}
 use Rattle.std.proofs.Common.{get_or, ap, sym, subst, arith, zero-add}
 use Rattle.std.specs.Option.{IfSome}
 use Rattle.std.proofs.lemmas.List.{get_or-map, length-map}
@@ -9,7 +9,7 @@ use Rattle.tangle_scan.specs.Web.{WebRead, PieceRead}
 use Rattle.tangle_scan.specs.WellFormed.{IsWellFormed}
 use Rattle.tangle_names.specs.NameTable.{TableRead, table_of}
 use Rattle.tangle_names.specs.Resolving.{resolve}
-use Rattle.tangle_graph.specs.Grouping.{positions_of, is_piece_of_number, has_number_in, number_of_piece}
+use Rattle.tangle_graph.specs.Grouping.{positions_of, is_piece_of_node, has_number_in, node_of_piece}
 
 -- the piece at an index
 read_at : (texts : List (List ℕ)) (stored : List StoredPiece) (pieces : List PieceRead)
@@ -39,16 +39,16 @@ defined_inside web table stored i p ours is formed low at occurrence same =
 pub next_position : (table : TableRead) (texts : List (List ℕ)) (stored : List StoredPiece) (pieces : List PieceRead)
     → map (piece_read texts) stored ≡ pieces → (i : ℕ) (p : StoredPiece) → i < length stored → p ≡ get_or stored i p
     → (occurrence : Option ℕ) → occurrence ≡ p.occurrence
-    → (number : Option ℕ) → number ≡ number_of_piece table occurrence → (n : ℕ)
+    → (node : Option ℕ) → node ≡ node_of_piece table occurrence → (n : ℕ)
     → positions_of table (take (i + 1) pieces) n
-    ≡ positions_of table (take i pieces) n ++ cond (has_number_in n number) (i ∷ []) []
-next_position table texts stored pieces is i p low at occurrence same number known n =
+    ≡ positions_of table (take i pieces) n ++ cond (has_number_in n node) (i ∷ []) []
+next_position table texts stored pieces is i p low at occurrence same node known n =
     let q = piece_read texts p in
     let inside : i < length pieces = omega (arith, low, ap length is, length-map stored (piece_read texts)) in
-    let right : number_of_piece table (get_or pieces i q).occurrence ≡ number
-    = ap (λ (x : PieceRead). number_of_piece table x.occurrence) (read_at texts stored pieces is i p low at)
-    ∙ ap (number_of_piece table) (sym same) ∙ sym known in
-    positions_more (is_piece_of_number table n) 0 pieces i q inside
+    let right : node_of_piece table (get_or pieces i q).occurrence ≡ node
+    = ap (λ (x : PieceRead). node_of_piece table x.occurrence) (read_at texts stored pieces is i p low at)
+    ∙ ap (node_of_piece table) (sym same) ∙ sym known in
+    positions_more (is_piece_of_node table n) 0 pieces i q inside
     ∙ ap (λ k. positions_of table (take i pieces) n
-    ++ cond (has_number_in n (number_of_piece table (get_or pieces i q).occurrence)) (k ∷ []) []) (zero-add i)
+    ++ cond (has_number_in n (node_of_piece table (get_or pieces i q).occurrence)) (k ∷ []) []) (zero-add i)
     ∙ ap (λ o. positions_of table (take i pieces) n ++ cond (has_number_in n o) (i ∷ []) []) right

@@ -41,14 +41,10 @@ module _ (texts : List (List ℕ)) (table : TableRead) (has_piece : ℕ → Bool
   of_item piece marks (item.Word span) = of_bytes (span_text texts span)
   of_item piece marks (item.Sign span) = of_bytes (span_text texts span)
   of_item piece marks (item.Quoted span) = of_bytes (span_text texts span)
-  of_item piece marks item.QuoteBreak = refl
   of_item piece marks (item.Verbatim span) = of_bytes (span_text texts span)
   of_item piece marks (item.Code value) = of_bytes (decimal value)
-  of_item piece marks item.Blank = refl
-  of_item piece marks item.LineEnd = refl
-  of_item piece marks (item.LineMark origin) = refl
   of_item piece marks (item.UseOf occurrence) = of_use (resolved_at table occurrence)
-  of_item piece marks item.Defs = refl
+  of_item piece marks _ = refl
 
   of_items : (piece marks : ℕ) (items : List Item)
       → 1 + sum_by (weight_of_item texts table used) items

@@ -1,10 +1,12 @@
 -- The faults of the graph of names: a name is undefined, never used, contains itself, is too large
 -- or is that of the main file; or the program is too large or has no piece.
-use Rattle.std.specs.Prelude.{◌≡◌, ◌≤◌, ◌↔◌, ℕ, Bool, true, not, ◌&&◌, List, [], ◌∷◌, ◌++◌, length}
+use Rattle.std.specs.Prelude.{◌≡◌, ◌≤◌, ◌↔◌, ℕ, suc, Bool, true}
+use Rattle.std.specs.Prelude.{not, ◌&&◌, List, [], ◌∷◌, ◌++◌, length}
 use Rattle.std.specs.Prelude.{map, flat_map, slice_get, slice_index_or, Option, Some, None}
 use Rattle.std.specs.Prelude.{option_to_list, is_some, position, if◌then◌else◌}
 use Rattle.std.specs.List.{range_with_len}
 use Rattle.std.specs.Str.{bytes_eq}
+use Rattle.digraph.specs.Nodes.{Node, program}
 use Rattle.tangle_faults.specs.declared.faults.FaultKind.{FaultKind}
 use Rattle.tangle_faults.specs.declared.faults.FaultKind.TheVariants as kind
 use Rattle.tangle_faults.specs.Faults.{FaultRead, fault_about, fault_unplaced}
@@ -15,7 +17,7 @@ use Rattle.tangle_names.specs.Numbers.{is_number, is_use}
 use Rattle.tangle_names.specs.Resolving.{resolve}
 use Rattle.tangle_plans.specs.Shapes.{Title, Shapes, Reaches, ContainsItself}
 use Rattle.tangle_plans.specs.WebShapes.{shapes}
-use Rattle.tangle_graph.specs.Nodes.{title_at}
+use Rattle.tangle_plans.specs.Nodes.{title_at}
 use Rattle.tangle_graph.specs.Outputs.{shape_has_piece, is_expandable, name_with_number}
 
 -- the node with this title is a name that contains itself, or reaches one
@@ -35,9 +37,9 @@ module _ (web : WebRead) (table : TableRead) where
   fault_of kind id None = []
   fault_of kind id (Some number) = fault_at_number kind id number
 
-  -- the node with this number has a piece
-  abbrev pub has_piece_by_number : ℕ → Bool
-  has_piece_by_number n = shape_has_piece (shapes web table (title_at table.names n))
+  -- the node has a piece
+  abbrev pub has_piece_of_node : Node → Bool
+  has_piece_of_node n = shape_has_piece (shapes web table (title_at table.names n))
 
   -- the numbers of a name's first occurrence, of its first occurrence with `@(`, and of the first
   -- use that resolves to it
@@ -53,33 +55,35 @@ module _ (web : WebRead) (table : TableRead) where
       position (λ o. is_use o.role && is_number id (resolve web.occurrences o)) web.occurrences
 
 -- The node has a piece, reaches no name that contains itself, and is beyond a limit.
--- `reaches_cycle` says of each number whether its node reaches such a name.
-abbrev pub is_too_large : WebRead → TableRead → (ℕ → Bool) → ℕ → Bool
+-- `reaches_cycle` says of each node whether it reaches such a name.
+abbrev pub is_too_large : WebRead → TableRead → (Node → Bool) → Node → Bool
 is_too_large web table reaches_cycle n =
-    has_piece_by_number web table n
+    has_piece_of_node web table n
     && (not (reaches_cycle n) && not (is_expandable (shapes web table) (title_at table.names n)))
 
 -- The faults: those of the names in their order, and then those of the program. The two functions
--- say of each number whether its node contains itself, and whether it reaches a name that does.
+-- say of each node whether it contains itself, and whether it reaches a name that does.
 -- Both are passed in, since a definition cannot compute whether a path exists.
 module _ (web : WebRead) (table : TableRead) (out : List ℕ)
-    (contains_itself reaches_cycle : ℕ → Bool) where
+    (contains_itself reaches_cycle : Node → Bool) where
   -- the occurrence at which the name has a fault of this kind, if it has one
   abbrev pub fault_occurrence : FaultKind → ℕ → Option ℕ
   fault_occurrence kind.Undefined id =
-      if has_piece_by_number web table id then None else first_use web table id
+      if has_piece_of_node web table (suc id) then None else first_use web table id
   fault_occurrence kind.Unused id =
-      if has_piece_by_number web table id
+      if has_piece_of_node web table (suc id)
       && (not (is_some (first_file_occurrence web table id))
       && not (is_some (first_use web table id)))
       then first_occurrence_number web table id
       else None
   fault_occurrence kind.SelfContaining id =
-      if contains_itself id then first_occurrence_number web table id else None
+      if contains_itself (suc id) then first_occurrence_number web table id else None
   fault_occurrence kind.TooLarge id =
-      if is_too_large web table reaches_cycle id then first_occurrence_number web table id else None
+      if is_too_large web table reaches_cycle (suc id)
+      then first_occurrence_number web table id
+      else None
   fault_occurrence kind.FileClash id =
-      if has_piece_by_number web table id && bytes_eq (name_with_number table id) out
+      if has_piece_of_node web table (suc id) && bytes_eq (name_with_number table id) out
       then first_file_occurrence web table id
       else None
   fault_occurrence _ id = None
@@ -92,13 +96,13 @@ module _ (web : WebRead) (table : TableRead) (out : List ℕ)
   -- the program is too large; and below, that it has no piece
   abbrev pub large_program : List FaultRead
   large_program =
-      if is_too_large web table reaches_cycle (length table.names)
+      if is_too_large web table reaches_cycle program
       then fault_unplaced kind.TooLarge ∷ []
       else []
 
   abbrev pub no_program : List FaultRead
   no_program =
-      if has_piece_by_number web table (length table.names) then []
+      if has_piece_of_node web table program then []
       else fault_unplaced kind.NoProgram ∷ []
 
   abbrev pub graph_faults : List FaultRead
@@ -111,10 +115,10 @@ module _ (web : WebRead) (table : TableRead) (out : List ℕ)
 -- the faults of the graph of names of a web, for a main file of this name
 pub record AreGraphFaults (web : WebRead) (table : TableRead)
     (out : List ℕ) (faults : List FaultRead) : Type 0 where
-  pub contains_itself : ℕ → Bool
-  pub reaches_cycle : ℕ → Bool
-  pub self_containing : (n : ℕ) → n ≤ length table.names
+  pub contains_itself : Node → Bool
+  pub reaches_cycle : Node → Bool
+  pub self_containing : (n : Node) → n ≤ length table.names
       → (contains_itself n ≡ true) ↔ ContainsItself (shapes web table) (title_at table.names n)
-  pub reaching_cycles : (n : ℕ) → n ≤ length table.names
+  pub reaching_cycles : (n : Node) → n ≤ length table.names
       → (reaches_cycle n ≡ true) ↔ ReachesCycle (shapes web table) (title_at table.names n)
   pub list : faults ≡ graph_faults web table out contains_itself reaches_cycle

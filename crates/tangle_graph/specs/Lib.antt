@@ -3,7 +3,6 @@ pub mod Grouping
 pub mod Groups
 pub mod Measures
 pub mod Outputs
-pub mod Rows
 pub mod Stores
 pub mod Ordering
 pub mod StoreView

@@ -1,5 +1,5 @@
 -- The output files of a web: the main file, and the named ones.
-use Rattle.std.specs.Prelude.{ℕ, Bool, true, false, not, ◌&&◌, ◌||◌, ◌==◌, nat_lt, nat_le}
+use Rattle.std.specs.Prelude.{ℕ, suc, Bool, true, false, not, ◌&&◌, ◌||◌, ◌==◌, nat_lt, nat_le}
 use Rattle.std.specs.Prelude.{if◌then◌else◌, List, [], ◌∷◌, ◌++◌, map, filter, flat_map}
 use Rattle.std.specs.Prelude.{slice_index_or, option_to_list}
 use Rattle.std.specs.Str.{bytes_eq}
@@ -10,7 +10,7 @@ use Rattle.tangle_plans.specs.Flat.{weight, depth}
 use Rattle.tangle_expansion.specs.Limits.{levels, heaviest}
 use Rattle.tangle_expansion.specs.Outputs.{OutputRead}
 use Rattle.tangle_plans.specs.WebShapes.{shapes, resolved_at}
-use Rattle.tangle_plans.specs.declared.nodes.Node.TheVariants as node
+use Rattle.digraph.specs.Nodes.{program}
 use Rattle.digraph.specs.Users.{positions}
 use Rattle.tangle_graph.specs.Grouping.{resolved_number}
 
@@ -47,7 +47,7 @@ name_with_number table id = slice_index_or table.names id []
 abbrev pub named_file : TableRead → ℕ → OutputRead
 named_file table id = record {
   name = name_with_number table id;
-  node = node.Name id;
+  node = suc id;
   has_macros = false;
   has_piece = true;
 }
@@ -60,7 +60,7 @@ module _ (web : WebRead) (table : TableRead) (out : List ℕ) where
       || is_expandable (shapes web table) Program
       then record {
         name = out;
-        node = node.Program;
+        node = program;
         has_macros = not web.has_all_macros;
         has_piece = shape_has_piece (shapes web table Program);
       } ∷ []

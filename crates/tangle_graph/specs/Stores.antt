@@ -1,31 +1,32 @@
 -- What a store records of a web: for each node its pieces, its uses and users, its weight and
 -- depth, and whether it contains itself or reaches a name that does.
-use Rattle.std.specs.Prelude.{◌≡◌, ◌≢◌, ◌<◌, ◌≤◌, ◌↔◌, ℕ, Bool, true, false, ◌&&◌, nat_lt, nat_le}
-use Rattle.std.specs.Prelude.{slice_get, slice_index, slice_index_or, List, [], ◌∷◌, length}
+use Rattle.std.specs.Prelude.{◌≡◌, ◌≢◌, ◌<◌, ◌≤◌, ◌↔◌, ◌+◌, ℕ, suc, Bool, true, false}
+use Rattle.std.specs.Prelude.{◌&&◌, nat_lt, nat_le}
+use Rattle.std.specs.Prelude.{slice_get, slice_index, slice_index_or, List, [], length, map}
 use Rattle.std.specs.Prelude.{AllPairs, Contains, Option, Some}
 use Rattle.tangle_plans.specs.Shapes.{Title, Named, Shape, Shapes, Uses, ContainsItself}
 use Rattle.tangle_plans.specs.Flat.{Symbol}
 use Rattle.tangle_expansion.specs.Kept.{kept_at}
 use Rattle.tangle_plans.specs.NodeBodies.{HoldsShape, body_uses, names_at}
+use Rattle.tangle_plans.specs.NodeBodies.{plan_slots, plan_uses}
 use Rattle.tangle_plans.specs.Slots.{Slot, filled}
 use Rattle.tangle_expansion.specs.Limits.{levels, heaviest, flat_of, weight_of, depth_of}
 use Rattle.tangle_expansion.specs.Limits.{IsExpandableNode}
 use Rattle.tangle_expansion.specs.Outputs.{OutputRead}
 use Rattle.tangle_plans.specs.declared.nodes.NodeBody.{NodeBody}
 use Rattle.tangle_expansion.specs.declared.kept.Kept.{Kept}
-use Rattle.tangle_plans.specs.declared.nodes.Node.{Node}
-use Rattle.tangle_plans.specs.declared.nodes.Node.TheVariants as node_kind
-use Rattle.tangle_graph.specs.Nodes.{title_at, title_of_node, IsNodeOf, number_in, entry, entry_if}
-use Rattle.tangle_graph.specs.Nodes.{with_entry, shape_of_node, UsesTitle}
+use Rattle.digraph.specs.Graph.{Graph, row_at}
+use Rattle.digraph.specs.Nodes.{Node}
+use Rattle.tangle_plans.specs.Nodes.{row_has_piece, title_at}
+use Rattle.tangle_graph.specs.Nodes.{IsNodeOf, shape_of_node, UsesTitle}
 
--- the bytes of the names, and lists with an entry for each node: the names in their order, and then
--- the program
+-- the bytes of the names, and lists with an entry for each node
 pub record StoreRead : Type 0 where
   pub names : List (List ℕ)
   -- the numbers of the node's pieces
   pub pieces : List (List ℕ)
-  pub uses : List (List Node)
-  pub users : List (List Node)
+  pub uses : Graph
+  pub users : Graph
   pub self_containing : List Bool
   -- the node reaches a name that contains itself
   pub reaching_cycles : List Bool
@@ -33,61 +34,47 @@ pub record StoreRead : Type 0 where
   pub depths : List ℕ
   pub expandable : List Bool
   pub outputs : List OutputRead
-  -- the node's own symbols and the uses between them, and the names with a piece that the plan uses
-  pub slots : List (List Slot)
-  pub plan_uses : List (List ℕ)
   -- the node's body
   pub bodies : List NodeBody
 
--- the node with this row of pieces has a piece
-abbrev pub row_has_piece : List ℕ → Bool
-row_has_piece [] = false
-row_has_piece (n ∷ ns) = true
+-- the node's entry in a list with a flag for each node
+abbrev pub flag_at : List Bool → Node → Bool
+flag_at flags node = slice_index_or flags node false
 
 module _ (store : StoreRead) where
-  abbrev pub pieces_of_node : Node → List ℕ
-  pieces_of_node node = entry [] store.pieces (number_in (length store.names) node)
-
   abbrev pub has_piece_at : Node → Bool
-  has_piece_at node = row_has_piece (pieces_of_node node)
+  has_piece_at node = row_has_piece (row_at store.pieces node)
 
   abbrev pub uses_at : Node → List Node
-  uses_at node = entry [] store.uses (number_in (length store.names) node)
+  uses_at node = row_at store.uses node
 
   abbrev pub users_at : Node → List Node
-  users_at node = entry [] store.users (number_in (length store.names) node)
+  users_at node = row_at store.users node
 
   abbrev pub contains_itself_at : Node → Bool
-  contains_itself_at node = entry false store.self_containing (number_in (length store.names) node)
+  contains_itself_at node = flag_at store.self_containing node
 
   abbrev pub weight_at : Node → ℕ
-  weight_at node = entry 0 store.weights (number_in (length store.names) node)
+  weight_at node = slice_index_or store.weights node 0
 
   abbrev pub depth_at : Node → ℕ
-  depth_at node = entry 0 store.depths (number_in (length store.names) node)
+  depth_at node = slice_index_or store.depths node 0
 
   abbrev pub is_expandable_at : Node → Bool
-  is_expandable_at node = entry false store.expandable (number_in (length store.names) node)
-
-  abbrev pub slots_at : Node → List Slot
-  slots_at node = entry [] store.slots (number_in (length store.names) node)
-
-  abbrev pub plan_uses_at : Node → List ℕ
-  plan_uses_at node = entry [] store.plan_uses (number_in (length store.names) node)
+  is_expandable_at node = flag_at store.expandable node
 
   abbrev pub body_at : Node → Option NodeBody
-  body_at node = entry_if store.bodies (number_in (length store.names) node)
+  body_at node = slice_get store.bodies node
 
-  -- the node's entry in a list with a flag for each node
-  abbrev pub flag_at : List Bool → Node → Bool
-  flag_at flags node = entry false flags (number_in (length store.names) node)
+  -- the node's own symbols and the uses between them, and the names with a piece that its plan uses
+  abbrev pub slots_at : Node → List Slot
+  slots_at node = row_at (map plan_slots store.bodies) node
 
-  -- the list with this flag for the node
-  abbrev pub with_flag : List Bool → Node → Bool → List Bool
-  with_flag flags node b = with_entry flags (number_in (length store.names) node) b
+  abbrev pub plan_uses_at : Node → List ℕ
+  plan_uses_at node = row_at (map plan_uses store.bodies) node
 
   abbrev pub title_in_store : Node → Title
-  title_in_store node = title_of_node store.names node
+  title_in_store node = title_at store.names node
 
   abbrev pub shape_in_store : Shapes → Node → Shape
   shape_in_store shapes node = shape_of_node shapes store.names node
@@ -106,12 +93,16 @@ pub record UsesPiece (shapes : Shapes) (store : StoreRead) (node : Node) (id : �
 abbrev pub KeepsUsed : Shapes → StoreRead → Kept → Node → Type 0
 KeepsUsed shapes store kept node =
     (id : ℕ) → UsesPiece shapes store node id
-    → kept_at kept (node_kind.Name id)
+    → kept_at kept (suc id)
     ≡ Some (flat_of shapes (Named (slice_index_or store.names id [])))
 
 -- The store is that of the shapes: what it records of each node holds for the node's title. For a
 -- node that it does not have it gives what holds for a node without a piece.
 pub record IsStoreOf (shapes : Shapes) (store : StoreRead) : Type 0 where
+  -- there is one entry for each node
+  pub pieces_size : length store.pieces ≡ length store.names + 1
+  pub expandable_size : length store.expandable ≡ length store.names + 1
+  pub bodies_size : length store.bodies ≡ length store.names + 1
   -- each title is that of one node, and each name that has a piece or is used has a node
   pub once : (a b : Node) → IsNodeIn store a → IsNodeIn store b
       → title_in_store store a ≡ title_in_store store b → a ≡ b
@@ -156,23 +147,22 @@ pub record IsStoreOf (shapes : Shapes) (store : StoreRead) : Type 0 where
 pub record AreWithin (pieces : List (List ℕ))
     (weights depths : List ℕ) (flags : List Bool) : Type 0 where
   pub size : length flags ≡ length pieces
-  pub flag : (n : ℕ) → n < length pieces
+  pub flag : (n : Node) → n < length pieces
       → slice_index_or flags n false
-      ≡ (row_has_piece (slice_index_or pieces n [])
+      ≡ (row_has_piece (row_at pieces n)
       && (nat_lt (slice_index depths n) levels && nat_le (slice_index weights n) heaviest))
 
--- the node with this number keeps the body that the node with its title had, and the names that
--- this body uses
-pub record KeepsBody (old new : StoreRead) (n : ℕ) : Type 0 where
-  pub before : ℕ
+-- the node keeps the body that the node with its title had, and the names that this body uses
+pub record KeepsBody (old new : StoreRead) (node : Node) : Type 0 where
+  pub before : Node
   pub inside : before ≤ length old.names
-  pub title : title_at old.names before ≡ title_at new.names n
+  pub title : title_at old.names before ≡ title_at new.names node
   pub body : NodeBody
   pub had : slice_get old.bodies before ≡ Some body
-  pub has : slice_get new.bodies n ≡ Some body
+  pub has : slice_get new.bodies node ≡ Some body
   pub uses : names_at old.names (body_uses body) ≡ names_at new.names (body_uses body)
 
 -- each flagged node keeps the body that the old node with its title had, and the names that this
 -- body uses
 abbrev pub KeepsBodies : StoreRead → StoreRead → List Bool → Type 0
-KeepsBodies old new flags = (n : ℕ) → slice_index_or flags n false ≡ true → KeepsBody old new n
+KeepsBodies old new flags = (node : Node) → flag_at flags node ≡ true → KeepsBody old new node

@@ -2,10 +2,10 @@
 use Rattle.std.specs.Prelude.{◌≡◌, ◌≤◌, ◌↔◌, ℕ, true, false, List, length, slice_index_or}
 use Rattle.tangle_scan.specs.Web.{WebRead}
 use Rattle.tangle_names.specs.NameTable.{TableRead}
-use Rattle.tangle_plans.specs.Nodes.{IsGroupedBy}
+use Rattle.digraph.specs.Nodes.{Node}
+use Rattle.tangle_plans.specs.Nodes.{IsGroupedBy, title_at}
 use Rattle.tangle_plans.specs.WebShapes.{shapes}
 use Rattle.tangle_graph.specs.Faults.{ReachesCycle}
-use Rattle.tangle_graph.specs.Nodes.{title_at}
 use Rattle.tangle_graph.specs.Outputs.{outputs}
 use Rattle.tangle_graph.specs.Stores.{StoreRead, IsStoreOf}
 
@@ -17,7 +17,7 @@ pub record IsStoreOfWeb (web : WebRead) (table : TableRead)
     (out : List ℕ) (made : StoreRead) : Type 0 where
   pub store : IsStoreOf (shapes web table) made
   pub names : made.names ≡ table.names
-  pub reaching_cycles : (n : ℕ) → n ≤ length table.names
+  pub reaching_cycles : (n : Node) → n ≤ length table.names
       → (slice_index_or made.reaching_cycles n false ≡ true)
       ↔ ReachesCycle (shapes web table) (title_at table.names n)
   pub outputs : made.outputs ≡ outputs web table out

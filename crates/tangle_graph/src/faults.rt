@@ -3,26 +3,28 @@
 ghost use Rattle.std.specs.Prelude.{◌≡◌, ◌<◌, ◌≤◌, ◌++◌, ◌∷◌, [], false, None, All, IfOk, OnOk};
 ghost use Rattle.std.specs.Prelude.{length, if◌then◌else◌};
 ghost use Rattle.tangle_faults.specs.Faults.{fault_unplaced};
-ghost use Rattle.tangle_graph.specs.Faults.{AreGraphFaults, first_use, is_too_large};
+ghost use Rattle.tangle_graph.specs.Faults.{AreGraphFaults, first_use, has_piece_of_node};
+ghost use Rattle.tangle_graph.specs.Faults.{is_too_large};
 ghost use Rattle.tangle_graph.specs.FaultSearches.{HaveTheFaults, IsFaultSearch, fault_number};
-ghost use Rattle.tangle_graph.specs.FaultSearches.{fault_of_name, faults_of_kind, flag_of_number};
+ghost use Rattle.tangle_graph.specs.FaultSearches.{fault_of_name, faults_of_kind, flag_of_node};
 
 use crate::outputs::push_where;
+use digraph::{Node, Rows};
 use std::alloc::{AllocError, Global};
 use tangle_lines::{Fault, FaultKind, NoMemory};
 use tangle_names::NameTable;
 use tangle_scan::Web;
 
 /// From what the faults of the graph are found: a web with its table of names and the name of its
-/// main file; for each node, by number, whether it has a piece, contains itself, reaches a name
-/// that does, and is expandable; and for each name the number of the first use that resolves to it,
+/// main file; for each node its pieces, and whether it contains itself, reaches a name that does,
+/// and is expandable; and for each name the number of the first use that resolves to it,
 /// or the number of all occurrences where none does.
 #[derive(Drop)]
 pub(crate) struct FaultSearch<'f, 's, 'a> {
     pub(crate) web: &'f Web<'s, 'a>,
     pub(crate) table: &'f NameTable,
     pub(crate) out: &'f [u8],
-    pub(crate) has_piece: &'f [bool],
+    pub(crate) pieces: &'f Rows<usize>,
     pub(crate) self_containing: &'f [bool],
     pub(crate) reaching_cycles: &'f [bool],
     pub(crate) expandable: &'f [bool],
@@ -66,14 +68,23 @@ impl<'f, 's, 'a> FaultSearch<'f, 's, 'a> {
         }
     }
 
-    /// Whether the node has a piece, reaches no name that contains itself, and is beyond a limit.
-    fn is_too_large(&self, n: usize) -> bool
+    fn has_piece(&self, node: Node) -> bool
         requires search { IsFaultSearch self.now }
-        requires node { n ≤ length self.now.table.now.names }
-        ensures { result ≡ is_too_large self.now.web.now self.now.table.now
-            (flag_of_number self.now.reaching_cycles.now) n }
+        requires node { node ≤ length self.now.table.now.names }
+        ensures { result ≡ has_piece_of_node self.now.web.now self.now.table.now node }
     {
-        self.has_piece[n] && (!self.reaching_cycles[n] && !self.expandable[n])
+        !self.pieces.row(node.number()).is_empty()
+    }
+
+    /// Whether the node has a piece, reaches no name that contains itself, and is beyond a limit.
+    fn is_too_large(&self, node: Node) -> bool
+        requires search { IsFaultSearch self.now }
+        requires node { node ≤ length self.now.table.now.names }
+        ensures { result ≡ is_too_large self.now.web.now self.now.table.now
+            (flag_of_node self.now.reaching_cycles.now) node }
+    {
+        let n = node.number();
+        self.has_piece(node) && (!self.reaching_cycles[n] && !self.expandable[n])
     }
 
     /// The number of the occurrence at which the name has a fault of this kind; `None` where it has
@@ -83,17 +94,18 @@ impl<'f, 's, 'a> FaultSearch<'f, 's, 'a> {
         requires name { id < length self.now.table.now.names }
         ensures { result ≡ fault_number self.now kind id }
     {
+        let node = Node::name(id);
         let use_number = self.first_use(id);
         let first = Some(self.table.first_occurrence(id));
-        let has_piece = self.has_piece[id];
+        let has_piece = self.has_piece(node);
         match kind {
             FaultKind::Undefined => number_if(!has_piece, use_number),
             FaultKind::Unused => number_if(
                 has_piece && (!self.table.is_file(id) && !use_number.is_some()),
                 first,
             ),
-            FaultKind::SelfContaining => number_if(self.self_containing[id], first),
-            FaultKind::TooLarge => number_if(self.is_too_large(id), first),
+            FaultKind::SelfContaining => number_if(self.self_containing[node.number()], first),
+            FaultKind::TooLarge => number_if(self.is_too_large(node), first),
             FaultKind::FileClash => number_if(
                 has_piece && self.table.text(id) == self.out,
                 self.table.first_file_occurrence(id),
@@ -133,8 +145,9 @@ impl<'f, 's, 'a> FaultSearch<'f, 's, 'a> {
         requires name { id < length self.now.table.now.names }
         ensures { result ≡ false → (kind : FaultKind) → fault_number self.now kind id ≡ None }
     {
-        !self.expandable[id]
-            || (self.self_containing[id]
+        let n = Node::name(id).number();
+        !self.expandable[n]
+            || (self.self_containing[n]
                 || (!self.first_use(id).is_some() || self.table.is_file(id)))
     }
 
@@ -180,9 +193,8 @@ impl<'f, 's, 'a> FaultSearch<'f, 's, 'a> {
             self.now.out.now faults.items) }
     {
         let names = self.candidates(alloc)?;
-        let program = self.table.count();
-        let is_large = self.is_too_large(program);
-        let has_piece = self.has_piece[program];
+        let is_large = self.is_too_large(Node::program());
+        let has_piece = self.has_piece(Node::program());
         let mut faults = Vec::new(alloc);
         let kinds = [
             FaultKind::Undefined,

@@ -1,18 +1,18 @@
 //! The weight and the depth of each node.
 ghost use Rattle.std.specs.Prelude.{◌≡◌, ◌<◌, ◌≤◌, ◌+◌, ◌⊎◌, ℕ, IfOk, length, vec_len, min};
 ghost use Rattle.std.specs.Prelude.{sum_by, slice_index, slice_index_or, All, Contains};
-ghost use Rattle.std.specs.Prelude.{false, ◌&&◌, nat_lt, nat_le};
-ghost use Rattle.digraph.specs.Graph.{rows_of};
+ghost use Rattle.std.specs.Prelude.{false, ◌&&◌, nat_lt, nat_le, suc};
 ghost use Rattle.digraph.specs.Order.{IsOrder};
 ghost use Rattle.tangle_plans.specs.NodeBodies.{body_uses, plan_slots};
 ghost use Rattle.tangle_expansion.specs.Limits.{weight_cap, levels, heaviest, weight_of, depth_of};
 ghost use Rattle.tangle_plans.specs.WebShapes.{shapes, ResolvesInside};
 ghost use Rattle.tangle_graph.specs.Groups.{IsGraphOf};
-ghost use Rattle.tangle_graph.specs.Nodes.{title_at};
+ghost use Rattle.tangle_plans.specs.Nodes.{row_has_piece, title_at};
 ghost use Rattle.tangle_graph.specs.Outputs.{is_expandable};
 ghost use Rattle.tangle_graph.specs.Plans.{AreBodies, node_bodies};
-ghost use Rattle.tangle_graph.specs.Stores.{row_has_piece, AreWithin};
+ghost use Rattle.tangle_graph.specs.Stores.{AreWithin};
 
+use digraph::{Node, Rows};
 use std::alloc::{AllocError, Global};
 use std::rc::Rc;
 use tangle_names::NameTable;
@@ -32,15 +32,15 @@ const LEVELS: u16 = 1001;
 /// The weight of the node with this body, by the weights of the names that it uses.
 #[tactic(auto, unfolding(tangle_expansion::specs::Limits::weight_cap))]
 fn weight_of_node(weights: &[u32], body: &NodeBody) -> u32
-    requires inside { All (λ id. id < length weights.now) (body_uses body.now) }
+    requires inside { All (λ id. suc id < length weights.now) (body_uses body.now) }
     requires capped { All (λ weight. weight ≤ weight_cap) weights.now }
     ensures { result ≡ min weight_cap
-        (length (plan_slots body.now) + sum_by (λ id. slice_index weights.now id)
+        (length (plan_slots body.now) + sum_by (λ id. slice_index weights.now (suc id))
         (body_uses body.now)) }
 {
     let mut weight = body.symbol_count().min(WEIGHT_CAP as usize) as u32;
     for id in body.uses() {
-        weight = (weight + weights[*id]).min(WEIGHT_CAP);
+        weight = (weight + weights[Node::name(*id).number()]).min(WEIGHT_CAP);
     }
     weight
 }
@@ -52,14 +52,14 @@ fn weights(
     alloc: Global,
     web: &Web,
     table: &NameTable,
-    pieces: &[Vec<usize>],
-    uses: &[Vec<usize>],
-    order: &[usize],
+    pieces: &Rows<usize>,
+    uses: &Rows<Node>,
+    order: &[Node],
     bodies: &[Rc<NodeBody>],
 ) -> Result<Vec<u32>, AllocError>
     requires graph { IsGraphOf web.now table.now pieces.now uses.now }
     requires order { IsOrder uses.now order.now }
-    requires bodies { AreBodies web.now table.now (rows_of pieces.now) (node_bodies bodies.now) }
+    requires bodies { AreBodies web.now table.now pieces.now (node_bodies bodies.now) }
     requires inside { ResolvesInside table.now }
     ensures size { IfOk result (λ weights. vec_len weights ≡ length uses.now) }
     ensures weights { IfOk result (λ weights. (n : ℕ) → n < length uses.now
@@ -67,14 +67,15 @@ fn weights(
         (title_at table.now.names n)) }
 {
     let mut weights = vec![in alloc; WEIGHT_CAP; uses.len()]?;
-    for n in order {
-        weights[*n] = weight_of_node(&weights, &bodies[*n]);
+    for node in order {
+        let n = node.number();
+        weights[n] = weight_of_node(&weights, &bodies[n]);
     }
     Ok(weights)
 }
 
 /// The greatest of the depths of these nodes, or 0 if there is none.
-fn greatest(depths: &[u16], nodes: &[usize]) -> u16
+fn greatest(depths: &[u16], nodes: &[Node]) -> u16
     requires { All (λ m. m < length depths.now) nodes.now }
     ensures least { All (λ m. slice_index depths.now m ≤ result) nodes.now }
     ensures met { (result ≡ 0)
@@ -82,14 +83,14 @@ fn greatest(depths: &[u16], nodes: &[usize]) -> u16
 {
     let mut greatest = 0;
     for m in nodes {
-        greatest = greatest.max(depths[*m]);
+        greatest = greatest.max(depths[m.number()]);
     }
     greatest
 }
 
 /// The depth of a node that has these pieces and uses these names.
 #[tactic(auto, unfolding(tangle_expansion::specs::Limits::levels))]
-fn depth_of_node(depths: &[u16], pieces: &[usize], used: &[usize]) -> u16
+fn depth_of_node(depths: &[u16], pieces: &[usize], used: &[Node]) -> u16
     requires range { All (λ m. m < length depths.now) used.now }
     requires capped { All (λ depth. depth ≤ levels) depths.now }
     ensures none { length pieces.now ≡ 0 → result ≡ 0 }
@@ -111,9 +112,9 @@ fn depths(
     alloc: Global,
     web: &Web,
     table: &NameTable,
-    pieces: &[Vec<usize>],
-    uses: &[Vec<usize>],
-    order: &[usize],
+    pieces: &Rows<usize>,
+    uses: &Rows<Node>,
+    order: &[Node],
 ) -> Result<Vec<u16>, AllocError>
     requires graph { IsGraphOf web.now table.now pieces.now uses.now }
     requires order { IsOrder uses.now order.now }
@@ -123,16 +124,11 @@ fn depths(
         (title_at table.now.names n)) }
 {
     let mut depths = vec![in alloc; LEVELS; uses.len()]?;
-    for n in order {
-        depths[*n] = depth_of_node(&depths, &pieces[*n], &uses[*n]);
+    for node in order {
+        let n = node.number();
+        depths[n] = depth_of_node(&depths, pieces.row(n), uses.row(n));
     }
     Ok(depths)
-}
-
-pub(crate) fn row_has_piece(row: &[usize]) -> bool
-    ensures { result ≡ row_has_piece row.now }
-{
-    !row.is_empty()
 }
 
 /// Whether a node has a piece and is within both limits, by its row of pieces, its weight and its
@@ -142,24 +138,24 @@ fn is_within(pieces: &[usize], weight: u32, depth: u16) -> bool
     ensures { result ≡ (row_has_piece pieces.now
         && (nat_lt depth levels && nat_le weight heaviest)) }
 {
-    row_has_piece(pieces) && depth < LEVELS && weight <= HEAVIEST
+    !pieces.is_empty() && depth < LEVELS && weight <= HEAVIEST
 }
 
 /// A flag for each node: whether it is expandable.
 fn expandable(
     alloc: Global,
-    pieces: &[Vec<usize>],
+    pieces: &Rows<usize>,
     weights: &[u32],
     depths: &[u16],
 ) -> Result<Vec<bool>, AllocError>
     requires weights { length weights.now ≡ length pieces.now }
     requires depths { length depths.now ≡ length pieces.now }
-    ensures { IfOk result (λ flags. AreWithin (rows_of pieces.now) weights.now depths.now
+    ensures { IfOk result (λ flags. AreWithin pieces.now weights.now depths.now
         flags.items) }
 {
     let mut flags = Vec::new(alloc);
-    for (n, row) in pieces.iter().enumerate() {
-        flags.push(is_within(row, weights[n], depths[n]))?;
+    for n in 0..pieces.len() {
+        flags.push(is_within(pieces.row(n), weights[n], depths[n]))?;
     }
     Ok(flags)
 }
@@ -179,14 +175,14 @@ impl Measures {
         alloc: Global,
         web: &Web,
         table: &NameTable,
-        pieces: &[Vec<usize>],
-        uses: &[Vec<usize>],
-        order: &[usize],
+        pieces: &Rows<usize>,
+        uses: &Rows<Node>,
+        order: &[Node],
         bodies: &[Rc<NodeBody>],
     ) -> Result<Measures, AllocError>
         requires graph { IsGraphOf web.now table.now pieces.now uses.now }
         requires order { IsOrder uses.now order.now }
-        requires bodies { AreBodies web.now table.now (rows_of pieces.now)
+        requires bodies { AreBodies web.now table.now pieces.now
             (node_bodies bodies.now) }
         requires inside { ResolvesInside table.now }
         ensures weights { IfOk result (λ measures. (n : ℕ) → n < length uses.now
@@ -196,7 +192,7 @@ impl Measures {
             → slice_index measures.depths.items n ≡ depth_of (shapes web.now table.now)
             (title_at table.now.names n)) }
         ensures within { IfOk result
-            (λ measures. AreWithin (rows_of pieces.now) measures.weights.items measures.depths.items
+            (λ measures. AreWithin pieces.now measures.weights.items measures.depths.items
             measures.expandable.items) }
         ensures expandable { IfOk result (λ measures. (n : ℕ) → n < length uses.now
             → slice_index_or measures.expandable.items n false

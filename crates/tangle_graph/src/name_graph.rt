@@ -1,18 +1,18 @@
 //! The graph of names of a store: all that follows from the names and the uses of the nodes,
 //! whatever else the nodes contain.
-ghost use Rattle.std.specs.Prelude.{◌≡◌, ◌<◌, ◌+◌, IfOk, All, length, map, true};
+ghost use Rattle.std.specs.Prelude.{◌≡◌, ◌<◌, ◌+◌, IfOk, OnOk, All, length, map, suc, true};
+ghost use Rattle.std.specs.List.Sorted.{IsStrictlyIncreasing};
+ghost use Rattle.digraph.specs.Graph.{InRange};
 ghost use Rattle.tangle_plans.specs.NodeBodies.{body_uses};
-ghost use Rattle.tangle_graph.specs.NameGraphs.{IsNameGraphOf};
+ghost use Rattle.tangle_graph.specs.NameGraphs.{AreUsesOf, IsNameGraphOf};
 ghost use Rattle.tangle_graph.specs.Plans.{node_bodies};
 
-use crate::bodies::uses_of_bodies;
-use crate::nodes::{nodes_by_node, nodes_of};
-use digraph::{all_once, order, reaching_cycles, self_containing, users};
-use std::alloc::Global;
+use digraph::{Node, Rows, once_each, order, reaching_cycles, self_containing, users};
+use std::alloc::{AllocError, Global};
 use std::rc::Rc;
 use tangle_lines::NoMemory;
-use tangle_names::{NameTable, Names};
-use tangle_plans::{Node, NodeBody};
+use tangle_names::Names;
+use tangle_plans::NodeBody;
 
 /// The names, shared with their table; for each node the names that it uses, the nodes that use it,
 /// and whether it contains itself or reaches a name that does; and the nodes that reach no cycle,
@@ -22,51 +22,37 @@ use tangle_plans::{Node, NodeBody};
 #[derive(Drop)]
 pub(crate) struct NameGraph {
     pub(crate) names: Names,
-    /// For each node, by number, the numbers of the names that it uses.
-    pub(crate) uses: Vec<Vec<usize>>,
-    /// The numbers of the nodes that reach no cycle, each after those that it uses.
-    pub(crate) order: Vec<usize>,
-    // The same again as nodes: so the calls of a store that return them take no memory.
-    pub(crate) used_nodes: Vec<Vec<Node>>,
-    pub(crate) user_nodes: Vec<Vec<Node>>,
-    pub(crate) node_order: Vec<Node>,
+    pub(crate) uses: Rows<Node>,
+    pub(crate) users: Rows<Node>,
+    pub(crate) order: Vec<Node>,
     pub(crate) self_containing: Vec<bool>,
     pub(crate) reaching_cycles: Vec<bool>,
 }
 
 impl NameGraph {
-    /// Builds the graph of the table's names, with the uses that the bodies of the nodes have.
+    /// Builds the graph of these names, with the uses that the bodies of the nodes have.
     pub(crate) fn build(
         alloc: Global,
-        table: &NameTable,
+        names: Names,
         bodies: &[Rc<NodeBody>],
     ) -> Result<NameGraph, NoMemory>
-        requires size { length bodies.now ≡ length table.now.names + 1 }
-        requires inside { All (λ row. All (λ id. id < length table.now.names) row)
+        requires size { length bodies.now ≡ length names + 1 }
+        requires inside { All (All (λ id. id < length names))
             (map body_uses (node_bodies bodies.now)) }
-        ensures names { IfOk result (λ name_graph. name_graph.names ≡ table.now.names) }
+        ensures names { IfOk result (λ name_graph. name_graph.names ≡ names) }
         ensures name_graph { IfOk result
             (λ name_graph. IsNameGraphOf (map body_uses (node_bodies bodies.now)) name_graph) }
     {
-        let mut rows = uses_of_bodies(alloc, bodies)?;
-        all_once(&mut rows);
-        let uses: &[Vec<usize>] = &rows;
-        let user_rows = users(alloc, uses)?;
-        let users: &[Vec<usize>] = &user_rows;
-        let order = order(alloc, uses, users)?;
-        let self_containing = self_containing(alloc, uses, users)?;
-        let reaching_cycles = reaching_cycles(alloc, uses, users, &self_containing)?;
-        let count = table.count();
-        let used_nodes = nodes_by_node(alloc, count, uses)?;
-        let user_nodes = nodes_by_node(alloc, count, users)?;
-        let node_order = nodes_of(alloc, count, &order)?;
+        let uses = uses_of_bodies(alloc, names.count(), bodies)?;
+        let users = users(alloc, &uses)?;
+        let order = order(alloc, &uses, &users)?;
+        let self_containing = self_containing(alloc, &uses, &users)?;
+        let reaching_cycles = reaching_cycles(alloc, &uses, &users, &self_containing)?;
         Ok(NameGraph {
-            names: table.names()?,
-            uses: rows,
+            names,
+            uses,
+            users,
             order,
-            used_nodes,
-            user_nodes,
-            node_order,
             self_containing,
             reaching_cycles,
         })
@@ -75,32 +61,68 @@ impl NameGraph {
     /// Builds the same graph, to be shared.
     pub(crate) fn shared(
         alloc: Global,
-        table: &NameTable,
+        names: Names,
         bodies: &[Rc<NodeBody>],
     ) -> Result<Rc<NameGraph>, NoMemory>
-        requires size { length bodies.now ≡ length table.now.names + 1 }
-        requires inside { All (λ row. All (λ id. id < length table.now.names) row)
+        requires size { length bodies.now ≡ length names + 1 }
+        requires inside { All (All (λ id. id < length names))
             (map body_uses (node_bodies bodies.now)) }
-        ensures names { IfOk result
-            (λ name_graph. name_graph.value.names ≡ table.now.names) }
+        ensures names { IfOk result (λ name_graph. name_graph.value.names ≡ names) }
         ensures name_graph { IfOk result
             (λ name_graph. IsNameGraphOf (map body_uses (node_bodies bodies.now))
             name_graph.value) }
     {
-        Ok(Rc::new(alloc, NameGraph::build(alloc, table, bodies)?)?)
+        Ok(Rc::new(alloc, NameGraph::build(alloc, names, bodies)?)?)
     }
 }
 
-pub(crate) fn are_names_of(names: &Names, table: &NameTable) -> bool
-    ensures { result ≡ true → names.now ≡ table.now.names }
+/// Replaces `nodes` by the nodes of the names with these numbers, of which there are `count`.
+fn fill_with_names(nodes: &mut Vec<Node>, count: usize, ids: &[usize]) -> Result<(), AllocError>
+    requires { All (λ id. id < count) ids.now }
+    ensures { OnOk result (nodes.new.items ≡ map suc ids.now) }
+{
+    nodes.clear();
+    for id in ids {
+        nodes.push(Node::name(*id))?;
+    }
+    Ok(())
+}
+
+/// For each node, the names that its items use, each once. There are `count` names.
+fn uses_of_bodies(
+    alloc: Global,
+    count: usize,
+    bodies: &[Rc<NodeBody>],
+) -> Result<Rows<Node>, AllocError>
+    requires size { length bodies.now ≡ count + 1 }
+    requires inside { All (All (λ id. id < count)) (map body_uses (node_bodies bodies.now)) }
+    ensures uses { IfOk result (AreUsesOf (map body_uses (node_bodies bodies.now))) }
+    ensures range { IfOk result InRange }
+    ensures increasing { IfOk result (All IsStrictlyIncreasing) }
+{
+    let mut rows = Rows::new(alloc);
+    let mut ids = Vec::new(alloc);
+    let mut nodes = Vec::new(alloc);
+    for body in bodies {
+        ids.clear();
+        ids.extend_from_slice(body.uses())?;
+        once_each(&mut ids);
+        fill_with_names(&mut nodes, count, &ids)?;
+        rows.push_row(&nodes)?;
+    }
+    Ok(rows)
+}
+
+pub(crate) fn are_same_names(names: &Names, others: &Names) -> bool
+    ensures { result ≡ true → names.now ≡ others.now }
 {
     // Values are compared, since no clause says whether two `Rc`s are one.
     let count = names.count();
-    if count != table.count() {
+    if count != others.count() {
         return false;
     }
     for id in 0..count {
-        if names.text(id) != table.text(id) {
+        if names.text(id) != others.text(id) {
             return false;
         }
     }

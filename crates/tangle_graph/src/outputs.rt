@@ -1,22 +1,22 @@
 //! The output files.
 ghost use Rattle.std.specs.Prelude.{◌≡◌, ℕ, [], ◌∷◌, ◌++◌, IfOk, OnOk, length, All, flat_map};
 ghost use Rattle.std.specs.Prelude.{option_to_list, if◌then◌else◌, not, ◌&&◌, ◌||◌, ◌<◌, ◌+◌};
-ghost use Rattle.std.specs.Prelude.{slice_index_or, false};
+ghost use Rattle.std.specs.Prelude.{slice_index_or, true, false};
 ghost use Rattle.std.specs.Str.{bytes_eq};
 ghost use Rattle.digraph.specs.Users.{positions};
 ghost use Rattle.tangle_plans.specs.Shapes.{Program};
-ghost use Rattle.tangle_plans.specs.declared.nodes.Node.TheVariants as node_kind;
+ghost use Rattle.digraph.specs.Nodes.{program};
 ghost use Rattle.tangle_plans.specs.WebShapes.{ResolvesInside, resolved_at, shapes};
 ghost use Rattle.tangle_graph.specs.Grouping.{resolved_number};
-ghost use Rattle.tangle_graph.specs.Nodes.{title_at};
+ghost use Rattle.tangle_plans.specs.Nodes.{title_at};
 ghost use Rattle.tangle_graph.specs.Outputs.{firsts, file_names, shape_has_piece, is_expandable};
-ghost use Rattle.tangle_graph.specs.Outputs.{name_with_number, named_file, outputs};
+ghost use Rattle.tangle_graph.specs.Outputs.{outputs};
 
 use crate::pieces::resolved_number;
+use digraph::Node;
 use std::alloc::{AllocError, Global};
 use tangle_expansion::Output;
 use tangle_names::NameTable;
-use tangle_plans::Node;
 use tangle_scan::{Occurrence, Web};
 
 /// Adds the number at the end of the list, if the flag is set.
@@ -109,7 +109,7 @@ fn main_file(
         ≡ (if not has_piece || expandable
         then record {
           name = out.now;
-          node = node_kind.Program;
+          node = program;
           has_macros =
               not web.now.has_all_macros;
           has_piece = has_piece;
@@ -118,28 +118,32 @@ fn main_file(
     let mut files = Vec::new(alloc);
     if !has_piece || expandable {
         let name = Vec::from_slice(alloc, out)?;
-        files.push(Output::new(name, Node::Program, !web.has_defs_code(), has_piece))?;
+        files.push(Output::new(name, Node::program(), !web.has_defs_code(), has_piece))?;
     }
     Ok(files)
 }
 
-/// Adds the file of a name, if the name has a file that is not the main file.
+/// Adds the file of the node of a name, if the name has a file that is not the main file.
 fn add_named_file(
     alloc: Global,
-    table: &NameTable,
+    name: &[u8],
+    node: Node,
     out: &[u8],
     expandable: bool,
-    id: usize,
     files: &mut Vec<Output>,
 ) -> Result<(), AllocError>
-    requires { id < length table.now.names }
     ensures { OnOk result (files.new.items ≡ files.old.items
-        ++ (if expandable && not (bytes_eq (name_with_number table.now id) out.now)
-        then named_file table.now id ∷ [] else [])) }
+        ++ (if expandable && not (bytes_eq name.now out.now)
+        then record {
+          name = name.now;
+          node = node;
+          has_macros = false;
+          has_piece = true;
+        } ∷ [] else [])) }
 {
-    if expandable && table.text(id) != out {
-        let name = Vec::from_slice(alloc, table.text(id))?;
-        files.push(Output::new(name, Node::Name(id), false, true))?;
+    if expandable && name != out {
+        let name = Vec::from_slice(alloc, name)?;
+        files.push(Output::new(name, node, false, true))?;
     }
     Ok(())
 }
@@ -162,9 +166,13 @@ pub(crate) fn outputs(
     ensures { IfOk result (λ files. files.items ≡ outputs web.now table.now out.now) }
 {
     let names = file_names(alloc, web, table)?;
-    let mut files = main_file(alloc, web, out, has_piece, expandable[table.count()])?;
+    let is_expandable = expandable[Node::program().number()];
+    let mut files = main_file(alloc, web, out, has_piece, is_expandable)?;
     for id in &names {
-        add_named_file(alloc, table, out, expandable[*id], *id, &mut files)?;
+        let node = Node::name(*id);
+        let name = table.text(*id);
+        let is_expandable = expandable[node.number()];
+        add_named_file(alloc, name, node, out, is_expandable, &mut files)?;
     }
     Ok(files)
 }

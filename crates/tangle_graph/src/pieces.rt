@@ -1,17 +1,28 @@
 //! The pieces of each node.
-ghost use Rattle.std.specs.Prelude.{◌≡◌, ◌<◌, ◌+◌, ◌∷◌, [], IfOk, OnOk, IfSome};
+ghost use Rattle.std.specs.Prelude.{◌≡◌, ◌<◌, ◌+◌, ◌^◌, ◌∷◌, [], IfOk, IfSome};
 ghost use Rattle.std.specs.Prelude.{◌++◌, ℕ, length, if◌then◌else◌, true};
-ghost use Rattle.digraph.specs.Graph.{row_at, rows_of};
-ghost use Rattle.digraph.specs.Rows.{IsRowsOf, GrowsBy};
+ghost use Rattle.digraph.specs.Graph.{row_at};
+ghost use Rattle.digraph.specs.Rows.{IsRowsOf};
 ghost use Rattle.tangle_names.specs.NameTable.{table_of};
 ghost use Rattle.tangle_plans.specs.WebShapes.{ResolvesInside};
-ghost use Rattle.tangle_graph.specs.Grouping.{resolved_number, number_of_piece, has_number_in};
+ghost use Rattle.tangle_graph.specs.Grouping.{resolved_number, node_of_piece, has_number_in};
 ghost use Rattle.tangle_graph.specs.Grouping.{passed_of, positions_of};
 
-use digraph::{empty_rows, push_to};
+use digraph::{GrowingRows, Node, Rows};
 use std::alloc::{AllocError, Global};
 use tangle_names::{NameTable, Resolved};
 use tangle_scan::{OccurrenceNumber, Web};
+
+/// The number of nodes: the program, and each name of the table.
+///
+/// # Errors
+///
+/// `AllocError` where no list could have an entry for each.
+fn node_count(table: &NameTable) -> Result<usize, AllocError>
+    ensures { IfOk result (λ count. count ≡ length table.now.names + 1) }
+{
+    table.count().checked_add(1).ok_or(AllocError)
+}
 
 /// The number of the full name, if the occurrence resolves to one.
 pub(crate) fn resolved_number(resolved: Resolved) -> Option<usize>
@@ -23,33 +34,21 @@ pub(crate) fn resolved_number(resolved: Resolved) -> Option<usize>
     }
 }
 
-/// The number of the node that a piece belongs to, by the occurrence that defines the piece. A
-/// piece without an occurrence belongs to the program, which has the last number.
-fn number_of_piece(table: &NameTable, occurrence: Option<OccurrenceNumber>) -> Option<usize>
+/// The node that a piece belongs to, by the occurrence that defines the piece. A piece without an
+/// occurrence belongs to the program.
+fn node_of_piece(table: &NameTable, occurrence: Option<OccurrenceNumber>) -> Option<Node>
     requires inside { ResolvesInside table.now }
     requires occurrence { IfSome occurrence (λ n. n < length table.now.resolved) }
-    ensures number { result ≡ number_of_piece table.now occurrence }
+    requires count { length table.now.names + 1 < 2 ^ 64 }
+    ensures node { result ≡ node_of_piece table.now occurrence }
     ensures within { IfSome result (λ n. n < length table.now.names + 1) }
 {
-    match occurrence {
-        None => Some(table.count()),
-        Some(occurrence) => resolved_number(table.resolve(occurrence.number())),
-    }
-}
-
-/// Adds the piece at the end of the row with this number, if there is a number.
-fn push_at(
-    rows: &mut Vec<Vec<usize>>,
-    number: Option<usize>,
-    piece: usize,
-) -> Result<(), AllocError>
-    requires { IfSome number (λ n. n < length rows.old.items) }
-    ensures { OnOk result (GrowsBy (λ n. if has_number_in n number then piece ∷ [] else [])
-        (rows_of rows.old.items) (rows_of rows.new.items)) }
-{
-    match number {
-        None => Ok(()),
-        Some(n) => push_to(rows, n, piece),
+    let Some(occurrence) = occurrence else {
+        return Some(Node::program());
+    };
+    match resolved_number(table.resolve(occurrence.number())) {
+        Some(id) => Some(Node::name(id)),
+        None => None,
     }
 }
 
@@ -58,56 +57,50 @@ pub(crate) fn pieces_by_node(
     alloc: Global,
     web: &Web,
     table: &NameTable,
-) -> Result<Vec<Vec<usize>>, AllocError>
+) -> Result<Rows<usize>, AllocError>
     requires { table.now ≡ table_of web.now }
-    ensures { IfOk result (λ rows. IsRowsOf (length table.now.names + 1)
-        (positions_of table.now web.now.pieces) (rows_of rows.items)) }
+    ensures { IfOk result (IsRowsOf (length table.now.names + 1)
+        (positions_of table.now web.now.pieces)) }
 {
-    let mut rows = rows_for(alloc, table)?;
-    let pieces = web.pieces();
-    for (i, piece) in pieces.iter().enumerate() {
-        push_at(&mut rows, number_of_piece(table, piece.occurrence()), i)?;
+    let mut rows = GrowingRows::with_rows(alloc, node_count(table)?)?;
+    for (i, piece) in web.pieces().iter().enumerate() {
+        if let Some(node) = node_of_piece(table, piece.occurrence()) {
+            rows.push_to(node.number(), i)?;
+        }
     }
-    Ok(rows)
+    rows.finish(alloc)
 }
 
-/// Whether this piece is the next one in the row with this number. If so, it is counted in
-/// `passed`, which has for each row the number of pieces found so far. A piece of no node always
-/// passes.
-fn pass_next(
-    rows: &[Vec<usize>],
-    passed: &mut Vec<usize>,
-    number: Option<usize>,
-    piece: usize,
-) -> bool
-    requires number { IfSome number (λ n. n < length rows.now) }
+/// Whether this piece is the next one in the row of the node. If so, it is counted in `passed`,
+/// which has for each row the number of pieces found so far. A piece of no node always passes.
+fn pass_next(rows: &Rows<usize>, passed: &mut Vec<usize>, node: Option<Node>, piece: usize) -> bool
+    requires node { IfSome node (λ n. n < length rows.now) }
     requires size { length passed.old.items ≡ length rows.now }
     ensures size { length passed.new.items ≡ length rows.now }
     ensures rows { result ≡ true → (n : ℕ) → n < length rows.now
-        → passed_of (rows_of rows.now) passed.new.items n
-        ≡ passed_of (rows_of rows.now) passed.old.items n
-        ++ (if has_number_in n number then piece ∷ [] else []) }
+        → passed_of rows.now passed.new.items n
+        ≡ passed_of rows.now passed.old.items n
+        ++ (if has_number_in n node then piece ∷ [] else []) }
 {
-    match number {
-        None => true,
-        Some(n) => {
-            let at = passed[n];
-            if rows[n].get(at) != Some(&piece) {
-                return false;
-            }
-            passed[n] = at + 1;
-            true
-        }
+    let Some(node) = node else {
+        return true;
+    };
+    let n = node.number();
+    let at = passed[n];
+    if rows.row(n).get(at) != Some(&piece) {
+        return false;
     }
+    passed[n] = at + 1;
+    true
 }
 
-fn are_passed(rows: &[Vec<usize>], passed: &[usize]) -> bool
+fn are_passed(rows: &Rows<usize>, passed: &[usize]) -> bool
     requires { length passed.now ≡ length rows.now }
     ensures { result ≡ true → (n : ℕ) → n < length rows.now
-        → passed_of (rows_of rows.now) passed.now n ≡ row_at (rows_of rows.now) n }
+        → passed_of rows.now passed.now n ≡ row_at rows.now n }
 {
     for n in 0..rows.len() {
-        if passed[n] != rows[n].len() {
+        if passed[n] != rows.row(n).len() {
             return false;
         }
     }
@@ -118,39 +111,27 @@ fn are_passed(rows: &[Vec<usize>], passed: &[usize]) -> bool
 /// made.
 pub(crate) fn are_rows_of(
     alloc: Global,
-    rows: &[Vec<usize>],
+    rows: &Rows<usize>,
     web: &Web,
     table: &NameTable,
 ) -> Result<bool, AllocError>
     requires { table.now ≡ table_of web.now }
     ensures { IfOk result (λ are. are ≡ true → IsRowsOf (length table.now.names + 1)
-        (positions_of table.now web.now.pieces) (rows_of rows.now)) }
+        (positions_of table.now web.now.pieces) rows.now) }
 {
-    let count = table.count();
-    if rows.len() <= count || rows.len() - count != 1 {
+    if rows.len() != node_count(table)? {
         return Ok(false);
     }
     let mut passed = vec![in alloc; 0; rows.len()]?;
-    let pieces = web.pieces();
-    for (i, piece) in pieces.iter().enumerate() {
+    for (i, piece) in web.pieces().iter().enumerate() {
         if !pass_next(
             rows,
             &mut passed,
-            number_of_piece(table, piece.occurrence()),
+            node_of_piece(table, piece.occurrence()),
             i,
         ) {
             return Ok(false);
         }
     }
     Ok(are_passed(rows, &passed))
-}
-
-/// One empty row for each name, and one for the program.
-fn rows_for(alloc: Global, table: &NameTable) -> Result<Vec<Vec<usize>>, AllocError>
-    ensures { IfOk result (λ rows. IsRowsOf (length table.now.names + 1) (λ _. [])
-        (rows_of rows.items)) }
-{
-    let mut rows = empty_rows(alloc, table.count())?;
-    rows.push(Vec::new(alloc))?;
-    Ok(rows)
 }

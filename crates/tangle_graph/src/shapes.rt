@@ -4,7 +4,7 @@ ghost use Rattle.tangle_plans.specs.Shapes.{Shapes};
 ghost use Rattle.tangle_graph.specs.Stores.{IsStoreOf, shape_in_store};
 
 use crate::store::Store;
-use tangle_plans::Node;
+use digraph::Node;
 
 /// Whether the two nodes have the same shape: the same pieces, without section numbers, file names
 /// and line numbers, and with each use as the name that it resolves to. All nodes without a piece

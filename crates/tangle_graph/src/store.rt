@@ -1,45 +1,40 @@
 //! The store of a web's graph of names.
-ghost use Rattle.std.specs.Prelude.{◌≡◌, ◌++◌, ◌∷◌, [], ℕ, IfOk, OnOk, OnErr, IfSome, IsSome};
-ghost use Rattle.std.specs.Prelude.{Contains, All, true, false, ◌<◌, ◌+◌, length, map};
-ghost use Rattle.std.specs.Prelude.{slice_index_or};
+ghost use Rattle.std.specs.Prelude.{◌≡◌, ◌++◌, ◌∷◌, [], ℕ, suc, IfOk, OnOk, OnErr, IfSome, IsSome};
+ghost use Rattle.std.specs.Prelude.{Contains, All, true, ◌<◌, ◌+◌, length, map};
 ghost use Rattle.std.specs.Option.{option_copied};
+ghost use Rattle.digraph.specs.Rows.{IsRowsOf};
 ghost use Rattle.tangle_names.specs.NameTable.{table_of};
 ghost use Rattle.tangle_expansion.specs.Kept.{kept_at, used_symbols};
 ghost use Rattle.tangle_expansion.specs.Limits.{flat_of};
 ghost use Rattle.tangle_plans.specs.NodeBodies.{body_uses};
 ghost use Rattle.tangle_plans.specs.Shapes.{Shapes};
 ghost use Rattle.tangle_plans.specs.Slots.{filled};
-ghost use Rattle.tangle_plans.specs.declared.nodes.Node.TheVariants as node_kind;
-ghost use Rattle.digraph.specs.Graph.{rows_of};
-ghost use Rattle.digraph.specs.Rows.{IsRowsOf};
 ghost use Rattle.tangle_graph.specs.Faults.{AreGraphFaults};
 ghost use Rattle.tangle_graph.specs.Grouping.{positions_of};
 ghost use Rattle.tangle_graph.specs.NameGraphs.{IsNameGraphOf};
-ghost use Rattle.tangle_graph.specs.Nodes.{number_in};
 ghost use Rattle.tangle_graph.specs.Ordering.{IsOrderIn};
-ghost use Rattle.tangle_graph.specs.Plans.{AreBodies, AreBodiesBefore, ArePieceFlags, ArePlanned};
-ghost use Rattle.tangle_graph.specs.Plans.{ArePlans, node_bodies, slots_of, uses_of_plans};
+ghost use Rattle.tangle_graph.specs.Plans.{AreBodies, AreBodiesBefore, node_bodies};
 ghost use Rattle.tangle_graph.specs.Stores.{IsStoreOf, KeepsBodies, KeepsUsed, plan_uses_at};
-ghost use Rattle.tangle_graph.specs.Stores.{slots_at};
-ghost use Rattle.tangle_graph.specs.Stores.{title_in_store, contains_itself_at, is_expandable_at};
+ghost use Rattle.tangle_graph.specs.Stores.{body_at, slots_at, title_in_store};
+ghost use Rattle.tangle_graph.specs.Stores.{contains_itself_at, is_expandable_at};
 ghost use Rattle.tangle_graph.specs.Stores.{weight_at, depth_at, uses_at, users_at, has_piece_at};
-ghost use Rattle.tangle_graph.specs.Stores.{body_at};
 ghost use Rattle.tangle_graph.specs.WebStores.{IsStoreOfWeb};
 
-use crate::bodies::{OldBodies, are_same_flags, bodies_by_node, no_bodies, piece_flags};
+use crate::bodies::{OldBodies, bodies_by_node, have_same_pieces, no_bodies};
 use crate::faults::FaultSearch;
 use crate::measures::Measures;
-use crate::name_graph::{NameGraph, are_names_of, have_same_uses};
-use crate::nodes::{entry, number_in, row};
+use crate::name_graph::{NameGraph, are_same_names, have_same_uses};
+use crate::nodes::entry;
 use crate::outputs::outputs;
 use crate::pieces::{are_rows_of, pieces_by_node};
+use digraph::{Node, Rows};
 use std::alloc::Global;
 use std::marker::Model;
 use std::rc::Rc;
 use tangle_expansion::{Expansion, Kept, Output, Work, expand};
 use tangle_lines::{Fault, NoMemory};
 use tangle_names::{Counted, NameTable, Names};
-use tangle_plans::{Node, NodeBody};
+use tangle_plans::NodeBody;
 use tangle_scan::Web;
 
 /// For each node of a web: its pieces, the names that it uses and the nodes that use it, its weight
@@ -50,8 +45,7 @@ use tangle_scan::Web;
 #[derive(Drop)]
 pub struct Store {
     name_graph: Rc<NameGraph>,
-    pieces: Rc<Vec<Vec<usize>>>,
-    has_piece: Vec<bool>,
+    pieces: Rc<Rows<usize>>,
     weights: Vec<u32>,
     depths: Vec<u16>,
     expandable: Vec<bool>,
@@ -90,18 +84,13 @@ impl Store {
         ensures { IfOk result (IsStoreOfWeb web.now table.now out.now) }
     {
         let pieces = shared_pieces(alloc, web, table)?;
-        let all: &Vec<Vec<usize>> = &pieces;
-        let rows: &[Vec<usize>] = all;
-        let has_piece = piece_flags(alloc, rows)?;
-        let flags: &[bool] = &has_piece;
         let names = table.names()?;
-        let none = no_bodies(&names, flags);
-        let made = bodies_by_node(alloc, web, table, flags, rows, none, true)?;
+        let rows: &Rows<usize> = &pieces;
+        let none = no_bodies(&names, rows);
+        let made = bodies_by_node(alloc, web, table, &names, rows, none, true)?;
         let bodies = made.bodies;
-        let name_graph = NameGraph::shared(alloc, table, &bodies)?;
-        Store::over(
-            alloc, web, table, out, pieces, has_piece, bodies, name_graph,
-        )
+        let name_graph = NameGraph::shared(alloc, names, &bodies)?;
+        Store::over(alloc, web, table, out, pieces, bodies, name_graph)
     }
 
     /// The same store, built from the store of an older web: what did not change is shared with the
@@ -123,42 +112,30 @@ impl Store {
             (λ made. KeepsBodies old.now made.store made.are_kept.items) }
     {
         let pieces = old.pieces_for(alloc, web, table)?;
-        let all: &Vec<Vec<usize>> = &pieces;
-        let rows: &[Vec<usize>] = all;
-        let has_piece = piece_flags(alloc, rows)?;
-        let flags: &[bool] = &has_piece;
+        let names = table.names()?;
+        let rows: &Rows<usize> = &pieces;
+        let same_names = are_same_names(old.names(), &names);
+        let same_nodes = same_names && have_same_pieces(old.pieces(), rows);
         let before = old.bodies();
-        let same_names = old.has_names_of(table);
-        let same_names_and_flags = same_names && are_same_flags(before.has_piece, flags);
-        let made = bodies_by_node(alloc, web, table, flags, rows, before, same_names_and_flags)?;
+        let made = bodies_by_node(alloc, web, table, &names, rows, before, same_nodes)?;
         let are_kept = made.are_kept;
         let bodies = made.bodies;
-        let name_graph = old.name_graph_for(alloc, table, same_names, &bodies)?;
-        let store = Store::over(
-            alloc, web, table, out, pieces, has_piece, bodies, name_graph,
-        )?;
+        let name_graph = old.name_graph_for(alloc, names, same_names, &bodies)?;
+        let store = Store::over(alloc, web, table, out, pieces, bodies, name_graph)?;
         Ok(Rebuilt { store, are_kept })
     }
 
-    fn has_names_of(&self, table: &NameTable) -> bool
-        ensures { result ≡ true → self.now.names ≡ table.now.names }
-    {
-        are_names_of(&self.name_graph.names, table)
-    }
-
-    /// The bodies of the nodes, with the names and flags on which their plans depend.
+    /// The bodies of the nodes, with the names and rows on which their plans depend.
     fn bodies(&self) -> OldBodies<'_>
         ensures planned { AreBodiesBefore result }
         ensures names { result.names.now ≡ self.now.names }
+        ensures pieces { result.pieces.now ≡ self.now.pieces }
         ensures bodies { node_bodies result.bodies.now ≡ self.now.bodies }
     {
-        let name_graph: &NameGraph = &self.name_graph;
-        let names: &Names = &name_graph.names;
-        let has_piece: &[bool] = &self.has_piece;
         let bodies: &[Rc<NodeBody>] = &self.bodies;
         OldBodies {
-            names,
-            has_piece,
+            names: self.names(),
+            pieces: self.pieces(),
             bodies,
         }
     }
@@ -170,12 +147,11 @@ impl Store {
         &self.name_graph.names
     }
 
-    /// For each name, and then for the program, a row with the numbers of its pieces.
-    pub fn pieces(&self) -> &[Vec<usize>]
-        ensures { rows_of result.now ≡ self.now.pieces }
+    /// For each node a row with the numbers of its pieces.
+    pub fn pieces(&self) -> &Rows<usize>
+        ensures { result.now ≡ self.now.pieces }
     {
-        let rows: &Vec<Vec<usize>> = &self.pieces;
-        rows
+        &self.pieces
     }
 
     /// The pieces of each node of a web: the store's own rows, if they are the same.
@@ -184,32 +160,30 @@ impl Store {
         alloc: Global,
         web: &Web,
         table: &NameTable,
-    ) -> Result<Rc<Vec<Vec<usize>>>, NoMemory>
+    ) -> Result<Rc<Rows<usize>>, NoMemory>
         requires { table.now ≡ table_of web.now }
         ensures { IfOk result (λ rows. IsRowsOf (length table.now.names + 1)
-            (positions_of table.now web.now.pieces) (rows_of rows.value.items)) }
+            (positions_of table.now web.now.pieces) rows.value) }
     {
-        let all: &Vec<Vec<usize>> = &self.pieces;
-        if are_rows_of(alloc, all, web, table)? {
+        if are_rows_of(alloc, self.pieces(), web, table)? {
             return Ok(self.pieces.clone()?);
         }
         shared_pieces(alloc, web, table)
     }
 
-    /// The graph of the table's names and these bodies: the store's own, if it is the same.
+    /// The graph of these names and bodies: the store's own, if it is the same.
     fn name_graph_for(
         &self,
         alloc: Global,
-        table: &NameTable,
+        names: Names,
         same_names: bool,
         bodies: &[Rc<NodeBody>],
     ) -> Result<Rc<NameGraph>, NoMemory>
-        requires same_names { same_names ≡ true → self.now.names ≡ table.now.names }
-        requires size { length bodies.now ≡ length table.now.names + 1 }
-        requires inside { All (λ row. All (λ id. id < length table.now.names) row)
+        requires same_names { same_names ≡ true → self.now.names ≡ names }
+        requires size { length bodies.now ≡ length names + 1 }
+        requires inside { All (All (λ id. id < length names))
             (map body_uses (node_bodies bodies.now)) }
-        ensures names { IfOk result
-            (λ name_graph. name_graph.value.names ≡ table.now.names) }
+        ensures names { IfOk result (λ name_graph. name_graph.value.names ≡ names) }
         ensures name_graph { IfOk result
             (λ name_graph. IsNameGraphOf (map body_uses (node_bodies bodies.now))
             name_graph.value) }
@@ -217,32 +191,24 @@ impl Store {
         if same_names && have_same_uses(&self.bodies, bodies) {
             Ok(self.name_graph.clone()?)
         } else {
-            NameGraph::shared(alloc, table, bodies)
+            NameGraph::shared(alloc, names, bodies)
         }
     }
 
-    /// Makes a store from the pieces, the bodies and the graph of a web's nodes. The flags say
-    /// which nodes have a piece.
+    /// Makes a store from the pieces, the bodies and the graph of a web's nodes.
     fn over(
         alloc: Global,
         web: &Web,
         table: &NameTable,
         out: &[u8],
-        pieces: Rc<Vec<Vec<usize>>>,
-        has_piece: Vec<bool>,
+        pieces: Rc<Rows<usize>>,
         bodies: Vec<Rc<NodeBody>>,
         name_graph: Rc<NameGraph>,
     ) -> Result<Store, NoMemory>
         requires table { table.now ≡ table_of web.now }
         requires grouped { IsRowsOf (length table.now.names + 1)
-            (positions_of table.now web.now.pieces) (rows_of pieces.value.items) }
-        requires has_piece { ArePieceFlags (rows_of pieces.value.items) has_piece.items }
-        requires bodies { AreBodies web.now table.now (rows_of pieces.value.items)
-            (node_bodies bodies.items) }
-        requires plans { ArePlans web.now table.now (λ id. slice_index_or has_piece.items id false)
-            (rows_of pieces.value.items) (slots_of bodies.items) (uses_of_plans bodies.items) }
-        requires planned { ArePlanned table.now.names
-            (λ id. slice_index_or has_piece.items id false) (node_bodies bodies.items) }
+            (positions_of table.now web.now.pieces) pieces.value }
+        requires bodies { AreBodies web.now table.now pieces.value (node_bodies bodies.items) }
         requires names { name_graph.value.names ≡ table.now.names }
         requires name_graph { IsNameGraphOf (map body_uses (node_bodies bodies.items))
             name_graph.value }
@@ -250,26 +216,22 @@ impl Store {
         ensures bodies { IfOk result (λ store. store.bodies ≡ node_bodies bodies.items) }
     {
         let shared: &NameGraph = &name_graph;
-        let has_piece_by_node: &[bool] = &has_piece;
-        let all: &Vec<Vec<usize>> = &pieces;
-        let rows: &[Vec<usize>] = all;
-        let uses: &[Vec<usize>] = &shared.uses;
-        let order: &[usize] = &shared.order;
+        let rows: &Rows<usize> = &pieces;
         // Measures are made anew, in one short pass.
-        let measures = Measures::build(alloc, web, table, rows, uses, order, &bodies)?;
-        let program_has_piece = has_piece_by_node[table.count()];
-        let outputs = outputs(
+        let measures = Measures::build(
             alloc,
             web,
             table,
-            out,
-            program_has_piece,
-            &measures.expandable,
+            rows,
+            &shared.uses,
+            &shared.order,
+            &bodies,
         )?;
+        let has_program = !rows.row(Node::program().number()).is_empty();
+        let outputs = outputs(alloc, web, table, out, has_program, &measures.expandable)?;
         Ok(Store {
             name_graph,
             pieces,
-            has_piece,
             weights: measures.weights,
             depths: measures.depths,
             expandable: measures.expandable,
@@ -278,27 +240,17 @@ impl Store {
         })
     }
 
-    /// The number of the node, if the store has it.
-    pub(crate) fn number(&self, node: Node) -> Option<usize>
-        ensures { result ≡ number_in (length self.now.names) node }
-    {
-        number_in(self.name_graph.names.count(), node)
-    }
-
     /// The body of the node, if the store has it.
     pub(crate) fn body(&self, node: Node) -> Option<&NodeBody>
         ensures body { option_copied result ≡ body_at self.now node }
         ensures uses { IfSome result
             (λ body. All (λ id. id < length self.now.names) (body_uses body.now)) }
     {
-        match self.number(node) {
-            Some(n) => match self.bodies.get(n) {
-                Some(body) => {
-                    let body: &NodeBody = body;
-                    Some(body)
-                }
-                None => None,
-            },
+        match self.bodies.get(node.number()) {
+            Some(body) => {
+                let body: &NodeBody = body;
+                Some(body)
+            }
             None => None,
         }
     }
@@ -307,14 +259,14 @@ impl Store {
     pub fn has_piece(&self, node: Node) -> bool
         ensures { result ≡ has_piece_at self.now node }
     {
-        !row(self.pieces(), self.number(node)).is_empty()
+        !self.pieces.row(node.number()).is_empty()
     }
 
     /// Whether the node contains itself: it reaches itself by one use or more.
     pub fn self_containing(&self, node: Node) -> bool
         ensures { result ≡ contains_itself_at self.now node }
     {
-        entry(&self.name_graph.self_containing, self.number(node), false)
+        entry(&self.name_graph.self_containing, node, false)
     }
 
     /// Whether the node is expandable: it has a piece, reaches no name that contains itself, weighs
@@ -322,7 +274,7 @@ impl Store {
     pub fn expandable(&self, node: Node) -> bool
         ensures { result ≡ is_expandable_at self.now node }
     {
-        entry(&self.expandable, self.number(node), false)
+        entry(&self.expandable, node, false)
     }
 
     /// The weight of the node: each byte of an item counts 1, and so do an opening, a closing, a
@@ -332,7 +284,7 @@ impl Store {
     pub fn weight(&self, node: Node) -> u32
         ensures { result ≡ weight_at self.now node }
     {
-        entry(&self.weights, self.number(node), 0)
+        entry(&self.weights, node, 0)
     }
 
     /// The depth of the node: 0 without a piece, else one more than the greatest depth among the
@@ -341,21 +293,21 @@ impl Store {
     pub fn depth(&self, node: Node) -> u16
         ensures { result ≡ depth_at self.now node }
     {
-        entry(&self.depths, self.number(node), 0)
+        entry(&self.depths, node, 0)
     }
 
     /// The names that the node uses, each once.
     pub fn uses(&self, node: Node) -> &[Node]
         ensures { result.now ≡ uses_at self.now node }
     {
-        row(&self.name_graph.used_nodes, self.number(node))
+        self.name_graph.uses.row(node.number())
     }
 
     /// The nodes that use this one, each once.
     pub fn users(&self, node: Node) -> &[Node]
         ensures { result.now ≡ users_at self.now node }
     {
-        row(&self.name_graph.user_nodes, self.number(node))
+        self.name_graph.users.row(node.number())
     }
 
     /// The output files: the main file first, if the program has no piece or is expandable, and
@@ -392,7 +344,7 @@ impl Store {
             web,
             table,
             out,
-            has_piece: &self.has_piece,
+            pieces: self.pieces(),
             self_containing: &name_graph.self_containing,
             reaching_cycles: &name_graph.reaching_cycles,
             expandable: &self.expandable,
@@ -406,7 +358,7 @@ impl Store {
     pub fn order(&self) -> &[Node]
         ensures { IsOrderIn self.now result.now }
     {
-        self.name_graph.node_order.as_slice()
+        self.name_graph.order.as_slice()
     }
 
     /// Expands a node: the expansion has the node's own symbols, with each use of a name with a
@@ -425,7 +377,7 @@ impl Store {
     ) -> Result<Expansion, NoMemory>
         requires expandable { is_expandable_at self.now node ≡ true }
         requires kept { (id : ℕ) → Contains (plan_uses_at self.now node) id
-            → IsSome (kept_at kept.now (node_kind.Name id)) }
+            → IsSome (kept_at kept.now (suc id)) }
         ensures symbols { IfOk result
             (λ e. e ≡ filled (used_symbols kept.now) (slots_at self.now node)) }
         ensures right { (shapes : Shapes) → IsStoreOf shapes self.now
@@ -434,19 +386,14 @@ impl Store {
         ensures listed { OnOk result (work.new ≡ work.old ++ node ∷ []) }
         ensures err { OnErr result (work.new ≡ work.old) }
     {
-        let n = self.number(node).unwrap();
-        expand(alloc, node, &self.bodies[n], kept, work)
+        expand(alloc, node, &self.bodies[node.number()], kept, work)
     }
 }
 
-fn shared_pieces(
-    alloc: Global,
-    web: &Web,
-    table: &NameTable,
-) -> Result<Rc<Vec<Vec<usize>>>, NoMemory>
+fn shared_pieces(alloc: Global, web: &Web, table: &NameTable) -> Result<Rc<Rows<usize>>, NoMemory>
     requires { table.now ≡ table_of web.now }
     ensures { IfOk result (λ rows. IsRowsOf (length table.now.names + 1)
-        (positions_of table.now web.now.pieces) (rows_of rows.value.items)) }
+        (positions_of table.now web.now.pieces) rows.value) }
 {
     Ok(Rc::new(alloc, pieces_by_node(alloc, web, table)?)?)
 }

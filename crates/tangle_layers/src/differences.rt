@@ -3,7 +3,7 @@ use crate::graph::add_node;
 use crate::listing::Listing;
 use std::alloc::Global;
 use tangle_affected::affected;
-use tangle_graph::{Node, Store, same_shape};
+use tangle_graph::{Node, Store, node_before, same_shape};
 use tangle_lines::{NoMemory, Sink};
 use tangle_names::Names;
 
@@ -32,16 +32,17 @@ fn list_compared<S: Sink>(
 fn list_comparisons<S: Sink>(out: &mut Listing<S>, first: &Store, second: &Store) {
     let names = first.names();
     for id in 0..names.count() {
-        let other = second.names().find(names.text(id)).map(Node::Name);
-        list_compared(out, first, Node::Name(id), second, other);
+        let node = Node::name(id);
+        let other = node_before(second.names(), names, node);
+        list_compared(out, first, node, second, other);
     }
-    list_compared(out, first, Node::Program, second, Some(Node::Program));
+    list_compared(out, first, Node::program(), second, Some(Node::program()));
 }
 
 fn list_affected_node<S: Sink>(out: &mut Listing<S>, names: &Names, node: Node) {
     out.begin(b"affected");
     add_node(out, node);
-    if let Node::Name(id) = node
+    if let Some(id) = node.name_number()
         && id < names.count()
     {
         out.text(names.text(id));

@@ -5,12 +5,12 @@ use tangle_lines::Sink;
 
 /// Adds a node.
 pub fn add_node<S: Sink>(out: &mut Listing<S>, node: Node) {
-    match node {
-        Node::Name(id) => {
+    match node.name_number() {
+        Some(id) => {
             out.word(b"name");
             out.number(id);
         }
-        Node::Program => out.word(b"program"),
+        None => out.word(b"program"),
     }
 }
 
@@ -46,7 +46,7 @@ fn list_node<S: Sink>(out: &mut Listing<S>, store: &Store, node: Node) {
 /// Lists the nodes, the program last.
 pub fn list_nodes<S: Sink>(out: &mut Listing<S>, store: &Store) {
     for id in 0..store.names().count() {
-        list_node(out, store, Node::Name(id));
+        list_node(out, store, Node::name(id));
     }
-    list_node(out, store, Node::Program);
+    list_node(out, store, Node::program());
 }

@@ -9,7 +9,7 @@ abbrev pub is_head : Token → Bool
 is_head token.Section = true
 is_head (token.MacroStart line) = true
 is_head (token.UnnamedPart line) = true
-is_head (token.NamedPart occurrence line) = true
+is_head (token.NamedPart line occurrence) = true
 is_head _ = false
 
 -- no head is among these tokens

@@ -155,7 +155,7 @@ name_lexeme role tokens more after text = record {
 abbrev pub use_of_name : LexerState → List Cell → Lexeme
 use_of_name s text =
     name_lexeme role.Use
-    (token.UseOf s.occurrences (front_line s.last_line (name_end text))
+    (token.UseOf (front_line s.last_line (name_end text)) s.occurrences
     ∷ name_faults s.last_line text
     ++ fault_if (has_single_equals (after_name text))
     fault.NameEquals (front_line s.last_line text))
@@ -168,7 +168,7 @@ definition_or_mention None s text =
     name_lexeme role.Mention (name_faults s.last_line text) (name_more text) s text
 definition_or_mention (Some count) s text =
     name_lexeme role.Definition
-    (token.NamedPart s.occurrences (front_line s.last_line (drop (name_more text + count) text))
+    (token.NamedPart (front_line s.last_line (drop (name_more text + count) text)) s.occurrences
     ∷ [])
     (name_more text + count) (in_mode mode.CPart s) text
 

@@ -293,11 +293,11 @@ fn push_use(
     has_single_equals: bool,
 ) -> Result<(), AllocError>
     ensures { OnOk result (tokens.new.items ≡ tokens.old.items
-        ++ token.UseOf number name.now.end_line
+        ++ token.UseOf name.now.end_line number
         ∷ fault_if (not name.now.is_ended) fault.NameEnd name.now.end_line
         ++ fault_if has_single_equals fault.NameEquals name.now.line) }
 {
-    tokens.push(Token::UseOf(number, name.end_line))?;
+    tokens.push(Token::UseOf(name.end_line, number))?;
     push_end_fault(tokens, name)?;
     if has_single_equals {
         tokens.push(Token::Fault(FaultKind::NameEquals, name.line))?;
@@ -393,7 +393,7 @@ fn push_definition(
 ) -> Result<LexerState, AllocError>
     requires { state.occurrences ≡ length buffers.old.occurrences.items }
     ensures tokens { OnOk result (buffers.new.tokens.items
-        ≡ buffers.old.tokens.items ++ token.NamedPart state.occurrences line ∷ []) }
+        ≡ buffers.old.tokens.items ++ token.NamedPart line state.occurrences ∷ []) }
     ensures occurrences { OnOk result (buffers.new.occurrences.items ≡ buffers.old.occurrences.items
         ++ occurrence_of source.now.lines (spec.in_role role.Definition name) ∷ []) }
     ensures state { IfOk result
@@ -402,7 +402,7 @@ fn push_definition(
 {
     buffers
         .tokens
-        .push(Token::NamedPart(state.occurrences, line))?;
+        .push(Token::NamedPart(line, state.occurrences))?;
     let after = push_occurrence(
         source,
         &mut buffers.occurrences,

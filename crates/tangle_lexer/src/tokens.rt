@@ -25,9 +25,10 @@ pub enum Token {
     MacroStart(u32),
     /// The start of an unnamed C part, with the line of its `@c` or `@p`.
     UnnamedPart(u32),
-    /// The start of a named C part, with the number of the occurrence that names it, and the line
-    /// of its equals sign.
-    NamedPart(usize, u32),
+    /// The start of a named C part, with the line of its equals sign, and the number of the
+    /// occurrence that names it.
+    // The line comes first, so that a token takes 16 bytes and not 24.
+    NamedPart(u32, usize),
     /// A range of a line: a word, a sign, or a range of a quoted or verbatim text.
     Span(SpanKind, Span),
     /// A run: a range of a line of words, signs and single spaces in a C part. Its words and signs
@@ -43,8 +44,8 @@ pub enum Token {
     White,
     /// A line end of a C part or a macro, with the line that it ends.
     LineEnd(u32),
-    /// A use of a name, with the number of its occurrence and the line on which the name ends.
-    UseOf(usize, u32),
+    /// A use of a name, with the line on which the name ends and the number of its occurrence.
+    UseOf(u32, usize),
     /// `@h`, with its line.
     AllMacros(u32),
     /// A fault, with its line.

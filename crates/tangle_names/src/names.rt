@@ -1,5 +1,5 @@
 //! The full names of a web, shared with its table.
-ghost use Rattle.std.specs.Prelude.{◌≡◌, ◌<◌, [], IfOk, IfSome, None, length, position};
+ghost use Rattle.std.specs.Prelude.{◌≡◌, ◌<◌, [], IfOk, length, position};
 ghost use Rattle.std.specs.Prelude.{slice_index_or};
 ghost use Rattle.std.specs.Str.{bytes_eq};
 ghost use Rattle.tangle_names.specs.Numbers.{key_texts};
@@ -65,18 +65,5 @@ impl Names {
         ensures { result ≡ position (bytes_eq text.now) self.now }
     {
         self.resolution.find(text)
-    }
-
-    /// The number of the name with this text, if there is one. The name with the number `id` is
-    /// compared first, since after most edits a name keeps its number and needs no look-up.
-    pub fn find_from(&self, id: usize, text: &[u8]) -> Option<usize>
-        ensures some { IfSome result (λ n. (n < length self.now)
-            × (slice_index_or self.now n [] ≡ text.now)) }
-        ensures none { result ≡ None → position (bytes_eq text.now) self.now ≡ None }
-    {
-        if id < self.count() && self.text(id) == text {
-            return Some(id);
-        }
-        self.find(text)
     }
 }

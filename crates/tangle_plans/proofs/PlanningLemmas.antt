@@ -11,7 +11,7 @@ use Rattle.tangle_plans.specs.Shapes.{Title}
 use Rattle.tangle_plans.specs.Flat.{Byte}
 use Rattle.tangle_plans.specs.Meaning.{bytes_between, pieces_after_step, marks_after_step, bytes_after_step}
 use Rattle.tangle_plans.specs.Slots.{Own, step_slots, slots, pieces_after_plan, marks_after_plan, bytes_after_plan}
-use Rattle.tangle_plans.specs.Slots.{EndsWithin, is_run, last_run, IsMade, byte_slots}
+use Rattle.tangle_plans.specs.Slots.{EndsWithin, has_bytes, step_of_bytes, IsMade, byte_slots}
 use Rattle.tangle_plans.specs.declared.steps.Step.{Step}
 use Rattle.tangle_plans.specs.declared.steps.Step.TheVariants as step
 
@@ -64,7 +64,7 @@ between-longer bytes more start end h = by (nat_lt start end) refl
 step_slots-longer : (node : Title) (bytes more : List ℕ) (piece marks start : ℕ) (s : Step)
     → EndsWithin (length bytes) s
     → step_slots node (bytes ++ more) piece marks start s ≡ step_slots node bytes piece marks start s
-step_slots-longer node bytes more piece marks start (step.Run end) h =
+step_slots-longer node bytes more piece marks start (step.Bytes end) h =
     ap (map (λ b. Own (Byte b))) (between-longer bytes more start end h)
 step_slots-longer node bytes more piece marks start _ h = refl
 
@@ -92,88 +92,90 @@ bytes_made node bytes more plan piece marks start h =
     ∙ ap (λ l. slots node bytes 0 0 0 plan ++ l) (map-append (λ b. Own (Byte b)) (drop start bytes) more)
     ∙ sym (append_assoc (slots node bytes 0 0 0 plan) (byte_slots (drop start bytes)) (byte_slots more))
 
--- the last run
+-- with a step for the last bytes
 
 take_all : (xs : List ℕ) (n : ℕ) → n ≡ length xs → take n xs ≡ xs
 take_all xs n e = rw e (take-length xs)
 
-pub run_made : (node : Title) (bytes : List ℕ) (plan : List Step) (piece marks start : ℕ)
+pub step_of_bytes_made : (node : Title) (bytes : List ℕ) (plan : List Step) (piece marks start : ℕ)
     → IsMade bytes plan piece marks start
-    → slots node bytes 0 0 0 (plan ++ last_run start (length bytes))
+    → slots node bytes 0 0 0 (plan ++ step_of_bytes start (length bytes))
     ≡ slots node bytes 0 0 0 plan ++ byte_slots (drop start bytes)
-run_made node bytes plan piece marks start h =
-    slots-append node bytes 0 0 0 plan (last_run start (length bytes)) ∙ by (nat_lt start (length bytes)) refl
+step_of_bytes_made node bytes plan piece marks start h =
+    slots-append node bytes 0 0 0 plan (step_of_bytes start (length bytes)) ∙ by (nat_lt start (length bytes)) refl
   where
     by : (t : Bool) → nat_lt start (length bytes) ≡ t
         → slots node bytes 0 0 0 plan
         ++ slots node bytes (pieces_after_plan 0 plan) (marks_after_plan 0 plan)
-        (bytes_after_plan 0 plan) (if t then step.Run (length bytes) ∷ [] else [])
+        (bytes_after_plan 0 plan) (if t then step.Bytes (length bytes) ∷ [] else [])
         ≡ slots node bytes 0 0 0 plan ++ byte_slots (drop start bytes)
     by true e =
         ap (λ l. slots node bytes 0 0 0 plan ++ l)
         (append-nil (byte_slots (bytes_between bytes (bytes_after_plan 0 plan) (length bytes)))
-        ∙ ap (λ n. byte_slots (bytes_between bytes n (length bytes))) (sym h.runs)
+        ∙ ap (λ n. byte_slots (bytes_between bytes n (length bytes))) (sym h.used)
         ∙ ap byte_slots (take_all (drop start bytes) (length bytes - start) (sym (length-drop start bytes))))
     by false e =
         let high : length bytes ≤ start = ltb-false start (length bytes) e in
         ap (λ l. slots node bytes 0 0 0 plan ++ byte_slots l) (sym (drop_all start bytes high))
 
-run_keeps : (piece marks start end : ℕ)
-    → (pieces_after_plan piece (last_run start end) ≡ piece) × (marks_after_plan marks (last_run start end) ≡ marks)
-run_keeps piece marks start end = by (nat_lt start end)
+step_keeps : (piece marks start end : ℕ)
+    → (pieces_after_plan piece (step_of_bytes start end) ≡ piece)
+    × (marks_after_plan marks (step_of_bytes start end) ≡ marks)
+step_keeps piece marks start end = by (nat_lt start end)
   where
     by : (t : Bool)
-        → (pieces_after_plan piece (if t then step.Run end ∷ [] else []) ≡ piece)
-        × (marks_after_plan marks (if t then step.Run end ∷ [] else []) ≡ marks)
+        → (pieces_after_plan piece (if t then step.Bytes end ∷ [] else []) ≡ piece)
+        × (marks_after_plan marks (if t then step.Bytes end ∷ [] else []) ≡ marks)
     by true = (refl, refl)
     by false = (refl, refl)
 
-run_ends : (start end : ℕ) → start ≤ end
-    → (bytes_after_plan start (last_run start end) ≡ end) × AllByRecursion (EndsWithin end) (last_run start end)
-run_ends start end le = by (nat_lt start end) refl
+step_ends : (start end : ℕ) → start ≤ end
+    → (bytes_after_plan start (step_of_bytes start end) ≡ end)
+    × AllByRecursion (EndsWithin end) (step_of_bytes start end)
+step_ends start end le = by (nat_lt start end) refl
   where
     by : (t : Bool) → nat_lt start end ≡ t
-        → (bytes_after_plan start (if t then step.Run end ∷ [] else []) ≡ end)
-        × AllByRecursion (EndsWithin end) (if t then step.Run end ∷ [] else [])
+        → (bytes_after_plan start (if t then step.Bytes end ∷ [] else []) ≡ end)
+        × AllByRecursion (EndsWithin end) (if t then step.Bytes end ∷ [] else [])
     by true e = (refl, (omega arith, tt))
     by false e = (let high : end ≤ start = ltb-false start end e in (omega (arith, high, le)), tt)
 
--- a step that is no run
+-- a step without bytes
 
 own_step : (node : Title) (bytes : List ℕ) (piece marks start : ℕ) (s : Step)
-    → is_run s ≡ false → step_slots node bytes piece marks start s ≡ step_slots node [] piece marks 0 s
-own_step node bytes piece marks start (step.Run end) e = absurd (cc)
+    → has_bytes s ≡ false → step_slots node bytes piece marks start s ≡ step_slots node [] piece marks 0 s
+own_step node bytes piece marks start (step.Bytes end) e = absurd (cc)
 own_step node bytes piece marks start _ e = refl
 
-no_end : (most start : ℕ) (s : Step) → is_run s ≡ false → EndsWithin most s × (bytes_after_step start s ≡ start)
-no_end most start (step.Run end) e = absurd (cc)
+no_end : (most start : ℕ) (s : Step) → has_bytes s ≡ false → EndsWithin most s × (bytes_after_step start s ≡ start)
+no_end most start (step.Bytes end) e = absurd (cc)
 no_end most start _ e = (tt, refl)
 
 pub step_made : (node : Title) (bytes : List ℕ) (plan plan' : List Step) (piece marks start : ℕ) (s : Step)
-    → IsMade bytes plan piece marks start → is_run s ≡ false
-    → plan' ≡ (plan ++ last_run start (length bytes)) ++ s ∷ []
+    → IsMade bytes plan piece marks start → has_bytes s ≡ false
+    → plan' ≡ (plan ++ step_of_bytes start (length bytes)) ++ s ∷ []
     → slots node bytes 0 0 0 plan' ++ byte_slots (drop (length bytes) bytes)
     ≡ (slots node bytes 0 0 0 plan ++ byte_slots (drop start bytes)) ++ step_slots node [] piece marks 0 s
 step_made node bytes plan plan' piece marks start s h own e =
-    let run = last_run start (length bytes) in
-    let keeps = run_keeps (pieces_after_plan 0 plan) (marks_after_plan 0 plan) start (length bytes) in
+    let added = step_of_bytes start (length bytes) in
+    let keeps = step_keeps (pieces_after_plan 0 plan) (marks_after_plan 0 plan) start (length bytes) in
     ap (λ l. slots node bytes 0 0 0 l ++ byte_slots (drop (length bytes) bytes)) e
-    ∙ ap (λ l. slots node bytes 0 0 0 ((plan ++ run) ++ s ∷ []) ++ byte_slots l)
+    ∙ ap (λ l. slots node bytes 0 0 0 ((plan ++ added) ++ s ∷ []) ++ byte_slots l)
     (drop_all (length bytes) bytes (omega arith))
-    ∙ append-nil (slots node bytes 0 0 0 ((plan ++ run) ++ s ∷ []))
-    ∙ slots-append node bytes 0 0 0 (plan ++ run) (s ∷ [])
+    ∙ append-nil (slots node bytes 0 0 0 ((plan ++ added) ++ s ∷ []))
+    ∙ slots-append node bytes 0 0 0 (plan ++ added) (s ∷ [])
     ∙ ap
     (λ l. l
-    ++ slots node bytes (pieces_after_plan 0 (plan ++ run)) (marks_after_plan 0 (plan ++ run))
-    (bytes_after_plan 0 (plan ++ run)) (s ∷ [])) (run_made node bytes plan piece marks start h)
+    ++ slots node bytes (pieces_after_plan 0 (plan ++ added)) (marks_after_plan 0 (plan ++ added))
+    (bytes_after_plan 0 (plan ++ added)) (s ∷ [])) (step_of_bytes_made node bytes plan piece marks start h)
     ∙ ap (λ l. (slots node bytes 0 0 0 plan ++ byte_slots (drop start bytes)) ++ l)
-    (append-nil (step_slots node bytes (pieces_after_plan 0 (plan ++ run))
-    (marks_after_plan 0 (plan ++ run)) (bytes_after_plan 0 (plan ++ run)) s)
-    ∙ own_step node bytes (pieces_after_plan 0 (plan ++ run))
-    (marks_after_plan 0 (plan ++ run)) (bytes_after_plan 0 (plan ++ run)) s own
-    ∙ ap (λ n. step_slots node [] n (marks_after_plan 0 (plan ++ run)) 0 s)
-    (pieces_after_plan-append 0 plan run ∙ keeps.0 ∙ sym h.pieces)
-    ∙ ap (λ n. step_slots node [] piece n 0 s) (marks_after_plan-append 0 plan run ∙ keeps.1 ∙ sym h.marks_of_piece))
+    (append-nil (step_slots node bytes (pieces_after_plan 0 (plan ++ added))
+    (marks_after_plan 0 (plan ++ added)) (bytes_after_plan 0 (plan ++ added)) s)
+    ∙ own_step node bytes (pieces_after_plan 0 (plan ++ added))
+    (marks_after_plan 0 (plan ++ added)) (bytes_after_plan 0 (plan ++ added)) s own
+    ∙ ap (λ n. step_slots node [] n (marks_after_plan 0 (plan ++ added)) 0 s)
+    (pieces_after_plan-append 0 plan added ∙ keeps.0 ∙ sym h.pieces)
+    ∙ ap (λ n. step_slots node [] piece n 0 s) (marks_after_plan-append 0 plan added ∙ keeps.1 ∙ sym h.marks_of_piece))
 
 pieces_after_step-few : (piece n : ℕ) (s : Step) → piece ≤ n → pieces_after_step piece s ≤ n + 1
 pieces_after_step-few piece n step.Open h = omega (arith, h)
@@ -184,52 +186,52 @@ marks_after_step-few marks n step.Mark h = omega (arith, h)
 marks_after_step-few marks n _ h = omega (arith, h)
 
 pub more_steps : (bytes : List ℕ) (plan plan' : List Step) (piece marks start : ℕ) (s : Step)
-    → IsMade bytes plan piece marks start → is_run s ≡ false
-    → plan' ≡ (plan ++ last_run start (length bytes)) ++ s ∷ []
+    → IsMade bytes plan piece marks start → has_bytes s ≡ false
+    → plan' ≡ (plan ++ step_of_bytes start (length bytes)) ++ s ∷ []
     → IsMade bytes plan' (pieces_after_step piece s) (marks_after_step marks s) (length bytes)
 more_steps bytes plan plan' piece marks start s h own e =
-    let run = last_run start (length bytes) in
-    let keeps = run_keeps (pieces_after_plan 0 plan) (marks_after_plan 0 plan) start (length bytes) in
-    let ends = run_ends start (length bytes) h.within in
+    let added = step_of_bytes start (length bytes) in
+    let keeps = step_keeps (pieces_after_plan 0 plan) (marks_after_plan 0 plan) start (length bytes) in
+    let ends = step_ends start (length bytes) h.within in
     let none = no_end (length bytes) (length bytes) s own in
     let longer : length plan + 1 ≤ length plan' =
-    omega (arith, ap length e, length-append (plan ++ run) (s ∷ []), length-append plan run) in
+    omega (arith, ap length e, length-append (plan ++ added) (s ∷ []), length-append plan added) in
     record {
       pieces =
-          ap (λ n. pieces_after_step n s) (h.pieces ∙ sym keeps.0 ∙ sym (pieces_after_plan-append 0 plan run))
-          ∙ sym (ap (pieces_after_plan 0) e ∙ pieces_after_plan-append 0 (plan ++ run) (s ∷ []));
+          ap (λ n. pieces_after_step n s) (h.pieces ∙ sym keeps.0 ∙ sym (pieces_after_plan-append 0 plan added))
+          ∙ sym (ap (pieces_after_plan 0) e ∙ pieces_after_plan-append 0 (plan ++ added) (s ∷ []));
       marks_of_piece =
-          ap (λ n. marks_after_step n s) (h.marks_of_piece ∙ sym keeps.1 ∙ sym (marks_after_plan-append 0 plan run))
-          ∙ sym (ap (marks_after_plan 0) e ∙ marks_after_plan-append 0 (plan ++ run) (s ∷ []));
-      runs = sym (ap (bytes_after_plan 0) e ∙ bytes_after_plan-append 0 (plan ++ run) (s ∷ [])
+          ap (λ n. marks_after_step n s) (h.marks_of_piece ∙ sym keeps.1 ∙ sym (marks_after_plan-append 0 plan added))
+          ∙ sym (ap (marks_after_plan 0) e ∙ marks_after_plan-append 0 (plan ++ added) (s ∷ []));
+      used = sym (ap (bytes_after_plan 0) e ∙ bytes_after_plan-append 0 (plan ++ added) (s ∷ [])
           ∙ ap (λ n. bytes_after_step n s)
-          (bytes_after_plan-append 0 plan run ∙ ap (λ n. bytes_after_plan n run) (sym h.runs) ∙ ends.0)
+          (bytes_after_plan-append 0 plan added ∙ ap (λ n. bytes_after_plan n added) (sym h.used) ∙ ends.0)
           ∙ none.1);
       within = omega arith;
       pieces_few = omega (arith, longer, pieces_after_step-few piece (length plan) s h.pieces_few);
       marks_few = omega (arith, longer, marks_after_step-few marks (length plan) s h.marks_few);
       ends = subst (AllByRecursion (EndsWithin (length bytes))) (sym e)
-          (ends-append (length bytes) (plan ++ run) (s ∷ [])
-          (ends-append (length bytes) plan run h.ends ends.1) (none.0, tt));
+          (ends-append (length bytes) (plan ++ added) (s ∷ [])
+          (ends-append (length bytes) plan added h.ends ends.1) (none.0, tt));
     }
 
-pub with_run : (bytes : List ℕ) (plan plan' : List Step) (piece marks start : ℕ)
-    → IsMade bytes plan piece marks start → plan' ≡ plan ++ last_run start (length bytes)
+pub with_bytes : (bytes : List ℕ) (plan plan' : List Step) (piece marks start : ℕ)
+    → IsMade bytes plan piece marks start → plan' ≡ plan ++ step_of_bytes start (length bytes)
     → IsMade bytes plan' piece marks (length bytes)
-with_run bytes plan plan' piece marks start h e =
-    let run = last_run start (length bytes) in
-    let keeps = run_keeps (pieces_after_plan 0 plan) (marks_after_plan 0 plan) start (length bytes) in
-    let ends = run_ends start (length bytes) h.within in
-    let longer : length plan ≤ length plan' = omega (arith, ap length e, length-append plan run) in
+with_bytes bytes plan plan' piece marks start h e =
+    let added = step_of_bytes start (length bytes) in
+    let keeps = step_keeps (pieces_after_plan 0 plan) (marks_after_plan 0 plan) start (length bytes) in
+    let ends = step_ends start (length bytes) h.within in
+    let longer : length plan ≤ length plan' = omega (arith, ap length e, length-append plan added) in
     record {
-      pieces = h.pieces ∙ sym (ap (pieces_after_plan 0) e ∙ pieces_after_plan-append 0 plan run ∙ keeps.0);
+      pieces = h.pieces ∙ sym (ap (pieces_after_plan 0) e ∙ pieces_after_plan-append 0 plan added ∙ keeps.0);
       marks_of_piece =
-          h.marks_of_piece ∙ sym (ap (marks_after_plan 0) e ∙ marks_after_plan-append 0 plan run ∙ keeps.1);
-      runs = sym (ap (bytes_after_plan 0) e ∙ bytes_after_plan-append 0 plan run
-          ∙ ap (λ n. bytes_after_plan n run) (sym h.runs) ∙ ends.0);
+          h.marks_of_piece ∙ sym (ap (marks_after_plan 0) e ∙ marks_after_plan-append 0 plan added ∙ keeps.1);
+      used = sym (ap (bytes_after_plan 0) e ∙ bytes_after_plan-append 0 plan added
+          ∙ ap (λ n. bytes_after_plan n added) (sym h.used) ∙ ends.0);
       within = omega arith;
       pieces_few = omega (arith, longer, h.pieces_few);
       marks_few = omega (arith, longer, h.marks_few);
       ends = subst (AllByRecursion (EndsWithin (length bytes)))
-          (sym e) (ends-append (length bytes) plan run h.ends ends.1);
+          (sym e) (ends-append (length bytes) plan added h.ends ends.1);
     }

@@ -33,7 +33,7 @@ bytes_ids (b ∷ bytes) = bytes_ids bytes
 step_ids : (node : Title) (bytes : List ℕ) (piece marks start : ℕ) (s : Step)
     → flat_map slot_ids (step_slots node bytes piece marks start s) ≡ step_uses s
 unfolding slot_ids
-step_ids node bytes piece marks start (step.Run end) = bytes_ids (bytes_between bytes start end)
+step_ids node bytes piece marks start (step.Bytes end) = bytes_ids (bytes_between bytes start end)
 step_ids node bytes piece marks start _ = refl
 
 pub plan_ids : (node : Title) (bytes : List ℕ) (piece marks start : ℕ) (plan : List Step)

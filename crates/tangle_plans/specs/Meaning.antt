@@ -33,7 +33,7 @@ module _ (node : Title) (bytes : List ℕ) where
   plan_flat piece marks start [] used = left_over used
   plan_flat piece marks start (step.Open ∷ plan) used =
       Opening node piece ∷ MarkOf node piece 0 ∷ plan_flat piece 0 start plan used
-  plan_flat piece marks start (step.Run end ∷ plan) used =
+  plan_flat piece marks start (step.Bytes end ∷ plan) used =
       map Byte (bytes_between bytes start end) ++ plan_flat piece marks end plan used
   plan_flat piece marks start (step.Mark ∷ plan) used =
       MarkOf node piece (marks + 1) ∷ plan_flat piece (marks + 1) start plan used
@@ -52,7 +52,7 @@ module _ (node : Title) (bytes : List ℕ) where
 abbrev pub is_use_step : Step → Bool
 is_use_step (step.Use id) = true
 is_use_step step.Open = false
-is_use_step (step.Run end) = false
+is_use_step (step.Bytes end) = false
 is_use_step step.Mark = false
 is_use_step step.AllMacros = false
 is_use_step step.Space = false
@@ -61,7 +61,7 @@ is_use_step step.Close = false
 abbrev pub pieces_after_step : ℕ → Step → ℕ
 pieces_after_step piece step.Close = piece + 1
 pieces_after_step piece step.Open = piece
-pieces_after_step piece (step.Run end) = piece
+pieces_after_step piece (step.Bytes end) = piece
 pieces_after_step piece step.Mark = piece
 pieces_after_step piece step.AllMacros = piece
 pieces_after_step piece step.Space = piece
@@ -71,13 +71,13 @@ abbrev pub marks_after_step : ℕ → Step → ℕ
 marks_after_step marks step.Open = 0
 marks_after_step marks step.Close = 0
 marks_after_step marks step.Mark = marks + 1
-marks_after_step marks (step.Run end) = marks
+marks_after_step marks (step.Bytes end) = marks
 marks_after_step marks step.AllMacros = marks
 marks_after_step marks step.Space = marks
 marks_after_step marks (step.Use id) = marks
 
 abbrev pub bytes_after_step : ℕ → Step → ℕ
-bytes_after_step start (step.Run end) = end
+bytes_after_step start (step.Bytes end) = end
 bytes_after_step start step.Open = start
 bytes_after_step start step.Mark = start
 bytes_after_step start step.AllMacros = start
@@ -104,7 +104,7 @@ module _ (node : Title) (bytes : List ℕ) where
   -- the symbols of a step that is no use
   abbrev pub own_symbols : ℕ → ℕ → ℕ → Step → List Symbol
   own_symbols piece marks start step.Open = Opening node piece ∷ MarkOf node piece 0 ∷ []
-  own_symbols piece marks start (step.Run end) = map Byte (bytes_between bytes start end)
+  own_symbols piece marks start (step.Bytes end) = map Byte (bytes_between bytes start end)
   own_symbols piece marks start step.Mark = MarkOf node piece (marks + 1) ∷ []
   own_symbols piece marks start step.AllMacros = AllMacros ∷ []
   own_symbols piece marks start step.Space = Byte space ∷ []

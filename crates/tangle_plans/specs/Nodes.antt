@@ -1,16 +1,36 @@
--- The pieces of each node of a web.
-use Rattle.std.specs.Prelude.{◌≡◌, ◌<◌, ℕ, List, [], ◌∷◌, ◌++◌, length, map}
+-- The nodes of a web: their titles, and the rows of their pieces.
+use Rattle.std.specs.Prelude.{◌≡◌, ◌<◌, ℕ, zero, suc, Bool, true, false, List, [], ◌∷◌, length, map}
+use Rattle.std.specs.Prelude.{slice_get, Option, Some, None}
 use Rattle.std.specs.List.{All}
+use Rattle.digraph.specs.Graph.{row_at}
+use Rattle.digraph.specs.Nodes.{Node}
 use Rattle.tangle_scan.specs.Web.{WebRead}
 use Rattle.tangle_names.specs.NameTable.{TableRead}
-use Rattle.tangle_plans.specs.Shapes.{Program, Named}
+use Rattle.tangle_plans.specs.Shapes.{Title, Program, Named}
 use Rattle.tangle_plans.specs.WebShapes.{pieces_of}
 use Rattle.tangle_plans.specs.ItemSlots.{pieces_at}
 
--- the rows have the numbers of the pieces of each name, in the order of the table, and then of the
--- program
+abbrev pub title_of_name : Option (List ℕ) → Title
+title_of_name None = Program
+title_of_name (Some name) = Named name
+
+-- the title of the node
+abbrev pub title_at : List (List ℕ) → Node → Title
+title_at names zero = Program
+title_at names (suc id) = title_of_name (slice_get names id)
+
+-- the node with this row of pieces has a piece
+abbrev pub row_has_piece : List ℕ → Bool
+row_has_piece [] = false
+row_has_piece (n ∷ ns) = true
+
+-- the name with this number has a piece, where the rows have the pieces of each node
+abbrev pub has_piece_in : List (List ℕ) → ℕ → Bool
+has_piece_in rows id = row_has_piece (row_at rows (suc id))
+
+-- the rows have the numbers of the pieces of the program, and then of each name, in the order of
+-- the table
 pub record IsGroupedBy (web : WebRead) (table : TableRead) (rows : List (List ℕ)) : Type 0 where
   pub inside : All (All (λ n. n < length web.pieces)) rows
   pub right : map (pieces_at web.pieces) rows
-      ≡ map (λ name. pieces_of web table (Named name)) table.names
-      ++ pieces_of web table Program ∷ []
+      ≡ pieces_of web table Program ∷ map (λ name. pieces_of web table (Named name)) table.names

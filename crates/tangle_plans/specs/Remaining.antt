@@ -8,8 +8,8 @@ pub record Remaining : Type 0 where
   pub tags : List ItemTag
   pub bytes : List ℕ
 
--- What remains, where these tags and bytes are in memory. The first bytes, as many as `run`, are the
--- rest of a run that was begun.
+-- What remains, where these tags and bytes are in memory. The first bytes, as many as `run`, are
+-- the rest of a run that was begun.
 abbrev pub remaining : List ItemTag → List ℕ → ℕ → Remaining
 remaining tags bytes run = record {
   tags = run_tags (take run bytes) ++ unfolded_tags tags (drop run bytes);

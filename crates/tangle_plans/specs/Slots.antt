@@ -18,7 +18,7 @@ pub data Slot : Type 0 where
 module _ (node : Title) (bytes : List ℕ) where
   abbrev pub step_slots : ℕ → ℕ → ℕ → Step → List Slot
   step_slots piece marks start step.Open = Own (Opening node piece) ∷ Own (MarkOf node piece 0) ∷ []
-  step_slots piece marks start (step.Run end) =
+  step_slots piece marks start (step.Bytes end) =
       map (λ b. Own (Byte b)) (bytes_between bytes start end)
   step_slots piece marks start step.Mark = Own (MarkOf node piece (marks + 1)) ∷ []
   step_slots piece marks start step.AllMacros = Own AllMacros ∷ []
@@ -45,7 +45,7 @@ filled symbols ss = flat_map (filled_slot symbols) ss
 abbrev pub step_uses : Step → List ℕ
 step_uses (step.Use id) = id ∷ []
 step_uses step.Open = []
-step_uses (step.Run end) = []
+step_uses (step.Bytes end) = []
 step_uses step.Mark = []
 step_uses step.AllMacros = []
 step_uses step.Space = []
@@ -69,9 +69,9 @@ abbrev pub bytes_after_plan : ℕ → List Step → ℕ
 bytes_after_plan start [] = start
 bytes_after_plan start (s ∷ plan) = bytes_after_plan (bytes_after_step start s) plan
 
--- if the step is a run, it ends at this position or before
+-- if the step has bytes, they end at this position or before
 abbrev pub EndsWithin : ℕ → Step → Type 0
-EndsWithin most (step.Run end) = end ≤ most
+EndsWithin most (step.Bytes end) = end ≤ most
 EndsWithin most step.Open = Unit {0}
 EndsWithin most step.Mark = Unit {0}
 EndsWithin most step.AllMacros = Unit {0}
@@ -79,25 +79,25 @@ EndsWithin most step.Space = Unit {0}
 EndsWithin most (step.Use id) = Unit {0}
 EndsWithin most step.Close = Unit {0}
 
-abbrev pub is_run : Step → Bool
-is_run (step.Run end) = true
-is_run step.Open = false
-is_run step.Mark = false
-is_run step.AllMacros = false
-is_run step.Space = false
-is_run (step.Use id) = false
-is_run step.Close = false
+abbrev pub has_bytes : Step → Bool
+has_bytes (step.Bytes end) = true
+has_bytes step.Open = false
+has_bytes step.Mark = false
+has_bytes step.AllMacros = false
+has_bytes step.Space = false
+has_bytes (step.Use id) = false
+has_bytes step.Close = false
 
--- the run up to a position, unless the run is empty
-abbrev pub last_run : ℕ → ℕ → List Step
-last_run start end = if nat_lt start end then step.Run end ∷ [] else []
+-- the step of the bytes between two positions, if there are any
+abbrev pub step_of_bytes : ℕ → ℕ → List Step
+step_of_bytes start end = if nat_lt start end then step.Bytes end ∷ [] else []
 
--- bytes and a plan while they are made: `start` is the end of the last run, and each run ends
--- within the bytes
+-- bytes and a plan while they are made: `start` is the end of the bytes that steps have, and each
+-- step's bytes end within the bytes
 pub record IsMade (bytes : List ℕ) (plan : List Step) (piece marks start : ℕ) : Type 0 where
   pub pieces : piece ≡ pieces_after_plan 0 plan
   pub marks_of_piece : marks ≡ marks_after_plan 0 plan
-  pub runs : start ≡ bytes_after_plan 0 plan
+  pub used : start ≡ bytes_after_plan 0 plan
   pub within : start ≤ length bytes
   pub pieces_few : piece ≤ length plan
   pub marks_few : marks ≤ length plan

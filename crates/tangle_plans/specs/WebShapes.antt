@@ -9,8 +9,8 @@ use Rattle.tangle_scan.specs.Web.{WebRead, PieceRead}
 use Rattle.tangle_names.specs.declared.Resolved.{Resolved}
 use Rattle.tangle_names.specs.declared.Resolved.TheVariants.{Name, NoFullName, Ambiguous}
 use Rattle.tangle_names.specs.NameTable.{TableRead}
-use Rattle.tangle_plans.specs.Shapes.{Title, Program, Named, title_eq, Kind, ShapeItem, Written}
-use Rattle.tangle_plans.specs.Shapes.{Mark, AllMacros, Use, NoUse, Shape, Shapes}
+use Rattle.tangle_plans.specs.Shapes.{Title, Program, Named, title_eq, ShapeItem, Written}
+use Rattle.tangle_plans.specs.Shapes.{Mark, AllMacros, Use, NoUse, Shapes}
 use Rattle.tangle_plans.specs.Shapes as kind
 
 module _ (table : TableRead) where

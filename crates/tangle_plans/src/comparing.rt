@@ -1,6 +1,6 @@
 //! Compares the body of a node with the pieces that the node has in a new web, entry by entry,
 //! without making a new body. A run is compared at once, if the body has the same run there.
-ghost use Rattle.std.specs.Prelude.{◌≡◌, ◌≢◌, ◌↔◌, ◌∷◌, ◌++◌, ◌<◌, ◌≤◌, true, false, ℕ, Bool, List};
+ghost use Rattle.std.specs.Prelude.{◌≡◌, ◌≢◌, ◌↔◌, ◌∷◌, ◌++◌, ◌<◌, true, false, ℕ, Bool, List};
 ghost use Rattle.std.specs.Prelude.{length, drop, filter, MatchOption};
 ghost use Rattle.std.specs.List.{All};
 ghost use Rattle.tangle_text.specs.Text.{IsSpan, span_text};

@@ -14,7 +14,7 @@ fn symbols_of_step(step: Step, start: usize, size: usize) -> usize
         → length (step_slots Program bytes 0 0 start step) ≡ result }
 {
     match step {
-        Step::Run(end) => end.min(size).saturating_sub(start),
+        Step::Bytes(end) => end.min(size).saturating_sub(start),
         Step::Open => 2,
         Step::Mark | Step::AllMacros | Step::Space | Step::Use(_) | Step::Close => 1,
     }

@@ -16,6 +16,6 @@ mod tags_left;
 
 pub use comparing::has_items_of;
 pub use laws::{names_resolve_inside, tags_settle_the_shape};
-pub use nodes::{Node, NodeBody};
-pub use planning::{Planning, plan_node};
+pub use nodes::NodeBody;
+pub use planning::{Planning, has_piece, plan_node};
 pub use steps::{Step, bytes_after_step, marks_after_step, pieces_after_step};

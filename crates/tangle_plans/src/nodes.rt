@@ -1,7 +1,6 @@
-//! The nodes of a web, and their bodies.
+//! The bodies of nodes.
 ghost use Rattle.std.specs.Prelude.{◌≡◌};
 ghost use Rattle.tangle_plans.specs.NodeBodies.{body_uses};
-ghost use Rattle.tangle_plans.specs.declared.nodes.Node.TheVariants as node_kind;
 
 use crate::steps::Step;
 use crate::tags::ItemTag;
@@ -27,30 +26,5 @@ impl NodeBody {
         ensures { result.now ≡ body_uses self.now }
     {
         self.uses.as_slice()
-    }
-}
-
-/// A node of a web: a full name, by its number in the table of names, or the unnamed program.
-#[derive(Clone, Copy, Debug, PartialEq, Eq)]
-pub enum Node {
-    /// The unnamed program.
-    Program,
-    /// The full name with this number.
-    Name(usize),
-}
-
-impl Node {
-    /// The node of the unnamed program.
-    pub fn program() -> Node
-        ensures { result ≡ node_kind.Program }
-    {
-        Node::Program
-    }
-
-    /// The node of the full name with this number.
-    pub fn name(id: usize) -> Node
-        ensures { result ≡ node_kind.Name id }
-    {
-        Node::Name(id)
     }
 }

@@ -1,7 +1,8 @@
 //! Makes the body of a node, item by item.
-ghost use Rattle.std.specs.Prelude.{◌≡◌, false, length, slice_index_or, ◌++◌, flat_map};
+ghost use Rattle.std.specs.Prelude.{◌≡◌, false, length, ◌++◌, flat_map};
 ghost use Rattle.std.specs.Prelude.{filter, [], IfOk, OnOk, OnErr, ◌+◌, ◌<◌, ◌∷◌};
 ghost use Rattle.std.specs.List.{All};
+ghost use Rattle.digraph.specs.Graph.{row_at};
 ghost use Rattle.tangle_files.specs.Bytes.{line_feed};
 ghost use Rattle.tangle_scan.specs.Entries.{items_of};
 ghost use Rattle.tangle_scan.specs.ItemBytes.{bytes_in};
@@ -9,7 +10,7 @@ ghost use Rattle.tangle_scan.specs.Rules.{span_text};
 ghost use Rattle.tangle_scan.specs.SourceOrder.{IsInRange, IsSpan};
 ghost use Rattle.tangle_scan.specs.WellFormed.{IsUseBelow};
 ghost use Rattle.tangle_plans.specs.Meaning.{title_of, pieces_after_step, marks_after_step};
-ghost use Rattle.tangle_plans.specs.Slots.{slots, byte_slots, step_slots, is_run, last_run};
+ghost use Rattle.tangle_plans.specs.Slots.{slots, byte_slots, step_slots, has_bytes, step_of_bytes};
 ghost use Rattle.tangle_plans.specs.Entries.{IsEntryOf, entries_tags, entry_bytes, entry_slots};
 ghost use Rattle.tangle_plans.specs.Entries.{entry_tag, entry_uses, marks_after_entry, run_tag};
 ghost use Rattle.tangle_plans.specs.ItemTags.{tag_in, uses_in, pieces_bytes, pieces_uses};
@@ -17,6 +18,7 @@ ghost use Rattle.tangle_plans.specs.ItemTags.{shape_of};
 ghost use Rattle.tangle_plans.specs.Tags.{line_end_tag, shape_tags};
 ghost use Rattle.tangle_plans.specs.MakingBodies.{nothing_made};
 ghost use Rattle.tangle_plans.specs.Shapes.{Program};
+ghost use Rattle.tangle_plans.specs.Nodes.{has_piece_in, title_at};
 ghost use Rattle.tangle_plans.specs.NodeBodies.{body_title, body_bytes, body_tags, body_uses};
 ghost use Rattle.tangle_plans.specs.NodeBodies.{plan_slots, plan_uses, HoldsShape};
 ghost use Rattle.tangle_plans.specs.UnfoldedTags.{unfolded_tags};
@@ -28,8 +30,9 @@ use crate::steps::{Step, marks_after_step, pieces_after_step};
 use crate::tags::{
     ItemKind, ItemTag, add_name, line_end_tag, piece_end, tag_count, tag_of, tag_of_span,
 };
+use digraph::{Node, Rows};
 use itoa::Buffer;
-use std::alloc::Global;
+use std::alloc::{AllocError, Global};
 use std::marker::Model;
 use std::mem::replace;
 use tangle_lines::NoMemory;
@@ -115,9 +118,9 @@ impl Planning {
         Ok(())
     }
 
-    /// Adds a step that is no run; the bytes before it become a run.
+    /// Adds a step without bytes, after a step with the bytes that no step has.
     fn add_step(&mut self, step: Step) -> Result<(), NoMemory>
-        requires { is_run step ≡ false }
+        requires { has_bytes step ≡ false }
         ensures { OnOk result (self.new ≡ record self.old {
           piece = pieces_after_step self.old.piece step;
           marks = marks_after_step self.old.marks step;
@@ -125,7 +128,7 @@ impl Planning {
         }) }
     {
         let end = self.bytes.len();
-        end_run(&mut self.plan, self.start, end)?;
+        push_bytes(&mut self.plan, self.start, end)?;
         self.start = end;
         self.plan.push(step)?;
         self.piece = pieces_after_step(self.piece, step);
@@ -178,7 +181,7 @@ impl Planning {
     {
         let mut plan = Vec::with_capacity(alloc, self.plan.len().saturating_add(1))?;
         plan.extend_from_slice(&self.plan)?;
-        end_run(&mut plan, self.start, self.bytes.len())?;
+        push_bytes(&mut plan, self.start, self.bytes.len())?;
         Ok(NodeBody {
             bytes: Vec::from_slice(alloc, &self.bytes)?,
             plan,
@@ -189,33 +192,33 @@ impl Planning {
     }
 }
 
-/// Adds a run of the body's bytes from one position up to another, if there are any.
-fn end_run(plan: &mut Vec<Step>, start: usize, end: usize) -> Result<(), NoMemory>
-    ensures ok { OnOk result (plan.new.items ≡ plan.old.items ++ last_run start end) }
+/// Adds a step with the body's bytes from one position up to another, if there are any.
+fn push_bytes(plan: &mut Vec<Step>, start: usize, end: usize) -> Result<(), NoMemory>
+    ensures ok { OnOk result (plan.new.items ≡ plan.old.items ++ step_of_bytes start end) }
     ensures err { OnErr result (plan.new.items ≡ plan.old.items) }
 {
     if start < end {
-        plan.push(Step::Run(end))?;
+        plan.push(Step::Bytes(end))?;
     }
     Ok(())
 }
 
-fn has_piece_at(has_piece: &[bool], id: usize) -> bool
-    ensures { result ≡ slice_index_or has_piece.now id false }
+/// Whether the name with this number has a piece, by the rows of the pieces of each node.
+pub fn has_piece(rows: &Rows<usize>, id: usize) -> bool
+    ensures { result ≡ has_piece_in rows.now id }
 {
-    has_piece.get(id) == Some(&true)
+    id < rows.len() && !rows.row(Node::name(id).number()).is_empty()
 }
 
 /// Adds a use, by what its occurrence resolves to.
-fn add_use(planning: &mut Planning, resolved: Resolved, has_piece: &[bool]) -> Result<(), NoMemory>
+fn add_use(planning: &mut Planning, resolved: Resolved, rows: &Rows<usize>) -> Result<(), NoMemory>
     ensures { OnOk result (planning.new ≡ record planning.old {
-      made = planning.old.made ++ name_slots (λ id. slice_index_or has_piece.now id false)
-          resolved;
+      made = planning.old.made ++ name_slots (has_piece_in rows.now) resolved;
     }) }
 {
     match resolved {
         Resolved::Name(id) => {
-            if has_piece_at(has_piece, id) {
+            if has_piece(rows, id) {
                 planning.add_step(Step::Use(id))
             } else {
                 planning.add_step(Step::Space)
@@ -230,7 +233,7 @@ fn add_symbols(
     planning: &mut Planning,
     web: &Web,
     table: &NameTable,
-    has_piece: &[bool],
+    rows: &Rows<usize>,
     item: Item,
 ) -> Result<(), NoMemory>
     requires span { IsInRange web.now.texts item }
@@ -238,7 +241,7 @@ fn add_symbols(
     ensures { OnOk result (planning.new ≡ record planning.old {
       marks = marks_after_item planning.old.marks item;
       made = planning.old.made ++ item_slots web.now.texts table.now
-          (λ id. slice_index_or has_piece.now id false) planning.old.node planning.old.piece
+          (has_piece_in rows.now) planning.old.node planning.old.piece
           planning.old.marks item;
       bytes = planning.old.bytes ++ bytes_in web.now.texts item;
     }) }
@@ -255,7 +258,7 @@ fn add_symbols(
             planning.add_bytes(digits.format(value).as_bytes())
         }
         Item::LineMark(_) => planning.add_step(Step::Mark),
-        Item::UseOf(occurrence) => add_use(planning, table.resolve(occurrence.number()), has_piece),
+        Item::UseOf(occurrence) => add_use(planning, table.resolve(occurrence.number()), rows),
         Item::Defs => planning.add_step(Step::AllMacros),
     }
 }
@@ -265,7 +268,7 @@ fn add_item(
     planning: &mut Planning,
     web: &Web,
     table: &NameTable,
-    has_piece: &[bool],
+    rows: &Rows<usize>,
     item: &Item,
 ) -> Result<(), NoMemory>
     requires span { IsInRange web.now.texts item.now }
@@ -273,7 +276,7 @@ fn add_item(
     ensures { OnOk result (planning.new ≡ record planning.old {
       marks = marks_after_item planning.old.marks item.now;
       made = planning.old.made ++ item_slots web.now.texts table.now
-          (λ id. slice_index_or has_piece.now id false) planning.old.node planning.old.piece
+          (has_piece_in rows.now) planning.old.node planning.old.piece
           planning.old.marks item.now;
       bytes = planning.old.bytes ++ bytes_in web.now.texts item.now;
       tags = planning.old.tags ++ tag_in table.now item.now ∷ [];
@@ -282,7 +285,7 @@ fn add_item(
 {
     planning.add_tag(tag_of(item, table))?;
     planning.add_name(table, item)?;
-    add_symbols(planning, web, table, has_piece, *item)
+    add_symbols(planning, web, table, rows, *item)
 }
 
 /// Adds a line end. Line ends are frequent, and need no look-up.
@@ -317,14 +320,14 @@ fn add_entry(
     planning: &mut Planning,
     web: &Web,
     table: &NameTable,
-    has_piece: &[bool],
+    rows: &Rows<usize>,
     entry: &Entry,
 ) -> Result<(), NoMemory>
     requires { IsEntryOf web.now.texts table.now entry.now }
     ensures { OnOk result (planning.new ≡ record planning.old {
       marks = marks_after_entry planning.old.marks entry.now;
       made = planning.old.made ++ entry_slots web.now.texts table.now
-          (λ id. slice_index_or has_piece.now id false) planning.old.node planning.old.piece
+          (has_piece_in rows.now) planning.old.node planning.old.piece
           planning.old.marks entry.now;
       bytes = planning.old.bytes ++ entry_bytes web.now.texts entry.now;
       tags = planning.old.tags ++ entry_tag table.now entry.now ∷ [];
@@ -334,7 +337,7 @@ fn add_entry(
     match entry {
         Entry::Run(span) => add_run(planning, web, *span),
         Entry::Item(Item::LineEnd) => add_line_end(planning),
-        Entry::Item(item) => add_item(planning, web, table, has_piece, item),
+        Entry::Item(item) => add_item(planning, web, table, rows, item),
     }
 }
 
@@ -343,7 +346,7 @@ fn add_piece(
     planning: &mut Planning,
     web: &Web,
     table: &NameTable,
-    has_piece: &[bool],
+    rows: &Rows<usize>,
     entries: &[Entry],
 ) -> Result<(), NoMemory>
     requires { All (IsEntryOf web.now.texts table.now) entries.now }
@@ -352,7 +355,7 @@ fn add_piece(
       piece = planning.old.piece + 1;
       marks = 0;
       made = planning.old.made ++ piece_slots web.now.texts table.now
-          (λ id. slice_index_or has_piece.now id false) planning.old.node planning.old.piece
+          (has_piece_in rows.now) planning.old.node planning.old.piece
           (items_of web.now.texts entries.now);
       bytes = planning.old.bytes ++ flat_map (entry_bytes web.now.texts) entries.now;
       tags = planning.old.tags ++ entries_tags table.now entries.now;
@@ -361,7 +364,7 @@ fn add_piece(
 {
     planning.add_step(Step::Open)?;
     for entry in entries {
-        add_entry(planning, web, table, has_piece, entry)?;
+        add_entry(planning, web, table, rows, entry)?;
     }
     planning.add_step(Step::Close)?;
     planning.add_tag(piece_end())?;
@@ -373,7 +376,7 @@ fn add_pieces(
     planning: &mut Planning,
     web: &Web,
     table: &NameTable,
-    has_piece: &[bool],
+    rows: &Rows<usize>,
     numbers: &[usize],
 ) -> Result<(), NoMemory>
     requires numbers { All (λ n. n < length web.now.pieces) numbers.now }
@@ -381,7 +384,7 @@ fn add_pieces(
     requires begun { planning.old ≡ nothing_made planning.old.node }
     ensures node { OnOk result (planning.new.node ≡ planning.old.node) }
     ensures made { OnOk result (planning.new.made
-        ≡ pieces_slots web.now.texts table.now (λ id. slice_index_or has_piece.now id false)
+        ≡ pieces_slots web.now.texts table.now (has_piece_in rows.now)
         planning.old.node 0 (pieces_at web.now.pieces numbers.now)) }
     ensures bytes { OnOk result
         (planning.new.bytes ≡ pieces_bytes web.now.texts (pieces_at web.now.pieces numbers.now)) }
@@ -393,13 +396,23 @@ fn add_pieces(
 {
     let pieces = web.pieces();
     for number in numbers {
-        add_piece(planning, web, table, has_piece, pieces[*number].entries())?;
+        add_piece(planning, web, table, rows, pieces[*number].entries())?;
     }
     Ok(())
 }
 
-/// Makes the body of a node from the pieces with these numbers. The node is the full name with
-/// these bytes, or the unnamed program. The flags say which names of the table have a piece.
+/// The name of the node; `None` for the program.
+fn name_of_node(alloc: Global, table: &NameTable, node: Node) -> Result<Option<Vec<u8>>, AllocError>
+    ensures { IfOk result (λ name. title_of name ≡ title_at table.now.names node) }
+{
+    match node.name_number() {
+        Some(id) if id < table.count() => Ok(Some(Vec::from_slice(alloc, table.text(id))?)),
+        _ => Ok(None),
+    }
+}
+
+/// Makes the body of a node of the table from its pieces. The rows have the numbers of the pieces
+/// of each node.
 ///
 /// # Errors
 ///
@@ -409,29 +422,29 @@ pub fn plan_node(
     planning: &mut Planning,
     web: &Web,
     table: &NameTable,
-    has_piece: &[bool],
-    name: Option<Vec<u8>>,
-    numbers: &[usize],
+    rows: &Rows<usize>,
+    node: Node,
 ) -> Result<NodeBody, NoMemory>
-    requires numbers { All (λ n. n < length web.now.pieces) numbers.now }
+    requires numbers { All (λ n. n < length web.now.pieces) (row_at rows.now node) }
     requires ours { length table.now.resolved ≡ length web.now.occurrences }
-    ensures title { IfOk result (λ body. body_title body ≡ title_of name) }
+    ensures title { IfOk result (λ body. body_title body ≡ title_at table.now.names node) }
     ensures plan { IfOk result (λ body. plan_slots body
-        ≡ pieces_slots web.now.texts table.now (λ id. slice_index_or has_piece.now id false)
-        (title_of name) 0 (pieces_at web.now.pieces numbers.now)) }
+        ≡ pieces_slots web.now.texts table.now (has_piece_in rows.now)
+        (title_at table.now.names node) 0 (pieces_at web.now.pieces (row_at rows.now node))) }
     ensures shape { IfOk result
         (λ body. HoldsShape table.now.names
-        (shape_of web.now.texts table.now (pieces_at web.now.pieces numbers.now)) body) }
+        (shape_of web.now.texts table.now (pieces_at web.now.pieces (row_at rows.now node)))
+        body) }
     ensures uses { IfOk result
         (λ body. body_uses body
-        ≡ pieces_uses table.now (pieces_at web.now.pieces numbers.now)) }
+        ≡ pieces_uses table.now (pieces_at web.now.pieces (row_at rows.now node))) }
     ensures plan_uses { IfOk result
-        (λ body. plan_uses body ≡ filter (λ id. slice_index_or has_piece.now id false)
-        (pieces_uses table.now (pieces_at web.now.pieces numbers.now))) }
+        (λ body. plan_uses body ≡ filter (has_piece_in rows.now)
+        (pieces_uses table.now (pieces_at web.now.pieces (row_at rows.now node)))) }
 {
-    let tags = tag_count(web.pieces(), numbers);
-    planning.begin(alloc, name, tags)?;
-    add_pieces(planning, web, table, has_piece, numbers)?;
-    let body = planning.finish(alloc)?;
-    Ok(body)
+    let numbers = rows.row(node.number());
+    let name = name_of_node(alloc, table, node)?;
+    planning.begin(alloc, name, tag_count(web.pieces(), numbers))?;
+    add_pieces(planning, web, table, rows, numbers)?;
+    planning.finish(alloc)
 }

@@ -8,7 +8,7 @@ pub enum Step {
     /// A piece begins, with its opening and its opening mark.
     Open,
     /// The bytes of the body up to this position.
-    Run(usize),
+    Bytes(usize),
     /// A line mark.
     Mark,
     /// All macros.
@@ -28,7 +28,7 @@ pub fn pieces_after_step(piece: usize, step: Step) -> usize
 {
     match step {
         Step::Close => piece + 1,
-        Step::Open | Step::Run(_) | Step::Mark | Step::AllMacros | Step::Space | Step::Use(_) =>
+        Step::Open | Step::Bytes(_) | Step::Mark | Step::AllMacros | Step::Space | Step::Use(_) =>
             piece,
     }
 }
@@ -42,7 +42,7 @@ pub fn marks_after_step(marks: usize, step: Step) -> usize
     match step {
         Step::Open | Step::Close => 0,
         Step::Mark => marks + 1,
-        Step::Run(_) | Step::AllMacros | Step::Space | Step::Use(_) => marks,
+        Step::Bytes(_) | Step::AllMacros | Step::Space | Step::Use(_) => marks,
     }
 }
 
@@ -51,7 +51,7 @@ pub fn bytes_after_step(start: usize, step: Step) -> usize
     ensures { result ≡ bytes_after_step start step }
 {
     match step {
-        Step::Run(end) => end,
+        Step::Bytes(end) => end,
         Step::Open | Step::Mark | Step::AllMacros | Step::Space | Step::Use(_) | Step::Close =>
             start,
     }

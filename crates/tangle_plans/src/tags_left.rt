@@ -1,5 +1,5 @@
 //! The tags of a body one after another, where each run is unfolded to its words, signs and spaces.
-ghost use Rattle.std.specs.Prelude.{◌≡◌, ◌↔◌, ◌∷◌, ◌++◌, ◌≤◌, true, false, ℕ, List};
+ghost use Rattle.std.specs.Prelude.{◌≡◌, ◌∷◌, ◌++◌, ◌≤◌, true, false, List};
 ghost use Rattle.std.specs.Prelude.{length, take, drop, min, slice_get, IfSome, MatchOption};
 ghost use Rattle.tangle_files.specs.Bytes.{line_feed};
 ghost use Rattle.tangle_plans.specs.Tags.{line_end_tag};

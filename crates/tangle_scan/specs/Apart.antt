@@ -111,7 +111,7 @@ module _ (texts : List (List ℕ)) where
     token_bytes (token.Span kind s) = span_text texts s
     token_bytes (token.AsciiConstant value line) = decimal value
     token_bytes token.QuoteBreak = line_feed ∷ []
-    token_bytes (token.UseOf occurrence line) = used occurrence
+    token_bytes (token.UseOf line occurrence) = used occurrence
     token_bytes (token.AllMacros line) = macros
     token_bytes _ = []
 

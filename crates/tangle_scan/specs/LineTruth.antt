@@ -97,8 +97,8 @@ module _ (lines : List SourceLine) where
       (continued && not (is_expected lines counted line)) es
   locations before counted stretch (token.QuoteBreak ∷ es) =
       locations (Some token.QuoteBreak) (next_line counted) true es
-  locations before counted stretch (token.UseOf occurrence line ∷ es) =
-      locations (Some (token.UseOf occurrence line)) (origin_at lines line) false es
+  locations before counted stretch (token.UseOf line occurrence ∷ es) =
+      locations (Some (token.UseOf line occurrence)) (origin_at lines line) false es
   locations before counted stretch (token.AllMacros line ∷ es) =
       locations (Some (token.AllMacros line)) (origin_at lines line) false es
   locations before counted stretch (token.Span kind s ∷ es) =

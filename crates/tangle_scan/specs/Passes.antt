@@ -10,7 +10,7 @@ use Rattle.tangle_scan.specs.declared.items.Item.{Item}
 use Rattle.tangle_scan.specs.declared.items.Item.TheVariants as item
 use Rattle.tangle_scan.specs.declared.items.Entry.{Entry}
 use Rattle.tangle_scan.specs.declared.items.Entry.TheVariants as entry
-use Rattle.tangle_scan.specs.declared.spacing.Run.{Run}
+use Rattle.tangle_scan.specs.declared.spacing.Gap.{Gap}
 use Rattle.tangle_scan.specs.declared.spacing.Stage.{Stage}
 use Rattle.tangle_scan.specs.declared.spacing.Spacing.{Spacing}
 use Rattle.tangle_scan.specs.declared.macro_items.MacroState.{MacroState}
@@ -31,13 +31,13 @@ use Rattle.tangle_scan.specs.Rules.{next_line}
 use Rattle.tangle_scan.specs.LineTruth.{is_expected, counted_after_line_end}
 use Rattle.tangle_scan.specs.Rules.{macro_blanks, unmarked_items}
 
--- `run` is a run at the end of a list: it begins inside the list, and its flag says whether it has
+-- `gap` is a gap at the end of a list: it begins inside the list, and its flag says whether it has
 -- a join
-pub record IsRun (spaced : List Token) (run : Run) : Type 0 where
-  pub start : run.start ≤ length spaced
-  pub has : run.has_join ≡ has_join (drop run.start spaced)
+pub record IsGap (spaced : List Token) (gap : Gap) : Type 0 where
+  pub start : gap.start ≤ length spaced
+  pub has : gap.has_join ≡ has_join (drop gap.start spaced)
 
--- what rule 2 leaves of the tokens `spaced` and then `es`, if a run that begins at position `start`
+-- what rule 2 leaves of the tokens `spaced` and then `es`, if a gap that begins at position `start`
 -- of `spaced` goes on in `es`
 unfoldable pub without_joins_from : List Token → ℕ → List Token → List Token
 without_joins_from spaced start es = take start spaced ++ without_joins (drop start spaced) es
@@ -66,7 +66,7 @@ without_skipped stage.Front es = without_front_gaps (without_faults es)
 without_skipped _ es = without_faults es
 
 unfoldable pub spacing_from : List (List ℕ) → List Token → Spacing → List Token → List Token
-spacing_from texts spaced at es = without_joins_from spaced at.run.start
+spacing_from texts spaced at es = without_joins_from spaced at.gap.start
     (with_white_space texts at.stage at.before (without_skipped at.stage es))
 
 abbrev pub is_skipped : Stage → Token → Bool
@@ -81,7 +81,7 @@ abbrev pub is_rare : Token → Bool
 is_rare token.Section = true
 is_rare (token.MacroStart line) = true
 is_rare (token.UnnamedPart line) = true
-is_rare (token.NamedPart occurrence line) = true
+is_rare (token.NamedPart line occurrence) = true
 is_rare (token.Fault kind line) = true
 is_rare token.Join = true
 is_rare (token.AsciiConstant value line) = true
@@ -125,14 +125,14 @@ line_item lines continued counted line =
 
 -- the items that rules 4 and 5 give for a token other than white space and line ends
 abbrev pub items_at : List SourceLine → Token → List Item
-items_at lines (token.UseOf occurrence line) =
+items_at lines (token.UseOf line occurrence) =
     item.UseOf occurrence ∷ item.LineMark (origin_at lines line) ∷ []
 items_at lines (token.AllMacros line) = item.Defs ∷ item.LineMark (origin_at lines line) ∷ []
 items_at lines e = option_to_list (item_of e)
 
 -- the counted origin after such a token
 abbrev pub counted_after_token : List SourceLine → Origin → Token → Origin
-counted_after_token lines counted (token.UseOf occurrence line) = origin_at lines line
+counted_after_token lines counted (token.UseOf line occurrence) = origin_at lines line
 counted_after_token lines counted (token.AllMacros line) = origin_at lines line
 counted_after_token lines counted token.QuoteBreak = next_line counted
 counted_after_token lines counted e = counted

@@ -229,7 +229,7 @@ token_items (token.LineEnd line) = item.LineEnd ∷ []
 token_items token.QuoteBreak = item.QuoteBreak ∷ []
 token_items (token.Span kind s) = span_item kind s ∷ []
 token_items (token.AsciiConstant value line) = item.Code value ∷ []
-token_items (token.UseOf occurrence line) = item.UseOf occurrence ∷ []
+token_items (token.UseOf line occurrence) = item.UseOf occurrence ∷ []
 token_items (token.AllMacros line) = item.Defs ∷ []
 token_items _ = []
 
@@ -237,7 +237,7 @@ token_items _ = []
 -- white space directly before a line end, so there `before` is the last item of the line, if the
 -- line has one.
 abbrev pub marks_after : List SourceLine → Option Token → Token → List Item
-marks_after lines before (token.UseOf occurrence line) = item.LineMark (origin_at lines line) ∷ []
+marks_after lines before (token.UseOf line occurrence) = item.LineMark (origin_at lines line) ∷ []
 marks_after lines before (token.AllMacros line) = item.LineMark (origin_at lines line) ∷ []
 marks_after lines before (token.LineEnd line) =
     if is_continued (texts_of lines) before || nat_le (length lines) (line + 1)
@@ -294,7 +294,7 @@ without_front_gaps (e ∷ es) = e ∷ es
 abbrev pub unmarked_items : List Token → List Item
 unmarked_items [] = []
 -- uses and @h are not in macros
-unmarked_items (token.UseOf occurrence line ∷ es) = unmarked_items es
+unmarked_items (token.UseOf line occurrence ∷ es) = unmarked_items es
 unmarked_items (token.AllMacros line ∷ es) = unmarked_items es
 unmarked_items (e ∷ es) = token_items e ++ unmarked_items es
 

@@ -67,7 +67,7 @@ block_at section (token.MacroStart line) es =
     record { section = section; kind = OfMacro line; tokens = body es } ∷ []
 block_at section (token.UnnamedPart line) es =
     record { section = section; kind = OfPiece None line; tokens = body es } ∷ []
-block_at section (token.NamedPart occurrence line) es =
+block_at section (token.NamedPart line occurrence) es =
     record { section = section; kind = OfPiece (Some occurrence) line; tokens = body es } ∷ []
 block_at section _ es = []
 

@@ -209,7 +209,7 @@ pub(crate) fn token_items(source: &Source, counted: CountedOrigin, token: Token)
         ≡ (list_any is_line_mark (passes.items_at source.now.lines token) || counted.has_mark) }
 {
     match token {
-        Token::UseOf(occurrence, line) => {
+        Token::UseOf(line, occurrence) => {
             let item = Item::UseOf(OccurrenceNumber::new(occurrence));
             with_mark(item, source.origin(line as usize))
         }

@@ -7,7 +7,7 @@ ghost use Rattle.std.specs.List.{list_any};
 ghost use Rattle.tangle_scan.specs.Rules as rules;
 ghost use Rattle.tangle_scan.specs.Rules.{texts_of};
 ghost use Rattle.tangle_scan.specs.Passes as passes;
-ghost use Rattle.tangle_scan.specs.Passes.{IsRun, without_joins_from, spacing_from};
+ghost use Rattle.tangle_scan.specs.Passes.{IsGap, without_joins_from, spacing_from};
 ghost use Rattle.tangle_lexer.specs.declared.tokens.Token.{Token};
 ghost use Rattle.tangle_lexer.specs.declared.tokens.Token.TheVariants as token;
 
@@ -28,62 +28,62 @@ fn is_join(token: Token) -> bool
     matches!(token, Token::Join)
 }
 
-/// The run of joins, white space and line ends at the end of a list: where it begins, and whether
+/// The gap of joins, white space and line ends at the end of a list: where it begins, and whether
 /// it has a join.
 #[derive(Clone, Copy)]
-struct Run {
+struct Gap {
     start: usize,
     has_join: bool,
 }
 
-/// Removes the run at the end of the list if it has a join.
-fn close_run(spaced: &mut Vec<Token>, run: Run)
-    ensures { spaced.new.items ≡ (if run.has_join then take run.start spaced.old.items
+/// Removes the gap at the end of the list if it has a join.
+fn close_gap(spaced: &mut Vec<Token>, gap: Gap)
+    ensures { spaced.new.items ≡ (if gap.has_join then take gap.start spaced.old.items
         else spaced.old.items) }
 {
-    if run.has_join {
-        spaced.truncate(run.start);
+    if gap.has_join {
+        spaced.truncate(gap.start);
     }
 }
 
-/// Adds a token to the list, and returns the run at its end. The token continues the run, or ends
+/// Adds a token to the list, and returns the gap at its end. The token continues the gap, or ends
 /// it.
-fn add_after_run(spaced: &mut Vec<Token>, run: Run, token: Token) -> Result<Run, NoMemory>
-    requires { IsRun spaced.old.items run }
-    ensures run { IfOk result (λ next. IsRun spaced.new.items next) }
+fn add_after_gap(spaced: &mut Vec<Token>, gap: Gap, token: Token) -> Result<Gap, NoMemory>
+    requires { IsGap spaced.old.items gap }
+    ensures gap { IfOk result (λ next. IsGap spaced.new.items next) }
     ensures without_joins { IfOk result (λ next. (rest : List Token) →
         without_joins_from spaced.new.items next.start rest
-        ≡ without_joins_from spaced.old.items run.start (token ∷ rest)) }
+        ≡ without_joins_from spaced.old.items gap.start (token ∷ rest)) }
 {
     if is_gap(token) {
         let join = is_join(token);
         spaced.push(token)?;
-        return Ok(Run {
-            start: run.start,
-            has_join: run.has_join | join,
+        return Ok(Gap {
+            start: gap.start,
+            has_join: gap.has_join | join,
         });
     }
-    close_run(spaced, run);
+    close_gap(spaced, gap);
     spaced.push(token)?;
-    Ok(Run {
+    Ok(Gap {
         start: spaced.len(),
         has_join: false,
     })
 }
 
-/// Adds white space to the list if `needed`, and returns the run at its end.
-fn add_space(spaced: &mut Vec<Token>, run: Run, needed: bool) -> Result<Run, NoMemory>
-    requires { IsRun spaced.old.items run }
-    ensures run { IfOk result (λ next. IsRun spaced.new.items next) }
+/// Adds white space to the list if `needed`, and returns the gap at its end.
+fn add_space(spaced: &mut Vec<Token>, gap: Gap, needed: bool) -> Result<Gap, NoMemory>
+    requires { IsGap spaced.old.items gap }
+    ensures gap { IfOk result (λ next. IsGap spaced.new.items next) }
     ensures without_joins { IfOk result (λ next. (rest : List Token) →
         without_joins_from spaced.new.items next.start rest
-        ≡ without_joins_from spaced.old.items run.start
+        ≡ without_joins_from spaced.old.items gap.start
         ((if needed then token.White ∷ [] else []) ++ rest)) }
 {
     if needed {
-        return add_after_run(spaced, run, Token::White);
+        return add_after_gap(spaced, gap, Token::White);
     }
-    Ok(run)
+    Ok(gap)
 }
 
 /// How much of the beginning of a macro was read.
@@ -100,7 +100,7 @@ enum Stage {
 /// The state of a macro while its tokens are spaced.
 #[derive(Clone, Copy)]
 struct Spacing {
-    run: Run,
+    gap: Gap,
     stage: Stage,
     before: Token,
 }
@@ -167,8 +167,8 @@ fn space_token(
     at: Spacing,
     token: Token,
 ) -> Result<Spacing, NoMemory>
-    requires { IsRun spaced.old.items at.run }
-    ensures run { IfOk result (λ next. IsRun spaced.new.items next.run) }
+    requires { IsGap spaced.old.items at.gap }
+    ensures gap { IfOk result (λ next. IsGap spaced.new.items next.gap) }
     ensures spacing { IfOk result (λ next. (rest : List Token) →
         spacing_from (texts_of source.now.lines) spaced.new.items next rest
         ≡ spacing_from (texts_of source.now.lines) spaced.old.items at (token ∷ rest)) }
@@ -177,16 +177,16 @@ fn space_token(
         return Ok(at);
     }
     let space = needs_space(source, at.stage, at.before, token);
-    let after_space = add_space(spaced, at.run, space)?;
-    let run = add_after_run(spaced, after_space, token)?;
+    let after_space = add_space(spaced, at.gap, space)?;
+    let gap = add_after_gap(spaced, after_space, token)?;
     Ok(Spacing {
-        run,
+        gap,
         stage: stage_after(at.stage, token),
         before: token,
     })
 }
 
-/// Replaces `spaced` by the tokens of a macro with white space added, and without the runs that
+/// Replaces `spaced` by the tokens of a macro with white space added, and without the gaps that
 /// have a join.
 fn space(source: &Source, spaced: &mut Vec<Token>, tokens: &[Token]) -> Result<(), NoMemory>
     ensures { OnOk result (spaced.new.items
@@ -194,7 +194,7 @@ fn space(source: &Source, spaced: &mut Vec<Token>, tokens: &[Token]) -> Result<(
 {
     spaced.clear();
     let mut at = Spacing {
-        run: Run {
+        gap: Gap {
             start: 0,
             has_join: false,
         },
@@ -204,7 +204,7 @@ fn space(source: &Source, spaced: &mut Vec<Token>, tokens: &[Token]) -> Result<(
     for token in tokens {
         at = space_token(source, spaced, at, *token)?;
     }
-    close_run(spaced, at.run);
+    close_gap(spaced, at.gap);
     Ok(())
 }
 

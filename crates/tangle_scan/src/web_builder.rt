@@ -380,7 +380,7 @@ impl WebBuilder {
             }
             Token::MacroStart(line) => self.add_macro(alloc, source, macro_buffer, line, tokens),
             Token::UnnamedPart(line) => self.add_piece(alloc, source, None, line, tokens),
-            Token::NamedPart(occurrence, line) => {
+            Token::NamedPart(line, occurrence) => {
                 let occurrence = OccurrenceNumber::new(occurrence);
                 self.add_piece(alloc, source, Some(occurrence), line, tokens)
             }

@@ -1,7 +1,7 @@
 -- The laws of the headline: one tangling, no cycle below an output, and each cycle reported.
 use Rattle.std.proofs.Common.{◌≡◌, ◌≢◌, ◌∙◌, ◌<◌, ◌++◌, ℕ, zero, suc, Bool, true, false, List, [], ◌∷◌, length, map}
 use Rattle.std.proofs.Common.{flat_map, get_or, refl, ap, sym, subst, arith, zero-add}
-use Rattle.std.specs.Prelude.{if◌then◌else◌, Some, None, IsSome, Contains, option_to_list, slice_get}
+use Rattle.std.specs.Prelude.{if◌then◌else◌, Some, None, Contains, option_to_list, slice_get}
 use Rattle.std.specs.List.{range_with_len}
 use Rattle.std.proofs.lemmas.List.{get_or-map, get_or_default}
 use Rattle.std.proofs.lemmas.List.Elements.{Contains-append_left, Contains-append_right}
@@ -18,17 +18,19 @@ use Rattle.tangle_names.specs.Faults.{name_faults, named_place_of}
 use Rattle.tangle_names.specs.NameTable.{TableRead, table_of}
 use Rattle.tangle_names.specs.Resolving.{first_number, first_occurrence, names_in_order, resolves_to}
 use Rattle.tangle_expansion.specs.Limits.{levels, heaviest}
-use Rattle.tangle_expansion.specs.Affected.{IsExpandable}
 use Rattle.tangle_expansion.specs.Outputs.{OutputRead}
-use Rattle.tangle_plans.specs.WebShapes.{shapes, shape_item, ResolvesInside}
+use Rattle.tangle_plans.specs.WebShapes.{shapes, shape_item}
 use Rattle.tangle_plans.specs.Shapes.{Title, Named, Shape, Shapes, UsesInShape, Reaches, here, on, ContainsItself}
 use Rattle.tangle_graph.specs.Faults.{AreGraphFaults, fault_of, fault_occurrence, faults_of_names}
 use Rattle.tangle_graph.specs.Faults as of_graph
-use Rattle.tangle_graph.specs.Nodes.{title_of_node}
+use Rattle.tangle_plans.specs.Nodes.{title_at}
 use Rattle.tangle_graph.specs.Outputs.{name_with_number}
 use Rattle.tangle_graph.proofs.NodeLemmas.{title_inside}
 use Rattle.tangle_graph.proofs.StoreLemmas.{there}
 use Rattle.tangle_graph.proofs.OutputLemmas.{IsFit}
+use Rattle.tangle_names.proofs.LawLemmas.{occur}
+use Rattle.tangle_plans.proofs.InsideLemmas.{table_inside}
+use Rattle.tangle_expansion.proofs.Unaffected as unaffected
 use Rattle.tangle_session.specs.Faults.{AreFaults}
 use Rattle.tangle_session.specs.Files.{shapes_of, source_at, web_at}
 use Rattle.tangle_session.specs.Laws.{IsReportedSelfContaining}
@@ -67,15 +69,13 @@ none_reached : (shapes : Shapes) (node other : Title)
 none_reached shapes node other e here c = no_use (shapes node) c.0 e c.1
 none_reached shapes node other e (on {name = name} u r) c = no_use (shapes node) name e u
 
-pub no_cycle : ((l h : ℕ) (p : Shapes) (node other : Title)
-    → IsExpandable l h p node → Reaches p node other → ContainsItself p other → ⊥)
-    → (shapes : Shapes) (names : List (List ℕ)) (output : OutputRead) (other : Title) → IsFit shapes names output
-    → Reaches shapes (title_of_node names output.node) other → ContainsItself shapes other → ⊥
-no_cycle law shapes names output other fit r c = by output.has_piece refl
+pub no_cycle : (shapes : Shapes) (names : List (List ℕ)) (output : OutputRead) (other : Title) → IsFit shapes names output
+    → Reaches shapes (title_at names output.node) other → ContainsItself shapes other → ⊥
+no_cycle shapes names output other fit r c = by output.has_piece refl
   where
     by : (b : Bool) → output.has_piece ≡ b → ⊥
-    by true e = law levels heaviest shapes (title_of_node names output.node) other (fit.there e) r c
-    by false e = none_reached shapes (title_of_node names output.node) other (fit.none e) r c
+    by true e = unaffected.no_cycle levels heaviest shapes (title_at names output.node) (fit.there e) (other, r, c)
+    by false e = none_reached shapes (title_at names output.node) other (fit.none e) r c
 
 -- each cycle is reported
 
@@ -98,8 +98,8 @@ module _ (web : WebRead) (out : List ℕ) (faults : List FaultRead)
     (low : id < length (table_of web).names) (text : get_or (table_of web).names id [] ≡ name)
     (contains : ContainsItself (shapes_of web) (Named name))
     (first : first_occurrence web.occurrences name ≡ Some o) where
-  flagged : are.contains_itself id ≡ true
-  flagged = (are.self_containing id (omega (arith, low))).1
+  flagged : are.contains_itself (suc id) ≡ true
+  flagged = (are.self_containing (suc id) (omega (arith, low))).1
       (subst (ContainsItself (shapes_of web)) (sym (title_inside (table_of web).names id low ∙ ap Named text)) contains)
 
   number : get_or (table_of web).first_occurrences id 0 ≡ first_number web.occurrences name
@@ -148,17 +148,14 @@ module _ (web : WebRead) (out : List ℕ) (faults : List FaultRead)
       (faults_of_names web (table_of web) out are.contains_itself are.reaches_cycle kind.SelfContaining) _ x among)))
 
 pub reported_in : (source : SourceRead) (web : WebRead) (out : List ℕ) (faults : List FaultRead) (name : List ℕ)
-    → ResolvesInside (table_of web)
-    → ((text : List ℕ)
-    → Contains (names_in_order web.occurrences) text → IsSome (first_occurrence web.occurrences text))
     → AreFaults source web out faults → ContainsItself (shapes_of web) (Named name)
     → IsReportedSelfContaining web name faults
-reported_in source web out faults name inside occur are c =
-    let found = there (table_of web) inside name web.pieces (λ none. a_piece (shapes_of web) name
+reported_in source web out faults name are c =
+    let found = there (table_of web) (table_inside web) name web.pieces (λ none. a_piece (shapes_of web) name
     c (ap (map (λ (p : PieceRead). map (shape_item web.texts (table_of web)) p.items)) none)) in
     let listed : Contains (names_in_order web.occurrences) name =
     (found.0, found.1, get_or_default (table_of web).names found.0 name [] found.1 ∙ found.2) in
-    let o = some_of (first_occurrence web.occurrences name) (occur name listed) in
+    let o = some_of (first_occurrence web.occurrences name) (occur web.occurrences name listed) in
     record {
       occurrence = o.0;
       is_first = o.1;

@@ -3,6 +3,6 @@ mod TangleLemmas
 mod AnalysisLemmas
 pub mod EditLemmas
 mod LawLemmas
-mod NameLemmas
+pub mod NameLemmas
 pub mod HeadlineLemmas
 mod MoveLemmas

@@ -18,14 +18,16 @@ use Rattle.tangle_files.specs.declared.marks.MarkMode.{MarkMode}
 use Rattle.tangle_scan.specs.Web.{WebRead}
 use Rattle.tangle_names.specs.NameTable.{TableRead, table_of}
 use Rattle.tangle_expansion.specs.Outputs.{OutputRead}
-use Rattle.tangle_plans.specs.WebShapes.{shapes, ResolvesInside}
+use Rattle.tangle_plans.specs.WebShapes.{shapes}
 use Rattle.tangle_plans.specs.Shapes.{Named, Program}
-use Rattle.tangle_plans.specs.declared.nodes.Node.TheVariants as node
+use Rattle.digraph.specs.Nodes.{program}
 use Rattle.tangle_graph.specs.Outputs.{firsts, file_names, shape_has_piece, is_expandable, is_written, name_with_number}
 use Rattle.tangle_graph.specs.Outputs.{named_file, outputs}
+use Rattle.tangle_names.proofs.LawLemmas.{once}
+use Rattle.tangle_plans.proofs.InsideLemmas.{table_inside}
 use Rattle.tangle_graph.proofs.NodeLemmas.{once_named}
 use Rattle.tangle_graph.proofs.OutputLemmas.{names_below}
-use Rattle.tangle_session.specs.Files.{output_files}
+use Rattle.tangle_session.specs.Files.{output_files, web_at}
 use Rattle.tangle_session.specs.Tangle.{output_at, outputs_of}
 use Rattle.tangle_session.proofs.OutputLemmas.{names_written}
 
@@ -47,15 +49,17 @@ firsts_once (n ∷ ns) =
 abbrev name_of : OutputRead → List ℕ
 name_of o = o.name
 
-module _ (web : WebRead) (table : TableRead) (resolves : ResolvesInside table)
-    (distinct : IsDistinct bytes_eq table.names) (out : List ℕ) where
+module _ (web : WebRead) (out : List ℕ) where
+  abbrev table : TableRead
+  table = table_of web
+
   ids : List ℕ
   ids = filter (is_written web table out) (file_names web table)
 
   ids_below : All (λ id. id < length table.names) ids
   unfolding ids
   ids_below = All-filter (is_written web table out) (λ id. id < length table.names)
-      (file_names web table) (names_below web table resolves)
+      (file_names web table) (names_below web table (table_inside web))
 
   ids_once : AllPairs (λ a b. a ≢ b) ids
   unfolding ids
@@ -78,7 +82,7 @@ module _ (web : WebRead) (table : TableRead) (resolves : ResolvesInside table)
       omega (arith, h, length-map (map (named_file table) ids) name_of, length-map ids (named_file table)) in
       let low : i < length ids = omega (arith, high, less) in
       ids_once i j 0 less high
-      (once_named table.names (get_or ids i 0) (get_or ids j 0) distinct (ids_below i 0 low)
+      (once_named table.names (get_or ids i 0) (get_or ids j 0) (once web.occurrences) (ids_below i 0 low)
       (ids_below j 0 high) (sym (body_at i d low) ∙ same ∙ body_at j d high))
 
   not_main : (a : Bool) (id : ℕ)
@@ -99,7 +103,7 @@ module _ (web : WebRead) (table : TableRead) (resolves : ResolvesInside table)
   main : OutputRead
   main = record {
     name = out;
-    node = node.Program;
+    node = program;
     has_macros = not web.has_all_macros;
     has_piece = shape_has_piece (shapes web table Program);
   }
@@ -113,17 +117,16 @@ module _ (web : WebRead) (table : TableRead) (resolves : ResolvesInside table)
       by true = AllPairs-cons (λ a b. a ≢ b) out (map name_of (map (named_file table) ids)) main_apart named_once
       by false = named_once
 
-pub names_distinct : (web : WebRead)
-    → ResolvesInside (table_of web) → IsDistinct bytes_eq (table_of web).names → (marks : MarkMode) (out : List ℕ)
+pub names_distinct : (web : WebRead) (marks : MarkMode) (out : List ℕ)
     → IsDistinct bytes_eq (map (λ o. o.0) (output_files web marks out))
-names_distinct web resolves distinct marks out =
+names_distinct web marks out =
     subst (IsDistinct bytes_eq) (names_written web marks (outputs web (table_of web) out))
     (IsDistinct-from_AllPairs bytes_eq-Decides (map (λ o. o.name) (outputs web (table_of web) out))
-    (names_once web (table_of web) resolves distinct out))
+    (names_once web out))
 
-pub found_by_name : (files : FileTable) (roles : RolesRead)
-    → IsDistinct bytes_eq (map (λ o. o.0) (outputs_of files roles)) → (name bytes : List ℕ)
+pub found_by_name : (files : FileTable) (roles : RolesRead) (name bytes : List ℕ)
     → Contains (outputs_of files roles) (name, bytes)
     → output_at files roles name ≡ Some bytes
-found_by_name files roles distinct name bytes c =
-    lookup-from_Contains nat_list_eq_equiv name bytes (outputs_of files roles) distinct c
+found_by_name files roles name bytes c =
+    lookup-from_Contains nat_list_eq_equiv name bytes (outputs_of files roles)
+    (names_distinct (web_at files roles) roles.marks roles.out) c

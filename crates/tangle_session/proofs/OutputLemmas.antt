@@ -16,7 +16,7 @@ use Rattle.tangle_expansion.specs.Limits.{flat_of}
 use Rattle.tangle_expansion.specs.Numbers.{numbers_of}
 use Rattle.tangle_expansion.specs.Outputs.{OutputRead, output_file_bytes, node_symbols, kept_output_bytes}
 use Rattle.tangle_expansion.specs.declared.kept.Kept.{Kept}
-use Rattle.tangle_graph.specs.Nodes.{title_of_node}
+use Rattle.tangle_plans.specs.Nodes.{title_at}
 use Rattle.tangle_graph.specs.Stores.{StoreRead, IsStoreOf}
 use Rattle.tangle_graph.proofs.OutputLemmas.{IsFit}
 use Rattle.tangle_affected.proofs.OutputLemmas.{kept_there}
@@ -29,10 +29,10 @@ module _ (web : WebRead) (store : StoreRead) (kept : Kept)
     (keeps : KeepsJust (shapes_of web) store kept) (marks : MarkMode)
     (output : OutputRead) (fit : IsFit (shapes_of web) store.names output) where
   kept_named : output.has_piece ≡ true
-      → kept_at kept output.node ≡ Some (flat_of (shapes_of web) (title_of_node (table_of web).names output.node))
+      → kept_at kept output.node ≡ Some (flat_of (shapes_of web) (title_at (table_of web).names output.node))
   kept_named t =
       kept_there (shapes_of web) store kept is keeps output fit t
-      ∙ ap (λ names. Some (flat_of (shapes_of web) (title_of_node names output.node))) names_are
+      ∙ ap (λ names. Some (flat_of (shapes_of web) (title_at names output.node))) names_are
 
   pub same_bytes : kept_output_bytes (numbers_of web (table_of web) marks) kept output ≡ output_bytes web marks output
   same_bytes = by output.has_piece refl
@@ -50,7 +50,7 @@ module _ (web : WebRead) (store : StoreRead) (kept : Kept)
           output_file_bytes (numbers_of web (table_of web) marks) output.has_macros p (node_symbols kept output.node)) e
           ∙ ap
           (λ p. output_file_bytes (numbers_of web (table_of web) marks) output.has_macros p
-          (flat_of (shapes_of web) (title_of_node (table_of web).names output.node))) (sym e)
+          (flat_of (shapes_of web) (title_at (table_of web).names output.node))) (sym e)
 
 -- looking up a name among the output files gives the bytes of the output with that name
 pub look_up : (web : WebRead) (marks : MarkMode) (name : List ℕ) (os : List OutputRead)

@@ -1,5 +1,5 @@
 -- The fields of a session's state, which are made one after another, agree with the files.
-use Rattle.std.proofs.Common.{◌≡◌, ◌∙◌, ◌≤◌, ◌&&◌, arith, ℕ, Bool, true, false, List, [], ◌∷◌, length, refl, ap, sym}
+use Rattle.std.proofs.Common.{◌≡◌, ◌∙◌, ◌&&◌, arith, ℕ, Bool, true, false, List, [], ◌∷◌, length, refl, ap, sym}
 use Rattle.std.proofs.Common.{subst, Bor, Contains, map}
 use Rattle.std.specs.List.{IsDistinct}
 use Rattle.std.specs.Option.{option_copied, option_map}
@@ -7,7 +7,6 @@ use Rattle.std.specs.Str.{bytes_eq}
 use Rattle.std.specs.Prelude.{if◌then◌else◌, Option, Some, None, is_some, Result, Err, find}
 use Rattle.tangle_streams.specs.Streams.{Stream}
 use Rattle.tangle_files.specs.Lines.{FileTable}
-use Rattle.tangle_lines.specs.Reading.{SourceRead}
 use Rattle.tangle_files.specs.Adding.{has_file}
 use Rattle.tangle_files.specs.Roles.{RolesRead, has_file_if_any, fits}
 use Rattle.tangle_files.specs.declared.refusal.Refusal.TheVariants.{NoWeb, NoChange}
@@ -15,19 +14,20 @@ use Rattle.tangle_files.specs.declared.refusal.Refusal.{Refusal}
 use Rattle.tangle_files.specs.declared.refusal.Refusal.TheVariants as refusal
 use Rattle.tangle_files.specs.declared.marks.MarkMode.{MarkMode}
 use Rattle.tangle_files.specs.declared.marks.MarkMode.TheVariants.{Full}
-use Rattle.tangle_scan.specs.LineTruth.{PiecesAreAtTheirLines}
 use Rattle.tangle_scan.specs.Web.{WebRead}
 use Rattle.tangle_names.specs.NameTable.{table_of}
 use Rattle.tangle_expansion.specs.Affected.{IsAffected}
 use Rattle.tangle_expansion.specs.Limits.{levels, heaviest, flat_of, IsExpandableNode}
 use Rattle.tangle_expansion.specs.Numbers.{numbers_of, expansion_bytes}
-use Rattle.tangle_expansion.specs.Outputs.{OutputRead, IsReady, IsTrueToLines, kept_output_bytes}
-use Rattle.tangle_plans.specs.WebShapes.{ResolvesInside}
-use Rattle.tangle_plans.specs.Shapes.{Title, Shapes}
-use Rattle.tangle_plans.specs.declared.nodes.Node.{Node}
-use Rattle.tangle_graph.specs.Nodes.{IsNodeOf, title_of_node}
+use Rattle.tangle_expansion.specs.Outputs.{OutputRead, IsReady, kept_output_bytes}
+use Rattle.digraph.specs.Nodes.{Node}
+use Rattle.tangle_plans.specs.Nodes.{title_at}
+use Rattle.tangle_graph.specs.Nodes.{IsNodeOf}
 use Rattle.tangle_graph.specs.Outputs.{outputs}
 use Rattle.tangle_graph.specs.Stores.{StoreRead, IsStoreOf}
+use Rattle.tangle_expansion.proofs.LineTruth.{true_to_lines}
+use Rattle.tangle_expansion.proofs.Weights.{expandable_light}
+use Rattle.tangle_plans.proofs.InsideLemmas.{table_inside}
 use Rattle.tangle_graph.proofs.OutputLemmas.{IsFit, outputs_fit}
 use Rattle.tangle_affected.proofs.OutputLemmas.{ready}
 use Rattle.tangle_session.specs.Files.{shapes_of, output_bytes, source_at, web_at}
@@ -35,9 +35,10 @@ use Rattle.tangle_affected.specs.Affected as affected
 use Rattle.tangle_affected.specs.Keeping as keeping
 use Rattle.tangle_session.specs.Sessions.{AgreesWithFiles, ListsAffectedOfWebs, ListsExpandableOfWeb, SessionRead}
 use Rattle.tangle_session.specs.Sessions.{start_refusal}
-use Rattle.tangle_session.specs.Tangle.{output_at, outputs_of}
+use Rattle.tangle_session.specs.Tangle.{output_at}
 use Rattle.tangle_session.specs.Writes.{IsTrueFile, WritesOut, WritesOutput}
 use Rattle.tangle_session.specs.declared.tangling.SessionState.{SessionState}
+use Rattle.tangle_session.proofs.NameLemmas.{names_distinct}
 use Rattle.tangle_session.proofs.OutputLemmas.{found_in, look_up, names_written, same_bytes}
 
 -- the list that has each expandable node of the store has each expandable node of the web
@@ -48,14 +49,14 @@ lists_nodes web store nodes is names_are lists = record {
   just = λ node. (
     λ c. (let both = (lists.just node).0 c in (
       subst (λ l. IsNodeOf l node) names_are both.0,
-      subst (λ l. IsExpandableNode (shapes_of web) (title_of_node l node))
+      subst (λ l. IsExpandableNode (shapes_of web) (title_at l node))
           names_are ((is.expandable node both.0).0 both.1),
     )),
     λ both. (let inside : IsNodeOf store.names node = subst (λ l. IsNodeOf l node) (sym names_are) both.0 in
         (lists.just node).1 (
           inside,
           (is.expandable node inside).1
-              (subst (λ l. IsExpandableNode (shapes_of web) (title_of_node l node)) (sym names_are) both.1),
+              (subst (λ l. IsExpandableNode (shapes_of web) (title_at l node)) (sym names_are) both.1),
         )),
   );
 }
@@ -69,13 +70,13 @@ lists_titles old new store nodes is names_are lists = record {
   just = λ node. (
     λ c. (
       subst (λ l. IsNodeOf l node) names_are (lists.only node c).0,
-      subst (λ l. IsAffected levels heaviest (shapes_of old) (shapes_of new) (title_of_node l node))
+      subst (λ l. IsAffected levels heaviest (shapes_of old) (shapes_of new) (title_at l node))
           names_are (lists.only node c).1,
     ),
     λ both. (let inside : IsNodeOf store.names node = subst (λ l. IsNodeOf l node) (sym names_are) both.0 in
-        let at = lists.all (title_of_node (table_of new).names node) both.1 in
+        let at = lists.all (title_at (table_of new).names node) both.1 in
         let same =
-        is.once at.0 node (lists.only at.0 at.2).0 inside (at.1 ∙ ap (λ l. title_of_node l node) (sym names_are)) in
+        is.once at.0 node (lists.only at.0 at.2).0 inside (at.1 ∙ ap (λ l. title_at l node) (sym names_are)) in
         subst (Contains nodes) same at.2),
   );
 }
@@ -137,12 +138,12 @@ module _ (state : SessionState) (roles : RolesRead) (session : SessionRead) (vie
   web = web_at state.files roles
 
   -- no two outputs of the store have the same name
-  pub names_apart : IsDistinct bytes_eq (map (λ o. o.0) (outputs_of state.files roles))
-      → IsDistinct bytes_eq (map (λ (o : OutputRead). o.name) state.analysis.store.outputs)
-  names_apart distinct =
+  pub names_apart : IsDistinct bytes_eq (map (λ (o : OutputRead). o.name) state.analysis.store.outputs)
+  names_apart =
       subst (λ os. IsDistinct bytes_eq (map (λ (o : OutputRead). o.name) os)) (sym hold.analysis.outputs_are)
       (subst (IsDistinct bytes_eq)
-      (sym (names_written web roles.marks (outputs web (table_of web) roles.out))) distinct)
+      (sym (names_written web roles.marks (outputs web (table_of web) roles.out)))
+      (names_distinct web roles.marks roles.out))
 
   looked_up : output_at session.files session.roles name
       ≡ option_map (output_bytes web roles.marks) (find named state.analysis.store.outputs)
@@ -170,37 +171,32 @@ module _ (state : SessionState) (roles : RolesRead) (session : SessionRead) (vie
     found_there : find named (outputs web (table_of web) roles.out) ≡ Some output
     found_there = ap (find named) (sym hold.analysis.outputs_are) ∙ found
 
-    module _ (resolves : (web : WebRead) → ResolvesInside (table_of web)) where
-      fit : IsFit (shapes_of web) state.analysis.store.names output
-      fit = subst (λ names. IsFit (shapes_of web) names output) (sym hold.analysis.store_names)
-          (outputs_fit web (table_of web) (resolves web) roles.out output
-          (found_in named (outputs web (table_of web) roles.out) output found_there))
+    fit : IsFit (shapes_of web) state.analysis.store.names output
+    fit = subst (λ names. IsFit (shapes_of web) names output) (sym hold.analysis.store_names)
+        (outputs_fit web (table_of web) (table_inside web) roles.out output
+        (found_in named (outputs web (table_of web) roles.out) output found_there))
 
-      pub is_ready : ((p : Shapes) (t : Title) → IsExpandableNode p t → length (flat_of p t) ≤ heaviest)
-          → IsReady output state.kept
-      is_ready law = ready (shapes_of web) state.analysis.store
-          state.kept hold.analysis.store hold.kept output fit law
+    pub is_ready : IsReady output state.kept
+    is_ready = ready (shapes_of web) state.analysis.store
+        state.kept hold.analysis.store hold.kept output fit expandable_light
 
-      abbrev bytes : List ℕ
-      bytes = kept_output_bytes state.analysis.numbers state.kept output
+    abbrev bytes : List ℕ
+    bytes = kept_output_bytes state.analysis.numbers state.kept output
 
-      is_its : output_at session.files session.roles name ≡ Some bytes
-      is_its = some_at ∙ ap Some (sym (ap (λ n. kept_output_bytes n state.kept output) hold.analysis.numbers
-          ∙ same_bytes web state.analysis.store state.kept
-          hold.analysis.store hold.analysis.store_names hold.kept roles.marks output fit))
+    is_its : output_at session.files session.roles name ≡ Some bytes
+    is_its = some_at ∙ ap Some (sym (ap (λ n. kept_output_bytes n state.kept output) hold.analysis.numbers
+        ∙ same_bytes web state.analysis.store state.kept
+        hold.analysis.store hold.analysis.store_names hold.kept roles.marks output fit))
 
-      pub its_size : Some (length bytes) ≡ option_map length (output_at session.files session.roles name)
-      its_size = ap (option_map length) (sym is_its)
+    pub its_size : Some (length bytes) ≡ option_map length (output_at session.files session.roles name)
+    its_size = ap (option_map length) (sym is_its)
 
-      pub writes_it : (old new : Stream) (r : Result ℕ Refusal) → WritesOut old new bytes r
-          → WritesOutput (output_at session.files session.roles name) old new r
-      writes_it old new r puts = subst (λ x. WritesOutput x old new r) (sym is_its) puts
+    pub writes_it : (old new : Stream) (r : Result ℕ Refusal) → WritesOut old new bytes r
+        → WritesOutput (output_at session.files session.roles name) old new r
+    writes_it old new r puts = subst (λ x. WritesOutput x old new r) (sym is_its) puts
 
-    pub truth_at : ((source : SourceRead) (web : WebRead) (node : Title) → PiecesAreAtTheirLines source web
-        → IsTrueToLines source web node
-        (expansion_bytes (numbers_of web (table_of web) Full) (flat_of (shapes_of web) node)))
-        → session.roles.marks ≡ Full → IsTrueFile session.files session.roles name
-    truth_at law = subst (λ (s : SessionRead). s.roles.marks ≡ Full → IsTrueFile s.files s.roles name)
+    pub truth_at : session.roles.marks ≡ Full → IsTrueFile session.files session.roles name
+    truth_at = subst (λ (s : SessionRead). s.roles.marks ≡ Full → IsTrueFile s.files s.roles name)
         view (λ full. record {
           output = output;
           named = found_there;
@@ -209,9 +205,9 @@ module _ (state : SessionState) (roles : RolesRead) (session : SessionRead) (vie
               ∙ some_at ∙ ap (λ m. Some (output_bytes web m output)) full;
           true_to_lines = record {
             of_node = expansion_bytes (numbers_of web (table_of web) Full)
-                (flat_of (shapes_of web) (title_of_node (table_of web).names output.node));
+                (flat_of (shapes_of web) (title_at (table_of web).names output.node));
             made = refl;
-            true_to_lines = law (source_at state.files roles) web
-                (title_of_node (table_of web).names output.node) hold.analysis.line_truth;
+            true_to_lines = true_to_lines (source_at state.files roles) web
+                (title_at (table_of web).names output.node) hold.analysis.line_truth;
           };
         })

@@ -11,7 +11,7 @@ use Rattle.tangle_expansion.specs.Numbers.{numbers_of}
 use Rattle.tangle_expansion.specs.Outputs.{OutputRead, output_file_bytes}
 use Rattle.tangle_plans.specs.WebShapes.{shapes}
 use Rattle.tangle_plans.specs.Shapes.{Shapes}
-use Rattle.tangle_graph.specs.Nodes.{title_of_node}
+use Rattle.tangle_plans.specs.Nodes.{title_at}
 use Rattle.tangle_graph.specs.Outputs.{outputs}
 
 -- the source that is read from the files
@@ -32,7 +32,7 @@ module _ (web : WebRead) where
     abbrev pub output_bytes : OutputRead → List ℕ
     output_bytes output =
         output_file_bytes (numbers_of web (table_of web) marks) output.has_macros output.has_piece
-        (flat_of shapes_of (title_of_node (table_of web).names output.node))
+        (flat_of shapes_of (title_at (table_of web).names output.node))
 
     -- an output as its name and its bytes
     abbrev pub named_bytes : OutputRead → List ℕ × List ℕ

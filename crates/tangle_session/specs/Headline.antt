@@ -40,9 +40,9 @@ use Rattle.tangle_expansion.specs.Numbers.{numbers_of}
 use Rattle.tangle_expansion.specs.Outputs.{OutputRead, output_file_bytes}
 use Rattle.tangle_plans.specs.WebShapes.{shapes}
 use Rattle.tangle_plans.specs.Shapes.{Title, Named, Reaches, ContainsItself}
-use Rattle.tangle_plans.specs.declared.nodes.Node.{Node}
+use Rattle.digraph.specs.Nodes.{Node}
 use Rattle.tangle_graph.specs.Faults.{AreGraphFaults}
-use Rattle.tangle_graph.specs.Nodes.{title_of_node}
+use Rattle.tangle_plans.specs.Nodes.{title_at}
 use Rattle.tangle_graph.specs.Outputs.{outputs}
 use Rattle.tangle_session.specs.Edits.{list_memory, list_refusal, of_first, session_refusal}
 use Rattle.tangle_session.specs.Files.{web_at}
@@ -63,7 +63,7 @@ use Rattle.tangle_session.specs.declared.refusing.ListRefusal.{ListRefusal}
 abbrev pub output_of_web : WebRead → TableRead → MarkMode → OutputRead → List ℕ
 output_of_web web table marks output =
     output_file_bytes (numbers_of web table marks) output.has_macros output.has_piece
-    (flat_of (shapes web table) (title_of_node table.names output.node))
+    (flat_of (shapes web table) (title_at table.names output.node))
 
 -- Each step is a function of the results of earlier steps, and of the roles; of nothing else.
 pub record IsPlainTangling (files : FileTable) (roles : RolesRead)
@@ -158,7 +158,7 @@ pub data History (files : FileTable) (roles : RolesRead) : List Call → Session
 abbrev pub NoOutputReachesACycle : WebRead → TableRead → List ℕ → Type 0
 NoOutputReachesACycle web table out =
     (output : OutputRead) (other : Title) → Contains (outputs web table out) output
-    → Reaches (shapes web table) (title_of_node table.names output.node) other
+    → Reaches (shapes web table) (title_at table.names output.node) other
     → ¬ (ContainsItself (shapes web table) other)
 
 -- each name that contains itself has its fault, at its first occurrence

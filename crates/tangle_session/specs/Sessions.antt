@@ -16,8 +16,9 @@ use Rattle.tangle_names.specs.NameTable.{table_of}
 use Rattle.tangle_expansion.specs.Affected.{IsAffected}
 use Rattle.tangle_expansion.specs.Limits.{levels, heaviest, IsExpandableNode}
 use Rattle.tangle_expansion.specs.Numbers.{numbers_of}
-use Rattle.tangle_plans.specs.declared.nodes.Node.{Node}
-use Rattle.tangle_graph.specs.Nodes.{IsNodeOf, title_of_node}
+use Rattle.digraph.specs.Nodes.{Node}
+use Rattle.tangle_graph.specs.Nodes.{IsNodeOf}
+use Rattle.tangle_plans.specs.Nodes.{title_at}
 use Rattle.tangle_graph.specs.Outputs.{outputs}
 use Rattle.tangle_graph.specs.Stores.{IsStoreOf}
 use Rattle.tangle_affected.specs.Keeping.{KeepsJust}
@@ -44,7 +45,7 @@ pub record ListsExpandableOfWeb (web : WebRead) (nodes : List Node) : Type 0 whe
   pub once : AllPairs (λ a b. a ≢ b) nodes
   pub just : (node : Node) → Contains nodes node
       ↔ (IsNodeOf (table_of web).names node
-      × IsExpandableNode (shapes_of web) (title_of_node (table_of web).names node))
+      × IsExpandableNode (shapes_of web) (title_at (table_of web).names node))
 
 -- the list has each affected node of the new web once, and no other
 pub record ListsAffectedOfWebs (old new : WebRead) (nodes : List Node) : Type 0 where
@@ -52,7 +53,7 @@ pub record ListsAffectedOfWebs (old new : WebRead) (nodes : List Node) : Type 0 
   pub just : (node : Node) → Contains nodes node
       ↔ (IsNodeOf (table_of new).names node
       × IsAffected levels heaviest (shapes_of old)
-      (shapes_of new) (title_of_node (table_of new).names node))
+      (shapes_of new) (title_at (table_of new).names node))
 
 -- A list of edits was made, each in the files that the earlier ones left, from one state of a
 -- session to the other. Exactly the nodes that the whole list affects were expanded.

@@ -14,7 +14,7 @@ use Rattle.tangle_scan.specs.Web.{WebRead}
 use Rattle.tangle_names.specs.NameTable.{table_of}
 use Rattle.tangle_expansion.specs.Numbers.{numbers_of}
 use Rattle.tangle_expansion.specs.Outputs.{OutputRead, front_bytes, IsTrueToLines}
-use Rattle.tangle_graph.specs.Nodes.{title_of_node}
+use Rattle.tangle_plans.specs.Nodes.{title_at}
 use Rattle.tangle_graph.specs.Outputs.{outputs}
 use Rattle.tangle_session.specs.Files.{source_at, web_at}
 use Rattle.tangle_session.specs.Tangle.{output_at}
@@ -43,7 +43,7 @@ pub record IsTrueOutput (source : SourceRead) (web : WebRead)
   pub made : bytes ≡ front_bytes (numbers_of web (table_of web) Full) output.has_macros
       ++ (if output.has_piece then of_node ++ line_feed ∷ [] else [])
   pub true_to_lines : IsTrueToLines source web
-      (title_of_node (table_of web).names output.node) of_node
+      (title_at (table_of web).names output.node) of_node
 
 -- the output file of this name, and its bytes, each at its line of the source
 pub record IsTrueFile (files : FileTable) (roles : RolesRead) (name : List ℕ) : Type 0 where

@@ -14,7 +14,6 @@ ghost use Rattle.tangle_session.specs.Headline.{ShowsLastWork, ShowsPlainTanglin
 ghost use Rattle.tangle_session.specs.Headline.{accepted, edits_read, files_after, roles_with};
 ghost use Rattle.tangle_session.specs.Sessions.{start_refusal};
 
-use crate::laws::{no_output_reaches_a_cycle, self_containing_names_are_reported};
 use crate::outputs::OutputNames;
 use crate::refusing::ListRefusal;
 use crate::session::{Session, refusal_to_start};
@@ -122,8 +121,6 @@ pub fn ask_all<'a, S: Sink>(session: &'a Session, name: &[u8], sink: &mut S) -> 
         → History files roles calls session.now
         → ShowsLastWork files roles (accepted calls) result }
 {
-    no_output_reaches_a_cycle();
-    self_containing_names_are_reported();
     let size = session.output_size(name);
     let written = session.write_output(name, sink);
     Shown {

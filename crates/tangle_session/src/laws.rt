@@ -11,10 +11,10 @@ ghost use Rattle.tangle_files.specs.declared.edits.Edit.{Edit};
 ghost use Rattle.tangle_files.specs.declared.marks.MarkMode.{MarkMode};
 ghost use Rattle.tangle_scan.specs.Web.{WebRead};
 ghost use Rattle.tangle_names.specs.NameTable.{table_of};
-ghost use Rattle.tangle_plans.specs.declared.nodes.Node.{Node};
+ghost use Rattle.digraph.specs.Nodes.{Node};
 ghost use Rattle.tangle_expansion.specs.Outputs.{OutputRead};
 ghost use Rattle.tangle_plans.specs.Shapes.{Title, Named, Reaches, ContainsItself};
-ghost use Rattle.tangle_graph.specs.Nodes.{title_of_node};
+ghost use Rattle.tangle_plans.specs.Nodes.{title_at};
 ghost use Rattle.tangle_graph.specs.Outputs.{outputs};
 ghost use Rattle.tangle_session.specs.Tangle.{Tangling, AreFaultsOf, IsTanglingOf, output_at};
 ghost use Rattle.tangle_session.specs.Tangle.{outputs_of};
@@ -26,10 +26,7 @@ ghost use Rattle.tangle_session.specs.Laws.{IsReportedSelfContaining};
 ghost use Rattle.tangle_session.specs.Moves.{HaveSameShapes, IsMoved};
 ghost use Rattle.tangle_session.specs.Sessions.{ListsAffectedOfWebs, SessionRead};
 
-use tangle_expansion::expandable_nodes_reach_no_cycle;
 use tangle_graph::graph_faults_are_one_list;
-use tangle_names::names_are_the_full_names;
-use tangle_plans::names_resolve_inside;
 
 /// The files and the roles determine the faults and the outputs: no two tanglings of them differ.
 pub fn tangling_is_one()
@@ -46,10 +43,7 @@ pub fn outputs_are_found_by_their_names()
     ensures found { (files : FileTable) (roles : RolesRead) (name bytes : List ℕ)
         → Contains (outputs_of files roles) (name, bytes) → output_at files roles name
         ≡ Some bytes }
-{
-    names_resolve_inside();
-    names_are_the_full_names();
-}
+{}
 
 /// No output file reaches a name that contains itself. The main file reaches what the program
 /// reaches.
@@ -57,12 +51,9 @@ pub fn no_output_reaches_a_cycle()
     ensures { (files : FileTable) (roles : RolesRead) (output : OutputRead) (other : Title)
         → Contains (outputs (web_at files roles) (table_of (web_at files roles)) roles.out) output
         → Reaches (shapes_of (web_at files roles))
-        (title_of_node (table_of (web_at files roles)).names output.node) other
+        (title_at (table_of (web_at files roles)).names output.node) other
         → ¬ (ContainsItself (shapes_of (web_at files roles)) other) }
-{
-    names_resolve_inside();
-    expandable_nodes_reach_no_cycle();
-}
+{}
 
 /// Each name that contains itself has its fault, at its first occurrence.
 pub fn self_containing_names_are_reported()
@@ -70,10 +61,7 @@ pub fn self_containing_names_are_reported()
         → AreFaultsOf files roles faults → ContainsItself (shapes_of (web_at files roles))
         (Named name)
         → IsReportedSelfContaining (web_at files roles) name faults }
-{
-    names_resolve_inside();
-    names_are_the_full_names();
-}
+{}
 
 /// An edit that leaves each shape unchanged expands nothing. This holds where text only moves:
 /// lines, files, section numbers and macros may change, while occurrences and pieces change nothing

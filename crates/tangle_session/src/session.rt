@@ -1,5 +1,5 @@
 //! A session: a project in memory, which is tangled again after each accepted edit.
-ghost use Rattle.std.specs.Prelude.{◌≡◌, ◌⊎◌, [], length, map, IfOk, OnOk, OnErr, IfSome, IfNone};
+ghost use Rattle.std.specs.Prelude.{◌≡◌, ◌⊎◌, length, map, IfOk, OnOk, OnErr, IfSome, IfNone};
 ghost use Rattle.std.specs.Prelude.{IsOkUnless, Err};
 ghost use Rattle.std.specs.Option.{option_map};
 ghost use Rattle.tangle_files.specs.declared.refusal.Refusal.TheVariants.{NoMemory as no_memory};
@@ -13,18 +13,14 @@ ghost use Rattle.tangle_session.specs.Tangle.{AreFaultsOf, output_at, outputs_of
 ghost use Rattle.tangle_session.specs.Writes.{IsTrueFile, WritesOutput};
 
 use crate::analysis::Analysis;
-use crate::laws::outputs_are_found_by_their_names;
 use crate::outputs::OutputNames;
 use crate::refusing::{ListRefusal, refusal_to_apply};
 use crate::tangling::{SessionState, marks_after, tangle_again};
 use std::alloc::Global;
 use std::marker::Model;
 use tangle_affected::expand_all;
-use tangle_expansion::{
-    Work, expandable_nodes_are_light, file_size, outputs_are_true_to_lines, write_file,
-};
+use tangle_expansion::{Work, file_size, write_file};
 use tangle_lines::{Edit, Fault, Files, Refusal, Roles, Sink, WriteFault};
-use tangle_plans::names_resolve_inside;
 
 /// A tangled project: its files and roles, its output files and its faults. It stores no bytes of
 /// outputs; these are made as they are written.
@@ -177,8 +173,6 @@ impl Session {
     pub fn output_size(&self, name: &[u8]) -> Option<u128>
         ensures { result ≡ option_map length (output_at self.now.files self.now.roles name.now) }
     {
-        names_resolve_inside();
-        expandable_nodes_are_light();
         match self.state.find_output(name) {
             Some(output) => Some(file_size(output, &self.state.kept, &self.state.analysis.numbers)),
             None => None,
@@ -221,10 +215,6 @@ impl Session {
         ensures line_truth { self.now.roles.marks ≡ Full
             → OnOk result (IsTrueFile self.now.files self.now.roles name.now) }
     {
-        names_resolve_inside();
-        expandable_nodes_are_light();
-        outputs_are_true_to_lines();
-        outputs_are_found_by_their_names();
         match self.state.find_output_at(index, name) {
             Some(output) => {
                 match write_file(output, &self.state.kept, &self.state.analysis.numbers, sink) {

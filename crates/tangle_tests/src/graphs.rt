@@ -65,13 +65,16 @@ fn expansion_of(alloc: Global, web: &[u8], node: Node) -> Result<Expansion, Fail
     Ok(kept.get(node).ok_or("the expansion")?.share()?)
 }
 
-// Nodes of the chain, the first as deep as an expanded node can be, each with the number of uses in
-// its text.
-const DEEP: [(Node, usize); 3] = [
-    (Node::Program, 999),
-    (Node::Name(0), 998),
-    (Node::Name(998), 0),
-];
+// The program and names of the chain, by their numbers, each with the number of uses in its text.
+// The first is as deep as an expanded node can be.
+const DEEP: [(Option<usize>, usize); 3] = [(None, 999), (Some(0), 998), (Some(998), 0)];
+
+fn node_of(name: Option<usize>) -> Node {
+    match name {
+        Some(id) => Node::name(id),
+        None => Node::program(),
+    }
+}
 
 // The numbers are those of a web without pieces: each section has the number 0, and each mark is at
 // line 0 of `a.w`.
@@ -79,8 +82,8 @@ const DEEP: [(Node, usize); 3] = [
 fn texts_of_a_long_chain(rt: HostRuntime) -> Result<(), Fail> {
     let web = chain(rt.alloc())?;
     let (_, _, numbers) = tangle(rt.alloc(), b"")?;
-    for (node, uses) in DEEP {
-        let expansion = expansion_of(rt.alloc(), &web, node)?;
+    for (name, uses) in DEEP {
+        let expansion = expansion_of(rt.alloc(), &web, node_of(name))?;
         let size = uses * 45 + 30;
         for capacity in [size, size - 1, size / 2, 0] {
             let mut sink = MemorySink::new(rt.alloc(), capacity);

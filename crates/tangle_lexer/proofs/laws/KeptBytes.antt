@@ -78,7 +78,7 @@ part_points within [] = []
 part_points within (token.Section ∷ us) = part_points false us
 part_points within (token.MacroStart line ∷ us) = part_points false us
 part_points within (token.UnnamedPart line ∷ us) = part_points true us
-part_points within (token.NamedPart occurrence line ∷ us) = part_points true us
+part_points within (token.NamedPart line occurrence ∷ us) = part_points true us
 part_points within (token.Span kind s ∷ us) = (if within then span_points s else []) ++ part_points within us
 part_points within (_ ∷ us) = part_points within us
 
@@ -88,8 +88,8 @@ part_points-within [] us h = refl
 part_points-within (token.Section ∷ ts) us h = cc
 part_points-within (token.MacroStart line ∷ ts) us h = cc
 part_points-within (token.UnnamedPart line ∷ ts) us h = cc
-part_points-within (token.NamedPart occurrence line ∷ ts) us h = cc
-part_points-within (token.UseOf occurrence line ∷ ts) us h = cc
+part_points-within (token.NamedPart line occurrence ∷ ts) us h = cc
+part_points-within (token.UseOf line occurrence ∷ ts) us h = cc
 part_points-within (token.Run s ∷ ts) us h = cc
 part_points-within (token.Span kind s ∷ ts) us h =
     ap (λ ps. span_points s ++ ps) (part_points-within ts us h)
@@ -102,8 +102,8 @@ part_points-outside [] us h = refl
 part_points-outside (token.Section ∷ ts) us h = cc
 part_points-outside (token.MacroStart line ∷ ts) us h = cc
 part_points-outside (token.UnnamedPart line ∷ ts) us h = cc
-part_points-outside (token.NamedPart occurrence line ∷ ts) us h = cc
-part_points-outside (token.UseOf occurrence line ∷ ts) us h = cc
+part_points-outside (token.NamedPart line occurrence ∷ ts) us h = cc
+part_points-outside (token.UseOf line occurrence ∷ ts) us h = cc
 part_points-outside (token.Run s ∷ ts) us h = cc
 part_points-outside (_ ∷ ts) us h = part_points-outside ts us h
 

@@ -105,12 +105,12 @@ module _ (width : ℕ → ℕ) (count : ℕ) where
       → s.last_line ≡ count - 1 → at.line < count → IsTextAt width count p text → Precedes at p
       → (ended ≡ true → HoldsBytes 2 text)
       → (AreInOrder width count true at
-      (token.UseOf s.occurrences (front_line s.last_line text)
+      (token.UseOf (front_line s.last_line text) s.occurrences
       ∷ fault_if (not ended) fault.NameEnd (front_line s.last_line text)
       ++ fault_if b fault.NameEquals line) true (after_cells p (two_if ended) text))
       ⊎ ((text ≡ [])
       × AreInOrder width count true at
-      (token.UseOf s.occurrences (front_line s.last_line text)
+      (token.UseOf (front_line s.last_line text) s.occurrences
       ∷ fault_if (not ended) fault.NameEnd (front_line s.last_line text)
       ++ fault_if b fault.NameEquals line) false (after_cells p (two_if ended) text))
   use-in_order s at p [] ended b line last real is h end =
@@ -213,5 +213,5 @@ module _ (width : ℕ → ℕ) (count : ℕ) where
           ap (λ n. after_cells at n text) sum2 ∙ after_cells-add at (m + k) 1 text in
           subst
           (λ q. AreInOrder width count from at
-          (token.NamedPart s.occurrences (front_line s.last_line rest) ∷ []) true q) (sym to)
+          (token.NamedPart (front_line s.last_line rest) s.occurrences ∷ []) true q) (sym to)
           (part-in_order s.last_line at p rest is2 byte h)

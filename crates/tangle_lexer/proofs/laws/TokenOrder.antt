@@ -46,7 +46,7 @@ module _ (width : ℕ → ℕ) (count : ℕ) where
       (at.line ≤ line) × AreInOrder true (jumped at line) ts stays to
   AreInOrder from at (token.UnnamedPart line ∷ ts) stays to =
       (at.line ≤ line) × AreInOrder true (jumped at line) ts stays to
-  AreInOrder from at (token.NamedPart occurrence line ∷ ts) stays to =
+  AreInOrder from at (token.NamedPart line occurrence ∷ ts) stays to =
       (at.line ≤ line) × AreInOrder true (jumped at line) ts stays to
   AreInOrder from at (token.Span kind s ∷ ts) stays to =
       Inside from (IsFrom width count at s × AreInOrder true (span_end s) ts stays to)
@@ -56,7 +56,7 @@ module _ (width : ℕ → ℕ) (count : ℕ) where
       Inside from ((line ≡ at.line) × AreInOrder true (point_at (line + 1) 0) ts stays to)
   AreInOrder from at (token.QuoteBreak ∷ ts) stays to =
       Inside from (AreInOrder true (point_at (at.line + 1) 0) ts stays to)
-  AreInOrder from at (token.UseOf occurrence line ∷ ts) stays to =
+  AreInOrder from at (token.UseOf line occurrence ∷ ts) stays to =
       Inside from ((at.line ≤ line) × AreInOrder true (jumped at line) ts stays to)
   AreInOrder from at (token.AllMacros line ∷ ts) stays to =
       Inside from ((line ≡ at.line) × AreInOrder true at ts stays to)
@@ -128,7 +128,7 @@ module _ (width : ℕ → ℕ) (count : ℕ) where
         in_order-after true true (jumped a line) (jumped at line)
             ts stays to (jump-goes a at line p ordered.0) ordered.1,
       )
-  in_order-after from mid a at (token.NamedPart occurrence line ∷ ts) stays to near ordered =
+  in_order-after from mid a at (token.NamedPart line occurrence ∷ ts) stays to near ordered =
       let p = goes-precedes from mid a at near in (
         omega (arith, p.0, ordered.0),
         in_order-after true true (jumped a line) (jumped at line)
@@ -144,7 +144,7 @@ module _ (width : ℕ → ℕ) (count : ℕ) where
   in_order-after from mid a at (token.QuoteBreak ∷ ts) stays to near ordered =
       inside-after from mid a at _ _ near ordered
       (λ n l. subst (λ x. AreInOrder true (point_at (x + 1) 0) ts stays to) (sym n.0) l)
-  in_order-after from mid a at (token.UseOf occurrence line ∷ ts) stays to near ordered =
+  in_order-after from mid a at (token.UseOf line occurrence ∷ ts) stays to near ordered =
       inside-after from mid a at _ _ near ordered (λ n l. (
         omega (arith, n.0, l.0),
         in_order-after true true (jumped a line) (jumped at line) ts stays to
@@ -170,7 +170,7 @@ module _ (width : ℕ → ℕ) (count : ℕ) where
       (ordered.0, in_order-append true (jumped at line) ts mid p us stays to ordered.1 rest)
   in_order-append from at (token.UnnamedPart line ∷ ts) mid p us stays to ordered rest =
       (ordered.0, in_order-append true (jumped at line) ts mid p us stays to ordered.1 rest)
-  in_order-append from at (token.NamedPart occurrence line ∷ ts) mid p us stays to ordered rest =
+  in_order-append from at (token.NamedPart line occurrence ∷ ts) mid p us stays to ordered rest =
       (ordered.0, in_order-append true (jumped at line) ts mid p us stays to ordered.1 rest)
   in_order-append from at (token.Span kind s ∷ ts) mid p us stays to ordered rest =
       inside-map from _ _ ordered (λ l. (l.0, in_order-append true (span_end s) ts mid p us stays to l.1 rest))
@@ -180,7 +180,7 @@ module _ (width : ℕ → ℕ) (count : ℕ) where
       _ ordered (λ l. (l.0, in_order-append true (point_at (line + 1) 0) ts mid p us stays to l.1 rest))
   in_order-append from at (token.QuoteBreak ∷ ts) mid p us stays to ordered rest =
       inside-map from _ _ ordered (λ l. in_order-append true (point_at (at.line + 1) 0) ts mid p us stays to l rest)
-  in_order-append from at (token.UseOf occurrence line ∷ ts) mid p us stays to ordered rest =
+  in_order-append from at (token.UseOf line occurrence ∷ ts) mid p us stays to ordered rest =
       inside-map from _ _ ordered (λ l. (l.0, in_order-append true (jumped at line) ts mid p us stays to l.1 rest))
   in_order-append from at (token.AllMacros line ∷ ts) mid p us stays to ordered rest =
       inside-map from _ _ ordered (λ l. (l.0, in_order-append true at ts mid p us stays to l.1 rest))

@@ -56,7 +56,7 @@ plain-special (t ∷ ts) h =
     rw (one t both.0, plain-special ts (record { none = both.1 })) refl
   where
     one : (t : Token) → is_not_plain t ≡ false → is_special t ≡ false
-    one (token.UseOf occurrence line) h = refl
+    one (token.UseOf line occurrence) h = refl
     one _ h = h
 
 plain-alone : (s : LexerState) (l : Lexeme) → IsPlainLexeme s l → IsHeadAlone s l

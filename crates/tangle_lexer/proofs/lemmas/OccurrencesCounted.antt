@@ -26,8 +26,8 @@ use Rattle.tangle_lexer.proofs.lemmas.PlainLexemes.{IsPlainLexeme, use-plain, co
 
 -- a token has no number of an occurrence, or one below `count`
 abbrev pub IsBelow : ℕ → Token → Type 0
-IsBelow count (token.UseOf occurrence line) = occurrence < count
-IsBelow count (token.NamedPart occurrence line) = occurrence < count
+IsBelow count (token.UseOf line occurrence) = occurrence < count
+IsBelow count (token.NamedPart line occurrence) = occurrence < count
 IsBelow count _ = Unit {0}
 
 abbrev pub AreBelow : ℕ → List Token → Type 0
@@ -51,8 +51,8 @@ plain-below count (t ∷ ts) h = both t (λ k. plain-below count ts k) h
     both token.Section more h = cc
     both (token.MacroStart line) more h = cc
     both (token.UnnamedPart line) more h = cc
-    both (token.NamedPart occurrence line) more h = cc
-    both (token.UseOf occurrence line) more h = cc
+    both (token.NamedPart line occurrence) more h = cc
+    both (token.UseOf line occurrence) more h = cc
     both (token.Run s) more h = cc
     both _ more h = (tt, more h)
 
@@ -133,8 +133,8 @@ lexeme-keeps s text = mode-keeps s.mode s text
 -- all lexemes of a text
 
 token-more : (few many : ℕ) (t : Token) → few ≤ many → IsBelow few t → IsBelow many t
-token-more few many (token.UseOf occurrence line) h k = omega (arith, h, k)
-token-more few many (token.NamedPart occurrence line) h k = omega (arith, h, k)
+token-more few many (token.UseOf line occurrence) h k = omega (arith, h, k)
+token-more few many (token.NamedPart line occurrence) h k = omega (arith, h, k)
 token-more few many _ h k = tt
 
 below-more : (few many : ℕ) (ts : List Token) → few ≤ many → AreBelow few ts → AreBelow many ts

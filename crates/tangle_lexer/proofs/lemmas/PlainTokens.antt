@@ -34,7 +34,7 @@ none-append test ts us h j = rw (list_any-append test ts us, h) j
 
 -- a token that is a head, a use or a run
 abbrev pub is_not_plain : Token → Bool
-is_not_plain (token.UseOf occurrence line) = true
+is_not_plain (token.UseOf line occurrence) = true
 is_not_plain (token.Run s) = true
 is_not_plain t = is_head t
 

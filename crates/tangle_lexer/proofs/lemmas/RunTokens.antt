@@ -387,7 +387,7 @@ abbrev pub BeginsRun : List ℕ → Type 0
 BeginsRun [] = ⊥
 BeginsRun (b ∷ bs) = (is_in_run b (slice_get bs 0) ≡ true) × ((b == space) ≡ false)
 
--- the parts of the run have single spaces; before the first byte, unless that is no space, stands no space
+-- the parts of the run have single spaces: before the first byte there is no space, unless that byte is no space
 abbrev HasSingle : ℕ → ℕ → List ℕ → List ℕ → Type 0
 HasSingle line column bs xs =
     (before : Bool) → (before ≡ true → BeginsRun bs)

@@ -44,7 +44,7 @@ module _ (lines : List SourceLine) (used : ℕ → List ℕ) (mark : Origin → 
 
   -- the bytes of the mark after a use or after all macros; other items have none
   abbrev mark_after : Token → List ℕ
-  mark_after (token.UseOf occurrence line) = line_feed ∷ mark (origin_at lines line)
+  mark_after (token.UseOf line occurrence) = line_feed ∷ mark (origin_at lines line)
   mark_after (token.AllMacros line) = line_feed ∷ mark (origin_at lines line)
   mark_after _ = []
 
@@ -270,12 +270,12 @@ module _ (lines : List SourceLine) (used : ℕ → List ℕ) (mark : Origin → 
 
   -- the bytes directly after an item: those of a mark, or none
   gap-after : (e : Token) → IsGap false false (Some e) (Some e) (mark_after e)
-  gap-after (token.UseOf occurrence line) = inl (line_feed-white (mark (origin_at lines line)))
+  gap-after (token.UseOf line occurrence) = inl (line_feed-white (mark (origin_at lines line)))
   gap-after (token.AllMacros line) = inl (line_feed-white (mark (origin_at lines line)))
   gap-after e = inr (record { nothing = no-bytes (Some e); here = λ none f. refl; front = λ none. absurd cc })
 
   no-mark : (e : Token) → ends_in_backslash texts e ≡ true → mark_after e ≡ []
-  no-mark (token.UseOf occurrence line) is = cc
+  no-mark (token.UseOf line occurrence) is = cc
   no-mark (token.AllMacros line) is = cc
   no-mark _ is = refl
 

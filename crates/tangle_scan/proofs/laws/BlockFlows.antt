@@ -28,7 +28,7 @@ module _ (width : ℕ → ℕ) (count : ℕ) where
   in_order-flows at (token.Section ∷ es) stays to ordered = tt
   in_order-flows at (token.MacroStart line ∷ es) stays to ordered = tt
   in_order-flows at (token.UnnamedPart line ∷ es) stays to ordered = tt
-  in_order-flows at (token.NamedPart occurrence line ∷ es) stays to ordered = tt
+  in_order-flows at (token.NamedPart line occurrence ∷ es) stays to ordered = tt
   in_order-flows at (token.Span kind s ∷ es) stays to ordered = (
     ordered.0.line,
     (
@@ -45,7 +45,7 @@ module _ (width : ℕ → ℕ) (count : ℕ) where
   )
   in_order-flows at (token.QuoteBreak ∷ es) stays to ordered =
       in_order-flows (point_at (at.line + 1) 0) es stays to ordered
-  in_order-flows at (token.UseOf occurrence line ∷ es) stays to ordered =
+  in_order-flows at (token.UseOf line occurrence ∷ es) stays to ordered =
       in_order-flows (jumped at line) es stays to ordered.1
   in_order-flows at (token.AllMacros line ∷ es) stays to ordered = (ordered.0, in_order-flows at es stays to ordered.1)
   in_order-flows at (_ ∷ es) stays to ordered = in_order-flows at es stays to ordered
@@ -58,7 +58,7 @@ module _ (width : ℕ → ℕ) (count : ℕ) where
       (tt, blocks-flow n true (jumped at line) es stays to ordered.1)
   blocks-flow n from at (token.UnnamedPart line ∷ es) stays to ordered =
       (in_order-flows (jumped at line) es stays to ordered.1, blocks-flow n true (jumped at line) es stays to ordered.1)
-  blocks-flow n from at (token.NamedPart occurrence line ∷ es) stays to ordered =
+  blocks-flow n from at (token.NamedPart line occurrence ∷ es) stays to ordered =
       (in_order-flows (jumped at line) es stays to ordered.1, blocks-flow n true (jumped at line) es stays to ordered.1)
   blocks-flow n from at (token.Span kind s ∷ es) stays to ordered =
       blocks-flow n true (span_end s) es stays to (from-inside width count from _ ordered).1
@@ -68,7 +68,7 @@ module _ (width : ℕ → ℕ) (count : ℕ) where
       blocks-flow n true (point_at (line + 1) 0) es stays to (from-inside width count from _ ordered).1
   blocks-flow n from at (token.QuoteBreak ∷ es) stays to ordered =
       blocks-flow n true (point_at (at.line + 1) 0) es stays to (from-inside width count from _ ordered)
-  blocks-flow n from at (token.UseOf occurrence line ∷ es) stays to ordered =
+  blocks-flow n from at (token.UseOf line occurrence ∷ es) stays to ordered =
       blocks-flow n true (jumped at line) es stays to (from-inside width count from _ ordered).1
   blocks-flow n from at (token.AllMacros line ∷ es) stays to ordered =
       blocks-flow n true at es stays to (from-inside width count from _ ordered).1

@@ -142,8 +142,8 @@ items_by_origin-spans lines before counted (token.LineEnd line ∷ es) =
     (items_by_origin-spans lines (at_line_front (texts_of lines) before line)
     (counted_after_line_end lines continued counted line) es)
 items_by_origin-spans lines before counted (token.White ∷ es) = items_by_origin-spans lines before counted es
-items_by_origin-spans lines before counted (token.UseOf occurrence line ∷ es) =
-    items_by_origin-spans lines (Some (token.UseOf occurrence line)) (origin_at lines line) es
+items_by_origin-spans lines before counted (token.UseOf line occurrence ∷ es) =
+    items_by_origin-spans lines (Some (token.UseOf line occurrence)) (origin_at lines line) es
 items_by_origin-spans lines before counted (token.AllMacros line ∷ es) =
     items_by_origin-spans lines (Some (token.AllMacros line)) (origin_at lines line) es
 items_by_origin-spans lines before counted (token.QuoteBreak ∷ es) =

@@ -27,7 +27,7 @@ abbrev pub Flows : ℕ → ℕ → List Token → Type 0
 Flows count line [] = Unit {0}
 Flows count line (token.LineEnd at ∷ es) = (at ≡ line) × Flows count (line + 1) es
 Flows count line (token.QuoteBreak ∷ es) = Flows count (line + 1) es
-Flows count line (token.UseOf occurrence at ∷ es) = Flows count at es
+Flows count line (token.UseOf at occurrence ∷ es) = Flows count at es
 Flows count line (token.AllMacros at ∷ es) = (at ≡ line) × Flows count line es
 Flows count line (token.Span kind s ∷ es) = (s.line ≡ line) × ((line < count) × Flows count line es)
 Flows count line (token.AsciiConstant b at ∷ es) = (at ≡ line) × ((line < count) × Flows count line es)
@@ -39,7 +39,7 @@ flows-first : (count : ℕ) (e : Token) (es fs : List Token) → ((line : ℕ) �
     → (line : ℕ) → Flows count line (e ∷ es) → Flows count line (e ∷ fs)
 flows-first count (token.LineEnd at) es fs h line f = (f.0, h (line + 1) f.1)
 flows-first count token.QuoteBreak es fs h line f = h (line + 1) f
-flows-first count (token.UseOf occurrence at) es fs h line f = h at f
+flows-first count (token.UseOf at occurrence) es fs h line f = h at f
 flows-first count (token.AllMacros at) es fs h line f = (f.0, h line f.1)
 flows-first count (token.Span kind s) es fs h line f = (f.0, (f.1.0, h line f.1.1))
 flows-first count (token.AsciiConstant b at) es fs h line f = (f.0, (f.1.0, h line f.1.1))
@@ -140,8 +140,8 @@ module _ (lines : List SourceLine) where
       seen-line_end before counted line es ∙ h (at_line_front texts before line) (counted_after before counted line)
       ∙ sym (seen-line_end before counted line fs)
   seen-first token.White es fs h before counted = h before counted
-  seen-first (token.UseOf occurrence line) es fs h before counted =
-      h (Some (token.UseOf occurrence line)) (origin_at lines line)
+  seen-first (token.UseOf line occurrence) es fs h before counted =
+      h (Some (token.UseOf line occurrence)) (origin_at lines line)
   seen-first (token.AllMacros line) es fs h before counted = h (Some (token.AllMacros line)) (origin_at lines line)
   seen-first token.QuoteBreak es fs h before counted = h (Some token.QuoteBreak) (next_line counted)
   seen-first (token.Span span_kind.Word s) es fs h before counted =
@@ -206,8 +206,8 @@ module _ (lines : List SourceLine) where
   first-true (token.LineEnd at) es fs gs gap next before counted stretch line here flows = cc
   first-true token.QuoteBreak es fs gs gap next before counted stretch line here flows =
       next (Some token.QuoteBreak) (next_line counted) true (line + 1) (λ e. absurd cc) flows
-  first-true (token.UseOf occurrence at) es fs gs gap next before counted stretch line here flows =
-      next (Some (token.UseOf occurrence at)) (origin_at lines at) false at (λ e i. refl) flows
+  first-true (token.UseOf at occurrence) es fs gs gap next before counted stretch line here flows =
+      next (Some (token.UseOf at occurrence)) (origin_at lines at) false at (λ e i. refl) flows
   first-true (token.AllMacros at) es fs gs gap next before counted stretch line here flows =
       next (Some (token.AllMacros at)) (origin_at lines at) false line (λ e i. ap (origin_at lines) flows.0) flows.1
   first-true (token.Span span_kind.Word s) es fs gs gap next before counted stretch line here flows = (

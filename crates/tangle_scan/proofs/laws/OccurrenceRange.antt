@@ -110,8 +110,8 @@ items_by_origin-below count lines before origin (token.AsciiConstant value line 
     (tt, items_by_origin-below count lines (Some (token.AsciiConstant value line)) origin es h.1)
 items_by_origin-below count lines before origin (token.White ∷ es) h =
     (tt, items_by_origin-below count lines before origin es h.1)
-items_by_origin-below count lines before origin (token.UseOf occurrence line ∷ es) h =
-    (h.0, (tt, items_by_origin-below count lines (Some (token.UseOf occurrence line)) (origin_at lines line) es h.1))
+items_by_origin-below count lines before origin (token.UseOf line occurrence ∷ es) h =
+    (h.0, (tt, items_by_origin-below count lines (Some (token.UseOf line occurrence)) (origin_at lines line) es h.1))
 items_by_origin-below count lines before origin (token.AllMacros line ∷ es) h =
     (tt, (tt, items_by_origin-below count lines (Some (token.AllMacros line)) (origin_at lines line) es h.1))
 items_by_origin-below count lines before origin (e ∷ es) h = items_by_origin-below count lines (Some e) origin es h.1
@@ -169,7 +169,7 @@ piece-below count lines n (token.UnnamedPart line) es h k = (
   },
   tt,
 )
-piece-below count lines n (token.NamedPart occurrence line) es h k = (
+piece-below count lines n (token.NamedPart line occurrence) es h k = (
   record {
     uses = All-from_recursion _ _ (part_items-below count lines line (body es) (body-below count es k));
     occurrence = h;
@@ -198,7 +198,7 @@ macro-none lines n (token.MacroStart line) es =
     by items true h = (All-from_recursion _ _ h, tt)
     by items false h = tt
 macro-none lines n (token.UnnamedPart line) es = tt
-macro-none lines n (token.NamedPart occurrence line) es = tt
+macro-none lines n (token.NamedPart line occurrence) es = tt
 macro-none lines n _ es = tt
 
 pub macros-none : (lines : List SourceLine) (n : ℕ) (es : List Token)

@@ -57,7 +57,7 @@ module _ (lines : List SourceLine) where
       let rest = split-blocks n es in
       let all = rest.inside ∙ ap (λ ps. ps ++ blocks_points n es) (sym (piece-points n None line es)) in
       record { outside = all; inside = all }
-  split-blocks n (token.NamedPart occurrence line ∷ es) =
+  split-blocks n (token.NamedPart line occurrence ∷ es) =
       let rest = split-blocks n es in
       let all = rest.inside ∙ ap (λ ps. ps ++ blocks_points n es) (sym (piece-points n (Some occurrence) line es)) in
       record { outside = all; inside = all }

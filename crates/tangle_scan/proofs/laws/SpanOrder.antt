@@ -71,7 +71,7 @@ module _ (width : ℕ → ℕ) (count : ℕ) where
       in_order-are_after true a (jumped at line) es stays to (jump-after a at line h ordered.0) ordered.1
   in_order-are_after from a at (token.UnnamedPart line ∷ es) stays to h ordered =
       in_order-are_after true a (jumped at line) es stays to (jump-after a at line h ordered.0) ordered.1
-  in_order-are_after from a at (token.NamedPart occurrence line ∷ es) stays to h ordered =
+  in_order-are_after from a at (token.NamedPart line occurrence ∷ es) stays to h ordered =
       in_order-are_after true a (jumped at line) es stays to (jump-after a at line h ordered.0) ordered.1
   in_order-are_after from a at (token.Span kind s ∷ es) stays to h ordered =
       let l = from-inside from _ ordered in
@@ -85,7 +85,7 @@ module _ (width : ℕ → ℕ) (count : ℕ) where
   in_order-are_after from a at (token.QuoteBreak ∷ es) stays to h ordered =
       let l = from-inside from _ ordered in
       in_order-are_after true a (point_at (at.line + 1) 0) es stays to (line-after a at (at.line + 1) h refl) l
-  in_order-are_after from a at (token.UseOf occurrence line ∷ es) stays to h ordered =
+  in_order-are_after from a at (token.UseOf line occurrence ∷ es) stays to h ordered =
       let l = from-inside from _ ordered in
       in_order-are_after true a (jumped at line) es stays to (jump-after a at line h l.0) l.1
   in_order-are_after from a at (token.AllMacros line ∷ es) stays to h ordered =
@@ -104,7 +104,7 @@ module _ (width : ℕ → ℕ) (count : ℕ) where
       in_order-ordered true (jumped at line) es stays to ordered.1
   in_order-ordered from at (token.UnnamedPart line ∷ es) stays to ordered =
       in_order-ordered true (jumped at line) es stays to ordered.1
-  in_order-ordered from at (token.NamedPart occurrence line ∷ es) stays to ordered =
+  in_order-ordered from at (token.NamedPart line occurrence ∷ es) stays to ordered =
       in_order-ordered true (jumped at line) es stays to ordered.1
   in_order-ordered from at (token.Span kind s ∷ es) stays to ordered =
       let l = from-inside from _ ordered in (
@@ -120,7 +120,7 @@ module _ (width : ℕ → ℕ) (count : ℕ) where
       in_order-ordered true (point_at (line + 1) 0) es stays to (from-inside from _ ordered).1
   in_order-ordered from at (token.QuoteBreak ∷ es) stays to ordered =
       in_order-ordered true (point_at (at.line + 1) 0) es stays to (from-inside from _ ordered)
-  in_order-ordered from at (token.UseOf occurrence line ∷ es) stays to ordered =
+  in_order-ordered from at (token.UseOf line occurrence ∷ es) stays to ordered =
       in_order-ordered true (jumped at line) es stays to (from-inside from _ ordered).1
   in_order-ordered from at (token.AllMacros line ∷ es) stays to ordered =
       in_order-ordered true at es stays to (from-inside from _ ordered).1
@@ -149,7 +149,7 @@ module _ (width : ℕ → ℕ) (count : ℕ) where
     -- the block that a head begins
     abbrev here : ℕ → Token → List Token → Block
     here n (token.MacroStart line) es = record { section = n; kind = OfMacro line; tokens = body es }
-    here n (token.NamedPart occurrence line) es =
+    here n (token.NamedPart line occurrence) es =
         record { section = n; kind = OfPiece (Some occurrence) line; tokens = body es }
     here n (token.UnnamedPart line) es = record { section = n; kind = OfPiece None line; tokens = body es }
     here n _ es = record { section = n; kind = OfMacro 0; tokens = body es }
@@ -167,9 +167,9 @@ module _ (width : ℕ → ℕ) (count : ℕ) where
         let rest = blocks-after at n es h in
         picked (AreAfter at) (here n (token.UnnamedPart line) es) (flat_map f (blocks n es))
         rest (after-suffix at (token_spans (body es)) (flat_map f (blocks n es)) rest)
-    blocks-after at n (token.NamedPart occurrence line ∷ es) h =
+    blocks-after at n (token.NamedPart line occurrence ∷ es) h =
         let rest = blocks-after at n es h in
-        picked (AreAfter at) (here n (token.NamedPart occurrence line) es) (flat_map f (blocks n es))
+        picked (AreAfter at) (here n (token.NamedPart line occurrence) es) (flat_map f (blocks n es))
         rest (after-suffix at (token_spans (body es)) (flat_map f (blocks n es)) rest)
     blocks-after at n (token.Span kind s ∷ es) h = (h.0, blocks-after at n es h.1)
     blocks-after at n (_ ∷ es) h = blocks-after at n es h
@@ -187,9 +187,9 @@ module _ (width : ℕ → ℕ) (count : ℕ) where
         let rest = blocks-ordered n es h in
         picked (AreOrdered width count) (here n (token.UnnamedPart line) es) (flat_map f (blocks n es))
         rest (ordered-suffix (token_spans (body es)) (flat_map f (blocks n es)) rest)
-    blocks-ordered n (token.NamedPart occurrence line ∷ es) h =
+    blocks-ordered n (token.NamedPart line occurrence ∷ es) h =
         let rest = blocks-ordered n es h in
-        picked (AreOrdered width count) (here n (token.NamedPart occurrence line) es)
+        picked (AreOrdered width count) (here n (token.NamedPart line occurrence) es)
         (flat_map f (blocks n es)) rest (ordered-suffix (token_spans (body es)) (flat_map f (blocks n es)) rest)
     blocks-ordered n (token.Span kind s ∷ es) h =
         (h.0, (blocks-after (span_end s) n es h.1.0, blocks-ordered n es h.1.1))

@@ -29,9 +29,9 @@ items_by_origin lines before counted (token.Span kind s ∷ es) =
     span_item kind s ∷ items_by_origin lines (Some (token.Span kind s)) counted es
 items_by_origin lines before counted (token.AsciiConstant value line ∷ es) =
     item.Code value ∷ items_by_origin lines (Some (token.AsciiConstant value line)) counted es
-items_by_origin lines before counted (token.UseOf occurrence line ∷ es) =
+items_by_origin lines before counted (token.UseOf line occurrence ∷ es) =
     item.UseOf occurrence ∷ item.LineMark (origin_at lines line)
-    ∷ items_by_origin lines (Some (token.UseOf occurrence line)) (origin_at lines line) es
+    ∷ items_by_origin lines (Some (token.UseOf line occurrence)) (origin_at lines line) es
 items_by_origin lines before counted (token.AllMacros line ∷ es) =
     item.Defs ∷ item.LineMark (origin_at lines line)
     ∷ items_by_origin lines (Some (token.AllMacros line)) (origin_at lines line) es
@@ -71,7 +71,7 @@ module _ (lines : List SourceLine) where
   line_end-alone before counted (token.Span span_kind.Quoted s ∷ es) = refl
   line_end-alone before counted (token.Span span_kind.Verbatim s ∷ es) = refl
   line_end-alone before counted (token.AsciiConstant value line ∷ es) = refl
-  line_end-alone before counted (token.UseOf occurrence line ∷ es) = refl
+  line_end-alone before counted (token.UseOf line occurrence ∷ es) = refl
   line_end-alone before counted (token.AllMacros line ∷ es) = refl
   line_end-alone before counted (e ∷ es) = line_end-alone (Some e) counted es
 
@@ -110,7 +110,7 @@ module _ (lines : List SourceLine) where
   made-token left before counted (token.Span span_kind.Quoted s) es gap h = ap (λ t. item.Quoted s ∷ t) (h counted)
   made-token left before counted (token.Span span_kind.Verbatim s) es gap h = ap (λ t. item.Verbatim s ∷ t) (h counted)
   made-token left before counted (token.AsciiConstant value line) es gap h = ap (λ t. item.Code value ∷ t) (h counted)
-  made-token left before counted (token.UseOf occurrence line) es gap h =
+  made-token left before counted (token.UseOf line occurrence) es gap h =
       ap (λ t. item.UseOf occurrence ∷ item.LineMark (origin_at lines line) ∷ t) (h (origin_at lines line))
   made-token left before counted (token.AllMacros line) es gap h =
       ap (λ t. item.Defs ∷ item.LineMark (origin_at lines line) ∷ t) (h (origin_at lines line))

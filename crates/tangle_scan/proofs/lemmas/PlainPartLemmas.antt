@@ -166,7 +166,7 @@ item-continues lines entries (token.Span kind s) plain white end run =
     last-continues (texts_of lines) entries (entry.Item (span_item kind s)) ∙ span-continues (texts_of lines) kind s
 item-continues lines entries token.QuoteBreak plain white end run =
     last-continues (texts_of lines) entries (entry.Item item.QuoteBreak)
-item-continues lines entries (token.UseOf occurrence line) plain white end run =
+item-continues lines entries (token.UseOf line occurrence) plain white end run =
     let mark = entry.Item (item.LineMark (origin_at lines line)) in
     let named = entry.Item (item.UseOf occurrence) in
     ap (entries_continue (texts_of lines)) (sym (append_assoc entries (named ∷ []) (mark ∷ [])))

@@ -114,12 +114,12 @@ pub spaced-front : (texts : List (List ℕ)) (es : List Token)
 spaced-front texts es =
     front-spaced texts es ∙ (sym (name-spaced texts es) ∙ ap (with_name_space texts) (spaced-inside texts es))
 
--- at the end of the tokens only the last run may still be removed
+-- at the end of the tokens only the last gap may still be removed
 pub spaced-end : (texts : List (List ℕ)) (spaced : List Token) (at : Spacing)
     → spacing_from texts spaced at []
-    ≡ (if has_join (drop at.run.start spaced) then take at.run.start spaced else spaced)
+    ≡ (if has_join (drop at.gap.start spaced) then take at.gap.start spaced else spaced)
 unfolding spacing_from
-spaced-end texts spaced at = rw nothing (run-end at.run.start spaced)
+spaced-end texts spaced at = rw nothing (run-end at.gap.start spaced)
   where
     gone : (stages : Stage) → without_skipped stages [] ≡ []
     gone stage.Front = refl
@@ -131,7 +131,7 @@ spaced-end texts spaced at = rw nothing (run-end at.run.start spaced)
 -- at the beginning no token was read
 pub spaced-begin : (texts : List (List ℕ)) (spaced : List Token) (at : Stage) (es : List Token) → spaced ≡ []
     → spacing_from texts spaced
-    (record { run = record { start = 0; has_join = false }; stage = at; before = token.White }) es
+    (record { gap = record { start = 0; has_join = false }; stage = at; before = token.White }) es
     ≡ without_joins [] (with_white_space texts at token.White (without_skipped at es))
 unfolding spacing_from without_joins_from
 spaced-begin texts spaced at es is = rw is refl
@@ -157,18 +157,18 @@ unchanged-spaces (e ∷ f ∷ es) h =
     let second = or_parts (is_rare f) (list_any is_rare es) first.1 in
     rw (unchanged-merge e f first.0 second.0) (ap (λ t. e ∷ t) (unchanged-spaces (f ∷ es) first.1))
 
-unchanged-without_joins : (run es : List Token)
-    → has_join run ≡ false → list_any is_rare es ≡ false → without_joins run es ≡ run ++ es
-unchanged-without_joins run [] h k = rw h (sym (append-nil run))
-unchanged-without_joins run (token.Join ∷ es) h k = cc
-unchanged-without_joins run (token.White ∷ es) h k =
-    unchanged-without_joins (run ++ token.White ∷ []) es (has_join-push run token.White ∙ rw h refl) k
-    ∙ append_assoc run (token.White ∷ []) es
-unchanged-without_joins run (token.LineEnd line ∷ es) h k =
-    unchanged-without_joins (run ++ token.LineEnd line ∷ []) es (has_join-push run (token.LineEnd line) ∙ rw h refl) k
-    ∙ append_assoc run (token.LineEnd line ∷ []) es
-unchanged-without_joins run (e ∷ es) h k =
-    rw h (ap (λ t. run ++ e ∷ t) (unchanged-without_joins [] es refl (or_parts (is_rare e) (list_any is_rare es) k).1))
+unchanged-without_joins : (gap es : List Token)
+    → has_join gap ≡ false → list_any is_rare es ≡ false → without_joins gap es ≡ gap ++ es
+unchanged-without_joins gap [] h k = rw h (sym (append-nil gap))
+unchanged-without_joins gap (token.Join ∷ es) h k = cc
+unchanged-without_joins gap (token.White ∷ es) h k =
+    unchanged-without_joins (gap ++ token.White ∷ []) es (has_join-push gap token.White ∙ rw h refl) k
+    ∙ append_assoc gap (token.White ∷ []) es
+unchanged-without_joins gap (token.LineEnd line ∷ es) h k =
+    unchanged-without_joins (gap ++ token.LineEnd line ∷ []) es (has_join-push gap (token.LineEnd line) ∙ rw h refl) k
+    ∙ append_assoc gap (token.LineEnd line ∷ []) es
+unchanged-without_joins gap (e ∷ es) h k =
+    rw h (ap (λ t. gap ++ e ∷ t) (unchanged-without_joins [] es refl (or_parts (is_rare e) (list_any is_rare es) k).1))
 
 pub unchanged-stays : (es : List Token)
     → list_any is_rare es ≡ false → es ≡ without_joins [] (with_spaces (without_faults es))

@@ -28,7 +28,7 @@ body-whole (e ∷ es) h =
 block_at-none : (n : ℕ) (e : Token) (es : List Token) → is_head e ≡ false → block_at n e es ≡ []
 block_at-none n (token.MacroStart line) es h = cc
 block_at-none n (token.UnnamedPart line) es h = cc
-block_at-none n (token.NamedPart occurrence line) es h = cc
+block_at-none n (token.NamedPart line occurrence) es h = cc
 block_at-none n _ es h = refl
 
 section_after-none : (n : ℕ) (e : Token) → is_head e ≡ false → section_after n e ≡ n
@@ -80,12 +80,12 @@ block-whole source before head es h =
 -- a head is one of four kinds of tokens
 pub no-other-head : (e : Token)
     → is_head e ≡ true → (e ≡ token.Section → ⊥) → ((line : ℕ) → e ≡ token.MacroStart line → ⊥)
-    → ((line : ℕ) → e ≡ token.UnnamedPart line → ⊥) → ((occurrence line : ℕ) → e ≡ token.NamedPart occurrence line → ⊥)
+    → ((line : ℕ) → e ≡ token.UnnamedPart line → ⊥) → ((line occurrence : ℕ) → e ≡ token.NamedPart line occurrence → ⊥)
     → ⊥
 no-other-head token.Section h a b c d = a refl
 no-other-head (token.MacroStart line) h a b c d = b line refl
 no-other-head (token.UnnamedPart line) h a b c d = c line refl
-no-other-head (token.NamedPart occurrence line) h a b c d = d occurrence line refl
+no-other-head (token.NamedPart line occurrence) h a b c d = d line occurrence refl
 no-other-head _ h a b c d = cc
 
 -- Gathering a list of tokens is gathering the tokens before a head, and then those from that head on.
@@ -97,7 +97,7 @@ body-cut (x ∷ xs) es cut = ap (λ t. if is_head x then [] else x ∷ t) (body-
 block_at-cut : (n : ℕ) (x : Token) (xs es : List Token) → body es ≡ [] → block_at n x (xs ++ es) ≡ block_at n x xs
 block_at-cut n (token.MacroStart line) xs es cut = rw (body-cut xs es cut) refl
 block_at-cut n (token.UnnamedPart line) xs es cut = rw (body-cut xs es cut) refl
-block_at-cut n (token.NamedPart occurrence line) xs es cut = rw (body-cut xs es cut) refl
+block_at-cut n (token.NamedPart line occurrence) xs es cut = rw (body-cut xs es cut) refl
 block_at-cut n _ xs es cut = refl
 
 blocks-cut : (n : ℕ) (xs es : List Token)

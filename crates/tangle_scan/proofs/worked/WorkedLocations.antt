@@ -58,7 +58,7 @@ removed_line_end = refl
 
 -- the items after a line end in a quoted text are in a stretch, up to a mark
 quote_break :
-    locations (source (origin 2)) None (origin 0) false (token.QuoteBreak ∷ word 2 ∷ token.UseOf 0 2 ∷ word 2 ∷ [])
+    locations (source (origin 2)) None (origin 0) false (token.QuoteBreak ∷ word 2 ∷ token.UseOf 2 0 ∷ word 2 ∷ [])
     ≡ word_location 2 true ∷ word_location 2 false ∷ []
 quote_break = refl
 

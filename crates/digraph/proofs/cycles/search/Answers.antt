@@ -16,9 +16,8 @@ returns c =
     let flagged : IsFlagged flags c.args.n =
     subst (λ (xs : List Bool). IsFlagged xs c.args.n) (sym alone)
     (get_or-set_same (replicate size false) c.args.n true false room) in
-    search_says c.args.uses.now flags c.in_ok-found.found.items c.args.n c.index-uses-n.result
-    c.any_flagged.result c.requires.range c.requires.node c.index-uses-n.is
+    search_says c.args.uses.now flags c.in_ok-found.found.items c.args.n c.any_flagged.result c.requires.range
     (λ m f. flagged_alone size c.args.n m (subst (λ (xs : List Bool). IsFlagged xs m) alone f)) flagged
     c.in_ok-found.ensures.flags
-    (rw (c.deref-2.ensures.value, c.deref-3.ensures.value) at c.any_flagged.ensures.one)
-    (rw (c.deref-2.ensures.value, c.deref-3.ensures.value) at c.any_flagged.ensures.none)
+    (rw (c.row.ensures, c.deref-2.ensures.value) at c.any_flagged.ensures.one)
+    (rw (c.row.ensures, c.deref-2.ensures.value) at c.any_flagged.ensures.none)

@@ -1,6 +1,6 @@
-use Rattle.std.proofs.Common.{◌<◌, ◌≡◌, false, length, get_or, arith, inl, ◌∙◌, sym}
+use Rattle.std.proofs.Common.{◌<◌, ◌≡◌, false, length, get_or, arith, inl, inr, ◌∙◌, sym}
 use Rattle.std.proofs.lemmas.List.{get_or_read}
-use Rattle.digraph.proofs.OrderSoFarLemmas.{stuck_row, order_push, listed_row}
+use Rattle.digraph.proofs.OrderSoFarLemmas.{order_push, listed_row}
 use Rattle.digraph.proofs.ordering.add_to_order.Goals as goal
 use Rattle.digraph.proofs.ordering.add_to_order.Goals.{then-index-via-then-index}
 use Rattle.digraph.proofs.ordering.add_to_order.Goals.{then-index-via-else-index+then-not-all_flagged}
@@ -11,10 +11,9 @@ returns-then-index-clause-stuck c = λ _.
       | then-index-via-then-index w ↦ inl ((c.requires.order.flagged c.args.n).0
           (sym (get_or_read _ c.args.n _ room c.index.ensures false) ∙ w.if-index.true))
       | then-index-via-else-index+then-not-all_flagged w ↦
-          stuck_row _ c.args.flags.now.items _ _ w.index-uses-n.result
-          c.requires.order c.requires.node w.index-uses-n.is
-          (rw (w.deref.ensures.value, w.deref-else-index.ensures.value)
-          at (w.all_flagged.ensures.one w.if-not-all_flagged.true))
+          (let one =
+          rw (w.row.ensures, w.deref.ensures.value) at (w.all_flagged.ensures.one w.if-not-all_flagged.true) in
+          inr (one.0, one.1, λ inside. one.2 ((c.requires.order.flagged one.0).1 inside)))
     ]
   where
     room : c.args.n < length c.args.flags.now.items
@@ -22,12 +21,11 @@ returns-then-index-clause-stuck c = λ _.
 
 pub returns-clause-order : goal.returns-clause-order
 returns-clause-order c =
-    let flagged = rw (c.deref.ensures.value, c.deref-else-index.ensures.value)
+    let flagged = rw (c.row.ensures, c.deref.ensures.value)
     at (c.all_flagged.ensures.all c.if-not-all_flagged.false) in
     let room : c.args.n < length c.args.flags.now.items = omega (arith, c.requires.node, c.requires.order.size) in
     let free : get_or c.args.flags.now.items c.args.n false ≡ false =
     sym (get_or_read _ c.args.n _ room c.index.ensures false) ∙ c.if-index.false in
-    rw c.in_ok-push.ensures.items
+    rw (c.in_ok-push.ensures.items, c.new.ensures)
     (order_push _ _ _ _ c.requires.order c.requires.node free
-    (listed_row _ c.args.flags.now.items _ _ c.index-uses-n.result
-    c.requires.order c.requires.node c.index-uses-n.is flagged))
+    (listed_row _ c.args.flags.now.items _ _ c.requires.order flagged))

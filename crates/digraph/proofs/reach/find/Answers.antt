@@ -1,6 +1,5 @@
 use Rattle.std.proofs.Common.{sym, ◌∙◌}
 use Rattle.digraph.specs.Reach.{here}
-use Rattle.digraph.proofs.GraphLemmas.{use_at}
 use Rattle.digraph.proofs.FindingLemmas.{finding_set, reaches_by_use}
 use Rattle.digraph.proofs.reach.find.Goals as goal
 use Rattle.digraph.proofs.reach.find.Goals.{then-flags-n, else-flags-n}
@@ -11,9 +10,7 @@ returns-clause-finding c =
       | then-flags-n w ↦ finding_set _ _ _ c.args.n c.requires.finding (c.args.n, here, w.if-flags-n.true)
       | else-flags-n w ↦
           (let one =
-          rw w.deref.ensures.value at (w.any_flagged.ensures.one (sym w.value-is ∙ c.if-not-any_flagged.false)) in
+          rw w.row.ensures at (w.any_flagged.ensures.one (sym w.value-is ∙ c.if-not-any_flagged.false)) in
           finding_set _ _ _ c.args.n c.requires.finding
-          (reaches_by_use _ _ c.args.n one.0
-          (use_at _ c.args.n one.0 w.index-uses-n.result c.requires.node w.index-uses-n.is one.1)
-          (c.requires.finding.sound one.0 one.2)))
+          (reaches_by_use _ _ c.args.n one.0 one.1 (c.requires.finding.sound one.0 one.2)))
     ]

@@ -1,4 +1,3 @@
-use Rattle.std.proofs.Common.{arith}
 use Rattle.digraph.proofs.FindingLemmas.{passed_found, passed_decided}
 use Rattle.digraph.proofs.reach.find_each.Goals as goal
 use Rattle.digraph.proofs.reach.find_each.Goals.{then-find, else-find}
@@ -13,6 +12,3 @@ loop-n-preserved c =
           (passed_decided _ _ _ _ _ _ _ c.loop-n.invariant reported.finding
           (reported.same w.if-find.false) (reported.decided w.if-find.false))
     ]
-
-pub returns-clause-none : goal.returns-clause-none
-returns-clause-none c = λ e n h. c.loop-n.invariant.decided e n (omega (arith, h))

@@ -11,5 +11,5 @@ returns-then-flags-n c =
       | else-root-n w ↦ rw w.flags-is c.requires.flags
     ] in
     from_roots_row c.args.uses.now c.args.roots.now c.if-root-n.flags c.flag_row.new.flags c.args.n
-    c.index-uses-n.result so_far c.requires.node c.index-uses-n.is c.if-flags-n.true c.flag_row.auto.flags
-    (rw c.deref.ensures.value at c.flag_row.ensures)
+    so_far c.if-flags-n.true c.flag_row.auto.flags
+    (rw c.row.ensures at c.flag_row.ensures)

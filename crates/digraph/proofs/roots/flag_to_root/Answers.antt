@@ -14,6 +14,6 @@ returns-then-root-n c =
           (subst (λ (r : ℕ). Reaches (HasUse c.args.uses.now) c.args.n r) (sym w.if-root-n.true) here)
       | then-root-n-via-else-root-n+then-leads_to_root w ↦
           to_roots_set _ _ _ c.args.n c.requires.flags
-          (root_is_reached _ _ _ c.args.n w.index-uses-n.result c.requires.flags c.requires.node w.index-uses-n.is
-          (rw w.deref.ensures.value at (w.leads_to_root.ensures w.if-leads_to_root.true)))
+          (root_is_reached _ _ _ c.args.n c.requires.flags
+          (rw w.row.ensures at (w.leads_to_root.ensures w.if-leads_to_root.true)))
     ]

@@ -1,13 +1,15 @@
-use Rattle.std.proofs.Common.{◌≡◌, ◌∙◌, ◌+◌, true, false, ap, arith, get_or, length, subst, sym, take, Contains}
+use Rattle.std.proofs.Common.{◌≡◌, ◌∙◌, ◌+◌, true, false, ap, arith, length, length-set, subst, sym, take, Contains}
 use Rattle.std.proofs.lemmas.List.{take_all}
 use Rattle.tangle_plans.specs.Shapes.{here}
-use Rattle.tangle_plans.specs.declared.nodes.Node.TheVariants.{Program}
 use Rattle.tangle_graph.specs.Stores.{title_in_store}
 use Rattle.tangle_affected.specs.Flags.{AreFlagged, ReachesNewShape}
-use Rattle.tangle_graph.proofs.FlagLemmas.{flag_size}
 use Rattle.tangle_affected.proofs.FlagLemmas.{flagged_next, reached_by_use, not_reached}
 use Rattle.tangle_affected.proofs.edits.reaching_new_shapes.Goals as goal
 use Rattle.tangle_affected.proofs.edits.reaching_new_shapes.Goals.{then-has_new_shape, else-has_new_shape}
+
+pub has_new_shape-requires-clause-node : goal.has_new_shape-requires-clause-node
+has_new_shape-requires-clause-node c =
+    c.requires.order.inside c.node-item.result (c.loop-node.node-index, c.loop-node-test.true, sym c.node-item.is)
 
 pub loop-node-preserved : goal.loop-node-preserved
 loop-node-preserved c =
@@ -15,36 +17,38 @@ loop-node-preserved c =
     let order = c.args.order.now in
     let i = c.loop-node.node-index in
     let flags = c.loop-node.flags.items in
-    let b = c.if-has_new_shape.is_flagged in
+    let b = c.if-has_new_shape.has_cause in
     let inside = c.loop-node-test.true in
+    let node = c.node-item.result in
+    let at = c.node-item.is in
     record {
-      size = ap length c.set_flag.ensures ∙ flag_size new flags (get_or order i Program) b ∙ c.loop-node.invariant.size;
+      size = ap length c.set_flag.ensures ∙ length-set flags node b ∙ c.loop-node.invariant.size;
       flagged = λ old_shapes new_shapes old_is new_is.
           let are = c.loop-node.invariant.flagged old_shapes new_shapes old_is new_is in
           let reported = c.has_new_shape.ensures old_shapes new_shapes old_is new_is in
           subst (λ fs. AreFlagged old_shapes new_shapes new fs (take (i + 1) order)) (sym c.set_flag.ensures)
-          (flagged_next new order c.requires.order old_shapes new_shapes
-          new_is flags i inside are b c.loop-node.invariant.size
-          (elim c.if-has_new_shape.branch as (λ _. c.if-has_new_shape.is_flagged ≡ true
+          (flagged_next new order c.requires.order i inside node at old_shapes new_shapes
+          new_is flags are b c.loop-node.invariant.size
+          (elim c.if-has_new_shape.branch as (λ _. c.if-has_new_shape.has_cause ≡ true
           → ReachesNewShape old_shapes new_shapes
-          (title_in_store c.args.new.now (get_or c.args.order.now c.loop-node.node-index Program))) [
+          (title_in_store c.args.new.now c.node-item.result)) [
             | then-has_new_shape w ↦
-                (λ e. (title_in_store new (get_or order i Program), here, reported.0 w.if-has_new_shape.true))
+                (λ e. (title_in_store new node, here, reported.0 w.if-has_new_shape.true))
             | else-has_new_shape w ↦ (λ e. (let one = rw (w.deref.ensures.value, w.uses.ensures)
-                at (w.any_flagged-is_flagged.ensures.one (sym w.is_flagged-is ∙ e)) in
-                reached_by_use new order c.requires.order old_shapes
-                new_shapes new_is flags i inside are one.0 one.1 one.2))
+                at (w.any_flagged-has_cause.ensures.one (sym w.has_cause-is ∙ e)) in
+                reached_by_use new order c.requires.order i inside node at old_shapes
+                new_shapes new_is flags are one.0 one.1 one.2))
           ])
-          (elim c.if-has_new_shape.branch as (λ _. c.if-has_new_shape.is_flagged ≡ false
+          (elim c.if-has_new_shape.branch as (λ _. c.if-has_new_shape.has_cause ≡ false
           → ReachesNewShape old_shapes new_shapes
-          (title_in_store c.args.new.now (get_or c.args.order.now c.loop-node.node-index Program))
+          (title_in_store c.args.new.now c.node-item.result)
           → ⊥) [
             | then-has_new_shape w ↦ (λ e.
-                (let both : true ≡ false = sym w.if-has_new_shape.true ∙ (sym w.is_flagged-is ∙ e) in absurd (cc)))
+                (let both : true ≡ false = sym w.if-has_new_shape.true ∙ (sym w.has_cause-is ∙ e) in absurd (cc)))
             | else-has_new_shape w ↦ (λ e. (let none = rw (w.deref.ensures.value, w.uses.ensures)
-                at (w.any_flagged-is_flagged.ensures.none (sym w.is_flagged-is ∙ e)) in
-                not_reached new order c.requires.order old_shapes new_shapes new_is flags i
-                inside are c.has_new_shape.result reported w.if-has_new_shape.false none))
+                at (w.any_flagged-has_cause.ensures.none (sym w.has_cause-is ∙ e)) in
+                not_reached new order c.requires.order i inside node at old_shapes new_shapes new_is flags
+                are c.has_new_shape.result reported w.if-has_new_shape.false none))
           ]));
     }
 

@@ -37,7 +37,7 @@ expand_list-requires c =
     (c.in_ok-list.ensures shapes.old shapes.new is.before is.after) in
     let listed =
     subst (FlagsJustListed new flags) (c.deref.ensures.value ∙ sym c.deref-3.ensures.value) c.in_ok-flags.ensures in
-    let keeps = subst (λ ms. KeepsUnflagged shapes.new new (flag_at new ms) order kept)
+    let keeps = subst (λ ms. KeepsUnflagged shapes.new new (flag_at ms) order kept)
     c.deref-2.ensures.value (c.in_ok-share_unflagged.ensures shapes is) in (
       shapes.new,
       affected_ready shapes.new new order c.order-order.ensures shapes.old
@@ -54,7 +54,7 @@ returns-clause-kept c = λ shapes is.
     (c.in_ok-list.ensures shapes.old shapes.new is.before is.after) in
     let listed =
     subst (FlagsJustListed new flags) (c.deref.ensures.value ∙ sym c.deref-3.ensures.value) c.in_ok-flags.ensures in
-    let keeps = subst (λ ms. KeepsUnflagged shapes.new new (flag_at new ms) order kept)
+    let keeps = subst (λ ms. KeepsUnflagged shapes.new new (flag_at ms) order kept)
     c.deref-2.ensures.value (c.in_ok-share_unflagged.ensures shapes is) in
     c.in_ok-expand_list.ensures.kept shapes.new
     (affected_ready shapes.new new order c.order-order.ensures shapes.old

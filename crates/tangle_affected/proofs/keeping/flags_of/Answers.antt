@@ -1,8 +1,5 @@
-use Rattle.std.proofs.Common.{◌≡◌, ◌∙◌, ◌+◌, true, ap, arith, get_or, length, subst, sym, take}
+use Rattle.std.proofs.Common.{◌≡◌, ◌∙◌, ◌+◌, true, ap, arith, length, length-set, subst, sym, take}
 use Rattle.std.proofs.lemmas.List.{take_all}
-use Rattle.std.proofs.lemmas.List.Elements.{Contains-get_or}
-use Rattle.tangle_plans.specs.declared.nodes.Node.TheVariants.{Program}
-use Rattle.tangle_graph.proofs.FlagLemmas.{flag_size}
 use Rattle.tangle_affected.specs.Flags.{FlagsJustListed}
 use Rattle.tangle_affected.proofs.FlagLemmas.{listed_next}
 use Rattle.tangle_affected.proofs.keeping.flags_of.Goals as goal
@@ -13,13 +10,12 @@ loop-node-preserved c =
     let list = c.args.list.now in
     let i = c.loop-node.node-index in
     let flags = c.loop-node.flags.items in
-    let there = c.requires (get_or list i Program) (Contains-get_or list i Program c.loop-node-test.true) in
+    let node = c.node-item.result in
+    let there = c.requires node (i, c.loop-node-test.true, sym c.node-item.is) in
     record {
-      size =
-          ap length c.set_flag.ensures ∙ flag_size store flags (get_or list i Program) true
-          ∙ c.loop-node.invariant.size;
+      size = ap length c.set_flag.ensures ∙ length-set flags node true ∙ c.loop-node.invariant.size;
       listed = subst (λ fs. FlagsJustListed store fs (take (i + 1) list)) (sym c.set_flag.ensures)
-          (listed_next store list flags i c.loop-node-test.true
+          (listed_next store list flags i node c.loop-node-test.true c.node-item.is
           c.loop-node.invariant.size there c.loop-node.invariant.listed);
     }
 

@@ -14,4 +14,5 @@ unwrap-before-requires c =
     shapes.new (title_in_store c.args.new.now node) unaffected.0 unaffected.1 in
     let at =
     node_with_piece shapes.old c.args.old.now (title_in_store c.args.new.now node) is.before before_edit.0.has_piece in
-    some_unless c.node_before.result (λ none. c.node_before.ensures.none none at.0 at.1 at.2)
+    some_unless c.node_before.result
+    (λ none. (rw (c.names.ensures, c.names-2.ensures) at (c.node_before.ensures.none none)) at.0 at.1 at.2)

@@ -9,9 +9,9 @@ returns-in-Open g c =
     rw (c.in-Open.is, append-nil, ← c.requires.ours, ← c.section_at.ensures, ← c.mark_origin_at.ensures)
     (writes_then _ _ _ _ _ _ _ _ c.write_opening-opened.ensures c.write_mark.ensures)
 
-pub returns-in-Run : goal.returns-in-Run
-returns-in-Run g c =
-    rw (c.in-Run.is, written-bytes, ← c.deref.ensures.value, ← c.bytes_between.ensures) c.write_after.ensures
+pub returns-in-Bytes : goal.returns-in-Bytes
+returns-in-Bytes g c =
+    rw (c.in-Bytes.is, written-bytes, ← c.deref.ensures.value, ← c.bytes_between.ensures) c.write_after.ensures
 
 pub returns-in-Mark : goal.returns-in-Mark
 returns-in-Mark g c =

@@ -1,90 +1,60 @@
-use Rattle.std.proofs.Common.{◌≡◌, ◌∙◌, ◌+◌, ◌∷◌, [], ℕ, Bool, List, ⊎_elim, ap, filter, get_or, length, length-append}
-use Rattle.std.proofs.Common.{take, sym, subst, true, false, true≢false, arith}
+use Rattle.std.proofs.Common.{◌≡◌, ◌∙◌, ◌∷◌, [], ⊎_elim, ap, length, length-append, refl, sym, true, true≢false, arith}
 use Rattle.std.specs.Global.{Global}
-use Rattle.std.specs.Prelude.{slice_get, Some}
 use Rattle.std.specs.declared.rc.Rc.{Rc}
-use Rattle.std.proofs.lemmas.List.{take_all}
-use Rattle.digraph.specs.Graph.{rows_of}
-use Rattle.tangle_plans.specs.ItemTags.{pieces_uses}
-use Rattle.tangle_plans.specs.ItemSlots.{pieces_at, pieces_slots}
-use Rattle.tangle_plans.specs.NodeBodies.{body_uses, plan_slots, plan_uses, names_at}
+use Rattle.std.proofs.lemmas.List.{length-map}
+use Rattle.tangle_plans.specs.NodeBodies.{body_uses, names_at}
 use Rattle.tangle_plans.specs.declared.nodes.NodeBody.{NodeBody}
-use Rattle.tangle_graph.specs.Nodes.{title_at}
-use Rattle.tangle_graph.specs.Plans.{ArePlanned, ArePlans, AreBodies, IsKept, IsBodyOf, IsBodyOfBefore, node_bodies}
-use Rattle.tangle_graph.specs.Plans.{slots_of, uses_of_plans}
-use Rattle.tangle_graph.proofs.PushLemmas.{bodies_count, bodies_more, flagged_more, holds_of_old, planned_more}
-use Rattle.tangle_graph.proofs.PushLemmas.{plans_more}
+use Rattle.tangle_graph.specs.Plans.{IsKept, IsBodyOfBefore, node_bodies}
+use Rattle.tangle_graph.proofs.PushLemmas.{IsBodyMade, at_flag, bodies_push, holds_of_old, some_at}
 use Rattle.tangle_graph.proofs.bodies.bodies_by_node.Goals as goal
 use Rattle.tangle_graph.proofs.bodies.bodies_by_node.Goals.{then-made, else-made}
 
 pub loop-n-preserved : goal.loop-n-preserved
 loop-n-preserved c =
-    let web = c.args.web.now in
     let table = c.args.table.now in
-    let has : ℕ → Bool = λ id. get_or c.args.has_piece.now id false in
+    let old = c.args.old in
     let i = c.loop-n.n in
-    let bodies = c.loop-n.bodies.items in
     let body = c.in_ok-made.made.body in
-    let row = c.index-pieces-n.result in
-    let slots = subst
-    (λ r. plan_slots body.value ≡ pieces_slots web.texts table has (title_at table.names i) 0 (pieces_at web.pieces r))
-    c.deref.ensures.value c.in_ok-made.ensures.body.slots in
-    let uses = subst (λ r. plan_uses body.value ≡ filter has (pieces_uses table (pieces_at web.pieces r)))
-    c.deref.ensures.value c.in_ok-made.ensures.body.uses in
-    let more = plans_more web table has c.args.pieces.now bodies i row body
-    c.loop-n-test.true c.index-pieces-n.is c.loop-n.invariant.plans slots uses in
-    let one = subst (λ r. IsBodyOf web table r body.value) c.deref.ensures.value c.in_ok-made.ensures.body.is_body in
-    let flags = c.loop-n.are_kept.items in
-    let flag = c.if-made.push in
-    let count : length bodies ≡ i =
-    bodies_count c.args.pieces.now bodies i c.loop-n-test.true c.loop-n.invariant.bodies.size in
-    let is_kept_now = IsKept c.args.old table.names in
-    let texts_before = c.args.old.names.now in
     let used = body_uses body.value in
-    let one_kept : flag ≡ true → is_kept_now i body.value
-    = elim c.if-made.branch
-    as (λ _. c.if-made.push ≡ true → IsKept c.args.old c.args.table.now.names c.loop-n.n c.in_ok-made.made.body.value) [
+    let before = rw (c.requires.names, c.new-node.ensures) at c.body_before-before.ensures.before in
+    let kept : c.if-made.push ≡ true → IsKept old table.names i body.value
+    = elim c.if-made.branch as (λ _. c.if-made.push ≡ true → IsKept old table.names i body.value) [
       | then-made w ↦ (λ e. (
-        holds_of_old c.body_before-before.result (IsBodyOfBefore c.args.old table.names i)
-            body.value (c.in_ok-made.ensures.old w.if-made.true) c.body_before-before.ensures.before,
-        ⊎_elim (λ f. ap (λ ns. names_at ns used) (c.requires.same_names_and_flags f).names)
-            (λ none. (let no_uses : body_uses body.value ≡ [] = ap body_uses (sym w.deref-then-made.ensures) ∙ none in
-            ap (names_at texts_before) no_uses ∙ sym (ap (names_at table.names) no_uses)))
+        holds_of_old c.body_before-before.result (IsBodyOfBefore old table.names i) body.value
+            (c.in_ok-made.ensures.old w.if-made.true) before,
+        ⊎_elim (λ same. ap (λ ns. names_at ns used) (c.requires.same_nodes same).names)
+            (λ none. (let no_uses : used ≡ [] = ap body_uses (sym w.deref.ensures) ∙ none in
+            ap (names_at old.names.now) no_uses ∙ sym (ap (names_at table.names) no_uses)))
             (w.keeps_uses.ensures (sym w.push-is ∙ e)),
       ))
       | else-made w ↦ (λ e. absurd (true≢false (sym e ∙ w.push-is ∙ w.if-made.false)))
     ] in
-    let bodies_reported = bodies_more web table c.args.pieces.now bodies i row
-    body c.loop-n-test.true c.index-pieces-n.is c.loop-n.invariant.bodies one in
     record {
-      bodies = subst (λ ts. AreBodies web table (rows_of (take (i + 1) c.args.pieces.now)) (node_bodies ts))
-          (sym c.in_ok-push-2.ensures.items) bodies_reported;
-      plans = subst
-          (λ ts. ArePlans web table has (rows_of (take (i + 1) c.args.pieces.now)) (slots_of ts) (uses_of_plans ts))
-          (sym c.in_ok-push-2.ensures.items) more;
-      flags_size = omega (
-        arith,
-        ap length c.in_ok-push.ensures.items,
-        ap length c.in_ok-push-2.ensures.items,
-        length-append flags (flag ∷ []),
-        length-append bodies (body ∷ []),
-        c.loop-n.invariant.flags_size,
-      );
-      are_kept = λ n e. subst
-          (λ (bs : List (Rc NodeBody Global)).
-          (t : NodeBody) × (slice_get (node_bodies bs) n ≡ Some t) × is_kept_now n t) (sym c.in_ok-push-2.ensures.items)
-          (flagged_more is_kept_now bodies flags i body flag count
-          c.loop-n.invariant.flags_size c.loop-n.invariant.are_kept one_kept n
-          (ap (λ (fs : List Bool). get_or fs n false) (sym c.in_ok-push.ensures.items) ∙ e));
-      planned = subst (λ ts. ArePlanned table.names has (node_bodies ts)) (sym c.in_ok-push-2.ensures.items)
-          (planned_more table.names has c.args.pieces.now bodies i body
-          c.loop-n-test.true c.loop-n.invariant.bodies.size c.loop-n.invariant.planned
-          c.in_ok-made.ensures.body.title c.in_ok-made.ensures.body.planned);
+      size = ap length c.in_ok-push-2.ensures.items
+          ∙ omega (arith, length-append c.loop-n.bodies.items (body ∷ []), c.loop-n.invariant.size);
+      flags_size = ap length c.in_ok-push.ensures.items
+          ∙ omega (arith, length-append c.loop-n.are_kept.items (c.if-made.push ∷ []), c.loop-n.invariant.flags_size);
+      each = rw (c.in_ok-push-2.ensures.items, c.in_ok-push.ensures.items)
+          (bodies_push (IsBodyMade c.args.web.now table c.args.pieces.now old) c.loop-n.bodies.items
+          c.loop-n.are_kept.items i body c.if-made.push c.loop-n.invariant.size c.loop-n.invariant.flags_size
+          c.loop-n.invariant.each (rw c.new-node.ensures at c.in_ok-made.ensures.body, kept));
     }
 
-pub returns-clause-plans : goal.returns-clause-plans
-returns-clause-plans c =
-    let has : ℕ → Bool = λ id. get_or c.args.has_piece.now id false in
+pub returns-clause-bodies : goal.returns-clause-bodies
+returns-clause-bodies c =
     let bodies = c.loop-n.bodies.items in
-    subst (λ ps. ArePlans c.args.web.now c.args.table.now has (rows_of ps) (slots_of bodies) (uses_of_plans bodies))
-    (take_all c.loop-n.n c.args.pieces.now (omega arith)) c.loop-n.invariant.plans
+    let count = length-map bodies (λ (t : Rc NodeBody Global). t.value) in
+    record {
+      size = count ∙ c.loop-n.invariant.size ∙ omega arith;
+      each = λ node low. (
+          let some = some_at (node_bodies bodies) node (omega (arith, low, count, c.loop-n.invariant.size)) in
+          (some.0, some.1, (c.loop-n.invariant.each node some.0 some.1).0));
+    }
+
+pub returns-clause-are_kept : goal.returns-clause-are_kept
+returns-clause-are_kept c = λ node e.
+    let bodies = c.loop-n.bodies.items in
+    let found = at_flag (IsBodyMade c.args.web.now c.args.table.now c.args.pieces.now c.args.old) (node_bodies bodies)
+    c.loop-n.are_kept.items (length-map bodies (λ (t : Rc NodeBody Global). t.value)
+    ∙ c.loop-n.invariant.size ∙ sym c.loop-n.invariant.flags_size) c.loop-n.invariant.each node e in
+    (found.0, found.1, found.2.1 refl)

@@ -1,7 +1,6 @@
 use Rattle.std.proofs.Common.{take}
-use Rattle.digraph.specs.Graph.{rows_of}
 use Rattle.tangle_graph.specs.Stores.{AreWithin}
 use Rattle.tangle_graph.proofs.measures.expandable.Given as goal
 
 abbrev pub invariant-loop-n : goal.invariant-loop-n
-invariant-loop-n l = AreWithin (rows_of (take l.n l.pieces)) l.weights l.depths l.flags.items
+invariant-loop-n l = AreWithin (take l.n l.pieces) l.weights l.depths l.flags.items

@@ -1,17 +1,10 @@
-use Rattle.std.proofs.Common.{◌≡◌, ◌∙◌, ◌<◌, ◌++◌, ◌∷◌, [], ℕ, List, Bool, length, get_or, take, eqb, ap, sym, arith}
-use Rattle.std.specs.Prelude.{All, not, if◌then◌else◌, true, false}
+use Rattle.std.proofs.Common.{◌≡◌, ◌∙◌, ◌<◌, ◌++◌, ◌∷◌, [], length, get_or, take, eqb, ap, sym, arith}
+use Rattle.std.specs.Prelude.{not, if◌then◌else◌, false}
 use Rattle.std.specs.List.{list_any}
 use Rattle.std.proofs.lemmas.List.{get_or_default}
-use Rattle.std.proofs.lemmas.List.Elements.{All-append, All-cons, All-nil}
-use Rattle.tangle_graph.proofs.FirstLemmas.{seen_more, firsts_more}
+use Rattle.std.proofs.lemmas.List.Elements.{All-append}
+use Rattle.tangle_graph.proofs.FirstLemmas.{all_where, seen_more, firsts_more}
 use Rattle.tangle_graph.proofs.outputs.firsts.Goals as goal
-
-all_where : (count n : ℕ) (b : Bool) → n < count → All (λ m. m < count) (if b then n ∷ [] else [])
-all_where count n true h = All-cons (λ m. m < count) n [] h (All-nil (λ m. m < count))
-all_where count n false h = All-nil (λ m. m < count)
-
-all_is : (count : ℕ) (xs ys : List ℕ) → xs ≡ ys → All (λ m. m < count) ys → All (λ m. m < count) xs
-all_is count xs ys e h = rw e h
 
 pub loop-n-preserved : goal.loop-n-preserved
 loop-n-preserved c =
@@ -27,8 +20,7 @@ loop-n-preserved c =
       c.in_ok-push_where.ensures ∙ ap (λ b. c.loop-n.firsts.items ++ (if not b then n ∷ [] else [])) read
           ∙ ap (λ l. l ++ (if not (list_any (eqb n) (take i numbers)) then n ∷ [] else [])) c.loop-n.invariant.1
           ∙ sym (firsts_more numbers i c.loop-n-test.true),
-      all_is c.args.count c.push_where.new.numbers.items
-          (c.loop-n.firsts.items ++ (if not c.index.result.now then n ∷ [] else [])) c.in_ok-push_where.ensures
+      rw c.in_ok-push_where.ensures
           (All-append (λ m. m < c.args.count) c.loop-n.firsts.items (if not c.index.result.now then n ∷ [] else [])
           c.loop-n.invariant.2 (all_where c.args.count n (not c.index.result.now) low)),
     )

@@ -1,9 +1,7 @@
 use Rattle.std.proofs.Common.{◌+◌, length, take}
-use Rattle.digraph.specs.Graph.{rows_of}
 use Rattle.digraph.specs.Rows.{IsRowsOf}
 use Rattle.tangle_graph.specs.Grouping.{positions_of}
 use Rattle.tangle_graph.proofs.pieces.pieces_by_node.Given as goal
 
 abbrev pub invariant-loop-i : goal.invariant-loop-i
-invariant-loop-i l =
-    IsRowsOf (length l.table.names + 1) (positions_of l.table (take l.i l.web.pieces)) (rows_of l.rows.items)
+invariant-loop-i l = IsRowsOf (length l.table.names + 1) (positions_of l.table (take l.i l.web.pieces)) l.rows

@@ -12,7 +12,8 @@ returns-in-Some-body c = λ old_shapes new_shapes old_is new_is.
     (subst (λ names. HoldsShape names shape c.in-Some.body.now) (sym c.names.ensures)
     (body_decides old_shapes c.args.old.now old_is c.args.old_node c.in-Some.body.now c.in-Some.ensures.body))
     (subst (λ names. HoldsShape names other_shape c.in-Some-body.other.now) (sym c.names-in-Some-body.ensures)
-    (body_decides new_shapes c.args.new.now new_is c.args.new_node c.in-Some-body.other.now c.in-Some-body.ensures.body))
+    (body_decides new_shapes c.args.new.now new_is c.args.new_node
+    c.in-Some-body.other.now c.in-Some-body.ensures.body))
 
 pub returns-in-None-body : goal.returns-in-None-body
 returns-in-None-body c = λ old_shapes new_shapes old_is new_is.

@@ -22,7 +22,7 @@ returns c =
       read = record {
         tokens =
             c.in_ok-after-3.ensures.tokens
-            ∙ (ap (λ l. c.args.buffers.now.tokens.items ++ token.NamedPart s.occurrences l ∷ []) found.3
+            ∙ (ap (λ l. c.args.buffers.now.tokens.items ++ token.NamedPart l s.occurrences ∷ []) found.3
             ∙ ap (λ h. c.args.buffers.now.tokens.items ++ (definition_or_mention h s text).tokens) (sym found.1));
         ahead = found.2 ∙ ap (λ h. drop (definition_or_mention h s text).more (drop 1 text)) (sym found.1);
         state = c.in_ok-after-3.ensures.state ∙ ap (λ h. (definition_or_mention h s text).after) (sym found.1);

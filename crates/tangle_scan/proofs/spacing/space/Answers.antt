@@ -18,7 +18,7 @@ returns c =
     let cleared = c.clear.new.self.items in
     let begin = spaced-begin texts cleared stage.Front tokens c.clear.ensures.items in
     let front = spaced-front texts (without_front_gaps (without_faults tokens)) in
-    let run = spaced-end texts spaced at in
-    c.close_run.ensures
-    ∙ (ap (λ b. if b then take at.run.start spaced else spaced) c.loop-token.invariant.run.has
-    ∙ (sym run ∙ (end ∙ (begin ∙ ap (without_joins []) front))))
+    let gap = spaced-end texts spaced at in
+    c.close_gap.ensures
+    ∙ (ap (λ b. if b then take at.gap.start spaced else spaced) c.loop-token.invariant.gap.has
+    ∙ (sym gap ∙ (end ∙ (begin ∙ ap (without_joins []) front))))

@@ -8,7 +8,7 @@ use Rattle.tangle_scan.proofs.spacing.space_token.Goals as goal
 pub returns-then-is_skipped-clause-spacing : goal.returns-then-is_skipped-clause-spacing
 unfolding spacing_from
 returns-then-is_skipped-clause-spacing c = λ es.
-    ap (λ t. without_joins_from c.args.spaced.now.items c.args.at.run.start
+    ap (λ t. without_joins_from c.args.spaced.now.items c.args.at.gap.start
     (with_white_space (texts_of c.args.source.now.lines) c.args.at.stage c.args.at.before t))
     (sym (without_skipped-gone c.args.at.stage c.args.token es (sym c.is_skipped.ensures ∙ c.if-is_skipped.true)))
 
@@ -21,4 +21,4 @@ returns-clause-spacing c = λ es.
     with_white_space (texts_of c.args.source.now.lines) (stage_after c.args.at.stage c.args.token)
     c.args.token (without_skipped (stage_after c.args.at.stage c.args.token) es) in
     rw (stays, c.stage_after.ensures, ← c.needs_space-space.ensures)
-    (c.in_ok-run.ensures.without_joins left ∙ c.in_ok-after_space.ensures.without_joins (c.args.token ∷ left))
+    (c.in_ok-gap.ensures.without_joins left ∙ c.in_ok-after_space.ensures.without_joins (c.args.token ∷ left))

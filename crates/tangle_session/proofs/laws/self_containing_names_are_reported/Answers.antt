@@ -4,6 +4,4 @@ use Rattle.tangle_session.proofs.laws.self_containing_names_are_reported.Goals a
 
 pub returns : goal.returns
 returns c = λ files roles faults name.
-    reported_in (source_at files roles) (web_at files roles) roles.out
-    faults name (c.names_resolve_inside.ensures (web_at files roles))
-    (c.names_are_the_full_names.ensures.occur (web_at files roles).occurrences)
+    reported_in (source_at files roles) (web_at files roles) roles.out faults name

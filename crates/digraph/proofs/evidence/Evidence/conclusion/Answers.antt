@@ -1,6 +1,7 @@
 use Rattle.std.proofs.Common.{◌≡◌, ◌<◌, ◌∙◌, true, false, length, get_or, refl, sym, arith}
 use Rattle.std.proofs.lemmas.List.{get_or_read}
 use Rattle.digraph.specs.Evidence.{IsEvidence}
+use Rattle.digraph.specs.Graph.{row_at}
 use Rattle.digraph.specs.Flags.{IsFlagged}
 use Rattle.digraph.proofs.ReachLemmas.{not_itself}
 use Rattle.digraph.proofs.RootLemmas.{by_root, LeadsTo}
@@ -17,11 +18,10 @@ returns-then-leads_to_root c =
     let is_root : c.index-then-index.result.now ≡ get_or roots n 0 =
     get_or_read roots n _ in_roots c.index-then-index.ensures 0 in
     let flagged : IsFlagged flags n = sym (get_or_read flags n _ in_flags c.index.ensures false) ∙ c.if-index.true in
-    let leads : LeadsTo roots c.args.self.now.to_root.items c.index-uses-n.result.items (get_or roots n 0) =
-    rw (c.deref.ensures.value, c.deref-then-index.ensures.value, c.deref-then-index-2.ensures.value, is_root)
+    let leads : LeadsTo roots c.args.self.now.to_root.items (row_at c.args.uses.now n) (get_or roots n 0) =
+    rw (c.row-row.ensures, c.deref.ensures.value, c.deref-then-index.ensures.value, is_root)
     at (c.leads_to_root.ensures c.if-leads_to_root.true) in (
-      λ _. by_root _ _ _ _ n c.index-uses-n.result given.from_root
-          given.to_root c.requires.node c.index-uses-n.is flagged leads,
+      λ _. by_root _ _ _ _ n given.from_root given.to_root flagged leads,
       λ _. refl,
     )
 
@@ -33,9 +33,9 @@ returns-then-lowest-index c =
     let in_ranks : n < length ranks = omega (arith, given.ranks, c.requires.node) in
     let is_rank : c.index-then-self.result.now ≡ get_or ranks n 0 =
     get_or_read ranks n _ in_ranks c.index-then-self.ensures 0 in
-    let above = rw (c.deref-then-self.ensures.value, c.deref-then-self-2.ensures.value) at c.lowest.ensures in
+    let above = rw (c.row-row.ensures, c.deref-then-self.ensures.value) at c.lowest.ensures in
     let less : get_or ranks n 0 < c.lowest.result = omega (arith, is_rank, c.if-lowest-index.true) in (
       λ e. absurd (let no : false ≡ true = e in cc),
-      λ itself. absurd (not_itself _ ranks n c.lowest.result c.index-uses-n.result
-          (given.never_falls c.if-self.true) c.requires.node c.index-uses-n.is above less itself),
+      λ itself. absurd (not_itself _ ranks n c.lowest.result
+          (given.never_falls c.if-self.true) above less itself),
     )

@@ -1,16 +1,11 @@
-use Rattle.std.proofs.Common.{◌≡◌, ◌∙◌, ◌<◌, arith, ◌∷◌, [], ℕ, Bool, true, false, ap, cond, flat_map, length}
-use Rattle.std.proofs.Common.{subst, sym}
-use Rattle.std.specs.Prelude.{All}
+use Rattle.std.proofs.Common.{◌≡◌, ◌∙◌, ◌<◌, arith, ◌∷◌, [], ap, cond, flat_map, length}
 use Rattle.std.specs.List.{range_with_len}
-use Rattle.std.proofs.lemmas.List.Elements.{All-append, All-cons, All-nil}
+use Rattle.std.proofs.lemmas.List.Elements.{All-append}
 use Rattle.tangle_graph.specs.FaultSearches.{fault_of_name}
 use Rattle.tangle_graph.specs.Faults.{fault_of}
 use Rattle.tangle_graph.proofs.FaultLemmas.{candidates_step}
+use Rattle.tangle_graph.proofs.FirstLemmas.{all_where}
 use Rattle.tangle_graph.proofs.faults.FaultSearch.candidates.Goals as goal
-
-all_where : (count n : ℕ) (b : Bool) → n < count → All (λ m. m < count) (cond b (n ∷ []) [])
-all_where count n true h = All-cons (λ m. m < count) n [] h (All-nil (λ m. m < count))
-all_where count n false h = All-nil (λ m. m < count)
 
 pub loop-id-preserved : goal.loop-id-preserved
 loop-id-preserved c =
@@ -20,7 +15,7 @@ loop-id-preserved c =
     let count = length search.table.now.names in
     let low : id < count = omega arith in
     record {
-      names = subst (All (λ m. m < count)) (sym c.in_ok-push_where.ensures)
+      names = rw c.in_ok-push_where.ensures
           (All-append (λ m. m < count) c.loop-id.names.items (cond needed (id ∷ []) [])
           c.loop-id.invariant.names (all_where count id needed low));
       faults = λ kind. ap (flat_map (fault_of_name search kind)) c.in_ok-push_where.ensures

@@ -1,10 +1,10 @@
-use Rattle.std.proofs.Common.{◌≡◌, ◌≤◌, ◌∙◌, ◌<◌, ◌++◌, ◌∷◌, [], List, not, cond, ap, arith, length}
-use Rattle.std.proofs.lemmas.List.{get_or_default}
+use Rattle.std.proofs.Common.{◌∙◌, ◌++◌, ◌∷◌, [], List, not, cond, ap, arith}
+use Rattle.digraph.specs.Nodes.{program}
 use Rattle.tangle_faults.specs.declared.faults.FaultKind.{FaultKind}
 use Rattle.tangle_faults.specs.declared.faults.FaultKind.TheVariants as kind
 use Rattle.tangle_faults.specs.Faults.{fault_unplaced}
-use Rattle.tangle_graph.specs.FaultSearches.{faults_of_kind, flag_of_number}
-use Rattle.tangle_graph.specs.Faults.{has_piece_by_number, is_too_large}
+use Rattle.tangle_graph.specs.FaultSearches.{faults_of_kind, flag_of_node}
+use Rattle.tangle_graph.specs.Faults.{has_piece_of_node, is_too_large}
 use Rattle.tangle_graph.proofs.FaultLemmas.{joined, kinds_step, kinds_whole, unless}
 use Rattle.tangle_graph.proofs.faults.FaultSearch.faults.Goals as goal
 
@@ -20,19 +20,14 @@ returns c =
     let web = search.web.now in
     let table = search.table.now in
     let is = c.requires in
-    let n = c.count-program.result in
-    let program : n ≡ length table.names = c.count-program.ensures in
-    let room : n < length search.has_piece.now = omega (arith, program, is.has_piece_size) in
-    let low : n ≤ length table.names = omega (arith, program) in
-    let is_large =
-    c.is_too_large-is_large.ensures ∙ ap (is_too_large web table (flag_of_number search.reaching_cycles.now)) program in
-    let has_piece = get_or_default search.has_piece.now n _ _ room
-    ∙ is.has_piece n low ∙ ap (has_piece_by_number web table) program in
+    let is_large = c.is_too_large-is_large.ensures
+    ∙ ap (is_too_large web table (flag_of_node search.reaching_cycles.now)) c.program.ensures in
+    let has_piece = c.has_piece-has_piece.ensures ∙ ap (has_piece_of_node web table) c.program-2.ensures in
     let of_kind = faults_of_kind search in
     let kinds : List FaultKind = kind.Undefined ∷ kind.Unused ∷ kind.SelfContaining ∷ kind.TooLarge ∷ [] in
     record {
-      contains_itself = flag_of_number search.self_containing.now;
-      reaches_cycle = flag_of_number search.reaching_cycles.now;
+      contains_itself = flag_of_node search.self_containing.now;
+      reaches_cycle = flag_of_node search.reaching_cycles.now;
       self_containing = is.containing;
       reaching_cycles = is.reaching;
       list = joined c.add_unplaced-2.new.faults.items (of_kind kind.Undefined)
@@ -47,5 +42,5 @@ returns c =
           (c.in_ok-add_unplaced-2.ensures
           ∙ ap (λ b. c.add_faults-2.new.faults.items ++ cond (not b) (fault_unplaced kind.NoProgram ∷ []) []) has_piece
           ∙ ap (λ l. c.add_faults-2.new.faults.items ++ l)
-          (unless (has_piece_by_number web table (length table.names)) (fault_unplaced kind.NoProgram ∷ [])));
+          (unless (has_piece_of_node web table program) (fault_unplaced kind.NoProgram ∷ [])));
     }

@@ -1,169 +1,114 @@
-use Rattle.std.proofs.Common.{◌≡◌, ◌∙◌, ◌<◌, ◌+◌, ℕ, Bool, List, length, map, get_or, ap, refl, sym, subst, arith}
-use Rattle.std.proofs.Common.{false, Vec}
+use Rattle.std.proofs.Common.{◌≡◌, ◌∙◌, ◌+◌, ℕ, List, [], ◌∷◌, length, map, eqb, false, not, refl, ap, sym, subst}
+use Rattle.std.proofs.Common.{arith}
 use Rattle.std.specs.Global.{Global}
-use Rattle.std.specs.declared.rc.Rc.{Rc}
-use Rattle.std.proofs.lemmas.List.{length-map}
 use Rattle.std.specs.List.{IsDistinct}
 use Rattle.std.specs.Str.{bytes_eq}
-use Rattle.tangle_names.specs.NameTable.{TableRead}
-use Rattle.tangle_plans.specs.WebShapes.{shapes, ResolvesInside}
-use Rattle.tangle_plans.proofs.InsideLemmas.{table_inside}
+use Rattle.std.specs.declared.rc.Rc.{Rc}
+use Rattle.std.proofs.lemmas.Bool.Decides.{nat_tests}
+use Rattle.std.proofs.lemmas.List.{length-map}
+use Rattle.tangle_scan.specs.Web.{WebRead}
+use Rattle.tangle_names.specs.NameTable.{TableRead, table_of}
 use Rattle.tangle_names.proofs.LawLemmas.{once as names_once}
-use Rattle.tangle_expansion.proofs.FilledLemmas.{node_filled}
-use Rattle.tangle_expansion.specs.Limits.{levels, weight_of, depth_of}
+use Rattle.tangle_plans.specs.NodeBodies.{body_uses}
+use Rattle.tangle_plans.specs.Nodes.{row_has_piece}
+use Rattle.tangle_plans.specs.WebShapes.{ResolvesInside}
+use Rattle.tangle_plans.proofs.InsideLemmas.{table_inside}
 use Rattle.tangle_plans.specs.declared.nodes.NodeBody.{NodeBody}
-use Rattle.digraph.specs.Graph.{Graph, rows_of, row_at}
-use Rattle.digraph.specs.Order.{IsOrder}
-use Rattle.digraph.proofs.GraphLemmas.{rows_size}
+use Rattle.digraph.specs.Rows.{IsRowsOf}
+use Rattle.tangle_graph.specs.Grouping.{positions_of}
 use Rattle.tangle_graph.specs.Groups.{IsGraphOf}
-use Rattle.tangle_graph.specs.Nodes.{title_at, node_at}
-use Rattle.tangle_graph.specs.Ordering.{IsOrderIn}
-use Rattle.tangle_graph.specs.Outputs.{is_expandable}
-use Rattle.tangle_graph.specs.Plans.{ArePlanned, node_bodies, slots_of, uses_of_plans}
-use Rattle.tangle_graph.specs.Rows.{node_rows}
-use Rattle.tangle_graph.specs.Stores.{AreWithin, row_has_piece}
+use Rattle.tangle_graph.specs.NameGraphs.{IsNameGraphOf}
+use Rattle.tangle_graph.specs.Plans.{AreBodies, node_bodies}
 use Rattle.tangle_graph.specs.declared.name_graph.NameGraph.{NameGraph}
 use Rattle.tangle_graph.proofs.FaultLemmas.{reaching_flag}
 use Rattle.tangle_graph.proofs.LimitLemmas.{program_has_piece}
+use Rattle.tangle_graph.proofs.NameGraphLemmas.{graph_over, uses_inside}
 use Rattle.tangle_graph.proofs.OrderingLemmas.{order_is, grouped_by}
-use Rattle.tangle_graph.proofs.NameGraphLemmas.{graph_over}
-use Rattle.tangle_graph.proofs.StoreIs.{store_made}
-use Rattle.tangle_graph.proofs.BodyLemmas.{names_below}
+use Rattle.tangle_graph.proofs.PlanLemmas.{bodies_planned}
+use Rattle.tangle_graph.proofs.StoreIs.{store_is}
 use Rattle.tangle_graph.proofs.store.Store.over.Goals as goal
 
+inside : (web : WebRead) (table : TableRead) → table ≡ table_of web → ResolvesInside table
+inside web table is = subst ResolvesInside (sym is) (table_inside web)
+
+graph : (web : WebRead) (table : TableRead) (pieces : List (List ℕ)) (bodies : List NodeBody) (name_graph : NameGraph)
+    → table ≡ table_of web
+    → IsRowsOf (length table.names + 1) (positions_of table web.pieces) pieces → AreBodies web table pieces bodies
+    → IsNameGraphOf (map body_uses bodies) name_graph → IsGraphOf web table pieces name_graph.uses
+graph web table pieces bodies name_graph is =
+    graph_over web table pieces bodies name_graph
+    (subst (λ (t : TableRead). IsDistinct bytes_eq t.names) (sym is) (names_once web.occurrences)) (inside web table is)
+
+held : (row : List ℕ) → not (eqb (length row) 0) ≡ row_has_piece row
+held [] = refl
+held (n ∷ row) = (let apart : eqb (length (n ∷ row)) 0 ≡ false = grind (arith, nat_tests) in ap not apart)
+
 pub build-requires-clause-graph : goal.build-requires-clause-graph
-build-requires-clause-graph c =
-    let web = c.args.web.now in
-    let table = c.args.table.now in
-    let graph = graph_over web table c.args.pieces.value.items (node_bodies c.args.bodies.items) c.args.name_graph.value
-    (subst (λ (t : TableRead). IsDistinct bytes_eq t.names) (sym c.requires.table)
-    (names_once web.occurrences))
-    (subst ResolvesInside (sym c.requires.table) (table_inside web)) c.requires.grouped
-    c.requires.bodies c.requires.name_graph in
-    subst (λ (g : Graph). IsGraphOf web table g c.deref-uses.result.now)
-    (sym (c.deref-rows.ensures.value ∙ ap (λ (v : Vec (Vec ℕ Global) Global). v.items) c.deref-all.ensures))
-    (subst (λ (g : Graph). IsGraphOf web table c.args.pieces.value.items g)
-    (sym (c.deref-uses.ensures.value ∙ ap (λ (s : NameGraph). s.uses.items) c.deref-shared.ensures)) graph)
+build-requires-clause-graph c = rw (c.deref-rows.ensures, c.deref-shared.ensures)
+    (graph c.args.web.now c.args.table.now c.args.pieces.value (node_bodies c.args.bodies.items) c.args.name_graph.value
+    c.requires.table c.requires.grouped c.requires.bodies c.requires.name_graph)
 
 pub build-requires-clause-order : goal.build-requires-clause-order
-build-requires-clause-order c =
-    subst (λ (g : Graph). IsOrder g c.deref-order.result.now)
-    (sym (c.deref-uses.ensures.value ∙ ap (λ (s : NameGraph). s.uses.items) c.deref-shared.ensures))
-    (subst (IsOrder c.args.name_graph.value.uses.items)
-    (sym (c.deref-order.ensures.value ∙ ap (λ (s : NameGraph). s.order.items) c.deref-shared.ensures))
-    c.requires.name_graph.order)
+build-requires-clause-order c = rw (c.deref.ensures.value, c.deref-shared.ensures) c.requires.name_graph.order
+
+pub build-requires-clause-inside : goal.build-requires-clause-inside
+build-requires-clause-inside c = inside c.args.web.now c.args.table.now c.requires.table
+
+pub outputs-requires-clause-inside : goal.outputs-requires-clause-inside
+outputs-requires-clause-inside c = inside c.args.web.now c.args.table.now c.requires.table
+
+pub outputs-requires-clause-program : goal.outputs-requires-clause-program
+outputs-requires-clause-program c =
+    let is = graph c.args.web.now c.args.table.now c.args.pieces.value (node_bodies c.args.bodies.items)
+    c.args.name_graph.value c.requires.table c.requires.grouped c.requires.bodies c.requires.name_graph in
+    let program =
+    program_has_piece c.args.web.now c.args.table.now c.args.pieces.value c.args.name_graph.value.uses is in
+    ap not c.is_empty-has_program.ensures ∙ held c.row.result.now
+    ∙ rw (c.row.ensures, c.number.ensures, c.program.ensures, c.deref-rows.ensures) program
 
 pub returns-clause-store : goal.returns-clause-store
 returns-clause-store c =
     let web = c.args.web.now in
     let table = c.args.table.now in
-    let pieces = c.args.pieces.value.items in
-    let bodies = c.args.bodies.items in
+    let pieces = c.args.pieces.value in
     let name_graph = c.args.name_graph.value in
-    let uses = name_graph.uses.items in
-    let measures = c.in_ok-measures.measures in
-    let distinct = subst (λ (t : TableRead). IsDistinct bytes_eq t.names)
-    (sym c.requires.table) (names_once web.occurrences) in
-    let inside = subst ResolvesInside (sym c.requires.table) (table_inside web) in
-    let graph = graph_over web table pieces (node_bodies bodies) name_graph
-    distinct inside c.requires.grouped c.requires.bodies c.requires.name_graph in
-    let same : length c.deref-uses.result.now ≡ length uses =
-    ap length (c.deref-uses.ensures.value ∙ ap (λ (s : NameGraph). s.uses.items) c.deref-shared.ensures) in
-    let weighed : (n : ℕ)
-    → n < length uses → get_or measures.weights.items n 0 ≡ weight_of (shapes web table) (title_at table.names n) =
-    (λ n room. c.in_ok-measures.ensures.weights n (omega (arith, room, same))) in
-    let measured : (n : ℕ)
-    → n < length uses → get_or measures.depths.items n 0 ≡ depth_of (shapes web table) (title_at table.names n) =
-    (λ n room. c.in_ok-measures.ensures.depths n (omega (arith, room, same))) in
-    let limited : (n : ℕ) → n < length uses
-    → get_or measures.expandable.items n false ≡ is_expandable (shapes web table) (title_at table.names n) =
-    (λ n room. c.in_ok-measures.ensures.expandable n (omega (arith, room, same))) in
-    let has : ℕ → Bool = (λ id. get_or c.args.has_piece.items id false) in
-    let has_is : (id : ℕ) → id < length table.names → has id ≡ row_has_piece (row_at (rows_of pieces) id) =
-    (λ id low. c.requires.has_piece.flag id (omega (arith, low, graph.rows_size, rows_size pieces))) in
-    let count : length name_graph.names ≡ length table.names = ap length c.requires.names in
-    let is = c.requires.name_graph in
+    let bodies = node_bodies c.args.bodies.items in
+    let named = c.requires.name_graph in
+    let is = graph web table pieces bodies name_graph c.requires.table c.requires.grouped c.requires.bodies named in
     record {
-      store = store_made web table pieces uses is.users name_graph.self_containing.items
-          name_graph.reaching_cycles.items measures.weights.items measures.depths.items
-          measures.expandable.items c.in_ok-outputs.outputs.items (slots_of bodies) (uses_of_plans bodies) (node_bodies bodies) has distinct inside graph is.reversed
-          is.increasing is.users_size is.containing weighed measured limited has_is c.requires.plans c.requires.bodies
-          (λ symbols node. node_filled web table has symbols levels node inside)
-          name_graph.names (node_rows name_graph.used_nodes.items)
-          (node_rows name_graph.user_nodes.items) c.requires.names
-          (is.used_nodes ∙ ap (λ k. map (map (node_at k)) (rows_of uses)) count)
-          (is.user_nodes ∙ ap (λ k. map (map (node_at k)) (rows_of is.users)) count);
+      store = store_is web table _ (inside web table c.requires.table) is named.users
+          (λ n low. (named.uses.once n (omega (arith, low, named.uses.size))).increasing) named.containing
+          (rw c.deref-shared.ensures at c.in_ok-measures.ensures.weights)
+          (rw c.deref-shared.ensures at c.in_ok-measures.ensures.depths)
+          (rw c.deref-shared.ensures at c.in_ok-measures.ensures.expandable)
+          (rw c.deref-rows.ensures at c.in_ok-measures.ensures.within.size) c.requires.bodies c.requires.names;
       names = c.requires.names;
-      reaching_cycles = reaching_flag web table pieces uses graph name_graph.reaching_cycles.items is.reaching;
+      reaching_cycles =
+          reaching_flag web table pieces name_graph.uses is name_graph.reaching_cycles.items named.reaching;
       outputs = c.in_ok-outputs.ensures;
-      grouped = grouped_by web table pieces uses graph;
+      grouped = grouped_by web table pieces name_graph.uses is;
     }
 
 pub invariant_of-result : goal.invariant_of-result
 invariant_of-result c =
     let web = c.args.web.now in
     let table = c.args.table.now in
-    let pieces = c.args.pieces.value.items in
-    let bodies = c.args.bodies.items in
+    let pieces = c.args.pieces.value in
     let name_graph = c.args.name_graph.value in
-    let uses = name_graph.uses.items in
-    let measures = c.in_ok-measures.measures in
-    let distinct = subst (λ (t : TableRead). IsDistinct bytes_eq t.names)
-    (sym c.requires.table) (names_once web.occurrences) in
-    let inside = subst ResolvesInside (sym c.requires.table) (table_inside web) in
-    let graph = graph_over web table pieces (node_bodies bodies) name_graph
-    distinct inside c.requires.grouped c.requires.bodies c.requires.name_graph in
-    let same : length c.deref-uses.result.now ≡ length uses =
-    ap length (c.deref-uses.ensures.value ∙ ap (λ (s : NameGraph). s.uses.items) c.deref-shared.ensures) in
-    let measured : (n : ℕ)
-    → n < length uses → get_or measures.depths.items n 0 ≡ depth_of (shapes web table) (title_at table.names n) =
-    (λ n room. c.in_ok-measures.ensures.depths n (omega (arith, room, same))) in
-    let within : AreWithin (rows_of pieces) measures.weights.items measures.depths.items measures.expandable.items =
-    subst (λ (g : Graph). AreWithin (rows_of g) measures.weights.items measures.depths.items measures.expandable.items)
-    (c.deref-rows.ensures.value ∙ ap (λ (v : Vec (Vec ℕ Global) Global). v.items) c.deref-all.ensures)
-    c.in_ok-measures.ensures.within in
-    let count : length name_graph.names ≡ length table.names = ap length c.requires.names in
-    let used : node_rows name_graph.used_nodes.items ≡ map (map (node_at (length table.names))) (rows_of uses) =
-    c.requires.name_graph.used_nodes ∙ ap (λ k. map (map (node_at k)) (rows_of uses)) count in
-    let nodes : name_graph.node_order.items ≡ map (node_at (length table.names)) name_graph.order.items =
-    c.requires.name_graph.node_order ∙ ap (λ k. map (node_at k) name_graph.order.items) count in
-    let rows_count : length bodies ≡ length table.names + 1 =
-    sym (length-map bodies (λ (t : Rc NodeBody Global). t.value)) ∙ c.requires.bodies.size ∙ rows_size pieces ∙ graph.rows_size in
+    let bodies = node_bodies c.args.bodies.items in
+    let named = c.requires.name_graph in
+    let is = graph web table pieces bodies name_graph c.requires.table c.requires.grouped c.requires.bodies named in
+    let within = rw c.deref-rows.ensures at c.in_ok-measures.ensures.within in
+    let counted : length c.args.bodies.items ≡ length pieces =
+    sym (length-map c.args.bodies.items (λ (t : Rc NodeBody Global). t.value)) ∙ c.requires.bodies.size in
     record {
-      size = rows_count ∙ ap (λ k. k + 1) (sym count);
-      pieces_size = graph.rows_size ∙ sym rows_count;
-      sizes = sym (length-map bodies (λ (t : Rc NodeBody Global). t.value)) ∙ c.requires.bodies.size ∙ sym within.size;
-      has_piece = c.requires.has_piece;
-      name_graph = c.requires.name_graph;
-      order = subst (IsOrderIn _) (sym nodes)
-          (order_is web table pieces uses name_graph.order.items measures.weights.items measures.depths.items
-          measures.expandable.items _ graph c.requires.name_graph.order within measured c.requires.names used refl);
-      uses = names_below web table (rows_of pieces) (node_bodies bodies)
-          (length name_graph.names) inside c.requires.bodies (sym count);
-      planned = subst
-          (λ (ns : List (List ℕ)). ArePlanned ns (λ id. get_or c.args.has_piece.items id false) (node_bodies bodies))
-          (sym c.requires.names) c.requires.planned;
+      size = counted ∙ is.rows_size ∙ ap (λ names. length names + 1) (sym c.requires.names);
+      pieces_size = sym counted;
+      sizes = counted ∙ sym within.size;
+      name_graph = named;
+      order = order_is web table _ name_graph.order.items is named.order within
+          (rw c.deref-shared.ensures at c.in_ok-measures.ensures.depths) (ap length c.requires.names);
+      uses = rw c.requires.names
+          (uses_inside web table pieces bodies (inside web table c.requires.table) c.requires.bodies);
+      planned = rw c.requires.names (bodies_planned web table pieces bodies c.requires.bodies);
     }
-
-pub outputs-requires-clause-program : goal.outputs-requires-clause-program
-outputs-requires-clause-program c =
-    let web = c.args.web.now in
-    let table = c.args.table.now in
-    let pieces = c.args.pieces.value.items in
-    let name_graph = c.args.name_graph.value in
-    let uses = name_graph.uses.items in
-    let distinct = subst (λ (t : TableRead). IsDistinct bytes_eq t.names)
-    (sym c.requires.table) (names_once web.occurrences) in
-    let inside = subst ResolvesInside (sym c.requires.table) (table_inside web) in
-    let graph = graph_over web table pieces (node_bodies c.args.bodies.items) name_graph
-    distinct inside c.requires.grouped c.requires.bodies c.requires.name_graph in
-    ap (λ l. get_or l c.count.result false) c.deref-has_piece_by_node.ensures.value
-    ∙ ap (λ n. get_or c.args.has_piece.items n false) c.count.ensures
-    ∙ c.requires.has_piece.flag (length table.names) (omega (arith, graph.rows_size, rows_size pieces))
-    ∙ program_has_piece web table pieces uses graph
-
-pub build-requires-clause-inside : goal.build-requires-clause-inside
-build-requires-clause-inside c = subst ResolvesInside (sym c.requires.table) (table_inside c.args.web.now)
-
-pub outputs-requires-clause-inside : goal.outputs-requires-clause-inside
-outputs-requires-clause-inside c = subst ResolvesInside (sym c.requires.table) (table_inside c.args.web.now)

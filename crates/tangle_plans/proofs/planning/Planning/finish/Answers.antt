@@ -1,7 +1,7 @@
 use Rattle.std.proofs.Common.{◌≡◌, ◌∙◌, ◌++◌, ap, length, arith}
 use Rattle.tangle_plans.specs.Meaning.{title_of}
-use Rattle.tangle_plans.specs.Slots.{last_run}
-use Rattle.tangle_plans.proofs.PlanningLemmas.{run_made}
+use Rattle.tangle_plans.specs.Slots.{step_of_bytes}
+use Rattle.tangle_plans.proofs.PlanningLemmas.{step_of_bytes_made}
 use Rattle.tangle_plans.proofs.planning.Planning.finish.Goals as goal
 
 pub returns-clause-made : goal.returns-clause-made
@@ -13,8 +13,8 @@ returns-clause-made c =
     let copied : c.extend_from_slice.new.self.items ≡ p.plan.items
     = c.in_ok-extend_from_slice.ensures.items
     ∙ ap (λ l. l ++ c.deref.result.now) c.in_ok-plan.ensures.items ∙ c.deref.ensures.value in
-    let plan : c.end_run.new.plan.items ≡ p.plan.items ++ last_run p.start (length p.bytes.items)
-    = c.in_ok-end_run.ensures.ok ∙ ap (λ n. c.extend_from_slice.new.self.items ++ last_run p.start n) end
-    ∙ ap (λ l. l ++ last_run p.start (length p.bytes.items)) copied in
+    let plan : c.push_bytes.new.plan.items ≡ p.plan.items ++ step_of_bytes p.start (length p.bytes.items)
+    = c.in_ok-push_bytes.ensures.ok ∙ ap (λ n. c.extend_from_slice.new.self.items ++ step_of_bytes p.start n) end
+    ∙ ap (λ l. l ++ step_of_bytes p.start (length p.bytes.items)) copied in
     rw (← c.self.view_is, copied_bytes, plan)
-    (run_made (title_of p.name) p.bytes.items p.plan.items p.piece p.marks p.start c.self.invariant)
+    (step_of_bytes_made (title_of p.name) p.bytes.items p.plan.items p.piece p.marks p.start c.self.invariant)

@@ -9,14 +9,13 @@ file_size-requires c =
     let s = c.self.inside in
     is_ready s.state s.roles _ c.self.view_is c.self.invariant c.args.name.now
     c.in-Some.output.now (sym c.find_output.ensures ∙ ap option_copied c.in-Some.is)
-    c.names_resolve_inside.ensures c.expandable_nodes_are_light.ensures
 
 pub returns-in-Some : goal.returns-in-Some
 returns-in-Some c =
     let s = c.self.inside in
     ap Some c.file_size.ensures
     ∙ its_size s.state s.roles _ c.self.view_is c.self.invariant c.args.name.now
-    c.in-Some.output.now (sym c.find_output.ensures ∙ ap option_copied c.in-Some.is) c.names_resolve_inside.ensures
+    c.in-Some.output.now (sym c.find_output.ensures ∙ ap option_copied c.in-Some.is)
 
 pub returns-in-None : goal.returns-in-None
 returns-in-None c =

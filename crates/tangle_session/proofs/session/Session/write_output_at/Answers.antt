@@ -9,35 +9,32 @@ pub find_output_at-requires : goal.find_output_at-requires
 find_output_at-requires g c =
     let s = c.self.inside in
     names_apart s.state s.roles _ c.self.view_is c.self.invariant c.args.name.now
-    (c.outputs_are_found_by_their_names.ensures.distinct s.state.files s.roles)
 
 pub write_file-requires : goal.write_file-requires
 write_file-requires g c =
     let s = c.self.inside in
     is_ready s.state s.roles _ c.self.view_is c.self.invariant c.args.name.now
     c.in-Some.output.now (sym c.find_output_at.ensures ∙ ap option_copied c.in-Some.is)
-    c.names_resolve_inside.ensures c.expandable_nodes_are_light.ensures
 
 pub returns-in-Ok-clause-written : goal.returns-in-Ok-clause-written
 returns-in-Ok-clause-written g c =
     let s = c.self.inside in
     writes_it s.state s.roles _ c.self.view_is c.self.invariant c.args.name.now
     c.in-Some.output.now (sym c.find_output_at.ensures ∙ ap option_copied c.in-Some.is)
-    c.names_resolve_inside.ensures _ _ (Ok c.in-Ok.size) c.in-Ok.ensures
+    _ _ (Ok c.in-Ok.size) c.in-Ok.ensures
 
 pub returns-in-Ok-clause-line_truth : goal.returns-in-Ok-clause-line_truth
 returns-in-Ok-clause-line_truth g c =
     let s = c.self.inside in
     truth_at s.state s.roles _ c.self.view_is c.self.invariant c.args.name.now
     c.in-Some.output.now (sym c.find_output_at.ensures ∙ ap option_copied c.in-Some.is)
-    c.outputs_are_true_to_lines.ensures
 
 pub returns-in-Err-clause-written : goal.returns-in-Err-clause-written
 returns-in-Err-clause-written g c =
     let s = c.self.inside in
     writes_it s.state s.roles _ c.self.view_is c.self.invariant c.args.name.now
     c.in-Some.output.now (sym c.find_output_at.ensures ∙ ap option_copied c.in-Some.is)
-    c.names_resolve_inside.ensures (g.S.Sink.stream c.args.sink.now) (g.S.Sink.stream c.write_file.new.sink)
+    (g.S.Sink.stream c.args.sink.now) (g.S.Sink.stream c.write_file.new.sink)
     (Err (WriteFault c.in-Err.field-0.0)) c.in-Err.ensures
 
 pub returns-in-None-clause-written : goal.returns-in-None-clause-written
