@@ -1,11 +1,11 @@
 -- Answers to the requests of a script: bytes written one after another, and the answer to an edit or a list.
-use Rattle.std.proofs.Common.{◌≡◌, ◌⊎◌, inl, inr, ℕ, true, List, ◌++◌, Option, None, Some, Result, Ok, Err}
-use Rattle.std.proofs.Common.{ap, subst, sym, refl, length, codes}
+use Rattle.std.proofs.Common.{◌≡◌, ◌⊎◌, inl, inr, ℕ, true, List, Option, None, Some, Result, Ok, Err}
+use Rattle.std.proofs.Common.{ap, sym, refl, length, codes}
 use Rattle.std.specs.Prelude.{IfNone, IfSome, IsOkUnless, OnErr, OnOk}
 use Rattle.std.specs.Global.{Global}
 use Rattle.std.specs.Option.{option_map}
 use Rattle.std.specs.declared.vec.Vec.{Vec}
-use Rattle.tangle_streams.specs.Streams.{Stream, TakesAll, TakesPrefix}
+use Rattle.tangle_streams.specs.Streams.{Stream, TakesPrefix}
 use Rattle.tangle_files.specs.Edited.{edited_all, roles_after}
 use Rattle.tangle_files.specs.declared.edits.Edit.{Edit}
 use Rattle.tangle_files.specs.declared.edits.Edit.TheVariants.{Marks}
@@ -14,7 +14,7 @@ use Rattle.tangle_files.specs.declared.refusal.Refusal.{Refusal}
 use Rattle.tangle_files.specs.declared.refusal.Refusal.TheVariants.{NoMemory}
 use Rattle.tangle_files.specs.declared.refusal.Refusal.TheVariants.{WriteFault}
 use Rattle.tangle_script.specs.Requests.{is_edit}
-use Rattle.tangle_script.specs.Script.{Replies, WritesAnswer}
+use Rattle.tangle_script.specs.Script.{Replies}
 use Rattle.tangle_session.specs.Edits.{list_memory, list_refusal, session_refusal}
 use Rattle.tangle_session.specs.Files.{web_at}
 use Rattle.tangle_session.specs.Sessions.{AreMade, ListsAffectedOfWebs, SessionRead}
@@ -25,16 +25,6 @@ use Rattle.ctangle_cli.specs.Conversation.{list_line, list_refused_line}
 use Rattle.ctangle_cli.specs.Conversation.{refused_line, request_for, shown}
 use Rattle.ctangle_cli.specs.Conversation.AnswersEdit.{IsRefused}
 use Rattle.ctangle_cli.specs.Conversation.AnswersList.{IsListMade, IsListRefused, IsListOutOfMemory}
-use Rattle.ctangle_cli.proofs.RunLemmas.{whole_then_cut, whole_then_whole}
-
--- more bytes are written after the output so far
-module _ {T E : Type 0} (old now new : Stream) (output bytes : List ℕ) (so_far : Result T E)
-    (x : T) (is : so_far ≡ Ok x) (h : WritesAnswer old now output so_far) where
-  pub then_all : TakesAll now new bytes → TakesAll old new (output ++ bytes)
-  then_all k = whole_then_whole old now new output bytes (subst (WritesAnswer old now output) is h) k
-
-  pub then_front : TakesPrefix now new bytes → TakesPrefix old new (output ++ bytes)
-  then_front k = whole_then_cut old now new output bytes (subst (WritesAnswer old now output) is h) k
 
 pub none_is_shown : (name : List ℕ) (found : Option (List ℕ))
     → None ≡ option_map length found → shown name found ≡ codes "no NoOutput\n"

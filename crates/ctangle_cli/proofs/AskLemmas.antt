@@ -15,6 +15,7 @@ use Rattle.std.proofs.lemmas.List.Folds.{list_any-append}
 use Rattle.std.proofs.lemmas.List.Elements.{All-append, All-cons, All-head, All-nil, All-tail, filter-append}
 use Rattle.std.proofs.lemmas.Map.Keys.{IsDistinct-push}
 use Rattle.std.proofs.lemmas.Slice.Eq.{bytes_eq-Decides}
+use Rattle.clap.proofs.WalkLemmas.{list_any-map}
 use Rattle.tangle_files.specs.Lines.{FileTable}
 use Rattle.tangle_files.specs.Adding.{has_file}
 use Rattle.tangle_folders.specs.Folder.{FolderRead}
@@ -22,7 +23,7 @@ use Rattle.tangle_faults.specs.Faults.{FaultRead}
 use Rattle.ctangle_cli.specs.AskedNames.{with_all_asked, with_asked_once}
 use Rattle.ctangle_cli.specs.Loading.{add_bytes, is_missing_kind, missed_in}
 use Rattle.ctangle_cli.specs.Steps.{Progress, is_tried, progress}
-use Rattle.ctangle_cli.proofs.LoadLemmas.{added, has_with, list_any-map}
+use Rattle.ctangle_cli.proofs.LoadLemmas.{added, has_with}
 
 or_moved : (a b c : Bool) → ((a || b) || c) ≡ ((a || c) || b)
 or_moved a b c = or_assoc a b c ∙ ap (λ d. a || d) (or_comm b c) ∙ sym (or_assoc a c b)
@@ -98,8 +99,8 @@ is_asked asked name =
 pub become_asked : (asked names : List (List ℕ)) → All (IsAsked (with_all_asked asked names)) names
 become_asked asked [] = All-nil (IsAsked asked)
 become_asked asked (name ∷ names) =
-    let now = with_all_asked (with_asked_once asked name) names in
-    All-cons (IsAsked now) name names (stays_asked (with_asked_once asked name) names name (is_asked asked name))
+    let all = with_all_asked (with_asked_once asked name) names in
+    All-cons (IsAsked all) name names (stays_asked (with_asked_once asked name) names name (is_asked asked name))
     (become_asked (with_asked_once asked name) names)
 
 none_new : (asked names : List (List ℕ)) → All (IsAsked asked) names → with_all_asked asked names ≡ asked
@@ -174,7 +175,7 @@ pub asked_of_keys : (ks : List (Vec ℕ Global)) (k : Vec ℕ Global)
 asked_of_keys ks k =
     by (list_any (λ m. bytes_eq k.items m.items) ks)
     ∙ ap (λ b. cond b (map (λ k. k.items) ks) (map (λ k. k.items) ks ++ k.items ∷ []))
-    (sym (list_any-map (λ k. k.items) (bytes_eq k.items) ks))
+    (list_any-map (bytes_eq k.items) (λ k. k.items) ks)
   where
     by : (b : Bool)
         → map (λ k. k.items) (cond b ks (ks ++ k ∷ []))

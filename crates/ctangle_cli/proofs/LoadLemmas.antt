@@ -2,14 +2,14 @@
 use Rattle.std.proofs.Common.{◌≡◌, ◌∙◌, inl, inr, ℕ, zero, suc, ◌-◌, ◌<◌, ◌≤◌, Bool, true, false, cond, not, ◌||◌, List}
 use Rattle.std.proofs.Common.{[], ◌∷◌, Option, Some, None, Result, Ok, Err, ap, subst, sym, refl, length, length-append}
 use Rattle.std.proofs.Common.{append_assoc, append-nil, ◌++◌, arith}
-use Rattle.std.specs.Prelude.{◌⊎◌, ⊤, IfSome, IfNone, IsOkUnless, IsSomeAnd, nat_lt, ◌==◌, ◌+◌, map, All, is_some}
+use Rattle.std.specs.Prelude.{⊤, IfSome, IfNone, IsOkUnless, IsSomeAnd, nat_lt, ◌==◌, ◌+◌, All, is_some}
 use Rattle.std.specs.Prelude.{position}
 use Rattle.std.specs.List.{list_any, position_or_len}
 use Rattle.std.specs.Str.{bytes_eq}
 use Rattle.std.proofs.lemmas.Option.{IfSome_then}
 use Rattle.std.proofs.lemmas.Slice.Eq.{bytes_eq-Decides}
 use borrow.Author.Tests.{leb-false}
-use Rattle.std.proofs.lemmas.Bool.{and_from, and_parts, cond-false, le-ltb, ne_eqb, eq-eqb, eqb-false, lt-ltb}
+use Rattle.std.proofs.lemmas.Bool.{and_from, and_parts, cases_lt, cond-false, le-ltb, ne_eqb, eq-eqb, eqb-false, lt-ltb}
 use Rattle.std.proofs.lemmas.Bool.{or_left, or_right}
 use Rattle.std.proofs.lemmas.Bool.Decides.{nat_tests}
 use Rattle.std.proofs.lemmas.List.Elements.{All-contains}
@@ -17,6 +17,7 @@ use Rattle.std.proofs.lemmas.Map.Made.{is_some-lookup}
 use Rattle.std.proofs.lemmas.Map.Views.{Contains-from_any}
 use Rattle.std.specs.declared.vec.Vec.{Vec}
 use Rattle.std.specs.Global.{Global}
+use Rattle.clap.proofs.WalkLemmas.{list_any-map}
 use Rattle.tangle_files.specs.declared.refusal.Refusal.{Refusal}
 use Rattle.tangle_files.specs.declared.refusal.Refusal.TheVariants.{NoMemory as RefusalMemory}
 use Rattle.tangle_files.specs.Lines.{FileTable, cut, file_number}
@@ -153,16 +154,20 @@ pub grows_added : (files next : FileTable) (name bytes : List ℕ)
     → add_bytes files name bytes ≡ Ok next → Grows files next
 grows_added files next name bytes e = ((name, cut bytes) ∷ [], sym (added files next name bytes e))
 
--- a loading gives the same table, or a longer one within the limit
-abbrev pub IsLonger : FileTable → FileTable → Type 0
-IsLonger old new = (length old < length new) × (length new ≤ 256)
+-- a table that has the old files, and perhaps others after them, of which there are at most 256 in all
+pub record Adds (old new : FileTable) : Type 0 where
+  pub grows : Grows old new
+  pub within : 256 < length new → length new ≡ length old
 
 abbrev pub MayAdd : FileTable → Loaded → Type 0
-MayAdd files (Ok next) = (next ≡ files) ⊎ IsLonger files next
+MayAdd files (Ok next) = Adds files next
 MayAdd files (Err ending) = ⊤
 
-may_add_bytes : (files : FileTable) (name bytes : List ℕ) → MayAdd files (add_bytes files name bytes)
-may_add_bytes files name bytes = by (nat_lt file_limit (length bytes)) (add_refusal files name bytes) refl
+adds_none : (files : FileTable) → Adds files files
+adds_none files = record { grows = Grows-refl files; within = λ h. refl }
+
+adds_bytes : (files : FileTable) (name bytes : List ℕ) → MayAdd files (add_bytes files name bytes)
+adds_bytes files name bytes = by (nat_lt file_limit (length bytes)) (add_refusal files name bytes) refl
   where
     by : (b : Bool) (o : Option Refusal) → add_refusal files name bytes ≡ o
         → MayAdd files (cond b (Err (CannotRead name)) (unless_refused files name bytes o))
@@ -170,39 +175,57 @@ may_add_bytes files name bytes = by (nat_lt file_limit (length bytes)) (add_refu
     by false (Some r) e = tt
     by false None e =
         let below = leb-false 256 (length files) (accepted files name bytes (sym e)).below_limit in
-        let one = length-append files ((name, cut bytes) ∷ []) in
-        inr (omega (arith, one), omega (arith, one, below))
+        let one = length-append files ((name, cut bytes) ∷ []) in record {
+          grows = ((name, cut bytes) ∷ [], refl);
+          within = λ h. absurd (omega (arith, one, below, h));
+        }
 
-pub may_add_one : (all : List File) (files : FileTable) (name : List ℕ) → MayAdd files (with_inclusion all files name)
-may_add_one all files name = by (has_file files name || not (is_name name)) (file_bytes all name)
+pub adds_one : (all : List File) (files : FileTable) (name : List ℕ) → MayAdd files (with_inclusion all files name)
+adds_one all files name = by (has_file files name || not (is_name name)) (file_bytes all name)
   where
     by : (b : Bool) (o : Option (List ℕ)) → MayAdd files (cond b (Ok files) (add_present files name o))
-    by true o = inl refl
-    by false None = inl refl
-    by false (Some bytes) = may_add_bytes files name bytes
+    by true o = adds_none files
+    by false None = adds_none files
+    by false (Some bytes) = adds_bytes files name bytes
 
-may_add_then : (a b : FileTable) (l : Loaded) → (b ≡ a) ⊎ IsLonger a b → MayAdd b l → MayAdd a l
-may_add_then a b (Err ending) first second = tt
-may_add_then a b (Ok c) (inl same) second = subst (λ t. MayAdd t (Ok c)) same second
-may_add_then a b (Ok c) (inr more) (inl same) = inr (subst (IsLonger a) (sym same) more)
-may_add_then a b (Ok c) (inr more) (inr again) = inr (omega (arith, more.0, again.0), again.1)
-
-pub may_add_all : (all : List File) (names : List (List ℕ)) (files : FileTable)
+pub adds_all : (all : List File) (names : List (List ℕ)) (files : FileTable)
     → MayAdd files (with_inclusions all names files)
-may_add_all all [] files = inl refl
-may_add_all all (name ∷ names) files =
-    by (with_inclusion all files name) (may_add_one all files name) (λ t. may_add_all all names t)
+adds_all all [] files = adds_none files
+adds_all all (name ∷ names) files =
+    by (with_inclusion all files name) (adds_one all files name) (λ t. adds_all all names t)
   where
+    then : (t : FileTable) (l : Loaded) → Adds files t → MayAdd t l → MayAdd files l
+    then t (Err ending) first rest = tt
+    then t (Ok next) first rest = record {
+      grows = Grows-trans files t next first.grows rest.grows;
+      within = λ h. rest.within h ∙ first.within (omega (arith, h, rest.within h));
+    }
+
     by : (l : Loaded) → MayAdd files l → ((t : FileTable) → MayAdd t (with_inclusions all names t))
         → MayAdd files (and_then l (λ t. with_inclusions all names t))
     by (Err ending) first rest = tt
-    by (Ok t) first rest = may_add_then files t (with_inclusions all names t) first (rest t)
+    by (Ok t) first rest = then t (with_inclusions all names t) first (rest t)
 
+-- a table that is not of the same length is longer
 pub longer : (all : List File) (names : List (List ℕ)) (files next : FileTable)
-    → with_inclusions all names files ≡ Ok next → (length next ≡ length files → ⊥) → IsLonger files next
+    → with_inclusions all names files ≡ Ok next → (length next ≡ length files → ⊥)
+    → (length files < length next) × (length next ≤ 256)
 longer all names files next e more =
-    let may : (next ≡ files) ⊎ IsLonger files next = subst (MayAdd files) e (may_add_all all names files) in
-    elim may [ inl same ↦ absurd (more (ap length same)) | inr is ↦ is ]
+    let adds : Adds files next = subst (MayAdd files) e (adds_all all names files) in
+    let is : length next ≡ length files + length adds.grows.0 =
+    ap length adds.grows.1 ∙ length-append files adds.grows.0 in
+    elim (cases_lt 256 (length next)) [
+      | inl h ↦ absurd (more (adds.within h))
+      | inr h ↦ (omega (arith, is, more), h)
+    ]
+
+-- a table that has grown and has the same length is the same table
+pub same_table : (files next : FileTable) → Grows files next → length next ≡ length files → next ≡ files
+same_table files next g same = by g.0 g.1
+  where
+    by : (more : FileTable) → next ≡ files ++ more → next ≡ files
+    by [] is = is ∙ append-nil files
+    by (x ∷ more) is = absurd (omega (arith, ap length is, same, length-append files (x ∷ more)))
 
 -- two continuations that agree on each longer table give the same loading after a round
 after_same : (files : FileTable) (l : Loaded) (f g : FileTable → Loaded)
@@ -258,12 +281,6 @@ next_round all roles files next e more =
     ∙ ap (λ b. cond b (Ok next) (rounds_in all roles (256 - length files) next))
     (ne_eqb (length next) (length files) more))
 
--- a test of the names of items
-pub list_any-map : {X Y : Type 0} (f : X → Y) (p : Y → Bool) (xs : List X)
-    → list_any p (map f xs) ≡ list_any (λ x. p (f x)) xs
-list_any-map f p [] = refl
-list_any-map f p (x ∷ xs) = ap (λ b. p (f x) || b) (list_any-map f p xs)
-
 absent_at : (all : List File) (name : List ℕ) (names : List (List ℕ))
     → All (λ n. file_bytes all n ≡ None) names → list_any (bytes_eq name) names ≡ true → file_bytes all name ≡ None
 absent_at all name names h e = All-contains (λ n. file_bytes all n ≡ None) names name h
@@ -300,7 +317,7 @@ is_some-position p xs = by (nat_lt (position_or_len p xs) (length xs)) ∙ posit
 
 pub numbered_as_has : (files : FileTable) (name : List ℕ) → is_some (file_number files name) ≡ has_file files name
 numbered_as_has files name =
-    is_some-position (λ f. bytes_eq name f.0) files ∙ sym (list_any-map (λ f. f.0) (bytes_eq name) files)
+    is_some-position (λ f. bytes_eq name f.0) files ∙ list_any-map (bytes_eq name) (λ f. f.0) files
     ∙ sym (is_some-lookup (bytes_eq name) files)
 
 -- the table with one more file

@@ -1,42 +1,28 @@
 -- The names that are still missing when loading ends.
-use Rattle.std.proofs.Common.{◌≡◌, ◌∙◌, ◌⊎◌, inl, inr, ℕ, zero, suc, ◌-◌, ◌<◌, Bool, true, false, cond, not, ◌||◌, List}
-use Rattle.std.proofs.Common.{[], ◌∷◌, ◌++◌, Option, Some, None, Ok, Err, ap, subst, sym, refl, length, length-append}
-use Rattle.std.proofs.Common.{append-nil, arith, Contains}
+use Rattle.std.proofs.Common.{◌≡◌, ◌⊎◌, inl, inr, ℕ, zero, suc, ◌-◌, ◌<◌, Bool, true, false, cond, not, ◌||◌, List}
+use Rattle.std.proofs.Common.{[], ◌∷◌, Option, Some, None, Ok, Err, ap, subst, sym, refl, length, length-append}
+use Rattle.std.proofs.Common.{arith, Contains}
 use Rattle.std.specs.Prelude.{◌==◌}
 use Rattle.std.proofs.lemmas.Bool.{eqb-true, eqb-false}
 use Rattle.tangle_files.specs.Lines.{FileTable, cut}
 use Rattle.tangle_files.specs.Adding.{has_file, is_name}
 use Rattle.tangle_files.specs.Roles.{RolesRead}
 use Rattle.tangle_folders.specs.Folder.{File, file_bytes}
-use Rattle.ctangle_cli.specs.Loading.{Loaded, add_bytes, add_present, after_round, and_then, bad_name, load_of}
+use Rattle.ctangle_cli.specs.Loading.{Loaded, add_present, after_round, and_then, bad_name, load_of}
 use Rattle.ctangle_cli.specs.Loading.{load_unless, missing_of, rounds_from, rounds_in, with_change}
 use Rattle.ctangle_cli.specs.Loading.{with_inclusion, with_inclusions, with_round, with_needed}
 use Rattle.tangle_names.proofs.ContainsLemmas.{cons_cases}
-use Rattle.ctangle_cli.proofs.LoadLemmas.{Grows, IsLonger, MayAdd, added, longer, may_add_all, may_add_one}
-
--- a table that has grown and has the same length is the same table
-pub same_table : (files next : FileTable) → Grows files next → length next ≡ length files → next ≡ files
-same_table files next g same = by g.0 g.1
-  where
-    by : (more : FileTable) → next ≡ files ++ more → next ≡ files
-    by [] is = is ∙ append-nil files
-    by (x ∷ more) is = absurd (omega (arith, ap length is, same, length-append files (x ∷ more)))
-
--- a loading that gives a table of the same length adds nothing
-unchanged : (files next : FileTable) → (next ≡ files) ⊎ IsLonger files next → length next ≡ length files → next ≡ files
-unchanged files next may same = elim may [ inl is ↦ is | inr more ↦ absurd (omega (arith, more.0, same)) ]
-
--- a file that is added makes the table longer
-longer_by_one : (files next : FileTable) (name bytes : List ℕ)
-    → add_bytes files name bytes ≡ Ok next → length next ≡ length files → ⊥
-longer_by_one files next name bytes e same =
-    let is = added files next name bytes e in
-    omega (arith, ap length is, same, length-append files ((name, cut bytes) ∷ []))
+use Rattle.ctangle_cli.proofs.LoadLemmas.{Adds, MayAdd, added, adds_all, adds_one, longer, same_table}
 
 not_there : (files next : FileTable) (name : List ℕ) (o : Option (List ℕ))
     → add_present files name o ≡ Ok next → length next ≡ length files → o ≡ None
 not_there files next name None e same = refl
-not_there files next name (Some bytes) e same = absurd (longer_by_one files next name bytes e same)
+not_there files next name (Some bytes) e same = absurd (omega (
+  arith,
+  ap length (added files next name bytes e),
+  same,
+  length-append files ((name, cut bytes) ∷ []),
+))
 
 looked_for : (all : List File) (files next : FileTable) (name : List ℕ)
     → with_inclusion all files name ≡ Ok next → length next ≡ length files → has_file files name ≡ false
@@ -59,16 +45,17 @@ each_looked_for-step : (all : List File) (files next : FileTable)
     → has_file files name ≡ false → Contains (n ∷ ns) name → (is_name name ≡ false) ⊎ (file_bytes all name ≡ None)
 each_looked_for-step all files next n ns name (Err ending) is e same rest absent c = absurd (cc)
 each_looked_for-step all files next n ns name (Ok mid) is e same rest absent c =
-    let first : (mid ≡ files) ⊎ IsLonger files mid = subst (MayAdd files) is (may_add_one all files n) in
-    let then : (next ≡ mid) ⊎ IsLonger mid next = subst (MayAdd mid) e (may_add_all all ns mid) in
-    let middle : length mid ≡ length files = elim first [
-      | inl stays ↦ ap length stays
-      | inr more ↦ absurd (elim then [
-        | inl stays ↦ omega (arith, more.0, ap length stays, same)
-        | inr again ↦ omega (arith, more.0, again.0, same)
-      ])
-    ] in
-    let stays : mid ≡ files = unchanged files mid first middle in
+    let first : Adds files mid = subst (MayAdd files) is (adds_one all files n) in
+    let then : Adds mid next = subst (MayAdd mid) e (adds_all all ns mid) in
+    let middle : length mid ≡ length files = omega (
+      arith,
+      ap length first.grows.1,
+      length-append files first.grows.0,
+      ap length then.grows.1,
+      length-append mid then.grows.0,
+      same,
+    ) in
+    let stays = same_table files mid first.grows middle in
     elim (cons_cases n ns name c) [
       | inl this ↦ subst (λ m. (is_name m ≡ false) ⊎ (file_bytes all m ≡ None)) this
           (looked_for all files mid n is middle (subst (λ m. has_file files m ≡ false) (sym this) absent))
@@ -97,9 +84,9 @@ ended-step all roles n start files (Ok next) is fuel rest e = by (length next ==
         → with_round all roles files ≡ Ok files
     by true same e =
         let ends : next ≡ files = cc in
+        let adds : Adds start next = subst (MayAdd start) is (adds_all all (missing_of start roles) start) in
         let stays : next ≡ start =
-        unchanged start next (subst (MayAdd start) is (may_add_all all (missing_of start roles) start))
-        (eqb-true (length next) (length start) same) in
+        same_table start next adds.grows (eqb-true (length next) (length start) same) in
         subst (λ t. with_round all roles t ≡ Ok t) ends (subst (λ t. with_round all roles t ≡ Ok next) (sym stays) is)
     by false more e =
         let g = longer all (missing_of start roles) start next is (eqb-false (length next) (length start) more) in

@@ -1,5 +1,5 @@
 -- Where each included file is in the table, no name is missing.
-use Rattle.std.proofs.Common.{◌≡◌, ◌∙◌, ℕ, zero, suc, ◌+◌, ◌||◌, ◌&&◌, ◌==◌, Bool, true, false, cond, not, List, []}
+use Rattle.std.proofs.Common.{◌≡◌, ◌∙◌, ℕ, zero, suc, ◌+◌, ◌||◌, ◌&&◌, ◌==◌, Bool, true, false, not, List, []}
 use Rattle.std.proofs.Common.{◌∷◌, ◌++◌, Option, Some, None, is_some, drop, refl, ap, sym, length, true≢false}
 use Rattle.std.specs.Prelude.{nat_lt, min}
 use Rattle.std.proofs.lemmas.Bool.{cond_both, or_parts, or_from, not-false}
@@ -20,6 +20,7 @@ use Rattle.tangle_lines.specs.Reading.{WaitingLine, after, begins, change_here, 
 use Rattle.tangle_lines.specs.Reading.{change_place, change_step, changes_in, depth_limit, included, source_line_limit}
 use Rattle.tangle_lines.specs.Reading.{line_step, mismatch_faults, place_of, plain_step, reads_in, unequal_lines}
 use Rattle.tangle_lines.specs.Reading.{waiting_lines}
+use Rattle.tangle_lines.specs.Reading.{ReadingStep}
 use Rattle.tangle_lines.specs.Reading.ReadingStep.{Ends, Goes}
 use Rattle.tangle_files.specs.Roles.{RolesRead}
 use Rattle.ctangle_cli.specs.Loading.{IncludesNoMissing, misses_file, misses_name, missed_in}
@@ -82,9 +83,7 @@ module _ (files : FileTable) (no_missing : IncludesNoMissing files) where
       → PhaseMissesNone phase → misses_file files line ≡ false
       → PhaseMissesNone (next_phase file phase n line kind).0 × IsFine (next_phase file phase n line kind).1
   next_misses_none file Outside n line BeginsChange h none = (refl, record { none = refl; named = refl })
-  next_misses_none file Outside n line BeginsNew h none = (tt, record { none = refl; named = refl })
-  next_misses_none file Outside n line EndsChange h none = (tt, record { none = refl; named = refl })
-  next_misses_none file Outside n line IsText h none = (tt, record { none = refl; named = refl })
+  next_misses_none file Outside n line kind h none = (tt, record { none = refl; named = refl })
   next_misses_none file (InOld c) n line BeginsChange h none = (refl, record { none = refl; named = refl })
   next_misses_none file (InOld c) n line BeginsNew h none = (h, old_ended_fine file c.at c.old_lines)
   next_misses_none file (InOld c) n line EndsChange h none = (tt, record { none = refl; named = refl })
@@ -132,47 +131,30 @@ module _ (files : FileTable) (no_missing : IncludesNoMissing files) where
         → list_any new_misses cs ≡ false → list_any misses_waiting ws ≡ false
         → missed_in (reads_in files file n (record { waiting = ws; changes = cs; taken = t })).faults ≡ []
 
+    -- what is read in a step and the steps after it
+    abbrev StepMissesNone : ℕ → ReadingStep → Type 0
+    StepMissesNone n step = missed_in (after files file step (λ s. reads_in files file n s)).faults ≡ []
+
     -- a line that includes a file of the table
     file_misses_none : (n : ℕ) → MissesNone n
         → (w : WaitingLine) (ws : List WaitingLine) (cs : List Change) (t : ℕ) (name : List ℕ) (m : Option ℕ)
-        → is_some m ≡ true
-        → list_any new_misses cs ≡ false → list_any misses_waiting ws ≡ false
-        → missed_in (after files file (Goes (record { lines = []; faults = (included files w name m).1 })
+        → is_some m ≡ true → list_any new_misses cs ≡ false → list_any misses_waiting ws ≡ false
+        → StepMissesNone n (Goes (record { lines = []; faults = (included files w name m).1 })
         (record { waiting = (included files w name m).0 ++ ws; changes = cs; taken = t + 1 }))
-        (λ s. reads_in files file n s)).faults ≡ []
     file_misses_none n rest w ws cs t name None there changes none = absurd (true≢false (sym there))
-    file_misses_none n rest w ws cs t name (Some m) there changes none = by (nat_lt w.depth depth_limit)
-      where
-        more : list_any misses_waiting (waiting_lines m w.changed (w.depth + 1) 1 (lines_at files m) ++ ws) ≡ false
-        more =
-            list_any-append misses_waiting (waiting_lines m w.changed (w.depth + 1) 1 (lines_at files m)) ws
-            ∙ or_from _ _ (lines_miss_alike m w.changed (w.depth + 1) 1 (lines_at files m) ∙ no_missing m) none
-
-        by : (b : Bool)
-            → missed_in (after files file (Goes (record {
-              lines = [];
-              faults = (cond {A = List WaitingLine × List FaultRead} b (
-                waiting_lines m w.changed (w.depth + 1) 1 (lines_at files m),
-                [],
-              ) ([], fault_at IncludeTooDeep (place_of files w.origin) ∷ [])).1;
-            })
-            (record {
-              waiting = (cond {A = List WaitingLine × List FaultRead} b (
-                waiting_lines m w.changed (w.depth + 1) 1 (lines_at files m),
-                [],
-              ) ([], fault_at IncludeTooDeep (place_of files w.origin) ∷ [])).0 ++ ws;
-              changes = cs;
-              taken = t + 1;
-            }))
-            (λ s. reads_in files file n s)).faults ≡ []
-        by true = rest (t + 1) cs _ changes more
-        by false = rest (t + 1) cs ws changes none
+    file_misses_none n rest w ws cs t name (Some m) there changes none =
+        let lines = waiting_lines m w.changed (w.depth + 1) 1 (lines_at files m) in
+        cond_both (nat_lt w.depth depth_limit) (lines, []) ([], fault_at IncludeTooDeep (place_of files w.origin) ∷ [])
+        (λ (i : List WaitingLine × List FaultRead). StepMissesNone n
+        (Goes (record { lines = []; faults = i.1 }) (record { waiting = i.0 ++ ws; changes = cs; taken = t + 1 })))
+        (λ _. rest (t + 1) cs (lines ++ ws) changes (list_any-append misses_waiting lines ws
+        ∙ or_from _ _ (lines_miss_alike m w.changed (w.depth + 1) 1 (lines_at files m) ∙ no_missing m) none))
+        (λ _. rest (t + 1) cs ws changes none)
 
     line_misses_none : (n : ℕ)
         → MissesNone n → (w : WaitingLine) (ws : List WaitingLine) (cs : List Change) (t : ℕ) (name : Option (List ℕ))
-        → misses_name files name ≡ false
-        → list_any new_misses cs ≡ false → list_any misses_waiting ws ≡ false
-        → missed_in (after files file (plain_step files w ws cs t name) (λ s. reads_in files file n s)).faults ≡ []
+        → misses_name files name ≡ false → list_any new_misses cs ≡ false → list_any misses_waiting ws ≡ false
+        → StepMissesNone n (plain_step files w ws cs t name)
     line_misses_none n rest w ws cs t None here changes none = rest (t + 1) cs ws changes none
     line_misses_none n rest w ws cs t (Some []) here changes none = rest (t + 1) cs ws changes none
     line_misses_none n rest w ws cs t (Some (b ∷ bs)) here changes none =
@@ -183,7 +165,7 @@ module _ (files : FileTable) (no_missing : IncludesNoMissing files) where
     change_misses_none : (n : ℕ) → MissesNone n
         → (c : Change) (w : WaitingLine) (ws : List WaitingLine) (cs : List Change) (t : ℕ) → new_misses c ≡ false
         → list_any new_misses cs ≡ false → list_any misses_waiting (w ∷ ws) ≡ false
-        → missed_in (after files file (change_step files file c cs w ws t) (λ s. reads_in files file n s)).faults ≡ []
+        → StepMissesNone n (change_step files file c cs w ws t)
     change_misses_none n rest c w ws cs t here changes none =
         let count = min (length c.old_lines) (length (w ∷ ws)) in
         both_miss_none (mismatch_faults (change_place files file c) (unequal_lines (drop 1 c.old_lines) ws)) _
@@ -195,25 +177,17 @@ module _ (files : FileTable) (no_missing : IncludesNoMissing files) where
 
     step_misses_none : (n : ℕ) → MissesNone n → (w : WaitingLine) (ws : List WaitingLine) (cs : List Change) (t : ℕ)
         → list_any new_misses cs ≡ false → list_any misses_waiting (w ∷ ws) ≡ false
-        → missed_in
-        (after files file (line_step files file w ws cs t (change_here cs w)) (λ s. reads_in files file n s)).faults
-        ≡ []
+        → StepMissesNone n (line_step files file w ws cs t (change_here cs w))
     step_misses_none n rest w ws [] t changes none =
         let both = or_parts (misses_waiting w) (list_any misses_waiting ws) none in
         line_misses_none n rest w ws [] t (included_name w.bytes) both.0 changes both.1
-    step_misses_none n rest w ws (c ∷ cs) t changes none = by (not w.changed && begins c.old_lines w.bytes)
-      where
-        by : (b : Bool)
-            → missed_in
-            (after files file (line_step files file w ws (c ∷ cs) t (cond b (Some c) None))
-            (λ s. reads_in files file n s)).faults
-            ≡ []
-        by true =
-            let both = or_parts (new_misses c) (list_any new_misses cs) changes in
-            change_misses_none n rest c w ws cs t both.0 both.1 none
-        by false =
-            let both = or_parts (misses_waiting w) (list_any misses_waiting ws) none in
-            line_misses_none n rest w ws (c ∷ cs) t (included_name w.bytes) both.0 changes both.1
+    step_misses_none n rest w ws (c ∷ cs) t changes none =
+        let both = or_parts (misses_waiting w) (list_any misses_waiting ws) none in
+        let them = or_parts (new_misses c) (list_any new_misses cs) changes in
+        cond_both (not w.changed && begins c.old_lines w.bytes) (Some c) None
+        (λ o. StepMissesNone n (line_step files file w ws (c ∷ cs) t o))
+        (λ _. change_misses_none n rest c w ws cs t them.0 them.1 none)
+        (λ _. line_misses_none n rest w ws (c ∷ cs) t (included_name w.bytes) both.0 changes both.1)
 
     reads_miss_none : (n : ℕ) → MissesNone n
     unfolding reads_in
@@ -221,16 +195,9 @@ module _ (files : FileTable) (no_missing : IncludesNoMissing files) where
     reads_miss_none (suc n) t [] [] changes none = refl
     reads_miss_none (suc n) t (c ∷ cs) [] changes none = refl
     reads_miss_none (suc n) t cs (w ∷ ws) changes none =
-        by (nat_lt t source_line_limit) (step_misses_none n (reads_miss_none n) w ws cs t changes none)
-      where
-        by : (b : Bool)
-            → missed_in
-            (after files file (line_step files file w ws cs t (change_here cs w)) (λ s. reads_in files file n s)).faults
-            ≡ []
-            → missed_in (after files file (cond b (line_step files file w ws cs t (change_here cs w))
-            (Ends (fault_at SourceTooLong (place_of files w.origin) ∷ []))) (λ s. reads_in files file n s)).faults ≡ []
-        by true rest = rest
-        by false rest = refl
+        cond_both (nat_lt t source_line_limit) (line_step files file w ws cs t (change_here cs w))
+        (Ends (fault_at SourceTooLong (place_of files w.origin) ∷ [])) (StepMissesNone n)
+        (λ _. step_misses_none n (reads_miss_none n) w ws cs t changes none) (λ _. refl)
 
 pub missing_is_empty : (files : FileTable) (roles : RolesRead) → IncludesNoMissing files → missing_of files roles ≡ []
 unfolding missing_of

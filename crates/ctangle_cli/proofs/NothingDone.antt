@@ -1,6 +1,6 @@
 -- A run that does nothing does not end with status 3: each such ending writes some bytes, or something fails.
 use Rattle.std.proofs.Common.{◌≡◌, ◌⊎◌, inl, inr, Option, None, Some, ℕ, ◌<◌, take, Bool, true, false, cond, List, []}
-use Rattle.std.proofs.Common.{◌∷◌, ◌++◌, ap, length, length-append, arith}
+use Rattle.std.proofs.Common.{◌∷◌, ◌++◌, ap, refl, length, length-append, arith}
 use Rattle.std.specs.Prelude.{codes}
 use Rattle.std.specs.Io.KnownBytes.{Appends}
 use Rattle.tangle_streams.specs.Streams.{Stream, Failed, TakesAll, TakesPrefix}
@@ -24,12 +24,7 @@ no_failure h = elim h [ inl p ↦ omega arith | inr p ↦ omega arith ]
 abbrev silent_stream : Stream
 silent_stream = nothing_done.stream
 
-silent : (bytes : List ℕ)
-    → 0 < length bytes → TakesAll silent_stream silent_stream bytes ⊎ TakesPrefix silent_stream silent_stream bytes → ⊥
-silent bytes some h =
-    elim h [ inl w ↦ (let e : 0 ≡ length bytes = ap length w.0 in omega arith) | inr p ↦ no_failure p.3 ]
-
--- nor does one that writes some bytes before
+-- some bytes are written, perhaps after others
 silent_after : (between : Stream) (before bytes : List ℕ)
     → 0 < length bytes → TakesAll nothing_done.stream between before
     → TakesAll between nothing_done.stream bytes ⊎ TakesPrefix between nothing_done.stream bytes → ⊥
@@ -44,6 +39,10 @@ silent_after between before bytes some first last = by between.taken first.0 las
       | inl w ↦ (let e : 0 ≡ length (all ++ bytes) = ap length w.0 in omega (arith, length-append all bytes))
       | inr p ↦ elim p.3 [ inl h ↦ omega (arith, h) | inr h ↦ omega (arith, h) ]
     ]
+
+silent : (bytes : List ℕ)
+    → 0 < length bytes → TakesAll silent_stream silent_stream bytes ⊎ TakesPrefix silent_stream silent_stream bytes → ⊥
+silent bytes some h = silent_after silent_stream [] bytes some (refl, refl) h
 
 ending_some : (e : LoadEnd) → 0 < length (ending_line (codes "ctangle") e)
 ending_some NoMemory = omega arith

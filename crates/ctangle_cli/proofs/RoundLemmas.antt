@@ -19,7 +19,7 @@ use Rattle.tangle_files.specs.Adding.{has_file, is_name}
 use Rattle.tangle_files.specs.Roles.{RolesRead, fits}
 use Rattle.tangle_folders.specs.Folder.{File, FolderRead}
 use Rattle.ctangle_cli.specs.AskedOnce.{AsksOnce, IsNeeded, with_names_added}
-use Rattle.ctangle_cli.specs.AskedNames.{AsksSome, AsksUntil, AsksUpTo, StopsAmong, asked_in, asked_next, asked_unless}
+use Rattle.ctangle_cli.specs.AskedNames.{StopsAmong, asked_in, asked_next, asked_unless}
 use Rattle.ctangle_cli.specs.AskedNames.{files_under, named_in, with_all_asked}
 use Rattle.ctangle_cli.specs.Loading.{IsAskedLast, IsLoadEnd, LoadEnd, Loaded, NamesLastAsked}
 use Rattle.ctangle_cli.specs.Loading.{StopsFor, and_then, bad_name, load_of, load_unless, missing_of, rounds_from}
@@ -30,9 +30,8 @@ use Rattle.ctangle_cli.specs.Steps.{AreAbsent, HasAsked, Progress, Reads, Stops,
 use Rattle.ctangle_cli.proofs.AskLemmas.{IsAsked, all_asked, all_once, become_asked, once_in_front}
 use Rattle.ctangle_cli.proofs.AskLemmas.{with_all_asked_again}
 use Rattle.ctangle_cli.proofs.LoadLemmas.{Grows, and_then_same, both_some, grows_fits, last_round, next_round}
-use Rattle.ctangle_cli.proofs.LoadLemmas.{some_always}
+use Rattle.ctangle_cli.proofs.LoadLemmas.{same_table, some_always}
 use Rattle.ctangle_cli.proofs.LoadLemmas.{stopped_round, stops_along}
-use Rattle.ctangle_cli.proofs.MissingLemmas.{same_table}
 use Rattle.ctangle_cli.proofs.StepLemmas.{Included, fails_not, fails_since, only_asks_none, only_asks_then}
 use Rattle.ctangle_cli.proofs.StepLemmas.{out_of_memory, reads_none, reads_then, stops_early, stops_then}
 
@@ -185,9 +184,9 @@ named_missing names missed name c named =
     any-filter_same (bytes_eq name) is_name true
     (λ k e. subst (λ n. is_name n ≡ true) ((bytes_eq-Decides name k).0 e) named) missed
     ∙ list_any-from_Contains nat_list_eq_equiv name missed c in
-    let now = with_all_asked names (filter is_name missed) in
-    tried_asked now name
-    (All-contains (IsAsked now) (filter is_name missed) name
+    let asked = with_all_asked names (filter is_name missed) in
+    tried_asked asked name
+    (All-contains (IsAsked asked) (filter is_name missed) name
     (become_asked names (filter is_name missed)) (tried_asked (filter is_name missed) name among))
 
 -- the last round adds no file
@@ -228,20 +227,9 @@ rounds_end roles start state next missed is so_far included same =
     }
 
 -- where loading stops
-once_up_to : (names : List (List ℕ)) (before now : Option (List (List ℕ))) (name : List ℕ)
-    → IsDistinct bytes_eq names → AsksUpTo names before now name → AsksOnce before now
-once_up_to names before now name once s = record {
-  asked = s.front ++ name ∷ [];
-  after = s.after;
-  once = once_in_front (s.front ++ name ∷ []) s.rest
-      (subst (IsDistinct bytes_eq) (s.split ∙ sym (append_assoc s.front (name ∷ []) s.rest)) once);
-}
-
 once_among : (names : List (List ℕ)) (before now : Option (List (List ℕ))) (ending : LoadEnd)
     → IsDistinct bytes_eq names → StopsAmong names before now ending → AsksOnce before now
-once_among names before now (CannotRead name) once s = once_up_to names before now name once s
-once_among names before now (Refused name refusal) once s = once_up_to names before now name once s
-once_among names before now NoMemory once s = record {
+once_among names before now ending once s = record {
   asked = s.front;
   after = s.after;
   once = once_in_front s.front s.rest (subst (IsDistinct bytes_eq) s.split once);
@@ -249,18 +237,10 @@ once_among names before now NoMemory once s = record {
 
 last_among : (names : List (List ℕ)) (before now : Option (List (List ℕ))) (ending : LoadEnd)
     → StopsAmong names before now ending → NamesLastAsked now ending
-last_among names before now (CannotRead name) s = subst (λ a. IsAskedLast a name) (sym s.after) (by before)
-  where
-    by : (before : Option (List (List ℕ))) → IsAskedLast (with_names_added before (s.front ++ name ∷ [])) name
-    by None = tt
-    by (Some names) = (names ++ s.front, sym (append_assoc names s.front (name ∷ [])))
+last_among names None now (CannotRead name) s = subst (λ a. IsAskedLast a name) (sym s.after) tt
+last_among names (Some old) now (CannotRead name) s = subst (λ a. IsAskedLast a name) (sym s.after)
+    (old ++ s.last.0, ap (λ l. old ++ l) s.last.1 ∙ sym (append_assoc old s.last.0 (name ∷ [])))
 last_among names before now ending s = tt
-
-some_until : (reported : Option (List File)) (roles : RolesRead)
-    (before now : Option (List (List ℕ))) (ending : LoadEnd)
-    → AsksSome reported roles before now ending → AsksUntil reported roles before now ending
-some_until reported roles before now (Refused name refusal) h = inr h
-some_until reported roles before now ending h = h
 
 stops_loading : (roles : RolesRead) (start : FolderRead) (state : Progress)
     (these : List File → Loaded) (since more : List (List ℕ)) (new : FolderRead) (ending : LoadEnd)
@@ -274,7 +254,7 @@ stops_loading roles start state these since more new ending fine only asked once
       why = stops_along start.files these (λ all. load_of all roles)
           start.failures state.folder.failures new.failures ending only.counted along
           (subst (λ t. StopsFor t these state.folder.failures new.failures ending) only.files_stay s.why);
-      asks = some_until start.files roles start.asked new.asked ending (IfSome_then start.files rounds (λ all r. (
+      asks = inl (IfSome_then start.files rounds (λ all r. (
         r.0,
         subst (λ o. StopsAmong (asked_unless all roles o r.0) start.asked new.asked ending)
             (sym fine) (subst (λ l. StopsAmong l start.asked new.asked ending) r.1 among),
@@ -346,13 +326,13 @@ rounds_short roles start state fine so_far =
 
 -- a loading that asks for nothing
 none_among : (names : List (List ℕ)) (before : Option (List (List ℕ))) → StopsAmong names before before NoMemory
-none_among names before = record { front = []; rest = names; split = refl; after = none_added before }
+none_among names before = record { front = []; rest = names; split = refl; after = none_added before; last = tt }
 
 pub stops_at_once : (roles : RolesRead) (start : FolderRead) → StopsLoading roles start start NoMemory
 unfolding IsDistinct
 stops_at_once roles start = record {
   why = tt;
-  asks = some_always start.files (λ all. (zero, none_among (asked_unless all roles (bad_name roles) zero) start.asked));
+  asks = inl (some_always start.files (λ all. (zero, none_among (asked_unless all roles (bad_name roles) zero) start.asked)));
   once = once_among [] start.asked start.asked NoMemory tt (none_among [] start.asked);
   reported = tt;
   fails = fails_not start start (only_asks_none start);
@@ -365,7 +345,7 @@ pub stops_badly : (roles : RolesRead) (start : FolderRead) (name : List ℕ) (en
 stops_badly roles start name ending bad which = elim which [
   | inl e ↦ subst (StopsLoading roles start start) (sym e) (record {
     why = (some_always start.files (λ all. ap (load_unless all roles) bad), refl);
-    asks = inl (bad, refl);
+    asks = inr (name, refl, bad, refl);
     once = (stops_at_once roles start).once;
     reported = tt;
     fails = fails_not start start (only_asks_none start);

@@ -1,14 +1,16 @@
 -- Several writes on a stream, one after another.
 use Rattle.std.proofs.Common.{◌≡◌, ◌∙◌, ◌⊎◌, inl, inr, ℕ, ◌+◌, ◌<◌, ◌≤◌, List, [], ◌∷◌, ◌++◌, Result, Ok, Err, ap}
-use Rattle.std.proofs.Common.{subst, sym, refl, length, take, suc, length-append, arith, append_assoc, append-nil, zero}
-use Rattle.std.proofs.Common.{◌≢◌, slice_index_or, drop}
+use Rattle.std.proofs.Common.{subst, sym, refl, length, take, length-append, arith, append_assoc, append-nil}
+use Rattle.std.proofs.Common.{◌≢◌, ◌^◌, get_or, drop}
 use Rattle.std.proofs.lemmas.List.{take-append-le, take-append-drop}
-use Rattle.tangle_streams.proofs.StreamLemmas.{Appends-append, Appends-none}
-use Rattle.tangle_streams.specs.Streams.{Stream, Failed, IsWritten, TakesAll, TakesPrefix}
+use Rattle.tangle_streams.proofs.StreamLemmas.{Appends-append}
+use Rattle.tangle_streams.specs.Streams.{Stream, Failed, IsWritten, IsWrittenAfter, TakesAll, TakesPrefix}
 use Rattle.tangle_streams.specs.declared.failures.WriteFault.{WriteFault}
 use Rattle.std.proofs.Math.Seq.{take-append-add}
+use Rattle.std.specs.List.{fold}
+use Rattle.std.proofs.lemmas.List.Sums.{fold-append, fold_more}
+use Rattle.tangle_script.specs.Script.{WritesAnswer}
 use Rattle.tangle_faults.specs.Faults.{FaultRead}
-use Rattle.tangle_faults.specs.FaultLine.{fault_line}
 use Rattle.tangle_files.specs.Lines.{FileTable}
 use Rattle.tangle_files.specs.Roles.{RolesRead}
 use Rattle.tangle_folders.specs.declared.folder.FolderFault.{FolderFault}
@@ -17,9 +19,6 @@ use Rattle.tangle_session.specs.Tangle.{Tangling, AreFaultsOf, outputs_of}
 use Rattle.ctangle_cli.specs.Run.{AsksNothing, Moment, SessionEnds, StopsAt, TangledEnds}
 use Rattle.ctangle_cli.specs.Run.TangledEnds.{IsUnwritten}
 use Rattle.ctangle_cli.specs.Messages.{fault_lines, unwritten_line}
-
-pub TakesAll-none : (a : Stream) → TakesAll a a []
-TakesAll-none a = (Appends-none a.taken, refl)
 
 pub whole_then_whole : (a b c : Stream) (xs ys : List ℕ) → TakesAll a b xs → TakesAll b c ys → TakesAll a c (xs ++ ys)
 whole_then_whole a b c xs ys p q = (Appends-append a.taken b.taken c.taken xs ys p.0 q.0, q.1 ∙ p.1)
@@ -51,41 +50,63 @@ pub tries_from : (a b : Stream) (r : Result ℕ WriteFault) (bytes : List ℕ)
 tries_from a b (Ok n) bytes h = inl (h.1, h.2)
 tries_from a b (Err e) bytes h = inr (e.0, h.0, h.1, h.2)
 
--- one more fault
-lines_next : (xs : List FaultRead) (i : ℕ) (f : FaultRead) → i < length xs → f ≡ slice_index_or xs i f
-    → fault_lines (take (suc i) xs) ≡ fault_lines (take i xs) ++ fault_line f
-lines_next [] i f lt e = absurd (omega arith)
-lines_next (x ∷ xs) zero f lt e = append-nil (fault_line x) ∙ ap fault_line (sym e)
-lines_next (x ∷ xs) (suc i) f lt e =
-    let less : i < length xs = omega arith in
-    ap (λ l. fault_line x ++ l) (lines_next xs i f less e)
-    ∙ sym (append_assoc (fault_line x) (fault_lines (take i xs)) (fault_line f))
+-- parts that are written one after another, in a loop
+module _ {X : Type 0} (bytes_of : X → List ℕ) where
+  abbrev pub joined : List ℕ → List X → List ℕ
+  joined front xs = fold (λ out x. out ++ bytes_of x) front xs
 
-lines-append : (xs ys : List FaultRead) → fault_lines (xs ++ ys) ≡ fault_lines xs ++ fault_lines ys
-lines-append [] ys = refl
-lines-append (x ∷ xs) ys =
-    ap (λ l. fault_line x ++ l) (lines-append xs ys)
-    ∙ sym (append_assoc (fault_line x) (fault_lines xs) (fault_lines ys))
+  joined_front : (front : List ℕ) (xs : List X) → (rest : List ℕ) × (joined front xs ≡ front ++ rest)
+  joined_front front [] = ([], sym (append-nil front))
+  joined_front front (x ∷ xs) =
+      let after = joined_front (front ++ bytes_of x) xs in
+      (bytes_of x ++ after.0, after.1 ∙ append_assoc front (bytes_of x) after.0)
 
-pub faults_more : (a b c : Stream) (n : ℕ) (xs : List FaultRead) (i : ℕ) (x : FaultRead)
-    → i < length xs → x ≡ slice_index_or xs i x
-    → TakesAll a b (fault_lines (take i xs)) → IsWritten b c (fault_line x) (Ok n)
-    → TakesAll a c (fault_lines (take (i + 1) xs))
-faults_more a b c n xs i x lt e p q =
-    let one : i + 1 ≡ suc i = omega arith in
-    subst (TakesAll a c) (sym (ap (λ k. fault_lines (take k xs)) one ∙ lines_next xs i x lt e))
-    (whole_then_whole a b c _ (fault_line x) p (whole_from b c n (fault_line x) q))
+  -- one more part is written and counted
+  pub parts_written : (a b c : Stream) (xs : List X) (i : ℕ) (d : X) (so_far result : Result ℕ WriteFault)
+      → i < length xs → length (joined [] xs) < 2 ^ 128 → IsWritten a b (joined [] (take i xs)) so_far
+      → IsWrittenAfter b c so_far (bytes_of (get_or xs i d)) result → IsWritten a c (joined [] (take (i + 1) xs)) result
+  parts_written a b c xs i d so_far result within fits p q =
+      let next = fold_more (λ out x. out ++ bytes_of x) [] xs i d within in
+      let rest = joined_front (joined [] (take (i + 1) xs)) (drop (i + 1) xs) in
+      let whole : joined [] xs ≡ joined [] (take (i + 1) xs) ++ rest.0 =
+      ap (joined []) (sym (take-append-drop (i + 1) xs))
+      ∙ fold-append (λ out x. out ++ bytes_of x) [] (take (i + 1) xs) (drop (i + 1) xs) ∙ rest.1 in
+      rw next (q a (joined [] (take i xs)) p (omega (
+        arith,
+        fits,
+        ap length whole,
+        ap length next,
+        length-append (joined [] (take (i + 1) xs)) rest.0,
+        length-append (joined [] (take i xs)) (bytes_of (get_or xs i d)),
+      )))
 
-pub faults_cut : (a b c : Stream) (d : WriteFault) (xs : List FaultRead) (i : ℕ) (x : FaultRead)
-    → i < length xs → x ≡ slice_index_or xs i x
-    → TakesAll a b (fault_lines (take i xs)) → IsWritten b c (fault_line x) (Err d) → TakesPrefix a c (fault_lines xs)
-faults_cut a b c d xs i x lt e p q =
-    let whole : (fault_lines (take i xs) ++ fault_line x) ++ fault_lines (drop (suc i) xs) ≡ fault_lines xs =
-    ap (λ l. l ++ fault_lines (drop (suc i) xs)) (sym (lines_next xs i x lt e))
-    ∙ sym (lines-append (take (suc i) xs) (drop (suc i) xs)) ∙ ap fault_lines (take-append-drop (suc i) xs) in
-    subst (TakesPrefix a c) whole
-    (cut_more a c _ (fault_lines (drop (suc i) xs))
-    (whole_then_cut a b c _ (fault_line x) p (cut_from b c d (fault_line x) q)))
+  module _ (a b c : Stream) (xs : List X) (i : ℕ) (within : i < length xs)
+      (d : X) (bytes : List ℕ) (is : bytes ≡ bytes_of (get_or xs i d)) where
+    next : joined [] (take (i + 1) xs) ≡ joined [] (take i xs) ++ bytes
+    next = fold_more (λ out x. out ++ bytes_of x) [] xs i d within ∙ ap (λ l. joined [] (take i xs) ++ l) (sym is)
+
+    -- one more part is written
+    pub parts_more : (n : ℕ) → TakesAll a b (joined [] (take i xs)) → IsWritten b c bytes (Ok n)
+        → TakesAll a c (joined [] (take (i + 1) xs))
+    parts_more n p q = rw next (whole_then_whole a b c (joined [] (take i xs)) bytes p (whole_from b c n bytes q))
+
+    -- the stream failed at this part
+    pub parts_cut : (e : WriteFault) → TakesAll a b (joined [] (take i xs)) → IsWritten b c bytes (Err e)
+        → TakesPrefix a c (joined [] xs)
+    parts_cut e p q =
+        let after = joined_front (joined [] (take i xs) ++ bytes) (drop (i + 1) xs) in
+        let whole : joined [] xs ≡ (joined [] (take i xs) ++ bytes) ++ after.0 =
+        ap (joined []) (sym (take-append-drop (i + 1) xs))
+        ∙ fold-append (λ out x. out ++ bytes_of x) [] (take (i + 1) xs) (drop (i + 1) xs)
+        ∙ ap (λ l. joined l (drop (i + 1) xs)) next ∙ after.1 in
+        rw whole (cut_more a c (joined [] (take i xs) ++ bytes) after.0
+        (whole_then_cut a b c (joined [] (take i xs)) bytes p (cut_from b c e bytes q)))
+
+-- an answer after bytes that are written
+pub answer_then : {T E : Type 0} (a b c : Stream) (xs ys : List ℕ) (r : Result T E)
+    → TakesAll a b xs → WritesAnswer b c ys r → WritesAnswer a c (xs ++ ys) r
+answer_then a b c xs ys (Ok x) p q = whole_then_whole a b c xs ys p q
+answer_then a b c xs ys (Err e) p q = whole_then_cut a b c xs ys p q
 
 -- writing stopped because memory ran out, or because the folder failed
 pub tangled_stops : (t : Tangling) (old new : Moment) (mid : Stream)

@@ -19,10 +19,10 @@ use Rattle.tangle_folders.specs.declared.folder.FolderFault.TheVariants.{Missing
 use Rattle.tangle_streams.specs.Streams.{one_more_failure}
 use Rattle.tangle_folders.specs.Folder.{File, FolderRead, IsFileAnswer, file_bytes, with_name_added}
 use Rattle.ctangle_cli.specs.AskedOnce.{with_names_added}
-use Rattle.ctangle_cli.specs.AskedNames.{AsksUpTo, FailsLast, StopsAmong, file_if_there, files_under, with_all_asked}
+use Rattle.ctangle_cli.specs.AskedNames.{FailsLast, StopsAmong, name_at_end, file_if_there, files_under, with_all_asked}
 use Rattle.ctangle_cli.specs.Loading.{IsAskedLast, IsLoadEnd, LoadEnd, Loaded, StopsFor, add_bytes}
 use Rattle.ctangle_cli.specs.Loading.{add_present, and_then, refused_as, with_inclusions, with_needed}
-use Rattle.ctangle_cli.specs.Loading.LoadEnd.{CannotRead, Refused, NoMemory}
+use Rattle.ctangle_cli.specs.Loading.LoadEnd.{CannotRead, NoMemory}
 use Rattle.ctangle_cli.specs.Loads.{OnlyAsks}
 use Rattle.ctangle_cli.specs.Steps.{AreAbsent, HasAsked, IsAbout, Progress, Reads, Stops, is_tried}
 use Rattle.ctangle_cli.proofs.AskLemmas.{TriesThis, with_all_asked-append, with_all_asked_front}
@@ -104,33 +104,22 @@ about_refused name refusal given which =
 stops_last : (since : List (List ℕ)) (before asked : Option (List (List ℕ))) (name : List ℕ) (ending : LoadEnd)
     → asked ≡ with_names_added before (since ++ name ∷ []) → IsAbout name ending
     → StopsAmong (since ++ name ∷ []) before asked ending
-stops_last since before asked name (CannotRead reported) after about =
-    subst (AsksUpTo (since ++ name ∷ []) before asked) (sym about)
-    (record { front = since; rest = []; split = refl; after = after })
-stops_last since before asked name (Refused reported refusal) after about =
-    subst (AsksUpTo (since ++ name ∷ []) before asked) (sym about)
-    (record { front = since; rest = []; split = refl; after = after })
-stops_last since before asked name NoMemory after about =
-    record { front = since ++ name ∷ []; rest = []; split = sym (append-nil (since ++ name ∷ [])); after = after }
-
-up_to_further : (names more : List (List ℕ)) (before asked : Option (List (List ℕ))) (name : List ℕ)
-    → AsksUpTo names before asked name → AsksUpTo (names ++ more) before asked name
-up_to_further names more before asked name s = record {
-  front = s.front;
-  rest = s.rest ++ more;
-  split = ap (λ l. l ++ more) s.split ∙ append_assoc s.front (name ∷ s.rest) more;
-  after = s.after;
+stops_last since before asked name ending after about = record {
+  front = since ++ name ∷ [];
+  rest = [];
+  split = sym (append-nil (since ++ name ∷ []));
+  after = after;
+  last = IfSome_then (name_at_end ending) about (λ reported is. (since, ap (λ n. since ++ n ∷ []) (sym is)));
 }
 
 stops_further : (names more : List (List ℕ)) (before asked : Option (List (List ℕ))) (ending : LoadEnd)
     → StopsAmong names before asked ending → StopsAmong (names ++ more) before asked ending
-stops_further names more before asked (CannotRead name) s = up_to_further names more before asked name s
-stops_further names more before asked (Refused name refusal) s = up_to_further names more before asked name s
-stops_further names more before asked NoMemory s = record {
+stops_further names more before asked ending s = record {
   front = s.front;
   rest = s.rest ++ more;
   split = ap (λ l. l ++ more) s.split ∙ append_assoc s.front s.rest more;
   after = s.after;
+  last = s.last;
 }
 
 -- what the folder answered about a name: the step adds its file, if there is one
@@ -222,7 +211,7 @@ stops_short loads name old new only fresh which = elim which [
   | inl e ↦ record {
     why = tt;
     asks = λ before since h. (let front = with_all_asked_front since (name ∷ []) in
-        record { front = since; rest = front.0; split = front.1; after = e ∙ h.after });
+        record { front = since; rest = front.0; split = front.1; after = e ∙ h.after; last = tt });
     fails = fails_not old.folder new only;
     files_stay = only.files_stay;
     created_stay = only.created_stay;
@@ -242,6 +231,7 @@ out_of_memory these those names more old new reads = record {
         rest = front.0;
         split = with_all_asked-append since names more ∙ front.1;
         after = (reads.asks before since h).after;
+        last = tt;
       });
   fails = fails_not old.folder new.folder reads.only_asks;
   files_stay = reads.only_asks.files_stay;

@@ -56,162 +56,136 @@ line n = line_of (codes "a.w") n
 abbrev on : ℕ → FaultKind → FaultRead
 on n kind = fault_at kind (line n)
 
-one_section : tangled_web (codes "@ A.\n@c\nint x;\n") ≡ gives [] (codes "/*1:*/\n#line 2 \"a.w\"\n\nint x;\n/*:1*/\n")
-unfolding source_at web_at reads_in tokens_from lexeme occurrences_from levels heaviest digits
-one_section = refl
-
-no_lines : tangled_web [] ≡ gives (fault_unplaced NoProgram ∷ []) []
-unfolding source_at web_at reads_in tokens_from lexeme occurrences_from levels heaviest digits
-no_lines = refl
-
-a_line_changed : tangled_change (codes "@ A.\n@c\nint a;\nint b;\n") (codes "@x\nint a;\n@y\nint z;\n@z\n")
-    ≡ gives [] (codes "/*1:*/\n#line 2 \"a.w\"\n\n#line 4 \"a.ch\"\nint z;\n#line 4 \"a.w\"\nint b;\n/*:1*/\n")
-unfolding source_at web_at reads_in tokens_from lexeme occurrences_from levels heaviest digits
-a_line_changed = refl
-
 -- the roles, with each line mark written as a line feed
 abbrev without_marks : List ℕ → Option (List ℕ) → List ℕ → RolesRead
 without_marks web change out = record (roles_of web change out) { marks = Bare }
-
-a_line_changed_without_marks : tangle_of
-    ((codes "a.w", cut (codes "@ A.\n@c\nint a;\nint b;\n"))
-    ∷ (codes "a.ch", cut (codes "@x\nint a;\n@y\nint z;\n@z\n")) ∷ [])
-    (without_marks (codes "a.w") (Some (codes "a.ch")) (codes "a.c"))
-    ≡ gives [] (codes "/*1:*/\n\nint z;\nint b;\n/*:1*/\n")
-unfolding source_at web_at reads_in tokens_from lexeme occurrences_from levels heaviest digits
-a_line_changed_without_marks = refl
-
-a_use_without_marks : tangle_of ((codes "a.w", cut (codes "@ A.\n@c\nint x=@<v@>;\n@ @<v@>=\n1\n")) ∷ [])
-    (without_marks (codes "a.w") None (codes "a.c"))
-    ≡ gives [] (codes "/*1:*/\n\nint x= /*2:*/\n\n1\n/*:2*/\n;\n/*:1*/\n")
-unfolding source_at web_at reads_in tokens_from lexeme occurrences_from levels heaviest digits
-a_use_without_marks = refl
-
-a_line_mismatched : tangled_change (codes "@ A.\n@c\nint a;\nint b;\n") (codes "@x\nint a;\nint c;\n@y\nint z;\n@z\n")
-    ≡ gives (fault_counting ChangeMismatch (line_of (codes "a.ch") 1) 1 ∷ [])
-    (codes "/*1:*/\n#line 2 \"a.w\"\n\n#line 5 \"a.ch\"\nint z;\n/*:1*/\n")
-unfolding source_at web_at reads_in tokens_from lexeme occurrences_from levels heaviest digits
-a_line_mismatched = refl
-
-an_inclusion_changed : tangled_change (codes "@i none.w\n@ A.\n@c\nx\n") (codes "@x\n@i none.w\n@y\n@z\n")
-    ≡ gives [] (codes "/*1:*/\n#line 3 \"a.w\"\n\nx\n/*:1*/\n")
-unfolding source_at web_at reads_in tokens_from lexeme occurrences_from levels heaviest digits
-an_inclusion_changed = refl
 
 abbrev times : ℕ → List ℕ → List ℕ
 times zero bytes = []
 times (suc n) bytes = bytes ++ times n bytes
 
-an_inclusion_of_itself : tangled_files
-    ((codes "a.w", cut (codes "@ A.\n@c\n@i b.w\n")) ∷ (codes "b.w", cut (codes "x\n@i b.w\n")) ∷ [])
-    ≡ gives (fault_at IncludeTooDeep (line_of (codes "b.w") 2) ∷ [])
-    (codes "/*1:*/\n#line 2 \"a.w\"\n" ++ times 9 (codes "\n#line 1 \"b.w\"\nx") ++ codes "\n/*:1*/\n")
-unfolding source_at web_at reads_in tokens_from lexeme occurrences_from levels heaviest digits
-an_inclusion_of_itself = refl
+-- a section, a web without lines, changes of lines, and inclusions
+record Changes : Type 0 where
+  pub one_section : tangled_web (codes "@ A.\n@c\nint x;\n") ≡ gives [] (codes "/*1:*/\n#line 2 \"a.w\"\n\nint x;\n/*:1*/\n")
+  pub no_lines : tangled_web [] ≡ gives (fault_unplaced NoProgram ∷ []) []
+  pub a_line_changed : tangled_change (codes "@ A.\n@c\nint a;\nint b;\n") (codes "@x\nint a;\n@y\nint z;\n@z\n")
+      ≡ gives [] (codes "/*1:*/\n#line 2 \"a.w\"\n\n#line 4 \"a.ch\"\nint z;\n#line 4 \"a.w\"\nint b;\n/*:1*/\n")
+  pub a_line_changed_without_marks : tangle_of
+      ((codes "a.w", cut (codes "@ A.\n@c\nint a;\nint b;\n"))
+      ∷ (codes "a.ch", cut (codes "@x\nint a;\n@y\nint z;\n@z\n")) ∷ [])
+      (without_marks (codes "a.w") (Some (codes "a.ch")) (codes "a.c"))
+      ≡ gives [] (codes "/*1:*/\n\nint z;\nint b;\n/*:1*/\n")
+  pub a_use_without_marks : tangle_of ((codes "a.w", cut (codes "@ A.\n@c\nint x=@<v@>;\n@ @<v@>=\n1\n")) ∷ [])
+      (without_marks (codes "a.w") None (codes "a.c"))
+      ≡ gives [] (codes "/*1:*/\n\nint x= /*2:*/\n\n1\n/*:2*/\n;\n/*:1*/\n")
+  pub a_line_mismatched : tangled_change (codes "@ A.\n@c\nint a;\nint b;\n") (codes "@x\nint a;\nint c;\n@y\nint z;\n@z\n")
+      ≡ gives (fault_counting ChangeMismatch (line_of (codes "a.ch") 1) 1 ∷ [])
+      (codes "/*1:*/\n#line 2 \"a.w\"\n\n#line 5 \"a.ch\"\nint z;\n/*:1*/\n")
+  pub an_inclusion_changed : tangled_change (codes "@i none.w\n@ A.\n@c\nx\n") (codes "@x\n@i none.w\n@y\n@z\n")
+      ≡ gives [] (codes "/*1:*/\n#line 3 \"a.w\"\n\nx\n/*:1*/\n")
+  pub an_inclusion_of_itself : tangled_files
+      ((codes "a.w", cut (codes "@ A.\n@c\n@i b.w\n")) ∷ (codes "b.w", cut (codes "x\n@i b.w\n")) ∷ [])
+      ≡ gives (fault_at IncludeTooDeep (line_of (codes "b.w") 2) ∷ [])
+      (codes "/*1:*/\n#line 2 \"a.w\"\n" ++ times 9 (codes "\n#line 1 \"b.w\"\nx") ++ codes "\n/*:1*/\n")
+  pub a_change_unused : tangled_change (codes "@ A.\n@c\nint x;\n") (codes "@x\nint q;\n@y\n@z\n")
+      ≡ gives (fault_at ChangeUnused (line_of (codes "a.ch") 1) ∷ [])
+      (codes "/*1:*/\n#line 2 \"a.w\"\n\nint x;\n/*:1*/\n")
+  pub a_change_without_old_lines : tangled_change (codes "@ A.\n@c\nint x;\n") (codes "@x\n\n@y\nint z;\n@z\n")
+      ≡ gives (fault_at EmptyOld (line_of (codes "a.ch") 1) ∷ []) (codes "/*1:*/\n#line 2 \"a.w\"\n\nint x;\n/*:1*/\n")
+  pub change_codes_out_of_place : tangled_change (codes "@ A.\n@c\nint x;\n")
+      (codes "@z\n@x\nint x;\n@x\nint x;\n@y\n@y\nint y;\n")
+      ≡ gives (fault_at StrayMark (line_of (codes "a.ch") 1) ∷ fault_at MissingY (line_of (codes "a.ch") 2)
+      ∷ fault_at StrayMark (line_of (codes "a.ch") 7) ∷ fault_at MissingZ (line_of (codes "a.ch") 4) ∷ [])
+      (codes "/*1:*/\n#line 2 \"a.w\"\n\n#line 8 \"a.ch\"\nint y;\n/*:1*/\n")
+  pub inclusions_without_file : tangled_web (codes "@i\n@i \"n.w\" x\n@ A.\n@c\nx\n")
+      ≡ gives (fault_at IncludeNoName (line 1) ∷ fault_about IncludeMissing (line 2) (codes "n.w") ∷ [])
+      (codes "/*1:*/\n#line 4 \"a.w\"\n\nx\n/*:1*/\n")
 
-a_change_unused : tangled_change (codes "@ A.\n@c\nint x;\n") (codes "@x\nint q;\n@y\n@z\n")
-    ≡ gives (fault_at ChangeUnused (line_of (codes "a.ch") 1) ∷ [])
-    (codes "/*1:*/\n#line 2 \"a.w\"\n\nint x;\n/*:1*/\n")
+changes : Changes
 unfolding source_at web_at reads_in tokens_from lexeme occurrences_from levels heaviest digits
-a_change_unused = refl
+changes = record {
+  one_section = refl;
+  no_lines = refl;
+  a_line_changed = refl;
+  a_line_changed_without_marks = refl;
+  a_use_without_marks = refl;
+  a_line_mismatched = refl;
+  an_inclusion_changed = refl;
+  an_inclusion_of_itself = refl;
+  a_change_unused = refl;
+  a_change_without_old_lines = refl;
+  change_codes_out_of_place = refl;
+  inclusions_without_file = refl;
+}
 
-a_change_without_old_lines : tangled_change (codes "@ A.\n@c\nint x;\n") (codes "@x\n\n@y\nint z;\n@z\n")
-    ≡ gives (fault_at EmptyOld (line_of (codes "a.ch") 1) ∷ []) (codes "/*1:*/\n#line 2 \"a.w\"\n\nint x;\n/*:1*/\n")
-unfolding source_at web_at reads_in tokens_from lexeme occurrences_from levels heaviest digits
-a_change_without_old_lines = refl
+-- the text of C parts and macros
+record Parts : Type 0 where
+  pub macros_at_an_h : tangled_web (codes "@ A.\n@d N 10\n@c\n@h\nint x=N;\n")
+      ≡ gives [] (codes "/*1:*/\n#line 3 \"a.w\"\n\n\n#define N 10\n\n#line 4 \"a.w\"\n\nint x=N;\n/*:1*/\n")
+  pub a_join_over_lines : tangled_web (codes "@ A.\n@c\na@&\nb;\nc;\n")
+      ≡ gives [] (codes "/*1:*/\n#line 2 \"a.w\"\n\nab;\n#line 5 \"a.w\"\nc;\n/*:1*/\n")
+  pub a_quoted_text_that_does_not_end : tangled_web (codes "@ A.\n@c\ns=\"a@b\nt;\n")
+      ≡ gives (on 3 StringAt ∷ on 3 StringEnd ∷ []) (codes "/*1:*/\n#line 2 \"a.w\"\n\ns=\"a@b\nt;\n/*:1*/\n")
+  pub comments_and_constants : tangled_web
+      (codes "@ A.\n@c\na /* b */ c // d\nreturn@,x+@'A';@^idx@>\n\"q@@\"@=v@> @t\\TeX@>z\n")
+      ≡ gives [] (codes "/*1:*/\n#line 2 \"a.w\"\n\na c\nreturn x+65;\n\"q@\"v z\n/*:1*/\n")
+  pub macros_over_lines : tangled_web (codes "@ A.\n@d F(x) x\n  +1\n\n@d 3\n@c\ny\n")
+      ≡ gives (on 5 MacroName ∷ []) (codes "#define F(x) x\\\n+1\n/*1:*/\n#line 6 \"a.w\"\n\ny\n/*:1*/\n")
+  pub uses_side_by_side : tangled_web (codes "@ A.\n@c\n@<u@>@<u@>\n")
+      ≡ gives (fault_about Undefined (line 3) (codes "u") ∷ [])
+      (codes "/*1:*/\n#line 2 \"a.w\"\n\n \n#line 3 \"a.w\"\n \n#line 3 \"a.w\"\n\n/*:1*/\n")
+  pub control_codes_out_of_place : tangled_web (codes "@ A.\n@d M @h 1\n@c\n@d x @'ab' y\n@^q@,z\n@=v\n/* w\n@ B.\n")
+      ≡ gives
+      (on 2 MisplacedH ∷ on 4 CodeInC ∷ on 4 AsciiBad ∷ on 5 ControlText ∷ on 6 VerbatimEnd ∷ on 8 CommentEnd ∷ [])
+      (codes "#define M 1\n/*1:*/\n#line 3 \"a.w\"\n\nx y\nz\nv\n\n/*:1*/\n")
+  pub quoted_texts_over_lines : tangled_web (codes "@ A.\n@c\ns=\"a\\\nb\";@=u@@v@>\n#include <p@@q>\n")
+      ≡ gives [] (codes "/*1:*/\n#line 2 \"a.w\"\n\ns=\"a\\\nb\";u@v\n#include <p@q>\n/*:1*/\n")
 
-change_codes_out_of_place : tangled_change (codes "@ A.\n@c\nint x;\n")
-    (codes "@z\n@x\nint x;\n@x\nint x;\n@y\n@y\nint y;\n")
-    ≡ gives (fault_at StrayMark (line_of (codes "a.ch") 1) ∷ fault_at MissingY (line_of (codes "a.ch") 2)
-    ∷ fault_at StrayMark (line_of (codes "a.ch") 7) ∷ fault_at MissingZ (line_of (codes "a.ch") 4) ∷ [])
-    (codes "/*1:*/\n#line 2 \"a.w\"\n\n#line 8 \"a.ch\"\nint y;\n/*:1*/\n")
+parts : Parts
 unfolding source_at web_at reads_in tokens_from lexeme occurrences_from levels heaviest digits
-change_codes_out_of_place = refl
+parts = record {
+  macros_at_an_h = refl;
+  a_join_over_lines = refl;
+  a_quoted_text_that_does_not_end = refl;
+  comments_and_constants = refl;
+  macros_over_lines = refl;
+  uses_side_by_side = refl;
+  control_codes_out_of_place = refl;
+  quoted_texts_over_lines = refl;
+}
 
-inclusions_without_file : tangled_web (codes "@i\n@i \"n.w\" x\n@ A.\n@c\nx\n")
-    ≡ gives (fault_at IncludeNoName (line 1) ∷ fault_about IncludeMissing (line 2) (codes "n.w") ∷ [])
-    (codes "/*1:*/\n#line 4 \"a.w\"\n\nx\n/*:1*/\n")
-unfolding source_at web_at reads_in tokens_from lexeme occurrences_from levels heaviest digits
-inclusions_without_file = refl
+-- names, and bytes of other codes
+record Names : Type 0 where
+  pub names_that_do_not_fit : tangled_web (codes "@ A @<In it@>.\n@c\n@<  In   @>@<Zz...@>\n@<b@>=\n@<q\n@ B.\n")
+      ≡ gives (on 4 NameEquals ∷ on 6 NameEnd ∷ fault_about NoFullName (line 3) (codes "Zz...")
+      ∷ fault_about PrefixName (line 3) (codes "In")
+      ∷ fault_about Undefined (line 3) (codes "In") ∷ fault_about Undefined (line 4) (codes "b")
+      ∷ fault_about Undefined (line 5) (codes "q") ∷ [])
+      (codes
+      "/*1:*/\n#line 2 \"a.w\"\n\n \n#line 3 \"a.w\"\n \n#line 3 \"a.w\"\n\n \n#line 4 \"a.w\"\n=\n \n#line 6 \"a.w\"\n/*:1*/\n")
+  pub other_bytes : tangled_web (codes "@ A.\n@c\ncaf" ++ 0xE9 ∷ 0 ∷ codes "=1 \t\r\n")
+      ≡ gives [] (codes "/*1:*/\n#line 2 \"a.w\"\n\ncaf" ++ 0xE9 ∷ 0 ∷ codes "=1\n/*:1*/\n")
+  pub names_are_escaped : tangle_of ((codes "a\"b\\c", cut (codes "@ A.\n@c\nx\n")) ∷ [])
+      (roles_of (codes "a\"b\\c") None (codes "a.c"))
+      ≡ gives [] (codes "/*1:*/\n#line 2 \"a\\\"b\\\\c\"\n\nx\n/*:1*/\n")
+  pub a_use_of_a_name : tangled_web (codes "@ A.\n@c\nint x=@<v@>;\n@ @<v@>=\n1\n")
+      ≡ gives []
+      (codes "/*1:*/\n#line 2 \"a.w\"\n\nint x= /*2:*/\n#line 4 \"a.w\"\n\n1\n/*:2*/\n#line 3 \"a.w\"\n;\n/*:1*/\n")
+  pub a_named_file : tangled_web (codes "@ A.\n@(h.h@>=\n@<I...@>\n@ @<In@>=\n1\n@ @<u@>=\n@h\n")
+      ≡ record {
+        faults = fault_about Unused (line 6) (codes "u") ∷ fault_unplaced NoProgram ∷ [];
+        outputs = (codes "a.c", []) ∷ (
+          codes "h.h",
+          codes "/*1:*/\n#line 2 \"a.w\"\n\n /*2:*/\n#line 4 \"a.w\"\n\n1\n/*:2*/\n#line 3 \"a.w\"\n\n/*:1*/\n",
+        ) ∷ [];
+      }
 
-macros_at_an_h : tangled_web (codes "@ A.\n@d N 10\n@c\n@h\nint x=N;\n")
-    ≡ gives [] (codes "/*1:*/\n#line 3 \"a.w\"\n\n\n#define N 10\n\n#line 4 \"a.w\"\n\nint x=N;\n/*:1*/\n")
+names : Names
 unfolding source_at web_at reads_in tokens_from lexeme occurrences_from levels heaviest digits
-macros_at_an_h = refl
-
-a_join_over_lines : tangled_web (codes "@ A.\n@c\na@&\nb;\nc;\n")
-    ≡ gives [] (codes "/*1:*/\n#line 2 \"a.w\"\n\nab;\n#line 5 \"a.w\"\nc;\n/*:1*/\n")
-unfolding source_at web_at reads_in tokens_from lexeme occurrences_from levels heaviest digits
-a_join_over_lines = refl
-
-a_quoted_text_that_does_not_end : tangled_web (codes "@ A.\n@c\ns=\"a@b\nt;\n")
-    ≡ gives (on 3 StringAt ∷ on 3 StringEnd ∷ []) (codes "/*1:*/\n#line 2 \"a.w\"\n\ns=\"a@b\nt;\n/*:1*/\n")
-unfolding source_at web_at reads_in tokens_from lexeme occurrences_from levels heaviest digits
-a_quoted_text_that_does_not_end = refl
-
-comments_and_constants : tangled_web
-    (codes "@ A.\n@c\na /* b */ c // d\nreturn@,x+@'A';@^idx@>\n\"q@@\"@=v@> @t\\TeX@>z\n")
-    ≡ gives [] (codes "/*1:*/\n#line 2 \"a.w\"\n\na c\nreturn x+65;\n\"q@\"v z\n/*:1*/\n")
-unfolding source_at web_at reads_in tokens_from lexeme occurrences_from levels heaviest digits
-comments_and_constants = refl
-
-macros_over_lines : tangled_web (codes "@ A.\n@d F(x) x\n  +1\n\n@d 3\n@c\ny\n")
-    ≡ gives (on 5 MacroName ∷ []) (codes "#define F(x) x\\\n+1\n/*1:*/\n#line 6 \"a.w\"\n\ny\n/*:1*/\n")
-unfolding source_at web_at reads_in tokens_from lexeme occurrences_from levels heaviest digits
-macros_over_lines = refl
-
-uses_side_by_side : tangled_web (codes "@ A.\n@c\n@<u@>@<u@>\n")
-    ≡ gives (fault_about Undefined (line 3) (codes "u") ∷ [])
-    (codes "/*1:*/\n#line 2 \"a.w\"\n\n \n#line 3 \"a.w\"\n \n#line 3 \"a.w\"\n\n/*:1*/\n")
-unfolding source_at web_at reads_in tokens_from lexeme occurrences_from levels heaviest digits
-uses_side_by_side = refl
-
-control_codes_out_of_place : tangled_web (codes "@ A.\n@d M @h 1\n@c\n@d x @'ab' y\n@^q@,z\n@=v\n/* w\n@ B.\n")
-    ≡ gives
-    (on 2 MisplacedH ∷ on 4 CodeInC ∷ on 4 AsciiBad ∷ on 5 ControlText ∷ on 6 VerbatimEnd ∷ on 8 CommentEnd ∷ [])
-    (codes "#define M 1\n/*1:*/\n#line 3 \"a.w\"\n\nx y\nz\nv\n\n/*:1*/\n")
-unfolding source_at web_at reads_in tokens_from lexeme occurrences_from levels heaviest digits
-control_codes_out_of_place = refl
-
-quoted_texts_over_lines : tangled_web (codes "@ A.\n@c\ns=\"a\\\nb\";@=u@@v@>\n#include <p@@q>\n")
-    ≡ gives [] (codes "/*1:*/\n#line 2 \"a.w\"\n\ns=\"a\\\nb\";u@v\n#include <p@q>\n/*:1*/\n")
-unfolding source_at web_at reads_in tokens_from lexeme occurrences_from levels heaviest digits
-quoted_texts_over_lines = refl
-
-names_that_do_not_fit : tangled_web (codes "@ A @<In it@>.\n@c\n@<  In   @>@<Zz...@>\n@<b@>=\n@<q\n@ B.\n")
-    ≡ gives (on 4 NameEquals ∷ on 6 NameEnd ∷ fault_about NoFullName (line 3) (codes "Zz...")
-    ∷ fault_about PrefixName (line 3) (codes "In")
-    ∷ fault_about Undefined (line 3) (codes "In") ∷ fault_about Undefined (line 4) (codes "b")
-    ∷ fault_about Undefined (line 5) (codes "q") ∷ [])
-    (codes
-    "/*1:*/\n#line 2 \"a.w\"\n\n \n#line 3 \"a.w\"\n \n#line 3 \"a.w\"\n\n \n#line 4 \"a.w\"\n=\n \n#line 6 \"a.w\"\n/*:1*/\n")
-unfolding source_at web_at reads_in tokens_from lexeme occurrences_from levels heaviest digits
-names_that_do_not_fit = refl
-
-other_bytes : tangled_web (codes "@ A.\n@c\ncaf" ++ 0xE9 ∷ 0 ∷ codes "=1 \t\r\n")
-    ≡ gives [] (codes "/*1:*/\n#line 2 \"a.w\"\n\ncaf" ++ 0xE9 ∷ 0 ∷ codes "=1\n/*:1*/\n")
-unfolding source_at web_at reads_in tokens_from lexeme occurrences_from levels heaviest digits
-other_bytes = refl
-
-names_are_escaped : tangle_of ((codes "a\"b\\c", cut (codes "@ A.\n@c\nx\n")) ∷ [])
-    (roles_of (codes "a\"b\\c") None (codes "a.c"))
-    ≡ gives [] (codes "/*1:*/\n#line 2 \"a\\\"b\\\\c\"\n\nx\n/*:1*/\n")
-unfolding source_at web_at reads_in tokens_from lexeme occurrences_from levels heaviest digits
-names_are_escaped = refl
-
-a_use_of_a_name : tangled_web (codes "@ A.\n@c\nint x=@<v@>;\n@ @<v@>=\n1\n")
-    ≡ gives []
-    (codes "/*1:*/\n#line 2 \"a.w\"\n\nint x= /*2:*/\n#line 4 \"a.w\"\n\n1\n/*:2*/\n#line 3 \"a.w\"\n;\n/*:1*/\n")
-unfolding source_at web_at reads_in tokens_from lexeme occurrences_from levels heaviest digits
-a_use_of_a_name = refl
-
-a_named_file : tangled_web (codes "@ A.\n@(h.h@>=\n@<I...@>\n@ @<In@>=\n1\n@ @<u@>=\n@h\n")
-    ≡ record {
-      faults = fault_about Unused (line 6) (codes "u") ∷ fault_unplaced NoProgram ∷ [];
-      outputs = (codes "a.c", []) ∷ (
-        codes "h.h",
-        codes "/*1:*/\n#line 2 \"a.w\"\n\n /*2:*/\n#line 4 \"a.w\"\n\n1\n/*:2*/\n#line 3 \"a.w\"\n\n/*:1*/\n",
-      ) ∷ [];
-    }
-unfolding source_at web_at reads_in tokens_from lexeme occurrences_from levels heaviest digits
-a_named_file = refl
+names = record {
+  names_that_do_not_fit = refl;
+  other_bytes = refl;
+  names_are_escaped = refl;
+  a_use_of_a_name = refl;
+  a_named_file = refl;
+}

@@ -129,11 +129,15 @@ lookup_here (g ∷ done) others f distinct =
     other [] h = turned (bytes_eq g.0 f.0) (bytes_eq f.0 g.0) refl refl h.0
     other (x ∷ xs) h = other xs h.1
 
+-- the output of this name
+abbrev pub named : List File → List ℕ → File
+named outputs name = (name, unwrap_or (lookup (bytes_eq name) outputs) [])
+
 pub record IsNext (outputs : List File) (old new : Option (List File))
     (name : List ℕ) (names : List (List ℕ)) : Type 0 where
   pub done : List File
   pub others : List File
-  pub all : outputs ≡ done ++ (name, unwrap_or (lookup (bytes_eq name) outputs) []) ∷ others
+  pub all : outputs ≡ done ++ named outputs name ∷ others
   pub is_there : IsSome (lookup (bytes_eq name) outputs)
   pub created : new ≡ with_created old done
   pub names_are : names ≡ map (λ f. f.0) others
@@ -154,7 +158,7 @@ next_output outputs old new before name names is distinct h = by h.others (sym i
         ap (λ k. lookup (bytes_eq k) outputs) same
         ∙ (ap (lookup (bytes_eq f.0)) all
         ∙ lookup_here h.done others f (subst (λ l. IsDistinct bytes_eq (map (λ f. f.0) l)) all distinct)) in
-        let whole : f ≡ (name, unwrap_or (lookup (bytes_eq name) outputs) []) =
+        let whole : f ≡ named outputs name =
         λ i. (sym same i, ap (λ o. unwrap_or o []) (sym found) i) in
         record {
           done = h.done;
@@ -167,15 +171,14 @@ next_output outputs old new before name names is distinct h = by h.others (sym i
 
 pub wrote_next : (outputs : List File) (old mid new : Option (List File)) (name : List ℕ) (names : List (List ℕ))
     → IsNext outputs old mid name names
-    → new ≡ with_created mid ((name, unwrap_or (lookup (bytes_eq name) outputs) []) ∷ [])
+    → new ≡ with_created mid (named outputs name ∷ [])
     → HasWritten outputs old new names
 wrote_next outputs old mid new name names next is = record {
-  done = next.done ++ (name, unwrap_or (lookup (bytes_eq name) outputs) []) ∷ [];
+  done = next.done ++ named outputs name ∷ [];
   others = next.others;
-  all =
-      next.all ∙ sym (append_assoc next.done ((name, unwrap_or (lookup (bytes_eq name) outputs) []) ∷ []) next.others);
-  created = is ∙ (ap (λ m. with_created m ((name, unwrap_or (lookup (bytes_eq name) outputs) []) ∷ [])) next.created
-      ∙ with_created-append old next.done ((name, unwrap_or (lookup (bytes_eq name) outputs) []) ∷ []));
+  all = next.all ∙ sym (append_assoc next.done (named outputs name ∷ []) next.others);
+  created = is ∙ ap (λ m. with_created m (named outputs name ∷ [])) next.created
+      ∙ with_created-append old next.done (named outputs name ∷ []);
   names_are = next.names_are;
 }
 
@@ -198,7 +201,7 @@ stops_without outputs old mid new name names fault next nothing = record {
 stops_with : (outputs : List File) (old mid new : Option (List File))
     (name : List ℕ) (names : List (List ℕ)) (fault : FolderFault)
     → IsNext outputs old mid name names
-    → AddsPrefix mid new (name, unwrap_or (lookup (bytes_eq name) outputs) []) → fault ≢ NoMemory
+    → AddsPrefix mid new (named outputs name) → fault ≢ NoMemory
     → StopsAt outputs old new name fault
 stops_with outputs old mid new name names fault next added failed = record {
   before = next.done;
@@ -214,7 +217,7 @@ stops_with outputs old mid new name names fault next added failed = record {
 pub stops_at_next : (outputs : List File) (old mid new : Option (List File))
     (name : List ℕ) (names : List (List ℕ)) (fault : FolderFault)
     → IsNext outputs old mid name names
-    → AddsPrefix mid new (name, unwrap_or (lookup (bytes_eq name) outputs) []) → (fault ≡ NoMemory → new ≡ mid)
+    → AddsPrefix mid new (named outputs name) → (fault ≡ NoMemory → new ≡ mid)
     → StopsAt outputs old new name fault
 stops_at_next outputs old mid new name names NoMemory next added nothing =
     stops_without outputs old mid new name names NoMemory next (nothing refl)

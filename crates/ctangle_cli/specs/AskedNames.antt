@@ -5,6 +5,7 @@ use Rattle.std.specs.List.{list_any}
 use Rattle.std.specs.Str.{bytes_eq}
 use Rattle.tangle_files.specs.Adding.{is_name}
 use Rattle.tangle_files.specs.Lines.{FileTable, cut}
+use Rattle.tangle_files.specs.declared.refusal.Refusal.TheVariants.{BadName}
 use Rattle.tangle_files.specs.Roles.{RolesRead}
 use Rattle.tangle_streams.specs.Streams.{one_more_failure}
 use Rattle.tangle_folders.specs.Folder.{File, FolderRead, file_bytes, with_name_added}
@@ -60,27 +61,22 @@ module _ (all : List File) (roles : RolesRead) where
     pub after : now ≡ with_names_added before (asked_in rounds)
     pub last : asked_next (asked_in rounds) ≡ asked_in rounds
 
--- the names up to this one, and no later one, were asked for
-pub record AsksUpTo (names : List (List ℕ))
-    (before now : Option (List (List ℕ))) (name : List ℕ) : Type 0 where
-  pub front : List (List ℕ)
-  pub rest : List (List ℕ)
-  pub split : names ≡ front ++ name ∷ rest
-  pub after : now ≡ with_names_added before (front ++ name ∷ [])
+-- the name that an ending reports, if it reports one
+abbrev pub name_at_end : LoadEnd → Option (List ℕ)
+name_at_end (CannotRead name) = Some name
+name_at_end (Refused name refusal) = Some name
+name_at_end NoMemory = None
 
--- some of these names were asked for, from the first on, or none
-pub record AsksFront (names : List (List ℕ)) (before now : Option (List (List ℕ))) : Type 0 where
+-- Some of these names were asked for, from the first on, or none. The last of them is the name that
+-- the ending reports; out of memory, asking stopped anywhere.
+pub record StopsAmong (names : List (List ℕ))
+    (before now : Option (List (List ℕ))) (ending : LoadEnd) : Type 0 where
   pub front : List (List ℕ)
   pub rest : List (List ℕ)
   pub split : names ≡ front ++ rest
   pub after : now ≡ with_names_added before front
-
--- asking stopped at the name that the ending reports; out of memory, it stopped anywhere
-abbrev pub StopsAmong : List (List ℕ) → Option (List (List ℕ)) → Option (List (List ℕ)) → LoadEnd
-    → Type 0
-StopsAmong names before now (CannotRead name) = AsksUpTo names before now name
-StopsAmong names before now (Refused name refusal) = AsksUpTo names before now name
-StopsAmong names before now NoMemory = AsksFront names before now
+  pub last : IfSome (name_at_end ending)
+      (λ name. (earlier : List (List ℕ)) × (front ≡ earlier ++ name ∷ []))
 
 -- If the folder reports its files: loading asked it for the names of its rounds, and for no other.
 abbrev pub AsksByRounds : Option (List File) → RolesRead
@@ -94,16 +90,14 @@ AsksSome reported roles before now ending =
     IfSome reported (λ all.
     (rounds : ℕ) × StopsAmong (asked_unless all roles (bad_name roles) rounds) before now ending)
 
--- The same, but a refused name may also be one of the three that are tested first, and then nothing
--- was asked for.
+-- The same, but the ending may also be that one of the three names, which are tested first, is no
+-- file name, and then nothing was asked for.
 abbrev pub AsksUntil : Option (List File) → RolesRead
     → Option (List (List ℕ)) → Option (List (List ℕ)) → LoadEnd → Type 0
-AsksUntil reported roles before now (CannotRead name) =
-    AsksSome reported roles before now (CannotRead name)
-AsksUntil reported roles before now (Refused name refusal) =
-    ((bad_name roles ≡ Some name) × (now ≡ before))
-    ⊎ AsksSome reported roles before now (Refused name refusal)
-AsksUntil reported roles before now NoMemory = AsksSome reported roles before now NoMemory
+AsksUntil reported roles before now ending =
+    AsksSome reported roles before now ending
+    ⊎ ((name : List ℕ) × (ending ≡ Refused name BadName) × (bad_name roles ≡ Some name)
+    × (now ≡ before))
 
 -- A folder failed at no file that it was asked for, or only at the last one: nothing was asked for
 -- after a failure.

@@ -49,14 +49,10 @@ request_for (edit.Marks mode) = marks_request mode
 abbrev pub refused_line : Refusal → List ℕ
 refused_line refusal = codes "no " ++ refusal_name refusal ++ codes "\n"
 
--- the line that answers an edit which was made, or is held in the open list
-abbrev pub accepted_line : Accepted → List ℕ
-accepted_line Made = codes "ok\n"
-accepted_line Held = codes "held\n"
-
--- the answer to an edit
+-- the answer to an edit, which was made, or is held in the open list, or is refused
 abbrev pub edit_line : Result Accepted Refusal → List ℕ
-edit_line (Ok accepted) = accepted_line accepted
+edit_line (Ok Made) = codes "ok\n"
+edit_line (Ok Held) = codes "held\n"
 edit_line (Err refusal) = refused_line refusal
 
 -- the number, from 1, of the edit for which the list is refused; 0 where memory ran out

@@ -1,5 +1,5 @@
 -- The edits of a script, as calls of a history, and what the script is shown after them.
-use Rattle.std.specs.Prelude.{◌≡◌, ◌++◌, ◌∷◌, [], ℕ, Bool, List, codes, true, false}
+use Rattle.std.specs.Prelude.{◌≡◌, ◌++◌, ◌∷◌, [], ℕ, Bool, List, codes, true, false, is_some, not}
 use Rattle.std.specs.Prelude.{Option, None, Some, Result, Ok, Err}
 use Rattle.std.specs.Map.{lookup}
 use Rattle.std.specs.Str.{bytes_eq}
@@ -30,11 +30,10 @@ one_line (Err refusal) = refused_line refusal
 -- whether the request opens, makes or drops a list, and may do so: `Begin` while no list is open,
 -- the others while one is
 abbrev pub is_of_list : Option (List Edit) → Request → Bool
-is_of_list None Begin = true
-is_of_list None _ = false
-is_of_list (Some held) Commit = true
-is_of_list (Some held) Cancel = true
-is_of_list (Some held) _ = false
+is_of_list draft Begin = not (is_some draft)
+is_of_list draft Commit = is_some draft
+is_of_list draft Cancel = is_some draft
+is_of_list draft _ = false
 
 -- How a request that was answered by this output changes the history: its calls, of which there is
 -- one or none, and the open list before and after it, if there is one.

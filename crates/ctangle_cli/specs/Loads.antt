@@ -7,8 +7,7 @@ use Rattle.ctangle_cli.specs.Loading.{LoadEnd, NamesLastAsked, StopsFor, load_of
 use Rattle.ctangle_cli.specs.AskedOnce.{AsksForNeeded, AsksOnce}
 use Rattle.ctangle_cli.specs.AskedNames.{AsksByRounds, AsksUntil, FailsLast}
 
--- the folder was asked for names, and nothing else was done: it did not fail, and has the same
--- files
+-- The folder was asked for names, and nothing else was done: it did not fail, and has the same files.
 pub record OnlyAsks (old new : FolderRead) : Type 0 where
   pub files_stay : new.files ≡ old.files
   pub created_stay : new.created ≡ old.created

@@ -1,5 +1,6 @@
 -- The lines that the programs write on the error stream.
 use Rattle.std.specs.Prelude.{ℕ, List, [], ◌∷◌, ◌++◌, codes, if◌then◌else◌}
+use Rattle.std.specs.List.{fold}
 use Rattle.tangle_files.specs.declared.refusal.Refusal.{Refusal}
 use Rattle.tangle_files.specs.declared.refusal.Refusal.TheVariants.{
   BadName,
@@ -67,8 +68,7 @@ unwritten_line TooBig name = cannot_write_line name
 
 -- the lines of the faults
 abbrev pub fault_lines : List FaultRead → List ℕ
-fault_lines [] = []
-fault_lines (f ∷ fs) = fault_line f ++ fault_lines fs
+fault_lines faults = fold (λ lines fault. lines ++ fault_line fault) [] faults
 
 -- 1 where a fault is an error, else 0
 abbrev pub faults_status : List FaultRead → ℕ

@@ -1,5 +1,5 @@
 -- A step of loading reads some names: the web, the change file, or files that inclusions miss.
-use Rattle.std.specs.Prelude.{◌≡◌, ⊤, ◌||◌, ℕ, Bool, true, false, List, [], ◌∷◌, ◌++◌, Option}
+use Rattle.std.specs.Prelude.{◌≡◌, ◌||◌, ℕ, Bool, true, false, List, [], ◌∷◌, ◌++◌, Option}
 use Rattle.std.specs.Prelude.{None, Result, Ok, Err, All, IfSome, filter}
 use Rattle.std.specs.List.{list_any}
 use Rattle.std.specs.Str.{bytes_eq}
@@ -8,10 +8,10 @@ use Rattle.tangle_files.specs.Lines.{FileTable}
 use Rattle.tangle_folders.specs.Folder.{File, FolderRead, file_bytes}
 use Rattle.ctangle_cli.specs.declared.loading.LoadFault.{LoadFault}
 use Rattle.ctangle_cli.specs.AskedOnce.{with_names_added}
-use Rattle.ctangle_cli.specs.AskedNames.{FailsLast, StopsAmong, files_under, with_all_asked}
+use Rattle.ctangle_cli.specs.AskedNames.{FailsLast, StopsAmong, files_under, name_at_end}
+use Rattle.ctangle_cli.specs.AskedNames.{with_all_asked}
 use Rattle.ctangle_cli.specs.Loading.{LoadEnd, Loaded, StopsFor, ending_of}
 use Rattle.ctangle_cli.specs.Loading.{with_inclusions}
-use Rattle.ctangle_cli.specs.Loading.LoadEnd.{CannotRead, Refused, NoMemory}
 use Rattle.ctangle_cli.specs.Loads.{OnlyAsks}
 
 -- between two steps: what the folder reports, the files in the table, and the names of which the
@@ -78,6 +78,4 @@ absent_after absent name (Err fault) = absent
 
 -- the ending reports this name, or no name
 abbrev pub IsAbout : List ℕ → LoadEnd → Type 0
-IsAbout name (CannotRead reported) = reported ≡ name
-IsAbout name (Refused reported refusal) = reported ≡ name
-IsAbout name NoMemory = ⊤
+IsAbout name ending = IfSome (name_at_end ending) (λ reported. reported ≡ name)

@@ -4,7 +4,6 @@ ghost use Rattle.std.specs.Prelude.{◌≡◌, ◌++◌, ℕ, List, Option, None
 ghost use Rattle.std.specs.Prelude.{codes, decimal, true, IfOk};
 ghost use Rattle.std.specs.List.{list_any};
 ghost use Rattle.tangle_files.specs.declared.edits.Edit.{Edit as EditRead};
-ghost use Rattle.tangle_streams.specs.Streams.{Stream};
 ghost use Rattle.tangle_faults.specs.Faults.{is_error};
 ghost use Rattle.tangle_script.specs.Endings.{ConversationEnds};
 ghost use Rattle.tangle_script.specs.Requests.{is_edit};
@@ -16,36 +15,17 @@ ghost use Rattle.tangle_script.specs.Requests.Request.{Insert as insert, Remove 
 ghost use Rattle.tangle_script.specs.Requests.Request.{Replace as replace};
 ghost use Rattle.tangle_script.specs.Script.{Replies, WritesAnswer, conversation};
 ghost use Rattle.tangle_session.specs.Tangle.{output_at};
-ghost use Rattle.ctangle_cli.specs.Conversation.{HasError, accepted_line, answers, edit_line};
+ghost use Rattle.ctangle_cli.specs.Conversation.{HasError, answers, edit_line};
 ghost use Rattle.ctangle_cli.specs.Conversation.{edit_number, list_line, listed_faults};
 ghost use Rattle.ctangle_cli.specs.Conversation.{marks_request, request_for, session_and_draft};
 ghost use Rattle.ctangle_cli.specs.Conversation.{shown};
-ghost use Rattle.ctangle_cli.specs.Messages.{fault_lines};
 
-use crate::messages::{name_of, write_faults};
+use crate::messages::{name_of, say, write_faults};
 use itoa::Buffer;
 use std::alloc::{AllocError, Global};
-use tangle_lines::{Edit, Fault, Feed, MarkMode, Refusal, Sink, write_after};
+use tangle_lines::{Edit, Fault, Feed, MarkMode, Refusal, Sink};
 use tangle_script::{Project, Request, SinkFailed, run_script};
 use tangle_session::{ListRefusal, Session};
-
-// Writes the bytes, unless `so_far` is an error.
-fn say<S: Sink>(
-    sink: &mut S,
-    so_far: Result<(), SinkFailed>,
-    bytes: &[u8],
-) -> Result<(), SinkFailed>
-    ensures { (old : Stream) (output : List ℕ) → WritesAnswer old (S.stream sink.old) output so_far
-        → WritesAnswer old (S.stream sink.new) (output ++ bytes.now) result }
-{
-    match so_far {
-        Err(failed) => Err(failed),
-        Ok(()) => match write_after(sink, Ok(0), bytes) {
-            Ok(_) => Ok(()),
-            Err(_) => Err(SinkFailed),
-        },
-    }
-}
 
 // What happened to an edit that was not refused.
 #[derive(Clone, Copy, Debug, PartialEq, Eq)]
@@ -54,13 +34,12 @@ enum Accepted {
     Held,
 }
 
-fn accepted_line(accepted: Accepted) -> &'static [u8]
-    ensures { result.now ≡ accepted_line accepted }
+// Writes the answer to an edit that is refused.
+fn write_refusal<S: Sink>(name: &[u8], sink: &mut S) -> Result<(), SinkFailed>
+    ensures { WritesAnswer (S.stream sink.old) (S.stream sink.new)
+        (codes "no " ++ name.now ++ codes "\n") result }
 {
-    match accepted {
-        Accepted::Made => b"ok\n",
-        Accepted::Held => b"held\n",
-    }
+    say(sink, &[b"no ", name, b"\n"])
 }
 
 fn write_edit_answer<S: Sink>(
@@ -70,12 +49,9 @@ fn write_edit_answer<S: Sink>(
     ensures { WritesAnswer (S.stream sink.old) (S.stream sink.new) (edit_line answer) result }
 {
     match answer {
-        Ok(accepted) => say(sink, Ok(()), accepted_line(accepted)),
-        Err(refusal) => {
-            let no = say(sink, Ok(()), b"no ");
-            let name = say(sink, no, name_of(refusal));
-            say(sink, name, b"\n")
-        }
+        Ok(Accepted::Made) => say(sink, &[b"ok\n"]),
+        Ok(Accepted::Held) => say(sink, &[b"held\n"]),
+        Err(refusal) => write_refusal(name_of(refusal), sink),
     }
 }
 
@@ -93,49 +69,38 @@ fn write_list_answer<S: Sink>(done: Result<(), ListRefusal>, sink: &mut S) -> Re
     ensures { WritesAnswer (S.stream sink.old) (S.stream sink.new) (list_line done) result }
 {
     match done {
-        Ok(()) => say(sink, Ok(()), b"ok\n"),
+        Ok(()) => say(sink, &[b"ok\n"]),
         Err(refused) => {
             let mut digits = Buffer::new();
-            let no = say(sink, Ok(()), b"no ");
-            let name = say(sink, no, name_of(refused.refusal));
-            let space = say(sink, name, b" ");
-            let number = say(sink, space, digits.format(edit_number(refused)).as_bytes());
-            say(sink, number, b"\n")
+            let number = digits.format(edit_number(refused)).as_bytes();
+            say(
+                sink,
+                &[b"no ", name_of(refused.refusal), b" ", number, b"\n"],
+            )
         }
     }
 }
 
-// Writes the line before the bytes of an output file that is shown.
-fn write_head<S: Sink>(name: &[u8], size: u128, sink: &mut S) -> Result<(), SinkFailed>
-    ensures { WritesAnswer (S.stream sink.old) (S.stream sink.new)
-        (codes "= " ++ name.now ++ codes " " ++ decimal size ++ codes "\n") result }
-{
-    let mut digits = Buffer::new();
-    let sign = say(sink, Ok(()), b"= ");
-    let named = say(sink, sign, name);
-    let space = say(sink, named, b" ");
-    let sized = say(sink, space, digits.format(size).as_bytes());
-    say(sink, sized, b"\n")
-}
-
-// Writes the bytes of the output file of this name, unless `so_far` is an error.
-fn write_bytes<S: Sink>(
+// Writes the line of an output file that is shown, and its bytes.
+fn show_output<S: Sink>(
     session: &Session,
     name: &[u8],
-    so_far: Result<(), SinkFailed>,
+    size: u128,
     sink: &mut S,
 ) -> Result<(), SinkFailed>
-    ensures { (old : Stream) (output bytes : List ℕ)
+    ensures { (bytes : List ℕ)
         → output_at session.now.files session.now.roles name.now ≡ Some bytes
-        → WritesAnswer old (S.stream sink.old) output so_far
-        → WritesAnswer old (S.stream sink.new) (output ++ bytes) result }
+        → WritesAnswer (S.stream sink.old) (S.stream sink.new)
+        (codes "= " ++ name.now ++ codes " " ++ decimal size ++ codes "\n" ++ bytes) result }
 {
-    match so_far {
-        Err(failed) => Err(failed),
-        Ok(()) => match session.write_output(name, sink) {
-            Ok(_) => Ok(()),
-            Err(_) => Err(SinkFailed),
-        },
+    let mut digits = Buffer::new();
+    say(
+        sink,
+        &[b"= ", name, b" ", digits.format(size).as_bytes(), b"\n"],
+    )?;
+    match session.write_output(name, sink) {
+        Ok(_) => Ok(()),
+        Err(_) => Err(SinkFailed),
     }
 }
 
@@ -145,29 +110,8 @@ fn show<S: Sink>(session: &Session, name: &[u8], sink: &mut S) -> Result<(), Sin
         (shown name.now (output_at session.now.files session.now.roles name.now)) result }
 {
     match session.output_size(name) {
-        None => say(sink, Ok(()), b"no NoOutput\n"),
-        Some(size) => {
-            let head = write_head(name, size, sink);
-            write_bytes(session, name, head, sink)
-        }
-    }
-}
-
-// Writes the lines of the faults, unless `so_far` is an error.
-fn write_lines<S: Sink>(
-    faults: &[Fault],
-    so_far: Result<(), SinkFailed>,
-    sink: &mut S,
-) -> Result<(), SinkFailed>
-    ensures { (old : Stream) (output : List ℕ) → WritesAnswer old (S.stream sink.old) output so_far
-        → WritesAnswer old (S.stream sink.new) (output ++ fault_lines faults.now) result }
-{
-    match so_far {
-        Err(failed) => Err(failed),
-        Ok(()) => match write_faults(faults, sink) {
-            Ok(()) => Ok(()),
-            Err(_) => Err(SinkFailed),
-        },
+        None => say(sink, &[b"no NoOutput\n"]),
+        Some(size) => show_output(session, name, size, sink),
     }
 }
 
@@ -177,10 +121,11 @@ fn list_faults<S: Sink>(faults: &[Fault], sink: &mut S) -> Result<(), SinkFailed
         (listed_faults faults.now) result }
 {
     let mut digits = Buffer::new();
-    let front = say(sink, Ok(()), b"faults ");
-    let counted = say(sink, front, digits.format(faults.len()).as_bytes());
-    let line = say(sink, counted, b"\n");
-    write_lines(faults, line, sink)
+    say(
+        sink,
+        &[b"faults ", digits.format(faults.len()).as_bytes(), b"\n"],
+    )?;
+    write_faults(faults, sink)
 }
 
 // Writes the number of nodes that were expanded last.
@@ -189,9 +134,7 @@ fn write_work<S: Sink>(work: u64, sink: &mut S) -> Result<(), SinkFailed>
         (codes "work " ++ decimal work ++ codes "\n") result }
 {
     let mut digits = Buffer::new();
-    let front = say(sink, Ok(()), b"work ");
-    let counted = say(sink, front, digits.format(work).as_bytes());
-    say(sink, counted, b"\n")
+    say(sink, &[b"work ", digits.format(work).as_bytes(), b"\n"])
 }
 
 fn insertion(alloc: Global, at: u32, file: &[u8], text: &[u8]) -> Result<Edit, AllocError>
@@ -295,10 +238,10 @@ fn begin<S: Sink>(
         × WritesAnswer (S.stream sink.old) (S.stream sink.new) output result }
 {
     match draft {
-        Some(_) => say(sink, Ok(()), b"no BadCommand\n"),
+        Some(_) => say(sink, &[b"no BadCommand\n"]),
         None => {
             *draft = Some(Vec::new(alloc));
-            say(sink, Ok(()), b"ok\n")
+            say(sink, &[b"ok\n"])
         }
     }
 }
@@ -311,10 +254,10 @@ fn cancel<S: Sink>(draft: &mut Option<Vec<Edit>>, sink: &mut S) -> Result<(), Si
         × WritesAnswer (S.stream sink.old) (S.stream sink.new) output result }
 {
     match draft {
-        None => say(sink, Ok(()), b"no BadCommand\n"),
+        None => say(sink, &[b"no BadCommand\n"]),
         Some(_) => {
             *draft = None;
-            say(sink, Ok(()), b"ok\n")
+            say(sink, &[b"ok\n"])
         }
     }
 }
@@ -332,7 +275,7 @@ fn commit<S: Sink>(
         × WritesAnswer (S.stream sink.old) (S.stream sink.new) output result }
 {
     match draft.take() {
-        None => say(sink, Ok(()), b"no BadCommand\n"),
+        None => say(sink, &[b"no BadCommand\n"]),
         Some(held) => {
             let done = session.apply_all(&held);
             write_list_answer(done, sink)
@@ -392,8 +335,8 @@ impl Project for SessionProject {
             Request::Show { file } => show(session, file, sink),
             Request::Faults => list_faults(session.faults(), sink),
             Request::Work => write_work(session.last_work(), sink),
-            Request::Quit => say(sink, Ok(()), b"ok\n"),
-            Request::BadCommand => say(sink, Ok(()), b"no BadCommand\n"),
+            Request::Quit => say(sink, &[b"ok\n"]),
+            Request::BadCommand => say(sink, &[b"no BadCommand\n"]),
         }
     }
 

@@ -27,4 +27,4 @@ pub use messages::write_load;
 pub use opening::{command_line, lines_to};
 pub use retangle_names::{RetangleFault, read_retangle};
 pub use run::{Ended, run_ctangle, run_keeping_session, status_3_needs_a_failure};
-pub use tangle_folders::{Disk, FILE_LIMIT, Folder, FolderFault, MemoryFolder};
+pub use tangle_folders::{Disk, FILE_LIMIT, Folder, FolderFault};

@@ -1,8 +1,9 @@
 //! The lines that the programs write on the error stream.
-ghost use Rattle.std.specs.Prelude.{◌≡◌, OnOk, OnErr};
-ghost use Rattle.tangle_streams.specs.Streams.{IsWritten, TakesAll, TakesPrefix};
+ghost use Rattle.std.specs.Prelude.{◌≡◌, ◌<◌, ◌^◌, ◌++◌, [], length, OnOk, OnErr};
+ghost use Rattle.std.specs.List.{fold};
+ghost use Rattle.tangle_script.specs.Script.{WritesAnswer};
+ghost use Rattle.tangle_streams.specs.Streams.{IsWritten};
 ghost use Rattle.ctangle_cli.specs.Loading.{ending_of};
-ghost use Rattle.ctangle_cli.specs.Loading.LoadEnd.{CannotRead, NoMemory, Refused};
 ghost use Rattle.ctangle_cli.specs.Messages.{cannot_write_line, ending_line};
 ghost use Rattle.ctangle_cli.specs.Messages.{fault_lines, refusal_name, unwritten_line, usage_line};
 
@@ -12,7 +13,7 @@ use tangle_lines::{Fault, Refusal, Sink, WriteFault, write_after, write_fault};
 use tangle_script::SinkFailed;
 
 /// The name of a refusal, as the programs print it.
-pub fn name_of(refusal: Refusal) -> &'static [u8]
+pub fn name_of<'a>(refusal: Refusal) -> &'a [u8]
     ensures { result.now ≡ refusal_name refusal }
 {
     match refusal {
@@ -33,39 +34,17 @@ pub fn name_of(refusal: Refusal) -> &'static [u8]
     }
 }
 
-fn write_cannot_read<E: Sink>(program: &[u8], name: &[u8], err: &mut E) -> Result<u128, WriteFault>
+// Writes these bytes, one part after another. Returns their number.
+fn write_parts<E: Sink>(err: &mut E, parts: &[&[u8]]) -> Result<u128, WriteFault>
+    requires { length (fold (λ front part. front ++ part.now) [] parts.now) < 2 ^ 128 }
     ensures { IsWritten (E.stream err.old) (E.stream err.new)
-        (ending_line program.now (CannotRead name.now)) result }
+        (fold (λ front part. front ++ part.now) [] parts.now) result }
 {
-    let front = write_after(err, Ok(0), program);
-    let labelled = write_after(err, front, b": cannot read ");
-    let named = write_after(err, labelled, name);
-    write_after(err, named, b"\n")
-}
-
-fn write_refused<E: Sink>(
-    program: &[u8],
-    name: &[u8],
-    refusal: Refusal,
-    err: &mut E,
-) -> Result<u128, WriteFault>
-    ensures { IsWritten (E.stream err.old) (E.stream err.new)
-        (ending_line program.now (Refused name.now refusal)) result }
-{
-    let front = write_after(err, Ok(0), program);
-    let separated = write_after(err, front, b": ");
-    let named = write_after(err, separated, name);
-    let colon = write_after(err, named, b": ");
-    let why = write_after(err, colon, name_of(refusal));
-    write_after(err, why, b"\n")
-}
-
-fn write_no_memory<E: Sink>(program: &[u8], err: &mut E) -> Result<u128, WriteFault>
-    ensures { IsWritten (E.stream err.old) (E.stream err.new) (ending_line program.now NoMemory)
-        result }
-{
-    let front = write_after(err, Ok(0), program);
-    write_after(err, front, b": NoMemory\n")
+    let mut written = Ok(0);
+    for part in parts {
+        written = write_after(err, written, part);
+    }
+    written
 }
 
 /// Writes why loading ended without files, in one line after the program's name. Returns the length
@@ -74,18 +53,32 @@ fn write_no_memory<E: Sink>(program: &[u8], err: &mut E) -> Result<u128, WriteFa
 /// # Errors
 ///
 /// `WriteFault(n)` where the stream failed, or took no byte, after the first `n` bytes of the line.
-pub fn write_load<E: Sink>(
-    program: &[u8],
-    fault: &LoadFault,
+pub fn write_load<'a, E: Sink>(
+    program: &'a [u8],
+    fault: &'a LoadFault,
     err: &mut E,
 ) -> Result<u128, WriteFault>
     ensures { IsWritten (E.stream err.old) (E.stream err.new)
         (ending_line program.now (ending_of fault.now)) result }
 {
     match fault {
-        LoadFault::CannotRead(name) => write_cannot_read(program, name.as_slice(), err),
-        LoadFault::Refused(name, refusal) => write_refused(program, name.as_slice(), *refusal, err),
-        LoadFault::NoMemory => write_no_memory(program, err),
+        LoadFault::CannotRead(name) => {
+            write_parts(err, &[program, b": cannot read ", name.as_slice(), b"\n"])
+        }
+        LoadFault::Refused(name, refusal) => {
+            write_parts(
+                err,
+                &[
+                    program,
+                    b": ",
+                    name.as_slice(),
+                    b": ",
+                    name_of(*refusal),
+                    b"\n",
+                ],
+            )
+        }
+        LoadFault::NoMemory => write_parts(err, &[program, b": NoMemory\n"]),
     }
 }
 
@@ -97,15 +90,13 @@ pub fn write_load<E: Sink>(
 pub fn write_usage<E: Sink>(err: &mut E) -> Result<u128, WriteFault>
     ensures { IsWritten (E.stream err.old) (E.stream err.new) usage_line result }
 {
-    write_after(err, Ok(0), b"usage: ctangle [flags] web [change [out]]\n")
+    write_parts(err, &[b"usage: ctangle [flags] web [change [out]]\n"])
 }
 
 fn write_cannot_write<E: Sink>(name: &[u8], err: &mut E) -> Result<u128, WriteFault>
     ensures { IsWritten (E.stream err.old) (E.stream err.new) (cannot_write_line name.now) result }
 {
-    let labelled = write_after(err, Ok(0), b"ctangle: cannot write ");
-    let named = write_after(err, labelled, name);
-    write_after(err, named, b"\n")
+    write_parts(err, &[b"ctangle: cannot write ", name, b"\n"])
 }
 
 /// Writes the line that reports an unwritten output. Returns its length.
@@ -122,7 +113,7 @@ pub fn write_unwritten<E: Sink>(
         result }
 {
     match fault {
-        FolderFault::NoMemory => write_no_memory(b"ctangle", err),
+        FolderFault::NoMemory => write_load(b"ctangle", &LoadFault::NoMemory, err),
         FolderFault::Missing => write_cannot_write(name, err),
         FolderFault::Failed => write_cannot_write(name, err),
         FolderFault::TooBig => write_cannot_write(name, err),
@@ -135,13 +126,28 @@ pub fn write_unwritten<E: Sink>(
 ///
 /// `SinkFailed` where the stream failed, or took no byte, before it had all the lines.
 pub fn write_faults<E: Sink>(faults: &[Fault], err: &mut E) -> Result<(), SinkFailed>
-    ensures whole { OnOk result
-        (TakesAll (E.stream err.old) (E.stream err.new) (fault_lines faults.now)) }
-    ensures cut { OnErr result
-        (TakesPrefix (E.stream err.old) (E.stream err.new) (fault_lines faults.now)) }
+    ensures { WritesAnswer (E.stream err.old) (E.stream err.new) (fault_lines faults.now) result }
 {
     for fault in faults {
         match write_fault(fault, err) {
+            Ok(_) => {}
+            Err(_) => return Err(SinkFailed),
+        }
+    }
+    Ok(())
+}
+
+/// Writes these bytes, one part after another.
+///
+/// # Errors
+///
+/// `SinkFailed` where the sink failed, or took no byte, before it had all of them.
+pub fn say<S: Sink>(sink: &mut S, parts: &[&[u8]]) -> Result<(), SinkFailed>
+    ensures { WritesAnswer (S.stream sink.old) (S.stream sink.new)
+        (fold (λ front part. front ++ part.now) [] parts.now) result }
+{
+    for part in parts {
+        match write_after(sink, Ok(0), part) {
             Ok(_) => {}
             Err(_) => return Err(SinkFailed),
         }

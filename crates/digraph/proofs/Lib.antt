@@ -10,3 +10,4 @@ pub mod TitleLemmas
 pub mod OrderSoFarLemmas
 pub mod OrderLemmas
 pub mod PathLemmas
+mod PassLemmas

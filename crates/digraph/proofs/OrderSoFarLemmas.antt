@@ -9,7 +9,7 @@ use Rattle.std.proofs.Math.Decide.{ℕ_discrete}
 use Rattle.digraph.specs.Graph.{Graph, HasUse, row_at}
 use Rattle.digraph.specs.Flags.{IsFlagged}
 use Rattle.digraph.specs.Order.{IsAfterUses, IsOrder}
-use Rattle.digraph.specs.OrderSoFar.{IsOrderSoFar, IsStuck, unflagged}
+use Rattle.digraph.specs.OrderSoFar.{IsOrderSoFar, IsStuck}
 
 -- all nodes that `n` uses are in the list
 abbrev pub UsesListed : Graph → List ℕ → ℕ → Type 0
@@ -99,40 +99,4 @@ pub is_order : (graph : Graph) (flags : List Bool) (order : List ℕ)
 is_order graph flags order p stuck = record {
   after_uses = p.after_uses;
   rest = λ n h out. elim (stuck n h) [ inl c ↦ absurd (out c) | inr found ↦ found ];
-}
-
-pub stuck_more : (graph : Graph) (order : List ℕ) (i : ℕ)
-    → ((k : ℕ) → k < i → IsStuck graph order k) → IsStuck graph order i → (k : ℕ) → k < i + 1 → IsStuck graph order k
-stuck_more graph order i below here k h = elim (ℕ_discrete k i) [
-  | yes e ↦ subst (IsStuck graph order) (sym e) here
-  | no other ↦ below k (omega (arith, h))
-]
-
--- the state after each node below `i` was tried once
-pub record Passed (graph : Graph) (before flags : List Bool) (first order : List ℕ) (any : Bool) (i : ℕ) : Type 0 where
-  pub so_far : IsOrderSoFar graph flags order
-  pub fewer : unflagged flags ≤ unflagged before
-  pub more : any ≡ true → unflagged flags < unflagged before
-  pub stuck : any ≡ false → (k : ℕ) → k < i → IsStuck graph order k
-
-pub passed_added : (graph : Graph) (before flags next : List Bool) (first order longer : List ℕ) (any : Bool) (i : ℕ)
-    → Passed graph before flags first order any i
-    → IsOrderSoFar graph next longer → unflagged next < unflagged flags
-    → Passed graph before next first longer true (i + 1)
-passed_added graph before flags next first order longer any i p so_far less = record {
-  so_far = so_far;
-  fewer = omega (arith, p.fewer, less);
-  more = λ _. omega (arith, p.fewer, less);
-  stuck = λ e. absurd (let no : true ≡ false = e in cc);
-}
-
-pub passed_stuck : (graph : Graph) (before flags next : List Bool) (first order longer : List ℕ) (any : Bool) (i : ℕ)
-    → Passed graph before flags first order any i
-    → IsOrderSoFar graph next longer → next ≡ flags → longer ≡ order → IsStuck graph order i
-    → Passed graph before next first longer any (i + 1)
-passed_stuck graph before flags next first order longer any i p so_far same_flags same_order here = record {
-  so_far = so_far;
-  fewer = rw same_flags p.fewer;
-  more = λ e. rw same_flags (p.more e);
-  stuck = λ e. rw same_order (stuck_more graph order i (p.stuck e) here);
 }

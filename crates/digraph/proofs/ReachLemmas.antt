@@ -1,12 +1,12 @@
 -- Reaching along several uses, and what ranks that never fall exclude.
 use Rattle.std.proofs.Common.{◌≡◌, ◌<◌, ◌≤◌, ◌∙◌, ℕ, Bool, true, false, List, length, get_or, set, refl, sym}
-use Rattle.std.proofs.Common.{subst, arith, All, get_or-set_other, replicate}
+use Rattle.std.proofs.Common.{subst, arith, All, get_or-set_other, length-set, replicate}
 use Rattle.std.proofs.Math.Decide.{ℕ_discrete, dec_lt}
 use Rattle.std.proofs.lemmas.List.{get_or_past, get_or-replicate, length-replicate}
 use Rattle.std.proofs.lemmas.List.Elements.{All-contains}
 use Rattle.digraph.specs.Graph.{Graph, HasUse, row_at}
 use Rattle.digraph.specs.Reach.{Reaches, here, on, ContainsItself}
-use Rattle.digraph.specs.Flags.{IsFlagged}
+use Rattle.digraph.specs.Flags.{FlagsOnly, IsFlagged}
 use Rattle.digraph.specs.Roots.{NeverFalls}
 
 pub reaches_trans : {X : Type 0} (Uses : X → X → Type 0) (a b c : X)
@@ -28,13 +28,16 @@ not_itself graph ranks n low rising above less c =
     let back : get_or ranks c.0 0 ≤ get_or ranks n 0 = ranks_rise graph ranks rising c.0 n c.2 in
     absurd (omega arith)
 
--- a property of all flagged nodes still holds when one more node with it is flagged
-pub flagged_set : (P : ℕ → Type 0) (flags : List Bool) (n : ℕ)
-    → ((m : ℕ) → IsFlagged flags m → P m) → P n → (m : ℕ) → IsFlagged (set flags n true) m → P m
-flagged_set P flags n old p m f = elim (ℕ_discrete m n) [
-  | yes e ↦ subst P (sym e) p
-  | no other ↦ old m (sym (get_or-set_other flags n m true false other) ∙ f)
-]
+-- one more node with the property is flagged
+pub only_set : {HasIt : ℕ → Type 0} (graph : Graph) (flags : List Bool) (n : ℕ)
+    → FlagsOnly graph flags HasIt → HasIt n → FlagsOnly graph (set flags n true) HasIt
+only_set {HasIt} graph flags n only has = record {
+  size = length-set flags n true ∙ only.size;
+  sound = λ m f. elim (ℕ_discrete m n) [
+    | yes e ↦ subst HasIt (sym e) has
+    | no other ↦ only.sound m (sym (get_or-set_other flags n m true false other) ∙ f)
+  ];
+}
 
 pub flagged_in : (flags : List Bool) (n : ℕ) → IsFlagged flags n → n < length flags
 flagged_in flags n f = elim (dec_lt n (length flags)) [

@@ -1,19 +1,10 @@
 -- Flags of the nodes that roots reach, and of those that reach roots, and what both together mean for a node.
-use Rattle.std.proofs.Common.{◌≡◌, ◌⊎◌, ◌∙◌, ℕ, Bool, true, List, length, get_or, set, sym, subst, inl, inr}
-use Rattle.std.proofs.Common.{length-set, Contains}
+use Rattle.std.proofs.Common.{◌≡◌, ◌⊎◌, ◌∙◌, ℕ, Bool, List, length, get_or, sym, subst, inl, inr, Contains}
 use Rattle.digraph.specs.Graph.{Graph, HasUse, row_at}
 use Rattle.digraph.specs.Reach.{Reaches, here, on, ContainsItself}
 use Rattle.digraph.specs.Flags.{IsFlagged}
 use Rattle.digraph.specs.Roots.{FromRoots, ToRoots}
-use Rattle.digraph.proofs.ReachLemmas.{reaches_trans, flagged_set}
-
-pub from_roots_set : (graph : Graph) (roots : List ℕ) (flags : List Bool) (n : ℕ)
-    → FromRoots graph roots flags → get_or roots n 0 ≡ n → FromRoots graph roots (set flags n true)
-from_roots_set graph roots flags n p is_root = record {
-  size = length-set flags n true ∙ p.size;
-  sound = flagged_set (λ m. Reaches (HasUse graph) (get_or roots m 0) m) flags
-      n p.sound (subst (λ r. Reaches (HasUse graph) r n) (sym is_root) here);
-}
+use Rattle.digraph.proofs.ReachLemmas.{reaches_trans}
 
 pub from_roots_row : (graph : Graph) (roots : List ℕ) (flags next : List Bool) (n : ℕ)
     → FromRoots graph roots flags → IsFlagged flags n → length next ≡ length flags
@@ -27,13 +18,6 @@ from_roots_row graph roots flags next n p flagged size reported = record {
         (reaches_trans (HasUse graph) (get_or roots n 0) n m
         (p.sound n flagged) (on new.0 here))
   ];
-}
-
-pub to_roots_set : (graph : Graph) (roots : List ℕ) (flags : List Bool) (n : ℕ)
-    → ToRoots graph roots flags → Reaches (HasUse graph) n (get_or roots n 0) → ToRoots graph roots (set flags n true)
-to_roots_set graph roots flags n p r = record {
-  size = length-set flags n true ∙ p.size;
-  sound = flagged_set (λ m. Reaches (HasUse graph) m (get_or roots m 0)) flags n p.sound r;
 }
 
 -- a node of the row that has this root and reaches it

@@ -10,6 +10,11 @@ IsFlagged flags n = slice_index_or flags n false ≡ true
 abbrev pub FlagsJust : Graph → List Bool → (ℕ → Type 0) → Type 0
 FlagsJust graph flags HasIt = (n : ℕ) → n < length graph → (IsFlagged flags n ↔ HasIt n)
 
+-- there is a flag for each node, and only nodes with this property are flagged
+pub record FlagsOnly (graph : Graph) (flags : List Bool) (HasIt : ℕ → Type 0) : Type 0 where
+  pub size : length flags ≡ length graph
+  pub sound : (n : ℕ) → IsFlagged flags n → HasIt n
+
 -- the node reaches a flagged node; a flagged node reaches itself
 abbrev pub ReachesFlagged : Graph → List Bool → ℕ → Type 0
 ReachesFlagged graph flags n = (k : ℕ) × Reaches (HasUse graph) n k × IsFlagged flags k

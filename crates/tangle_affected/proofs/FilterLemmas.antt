@@ -47,6 +47,3 @@ pub in_front : {X : Type 0} (xs : List X) (i : ℕ) (x : X)
 in_front xs i x c =
     let low : c.0 < i = omega (arith, c.1, length-take i xs) in
     (c.0, low, omega (arith, c.1, length-take i xs), sym (get_or-take i xs c.0 x low) ∙ c.2)
-
-pub out_of_take : {X : Type 0} (xs : List X) (i : ℕ) (x : X) → Contains (take i xs) x → Contains xs x
-out_of_take xs i x c = (let at = in_front xs i x c in (at.0, at.2, at.3))

@@ -3,9 +3,7 @@ use Rattle.std.proofs.Common.{◌≡◌, ◌≢◌, ◌∙◌, ◌+◌, ◌<◌,
 use Rattle.std.proofs.Common.{◌⊎◌, get_or, set, refl, ap, sym, subst, inl, inr, arith, Contains}
 use Rattle.std.proofs.Common.{get_or-set_same, get_or-set_other}
 use Rattle.std.proofs.lemmas.List.{get_or_default, take_more}
-use Rattle.std.proofs.Math.Decide.{ℕ_discrete}
-use Rattle.std.proofs.lemmas.List.Elements.{Contains-push_cases, Contains-append_left}
-use Rattle.std.proofs.lemmas.List.Elements.{Contains-append_right}
+use Rattle.std.proofs.lemmas.List.Elements.{Contains-push_cases}
 use Rattle.tangle_plans.specs.Shapes.{Title, Named, Shapes, Uses, Reaches, here, on}
 use Rattle.tangle_plans.specs.Shapes as title
 use Rattle.digraph.specs.Nodes.{Node, program}
@@ -13,7 +11,7 @@ use Rattle.digraph.proofs.ReachLemmas.{true_unless}
 use Rattle.tangle_graph.specs.Nodes.{UsesTitle}
 use Rattle.tangle_graph.specs.Ordering.{IsOrderIn}
 use Rattle.tangle_graph.specs.Stores.{StoreRead, IsStoreOf, IsNodeIn, flag_at, uses_at, title_in_store}
-use Rattle.tangle_affected.specs.Flags.{ReachesNewShape, AreFlagged, FlagsJustListed}
+use Rattle.tangle_affected.specs.Flags.{ReachesNewShape, AreFlagged}
 use Rattle.tangle_affected.proofs.FilterLemmas.{in_front}
 
 step_on : (shapes : Shapes) (a b c : Title) → UsesTitle shapes a b → Reaches shapes b c → Reaches shapes a c
@@ -88,28 +86,3 @@ module _ (store : StoreRead) (order : List Node) (ordered : IsOrderIn store orde
             (are m.0 (after_used m.0 used)).1 (c, subst (λ t. Reaches new t c) (sym m.2) s, differs) in
             let both : true ≡ false = sym is_flagged ∙ none m.0 used in
             absurd (cc)
-
--- one more node of a list is flagged
-pub listed_next : (store : StoreRead) (nodes : List Node) (flags : List Bool) (i : ℕ) (node : Node)
-    → i < length nodes → node ≡ get_or nodes i node → length flags ≡ length store.names + 1
-    → IsNodeIn store node → FlagsJustListed store flags (take i nodes)
-    → FlagsJustListed store (set flags node true) (take (i + 1) nodes)
-listed_next store nodes flags i node h at size there are a inside =
-    let is_set = get_or-set_same flags node true false (omega (arith, there, size)) in
-    let split = item_more nodes i node h at in
-    elim (ℕ_discrete a node) [
-      | yes this ↦ (
-        (λ f. subst (λ l. Contains l a) (sym split)
-            (subst (Contains (take i nodes ++ node ∷ [])) (sym this)
-            (Contains-append_right (take i nodes) (node ∷ []) node (0, omega arith, refl)))),
-        (λ c. ap (flag_at (set flags node true)) this ∙ is_set),
-      )
-      | no other ↦ (let stays = get_or-set_other flags node a true false other in (
-        (λ f. subst (λ l. Contains l a) (sym split)
-            (Contains-append_left (take i nodes) (node ∷ []) a ((are a inside).0 (sym stays ∙ f)))),
-        (λ c. stays ∙ (are a inside).1 (elim (more_cases nodes i node a h at c) [
-          | inl before ↦ before
-          | inr same ↦ absurd (other (sym same))
-        ])),
-      ))
-    ]

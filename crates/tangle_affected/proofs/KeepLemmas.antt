@@ -4,7 +4,7 @@ use Rattle.std.proofs.Common.{suc, ap, sym, subst, inl, inr, arith, Contains}
 use Rattle.std.specs.Prelude.{Some, None, IsSome}
 use Rattle.std.specs.List.{filter}
 use Rattle.std.proofs.lemmas.List.{get_or_default, take_all}
-use Rattle.std.proofs.lemmas.Bool.{both_ways}
+use Rattle.std.proofs.lemmas.Bool.{both_ways, and_parts}
 use Rattle.std.proofs.Math.Decide.{ℕ_discrete}
 use Rattle.tangle_expansion.proofs.SameShapes.{used_expandable}
 use Rattle.tangle_expansion.specs.Kept.{kept_at, PutsKept}
@@ -20,8 +20,7 @@ use Rattle.tangle_graph.proofs.ExpandLemmas.{expandable_in}
 use Rattle.tangle_graph.proofs.NodeLemmas.{title_inside}
 use Rattle.tangle_affected.specs.Keeping.{IsKeptRight, KeepsJust, KeepsDone, KeepsUnflagged, IsExpandableList}
 use Rattle.tangle_affected.specs.Keeping.{CanExpand}
-use Rattle.tangle_affected.specs.Affected.{ListsAffected}
-use Rattle.tangle_affected.specs.Flags.{FlagsJustListed}
+use Rattle.tangle_affected.specs.Flags.{is_expandable_and_flagged}
 use Rattle.tangle_names.proofs.ContainsLemmas.{into_filter}
 use Rattle.tangle_affected.proofs.ListLemmas.{expandable_list}
 use Rattle.tangle_affected.proofs.FlagLemmas.{apart, more_cases}
@@ -88,33 +87,6 @@ nothing_first : (list : List Node) (node : Node) → Contains (take 0 list) node
 nothing_first list node c = absurd (omega (arith, c.1))
 
 module _ (shapes : Shapes) (store : StoreRead) (order : List Node) (ordered : IsOrderIn store order) where
-  -- nothing is kept, and all expandable nodes remain to be expanded
-  pub none_done : (kept : Kept) → IsStoreOf shapes store → ((node : Node) → kept_at kept node ≡ None)
-      → KeepsDone shapes store (filter (is_expandable_at store) order) 0 kept
-  none_done kept is none = record {
-    expandable = λ node e listed.
-        let inside = expandable_in shapes store node is e in
-        absurd (nothing_first (filter (is_expandable_at store) order) node
-        (listed (into_filter (is_expandable_at store) order node (ordered.expandable node inside e) e)));
-    others = λ node e. none node;
-  }
-
-  -- the expansions of unflagged nodes are kept, and the flagged nodes, those of the list, remain to be expanded
-  pub unflagged_done : (flags : List Bool) (list : List Node) (kept : Kept)
-      → IsStoreOf shapes store → FlagsJustListed store flags list
-      → KeepsUnflagged shapes store (flag_at flags) order kept → KeepsDone shapes store list 0 kept
-  unflagged_done flags list kept is are keeps = record {
-    expandable = λ node e listed. by node e (flag_at flags node) refl listed;
-    others = keeps.others;
-  }
-    where
-      by : (node : Node) → is_expandable_at store node ≡ true → (b : Bool) → flag_at flags node ≡ b
-          → (Contains list node → Contains (take 0 list) node) → IsKeptRight shapes store kept node
-      by node e true is_flagged listed =
-          absurd (nothing_first list node (listed ((are node (expandable_in shapes store node is e)).0 is_flagged)))
-      by node e false is_flagged listed =
-          keeps.unflagged node (ordered.expandable node (expandable_in shapes store node is e) e) e is_flagged
-
   pub none_unflagged : (flagged : Node → Bool) (kept : Kept)
       → ((node : Node) → kept_at kept node ≡ None) → KeepsUnflagged shapes store flagged (take 0 order) kept
   none_unflagged flagged kept none = record {
@@ -148,26 +120,39 @@ module _ (shapes : Shapes) (store : StoreRead) (order : List Node) (ordered : Is
       others = keeps.others;
     }
 
-  -- the list of all expandable nodes can be expanded, and so can that of the affected ones
+  -- the flagged expandable nodes, in this order, can be expanded where the right expansions of the others are kept
+  ready : (p : Node → Bool) (list : List Node) (kept : Kept) → IsStoreOf shapes store
+      → ((a : Node) → p a ≡ true → is_expandable_at store a ≡ true) → list ≡ filter p order
+      → KeepsUnflagged shapes store p order kept → CanExpand shapes store list kept
+  ready p list kept is passes same keeps = rw same (record {
+    store_is = is;
+    list_is = expandable_list shapes store order is ordered p passes;
+    expansions = record { expandable = λ a e listed. by a e (p a) refl listed; others = keeps.others };
+  })
+    where
+      by : (a : Node) → is_expandable_at store a ≡ true → (b : Bool) → p a ≡ b
+          → (Contains (filter p order) a → Contains (take 0 (filter p order)) a) → IsKeptRight shapes store kept a
+      by a e true is_flagged listed =
+          absurd (nothing_first (filter p order) a
+          (listed (into_filter p order a (ordered.expandable a (expandable_in shapes store a is e) e) is_flagged)))
+      by a e false is_flagged listed =
+          keeps.unflagged a (ordered.expandable a (expandable_in shapes store a is e) e) e is_flagged
+
+  -- the list of all expandable nodes can be expanded where nothing is kept
   pub all_ready : (list : List Node) (kept : Kept)
       → IsStoreOf shapes store → list ≡ filter (is_expandable_at store) order
       → ((node : Node) → kept_at kept node ≡ None) → CanExpand shapes store list kept
-  all_ready list kept is same none = record {
-    store_is = is;
-    list_is = subst (IsExpandableList shapes store) (sym same)
-        (expandable_list shapes store order is ordered (is_expandable_at store) (λ a e. e));
-    expansions = subst (λ l. KeepsDone shapes store l 0 kept) (sym same) (none_done kept is none);
-  }
+  all_ready list kept is same none = ready (is_expandable_at store) list kept is (λ a e. e) same (record {
+    unflagged = λ a c e not. absurd (both_ways (is_expandable_at store a) not e);
+    others = λ a e. none a;
+  })
 
-  pub affected_ready : (old : Shapes) (flags : List Bool) (list : List Node) (kept : Kept)
-      → IsStoreOf shapes store → ListsAffected old shapes store list
-      → FlagsJustListed store flags list → KeepsUnflagged shapes store (flag_at flags) order kept
-      → CanExpand shapes store list kept
-  affected_ready old flags list kept is lists are keeps = record {
-    store_is = is;
-    list_is = record {
-      expandable = λ a c. (let one = lists.only a c in (is.expandable a one.0).1 one.1.expandable);
-      after = lists.after;
-    };
-    expansions = unflagged_done flags list kept is are keeps;
-  }
+  -- and so can that of the affected ones
+  pub affected_ready : (flags : List Bool) (list : List Node) (kept : Kept)
+      → IsStoreOf shapes store → list ≡ filter (is_expandable_and_flagged store flags) order
+      → KeepsUnflagged shapes store (flag_at flags) order kept → CanExpand shapes store list kept
+  affected_ready flags list kept is same keeps = ready (is_expandable_and_flagged store flags) list kept is
+      (λ a e. (and_parts (is_expandable_at store a) (flag_at flags a) e).0) same (record {
+        unflagged = λ a c e not. keeps.unflagged a c e (rw e at not);
+        others = keeps.others;
+      })

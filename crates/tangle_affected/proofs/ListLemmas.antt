@@ -14,7 +14,7 @@ use Rattle.tangle_graph.specs.Ordering.{IsOrderIn}
 use Rattle.tangle_graph.specs.Stores.{StoreRead, IsStoreOf, IsNodeIn, flag_at, is_expandable_at, title_in_store}
 use Rattle.tangle_affected.specs.Affected.{ListsAffected}
 use Rattle.tangle_affected.specs.Keeping.{IsExpandableList, ListsExpandable}
-use Rattle.tangle_affected.specs.Flags.{AreFlagged, FlagsJustListed, FlagsAffected, is_expandable_and_flagged}
+use Rattle.tangle_affected.specs.Flags.{AreFlagged, is_expandable_and_flagged}
 use Rattle.tangle_names.proofs.ContainsLemmas.{into_filter, out_of_filter}
 use Rattle.tangle_affected.proofs.FilterLemmas.{filter_position}
 use Rattle.tangle_affected.proofs.NameLemmas.{node_with_piece}
@@ -99,15 +99,6 @@ module _ (shapes : Shapes) (store : StoreRead) (order : List Node)
             let there = out_of_filter (is_expandable_and_flagged store flags) order a c in
             let both = and_parts (is_expandable_at store a) (flag_at flags a) there.1 in
             (ordered.inside a there.0, is_affected a there.0 both.0 both.1)
-
--- if the nodes of such a list are flagged, each affected node is
-pub listed_flagged : (old new : Shapes) (store : StoreRead) (nodes : List Node) (flags : List Bool)
-    → IsStoreOf new store → ListsAffected old new store nodes
-    → FlagsJustListed store flags nodes → FlagsAffected old new store flags
-listed_flagged old new store nodes flags is lists are node inside affected =
-    let at = lists.all (title_in_store store node) affected in
-    let same : at.0 ≡ node = is.once at.0 node (lists.only at.0 at.2).0 inside at.1 in
-    (are node inside).1 (subst (Contains nodes) same at.2)
 
 no_element : (nodes : List Node) → ((a : Node) → Contains nodes a → ⊥) → nodes ≡ []
 no_element [] none = refl

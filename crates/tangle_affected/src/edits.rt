@@ -25,29 +25,14 @@ pub fn affected(alloc: Global, old: &Store, new: &Store) -> Result<Vec<Node>, No
         → IsStoreOf new_shapes new.now
         → IfOk result (λ nodes. ListsAffected old_shapes new_shapes new.now nodes.items) }
 {
-    affected_over(alloc, old, new, &[])
-}
-
-/// The same nodes, without comparing shapes: the flags say which nodes keep their old body and the
-/// names that it uses.
-pub(crate) fn affected_over(
-    alloc: Global,
-    old: &Store,
-    new: &Store,
-    are_kept: &[bool],
-) -> Result<Vec<Node>, NoMemory>
-    requires bodies { KeepsBodies old.now new.now are_kept.now }
-    ensures { (old_shapes new_shapes : Shapes) → IsStoreOf old_shapes old.now
-        → IsStoreOf new_shapes new.now
-        → IfOk result (λ nodes. ListsAffected old_shapes new_shapes new.now nodes.items) }
-{
     let order = new.order();
-    let flags = reaching_new_shapes(alloc, old, new, are_kept, order)?;
+    let flags = reaching_new_shapes(alloc, old, new, &[], order)?;
     listed_nodes(alloc, new, &flags, order)
 }
 
-/// Flags, along the order, each node that reaches one with a new shape.
-fn reaching_new_shapes(
+/// Flags, along the order, each node that reaches one with a new shape. The flags `are_kept` say
+/// which nodes keep their old body and the names that it uses: their shapes are not compared.
+pub(crate) fn reaching_new_shapes(
     alloc: Global,
     old: &Store,
     new: &Store,
@@ -102,7 +87,7 @@ fn any_flagged(flags: &[bool], row: &[Node]) -> bool
 }
 
 /// The nodes that are expandable and flagged, in the order of the store.
-fn listed_nodes(
+pub(crate) fn listed_nodes(
     alloc: Global,
     store: &Store,
     flags: &[bool],

@@ -1,7 +1,7 @@
 //! Keeps the expansions of a web: all are made, or after an edit those of the affected nodes, and
 //! the others are shared.
 ghost use Rattle.std.specs.Prelude.{◌≡◌, ◌++◌, ◌∷◌, [], true, filter, IfOk};
-ghost use Rattle.std.specs.Prelude.{OnOk, None, Contains};
+ghost use Rattle.std.specs.Prelude.{OnOk, None};
 ghost use Rattle.tangle_expansion.specs.Kept.{kept_at, PutsKept};
 ghost use Rattle.tangle_expansion.specs.Limits.{flat_of};
 ghost use Rattle.tangle_plans.specs.Shapes.{Shapes};
@@ -11,12 +11,12 @@ ghost use Rattle.tangle_graph.specs.Stores.{flag_at, is_expandable_at, title_in_
 ghost use Rattle.tangle_affected.specs.Affected.{EditedShapes, ListsAffectedAfter};
 ghost use Rattle.tangle_affected.specs.Keeping.{KeepsJust, KeepsUnflagged, ListsExpandableAfter};
 ghost use Rattle.tangle_affected.specs.Keeping.{IsEditOf, IsUnaffected, CanExpand};
-ghost use Rattle.tangle_affected.specs.Flags.{FlagsJustListed, FlagsAffected};
+ghost use Rattle.tangle_affected.specs.Flags.{AreFlagged};
 
-use crate::edits::affected_over;
+use crate::edits::{listed_nodes, reaching_new_shapes};
 use std::alloc::Global;
 use tangle_expansion::{Expansion, Kept, Work};
-use tangle_graph::{Node, Store, is_flagged, node_before, set_flag};
+use tangle_graph::{Node, Store, is_flagged, node_before};
 use tangle_lines::NoMemory;
 
 /// Expands each expandable node of the store, and keeps its expansion. The nodes are added to the
@@ -59,10 +59,9 @@ pub fn expand_again(
     ensures work { (shapes : EditedShapes) → IsEditOf old.now new.now old_kept.now shapes
         → OnOk result (ListsAffectedAfter shapes.old shapes.new new.now work.old work.new) }
 {
-    let list = affected_over(alloc, old, new, are_kept)?;
-    // The clause of `affected_over` is about its list, not about the flags that it was made of.
-    let flags = flags_of(alloc, new, &list)?;
     let order = new.order();
+    let flags = reaching_new_shapes(alloc, old, new, are_kept, order)?;
+    let list = listed_nodes(alloc, new, &flags, order)?;
     let mut kept = Kept::new(alloc);
     share_unflagged(old, old_kept, new, order, &flags, &mut kept)?;
     expand_list(alloc, new, &list, &mut kept, work)?;
@@ -80,17 +79,6 @@ fn expandable_nodes(alloc: Global, store: &Store, order: &[Node]) -> Result<Vec<
         }
     }
     Ok(nodes)
-}
-
-fn flags_of(alloc: Global, store: &Store, list: &[Node]) -> Result<Vec<bool>, NoMemory>
-    requires { (node : Node) → Contains list.now node → IsNodeIn store.now node }
-    ensures { IfOk result (λ flags. FlagsJustListed store.now flags.items list.now) }
-{
-    let mut flags = store.no_flags(alloc)?;
-    for node in list {
-        set_flag(&mut flags, *node, true);
-    }
-    Ok(flags)
 }
 
 /// Shares the old expansion of the node, which is found by its name.
@@ -139,7 +127,7 @@ fn share_unflagged(
     requires order { IsOrderIn new.now order.now }
     requires edit { (shapes : EditedShapes) × IsEditOf old.now new.now old_kept.now shapes }
     requires flags { (shapes : EditedShapes) → IsEditOf old.now new.now old_kept.now shapes
-        → FlagsAffected shapes.old shapes.new new.now flags.now }
+        → AreFlagged shapes.old shapes.new new.now flags.now order.now }
     requires empty { (node : Node) → kept_at kept.old node ≡ None }
     ensures { (shapes : EditedShapes) → IsEditOf old.now new.now old_kept.now shapes
         → OnOk result (KeepsUnflagged shapes.new new.now (flag_at flags.now) order.now

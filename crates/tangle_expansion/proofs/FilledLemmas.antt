@@ -1,18 +1,18 @@
 -- The slots of pieces, filled with the symbols of the used names, are the expansion of the pieces.
-use Rattle.std.proofs.Common.{◌<◌, ◌≡◌, ◌∙◌, ℕ, ◌+◌, Bool, true, false, List, [], ◌∷◌, ◌++◌, map, length, refl, ap, sym}
+use Rattle.std.proofs.Common.{◌<◌, ◌≡◌, ◌∙◌, ℕ, ◌+◌, Bool, true, false, List, [], ◌∷◌, map, length, refl, ap, sym}
 use Rattle.std.proofs.Common.{append-nil, inl, inr}
-use Rattle.std.specs.Prelude.{if◌then◌else◌, slice_index_or, decimal}
+use Rattle.std.specs.Prelude.{if◌then◌else◌, slice_index_or}
 use Rattle.std.proofs.lemmas.Grind.{flat_map-append}
 use Rattle.tangle_files.specs.Bytes.{space}
 use Rattle.tangle_scan.specs.declared.items.Item.{Item}
 use Rattle.tangle_scan.specs.declared.items.Item.TheVariants as item
-use Rattle.tangle_scan.specs.Rules.{span_text}
+use Rattle.tangle_scan.specs.ItemBytes.{bytes_in}
 use Rattle.tangle_scan.specs.Web.{WebRead, PieceRead}
 use Rattle.tangle_names.specs.declared.Resolved.{Resolved}
 use Rattle.tangle_names.specs.declared.Resolved.TheVariants.{Name, NoFullName, Ambiguous}
 use Rattle.tangle_names.specs.NameTable.{TableRead}
 use Rattle.tangle_plans.specs.Shapes.{Title, IsUseOf, UsesInPiece, UsesInShape, Uses, Named}
-use Rattle.tangle_plans.specs.Flat.{depth, flat, Symbol, Byte, Opening, MarkOf, marks_after_shape_item, item_flat}
+use Rattle.tangle_plans.specs.Flat.{depth, flat, Symbol, Byte, marks_after_shape_item, item_flat}
 use Rattle.tangle_plans.specs.Flat.{items_flat, pieces_flat}
 use Rattle.tangle_plans.specs.WebShapes.{shapes, pieces_of, resolved_at, use_of, shape_item, IsNameBelow}
 use Rattle.tangle_plans.specs.WebShapes.{ResolvesInside}
@@ -45,18 +45,11 @@ module _ (texts : List (List ℕ)) (table : TableRead) (has_piece : ℕ → Bool
       → id < length table.names → IsUseOf (shape_item texts table x) (slice_index_or table.names id []) → Fits id)
       → filled symbols (item_slots texts table has_piece node piece marks x)
       ≡ item_flat used node piece marks (shape_item texts table x)
-  item_filled piece marks (item.Word span) fit = bytes_filled symbols (span_text texts span)
-  item_filled piece marks (item.Sign span) fit = bytes_filled symbols (span_text texts span)
-  item_filled piece marks (item.Quoted span) fit = bytes_filled symbols (span_text texts span)
-  item_filled piece marks item.QuoteBreak fit = refl
-  item_filled piece marks (item.Verbatim span) fit = bytes_filled symbols (span_text texts span)
-  item_filled piece marks (item.Code value) fit = bytes_filled symbols (decimal value)
-  item_filled piece marks item.Blank fit = refl
-  item_filled piece marks item.LineEnd fit = refl
   item_filled piece marks (item.LineMark origin) fit = refl
   item_filled piece marks (item.UseOf occurrence) fit =
       name_filled piece marks (resolved_at table occurrence) (inside occurrence) fit
   item_filled piece marks item.Defs fit = refl
+  item_filled piece marks x fit = bytes_filled symbols (bytes_in texts x)
 
   name_marks : (marks : ℕ) (r : Resolved) → marks_after_shape_item marks (use_of table r) ≡ marks
   name_marks marks (Name id) = refl
@@ -65,17 +58,8 @@ module _ (texts : List (List ℕ)) (table : TableRead) (has_piece : ℕ → Bool
 
   item_marks : (marks : ℕ) (x : Item)
       → marks_after_item marks x ≡ marks_after_shape_item marks (shape_item texts table x)
-  item_marks marks (item.Word span) = refl
-  item_marks marks (item.Sign span) = refl
-  item_marks marks (item.Quoted span) = refl
-  item_marks marks item.QuoteBreak = refl
-  item_marks marks (item.Verbatim span) = refl
-  item_marks marks (item.Code value) = refl
-  item_marks marks item.Blank = refl
-  item_marks marks item.LineEnd = refl
-  item_marks marks (item.LineMark origin) = refl
   item_marks marks (item.UseOf occurrence) = sym (name_marks marks (resolved_at table occurrence))
-  item_marks marks item.Defs = refl
+  item_marks marks _ = refl
 
   items_filled : (piece marks : ℕ) (items : List Item)
       → ((id : ℕ) → id < length table.names
@@ -84,15 +68,13 @@ module _ (texts : List (List ℕ)) (table : TableRead) (has_piece : ℕ → Bool
       ≡ items_flat used node piece marks (map (shape_item texts table) items)
   items_filled piece marks [] fit = refl
   items_filled piece marks (x ∷ items) fit =
-      flat_map-append (filled_slot symbols) (item_slots texts table has_piece node piece marks x)
-      (items_slots texts table has_piece node piece (marks_after_item marks x) items)
-      ∙ ap (λ l. l ++ filled symbols (items_slots texts table has_piece node piece (marks_after_item marks x) items))
-      (item_filled piece marks x (λ id low u. fit id low (inl u)))
-      ∙ ap (λ l. item_flat used node piece marks (shape_item texts table x) ++ l)
-      (items_filled piece (marks_after_item marks x) items (λ id low u. fit id low (inr u)))
-      ∙ ap
-      (λ m. item_flat used node piece marks (shape_item texts table x)
-      ++ items_flat used node piece m (map (shape_item texts table) items)) (item_marks marks x)
+      cc (
+        flat_map-append (filled_slot symbols) (item_slots texts table has_piece node piece marks x)
+            (items_slots texts table has_piece node piece (marks_after_item marks x) items),
+        item_filled piece marks x (λ id low u. fit id low (inl u)),
+        items_filled piece (marks_after_item marks x) items (λ id low u. fit id low (inr u)),
+        item_marks marks x,
+      )
 
   pub pieces_filled : (piece : ℕ) (pieces : List PieceRead)
       → ((id : ℕ) → id < length table.names
@@ -102,13 +84,12 @@ module _ (texts : List (List ℕ)) (table : TableRead) (has_piece : ℕ → Bool
       ≡ pieces_flat used node piece (map (λ p. map (shape_item texts table) p.items) pieces)
   pieces_filled piece [] fit = refl
   pieces_filled piece (p ∷ pieces) fit =
-      ap (λ l. Opening node piece ∷ MarkOf node piece 0 ∷ l)
-      (flat_map-append (filled_slot symbols) (items_slots texts table has_piece node piece 0 p.items)
-      (pieces_slots texts table has_piece node (piece + 1) pieces)
-      ∙ ap (λ l. l ++ filled symbols (pieces_slots texts table has_piece node (piece + 1) pieces))
-      (items_filled piece 0 p.items (λ id low u. fit id low (inl u)))
-      ∙ ap (λ l. items_flat used node piece 0 (map (shape_item texts table) p.items) ++ l)
-      (pieces_filled (piece + 1) pieces (λ id low u. fit id low (inr u))))
+      cc (
+        flat_map-append (filled_slot symbols) (items_slots texts table has_piece node piece 0 p.items)
+            (pieces_slots texts table has_piece node (piece + 1) pieces),
+        items_filled piece 0 p.items (λ id low u. fit id low (inl u)),
+        pieces_filled (piece + 1) pieces (λ id low u. fit id low (inr u)),
+      )
 
 -- the slots of a node, filled with the expansions of the names that it uses, are its expansion
 pub node_filled : (web : WebRead) (table : TableRead) (has_piece : ℕ → Bool)

@@ -6,8 +6,6 @@ mod PieceLemmas
 pub mod NumberLemmas
 pub mod LookupLemmas
 pub mod MacroEndLemmas
-mod EscapeLemmas
-pub mod FileLemmas
 pub mod OriginLemmas
 pub mod WriteLemmas
 pub mod WrittenLemmas

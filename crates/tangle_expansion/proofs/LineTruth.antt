@@ -1,9 +1,9 @@
 -- In a whole output, each byte of an item is at its own origin.
-use Rattle.std.proofs.Common.{◌≡◌, ◌∙◌, ℕ, ◌+◌, zero, suc, Bool, true, false, List, [], ◌∷◌, ◌++◌, map, drop, get_or}
+use Rattle.std.proofs.Common.{◌≡◌, ℕ, ◌+◌, zero, suc, Bool, true, false, List, [], ◌∷◌, ◌++◌, map, drop, get_or}
 use Rattle.std.proofs.Common.{Option, None, Some, refl, ap, subst, sym, arith}
 use Rattle.std.specs.Prelude.{filter, flat_map, if◌then◌else◌, slice_index_or}
 use Rattle.std.specs.List.{AllZip}
-use Rattle.tangle_faults.specs.declared.faults.Origin.{Origin}
+use Rattle.tangle_lines.specs.declared.origin.Origin.{Origin}
 use Rattle.tangle_lines.specs.Reading.{SourceLine, SourceRead, origin_at}
 use Rattle.tangle_scan.specs.declared.items.Item.{Item}
 use Rattle.tangle_scan.specs.declared.items.Item.TheVariants as item
@@ -21,7 +21,7 @@ use Rattle.tangle_expansion.specs.Limits.{levels, flat_of}
 use Rattle.tangle_expansion.specs.Outputs.{IsTrueToLines}
 use Rattle.tangle_expansion.proofs.WithoutClasses.{without_classes}
 use Rattle.tangle_expansion.proofs.NumberLemmas.{node_numbers_of}
-use Rattle.tangle_expansion.specs.Numbers.{NumbersRead, PieceNumbersRead, no_origin, no_numbers, numbers_of}
+use Rattle.tangle_expansion.specs.Numbers.{NumbersRead, no_origin, no_numbers, numbers_of}
 use Rattle.tangle_expansion.specs.Numbers.{expansion_bytes}
 use Rattle.tangle_expansion.specs.Numbers.{node_numbers, numbers_at, origin_of_mark, numbers_of_piece, item_origins}
 use Rattle.tangle_expansion.specs.Location.{OfItem, Other, LocatedItem, LocatedSymbol, origin_after, AreAtTheirOrigins}
@@ -72,26 +72,16 @@ module _ (numbers : NumbersRead) where
   use_is_located table used node piece marks items all h q NoFullName = (tt, h q)
   use_is_located table used node piece marks items all h q Ambiguous = (tt, h q)
 
--- the next mark of a piece
-pub next_mark : (marks : List Origin) (k : ℕ) (origin : Origin) (origins : List Origin)
-    → drop k marks ≡ origin ∷ origins → (get_or marks k no_origin ≡ origin) × (drop (k + 1) marks ≡ origins)
-next_mark [] zero origin origins e = absurd (cc)
-next_mark [] (suc k) origin origins e = absurd (cc)
-next_mark (m ∷ marks) zero origin origins e = (cc, cc)
-next_mark (m ∷ marks) (suc k) origin origins e =
-    let rest = next_mark marks k origin origins e in
+-- the first of the items from a position on, as the next mark of a piece, and the rest
+pub next_of : {X : Type 0} (d : X) (xs : List X) (k : ℕ) (first : X) (rest : List X)
+    → drop k xs ≡ first ∷ rest → (get_or xs k d ≡ first) × (drop (k + 1) xs ≡ rest)
+next_of d [] zero first rest e = absurd (cc)
+next_of d [] (suc k) first rest e = absurd (cc)
+next_of d (x ∷ xs) zero first rest e = (cc, cc)
+next_of d (x ∷ xs) (suc k) first rest e =
+    let next = next_of d xs k first rest e in
     let more : suc k + 1 ≡ suc (k + 1) = omega arith in
-    (rest.0, ap (λ j. drop j (m ∷ marks)) more ∙ rest.1)
-
-pub next_numbers : (numbers : List PieceNumbersRead) (k : ℕ) (first : PieceNumbersRead) (rest : List PieceNumbersRead)
-    → drop k numbers ≡ first ∷ rest → (get_or numbers k no_numbers ≡ first) × (drop (k + 1) numbers ≡ rest)
-next_numbers [] zero first rest e = absurd (cc)
-next_numbers [] (suc k) first rest e = absurd (cc)
-next_numbers (n ∷ numbers) zero first rest e = (cc, cc)
-next_numbers (n ∷ numbers) (suc k) first rest e =
-    let next = next_numbers numbers k first rest e in
-    let more : suc k + 1 ≡ suc (k + 1) = omega arith in
-    (next.0, ap (λ j. drop j (n ∷ numbers)) more ∙ next.1)
+    (next.0, rw more next.1)
 
 module _ (numbers : NumbersRead) (full : numbers.marks ≡ Full)
     (texts : List (List ℕ)) (table : TableRead) (lines : List SourceLine)
@@ -103,31 +93,6 @@ module _ (numbers : NumbersRead) (full : numbers.marks ≡ Full)
       → AllZip (IsOwn lines) (counted_items p items) ss
       → AreAtTheirOrigins numbers q (items_located used node piece marks (located_items texts table lines ss items))
   items_are_located node piece marks p q agrees [] ss origins own = (tt, tt)
-  items_are_located node piece marks p q agrees (item.Word span ∷ items) [] origins own = elim own [ ]
-  items_are_located node piece marks p q agrees (item.Word span ∷ items) (s ∷ ss) origins own =
-      bytes_are_located numbers q (origin_at lines s.line) s.in_stretch
-      _ _ (λ out. Agrees-at p q _ agrees (own.0.origin out))
-      (items_are_located node piece marks p q agrees items ss origins own.1)
-  items_are_located node piece marks p q agrees (item.Sign span ∷ items) [] origins own = elim own [ ]
-  items_are_located node piece marks p q agrees (item.Sign span ∷ items) (s ∷ ss) origins own =
-      bytes_are_located numbers q (origin_at lines s.line) s.in_stretch
-      _ _ (λ out. Agrees-at p q _ agrees (own.0.origin out))
-      (items_are_located node piece marks p q agrees items ss origins own.1)
-  items_are_located node piece marks p q agrees (item.Quoted span ∷ items) [] origins own = elim own [ ]
-  items_are_located node piece marks p q agrees (item.Quoted span ∷ items) (s ∷ ss) origins own =
-      bytes_are_located numbers q (origin_at lines s.line) s.in_stretch
-      _ _ (λ out. Agrees-at p q _ agrees (own.0.origin out))
-      (items_are_located node piece marks p q agrees items ss origins own.1)
-  items_are_located node piece marks p q agrees (item.Verbatim span ∷ items) [] origins own = elim own [ ]
-  items_are_located node piece marks p q agrees (item.Verbatim span ∷ items) (s ∷ ss) origins own =
-      bytes_are_located numbers q (origin_at lines s.line) s.in_stretch
-      _ _ (λ out. Agrees-at p q _ agrees (own.0.origin out))
-      (items_are_located node piece marks p q agrees items ss origins own.1)
-  items_are_located node piece marks p q agrees (item.Code value ∷ items) [] origins own = elim own [ ]
-  items_are_located node piece marks p q agrees (item.Code value ∷ items) (s ∷ ss) origins own =
-      bytes_are_located numbers q (origin_at lines s.line) s.in_stretch
-      _ _ (λ out. Agrees-at p q _ agrees (own.0.origin out))
-      (items_are_located node piece marks p q agrees items ss origins own.1)
   items_are_located node piece marks p q agrees (item.QuoteBreak ∷ items) ss origins own = (
     tt,
     items_are_located node piece marks (with_line_end p) (with_line_end q)
@@ -142,7 +107,7 @@ module _ (numbers : NumbersRead) (full : numbers.marks ≡ Full)
       (tt, items_are_located node piece marks p q agrees items ss origins own)
   items_are_located node piece marks p q agrees (item.LineMark origin ∷ items) ss origins own =
       let next =
-      next_mark (numbers_at numbers node piece).origins (marks + 1) origin (flat_map item_origins items) origins in
+      next_of no_origin (numbers_at numbers node piece).origins (marks + 1) origin (flat_map item_origins items) origins in
       rw full (
         tt,
         items_are_located node piece (marks + 1) (Some origin)
@@ -153,6 +118,12 @@ module _ (numbers : NumbersRead) (full : numbers.marks ≡ Full)
       (λ r. items_are_located node piece marks None r tt items ss origins own) q (resolved_at table occurrence)
   items_are_located node piece marks p q agrees (item.Defs ∷ items) ss origins own =
       (tt, items_are_located node piece marks None None tt items ss origins own)
+  -- a source item
+  items_are_located node piece marks p q agrees (x ∷ items) [] origins own = elim own [ ]
+  items_are_located node piece marks p q agrees (x ∷ items) (s ∷ ss) origins own =
+      bytes_are_located numbers q (origin_at lines s.line) s.in_stretch
+      _ _ (λ out. Agrees-at p q _ agrees (own.0.origin out))
+      (items_are_located node piece marks p q agrees items ss origins own.1)
 
   -- the pieces of a node, from the one with this number on
   pieces_are_located : (node : Title) (piece : ℕ) (pieces : List PieceRead) (locations : List (List Location))
@@ -179,7 +150,7 @@ module _ (numbers : NumbersRead) (full : numbers.marks ≡ Full)
           (if t then located_items texts table lines e p.items ∷ located_pieces texts table lines node pieces locations
           else located_pieces texts table lines node pieces locations))
       by true is more =
-          let next = next_numbers (node_numbers numbers node) piece (numbers_of_piece p)
+          let next = next_of no_numbers (node_numbers numbers node) piece (numbers_of_piece p)
           (map numbers_of_piece (filter (is_piece_of table node) pieces)) is in
           let mark : origin_of_mark numbers node piece 0 ≡ p.origin = ap (λ n. get_or n.origins 0 no_origin) next.0 in
           let marks : drop (0 + 1) (numbers_at numbers node piece).origins ≡ flat_map item_origins p.items =

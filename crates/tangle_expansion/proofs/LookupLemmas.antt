@@ -7,6 +7,7 @@ use Rattle.std.specs.Map.{lookup}
 use Rattle.std.specs.Option.{option_map_or}
 use Rattle.std.specs.Str.{bytes_eq}
 use Rattle.std.proofs.lemmas.List.{get_or_past}
+use Rattle.std.proofs.lemmas.List.Elements.{All-nil, All-cons}
 use Rattle.std.proofs.lemmas.Option.{unwrap_or-slice_get}
 use borrow.Author.Tests.{ltb-false}
 use Rattle.digraph.specs.Graph.{row_at}
@@ -50,13 +51,11 @@ found_row name names (row ∷ rows) found size is =
 -- rows of short pieces give short entries
 pub zip_short : (names : List (List ℕ)) (rows : List (List PieceNumbersRead))
     → All (All IsShort) rows → All EntryIsShort (zip names rows)
-zip_short [] rows h = λ i d none. absurd (omega (arith, none))
-zip_short (name ∷ names) [] h = λ i d none. absurd (omega (arith, none))
-zip_short (name ∷ names) (row ∷ rows) h = at (zip_short names rows (λ i d low. h (suc i) d (omega (arith, low))))
-  where
-    at : All EntryIsShort (zip names rows) → All EntryIsShort (zip (name ∷ names) (row ∷ rows))
-    at rest zero d within = h zero row (omega arith)
-    at rest (suc i) d within = rest i d (omega (arith, within))
+zip_short [] rows h = All-nil EntryIsShort
+zip_short (name ∷ names) [] h = All-nil EntryIsShort
+zip_short (name ∷ names) (row ∷ rows) h =
+    All-cons EntryIsShort (name, row) (zip names rows) (h zero row (omega arith))
+    (zip_short names rows (λ i d low. h (suc i) d (omega (arith, low))))
 
 -- each name beside what is made of its row
 pub zip_made : {X : Type 0} (f : X → List PieceNumbersRead) (g : List ℕ → X) (names : List (List ℕ))

@@ -1,6 +1,6 @@
 -- The items of a macro without those that are dropped at its end.
 use Rattle.std.proofs.Common.{◌≡◌, ℕ, ◌-◌, ◌<◌, ◌≤◌, suc, Bool, true, false, List, [], ◌∷◌, ◌++◌, length, take, get_or}
-use Rattle.std.proofs.Common.{All, refl, sym, ap, ◌∙◌, arith}
+use Rattle.std.proofs.Common.{All, refl, ap, ◌∙◌, arith}
 use Rattle.std.proofs.Math.Seq.{take-suc}
 use Rattle.std.proofs.lemmas.List.Elements.{All-take}
 use Rattle.tangle_scan.specs.declared.items.Item.{Item}
@@ -37,28 +37,23 @@ module _ (texts : List (List ℕ)) where
   pub All-without_end : (P : Item → Type 0) (xs : List Item) → All P xs → All P (without_end texts xs)
   All-without_end P xs all = rw (is_front xs).1 (All-take P (is_front xs).0 xs all)
 
-  dropped_by : (xs : List Item) (n m : ℕ) (d : Item)
-      → n ≡ suc m → n ≤ length xs → is_dropped_at_end texts (get_or xs m d) ≡ true
-      → without_end texts (take n xs) ≡ without_end texts (take m xs)
-  dropped_by xs n m d is within dropped =
-      let one : take n xs ≡ take m xs ++ get_or xs m d ∷ [] = ap (λ k. take k xs) is ∙ take-suc xs m d (omega arith) in
-      ap (without_end texts) one ∙ dropped_last (take m xs) (get_or xs m d) dropped
-
-  written_by : (xs : List Item) (n m : ℕ) (d : Item)
-      → n ≡ suc m → n ≤ length xs → is_dropped_at_end texts (get_or xs m d) ≡ false
-      → without_end texts (take n xs) ≡ take n xs
-  written_by xs n m d is within written =
-      let one : take n xs ≡ take m xs ++ get_or xs m d ∷ [] = ap (λ k. take k xs) is ∙ take-suc xs m d (omega arith) in
-      ap (without_end texts) one ∙ (written_last (take m xs) (get_or xs m d) written ∙ sym one)
+  -- a prefix, and its last item
+  parted : (xs : List Item) (n : ℕ) (d : Item)
+      → 0 < n → n ≤ length xs → take n xs ≡ take (n - 1) xs ++ get_or xs (n - 1) d ∷ []
+  parted xs n d some within =
+      let is : n ≡ suc (n - 1) = omega arith in
+      ap (λ k. take k xs) is ∙ take-suc xs (n - 1) d (omega arith)
 
   -- a prefix whose last item is dropped
   pub dropped_at : (xs : List Item) (n : ℕ) (d : Item)
       → 0 < n → n ≤ length xs → is_dropped_at_end texts (get_or xs (n - 1) d) ≡ true
       → without_end texts (take n xs) ≡ without_end texts (take (n - 1) xs)
-  dropped_at xs n d some within dropped = dropped_by xs n (n - 1) d (omega arith) within dropped
+  dropped_at xs n d some within dropped =
+      rw (parted xs n d some within) (dropped_last (take (n - 1) xs) (get_or xs (n - 1) d) dropped)
 
   -- a prefix whose last item is written
   pub written_at : (xs : List Item) (n : ℕ) (d : Item)
       → 0 < n → n ≤ length xs → is_dropped_at_end texts (get_or xs (n - 1) d) ≡ false
       → without_end texts (take n xs) ≡ take n xs
-  written_at xs n d some within written = written_by xs n (n - 1) d (omega arith) within written
+  written_at xs n d some within written =
+      rw (parted xs n d some within) (written_last (take (n - 1) xs) (get_or xs (n - 1) d) written)

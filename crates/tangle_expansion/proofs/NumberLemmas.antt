@@ -1,11 +1,12 @@
 -- The numbers of a node are those of its pieces.
-use Rattle.std.proofs.Common.{◌≡◌, ◌∙◌, ℕ, Bool, true, false, List, [], ◌∷◌, map, length, Option, None, Some, refl, ap}
+use Rattle.std.proofs.Common.{◌≡◌, ℕ, Bool, true, false, List, [], ◌∷◌, map, length, Option, None, Some, refl, ap}
 use Rattle.std.proofs.Common.{sym}
 use Rattle.std.specs.Prelude.{filter, if◌then◌else◌, ◌||◌, unwrap_or, slice_index_or}
 use Rattle.std.specs.Map.{lookup}
 use Rattle.std.specs.List.{list_any}
 use Rattle.std.specs.Str.{bytes_eq}
 use Rattle.std.proofs.lemmas.Slice.Eq.{bytes_eq-Decides}
+use Rattle.std.proofs.lemmas.Bool.{false_from_ne_true, both_ways}
 use Rattle.std.proofs.lemmas.List.Folds.{list_any_at}
 use Rattle.tangle_scan.specs.Web.{WebRead, PieceRead}
 use Rattle.tangle_names.specs.declared.Resolved.{Resolved}
@@ -17,38 +18,24 @@ use Rattle.tangle_plans.specs.WebShapes.{IsNameBelow, ResolvesInside}
 use Rattle.tangle_expansion.specs.Numbers.{numbers_of_piece, numbers_of, node_numbers}
 use Rattle.tangle_files.specs.declared.marks.MarkMode.{MarkMode}
 
-module _ {A : Type 0} (f : List ℕ → A) (name : List ℕ) where
-  lookup_found : (names : List (List ℕ))
-      → list_any (bytes_eq name) names ≡ true → lookup (bytes_eq name) (map (λ n. (n, f n)) names) ≡ Some (f name)
-  lookup_found [] h = absurd (cc)
-  lookup_found (n ∷ names) h = by (bytes_eq name n) refl h (lookup_found names)
-    where
-      by : (t : Bool) → bytes_eq name n ≡ t → (t || list_any (bytes_eq name) names) ≡ true
-          → (list_any (bytes_eq name) names ≡ true → lookup (bytes_eq name) (map (λ n. (n, f n)) names) ≡ Some (f name))
-          → (if t then Some (f n) else lookup (bytes_eq name) (map (λ n. (n, f n)) names)) ≡ Some (f name)
-      by true e h more = ap (λ n. Some (f n)) (sym ((bytes_eq-Decides name n).0 e))
-      by false e h more = more h
-
-  lookup_none : (names : List (List ℕ))
-      → list_any (bytes_eq name) names ≡ false → lookup (bytes_eq name) (map (λ n. (n, f n)) names) ≡ None
-  lookup_none [] h = refl
-  lookup_none (n ∷ names) h = by (bytes_eq name n) h (lookup_none names)
-    where
-      by : (t : Bool) → (t || list_any (bytes_eq name) names) ≡ false
-          → (list_any (bytes_eq name) names ≡ false → lookup (bytes_eq name) (map (λ n. (n, f n)) names) ≡ None)
-          → (if t then Some (f n) else lookup (bytes_eq name) (map (λ n. (n, f n)) names)) ≡ None
-      by true h more = absurd (cc)
-      by false h more = more h
+-- a row of each name, of which one without the name is empty
+looked_up : {A : Type 0} (f : List ℕ → List A) (name : List ℕ) (names : List (List ℕ))
+    → (list_any (bytes_eq name) names ≡ false → f name ≡ [])
+    → unwrap_or (lookup (bytes_eq name) (map (λ n. (n, f n)) names)) [] ≡ f name
+looked_up f name [] none = sym (none refl)
+looked_up f name (n ∷ names) none = by (bytes_eq name n) refl none (looked_up f name names)
+  where
+    by : (t : Bool) → bytes_eq name n ≡ t → ((t || list_any (bytes_eq name) names) ≡ false → f name ≡ [])
+        → ((list_any (bytes_eq name) names ≡ false → f name ≡ [])
+        → unwrap_or (lookup (bytes_eq name) (map (λ n. (n, f n)) names)) [] ≡ f name)
+        → unwrap_or (if t then Some (f n) else lookup (bytes_eq name) (map (λ n. (n, f n)) names)) [] ≡ f name
+    by true e none more = ap f (sym ((bytes_eq-Decides name n).0 e))
+    by false e none more = more none
 
 module _ (table : TableRead) (name : List ℕ) (none : list_any (bytes_eq name) table.names ≡ false) where
   no_node : (r : Resolved) → IsNameBelow (length table.names) r → is_node table (Named name) (node_of table r) ≡ false
-  no_node (Name id) h = by (bytes_eq name (slice_index_or table.names id [])) refl
-    where
-      by : (t : Bool) → bytes_eq name (slice_index_or table.names id []) ≡ t → t ≡ false
-      by true e = absurd (let found : list_any (bytes_eq name) table.names ≡ true =
-          list_any_at (bytes_eq name) table.names id [] h e in
-          cc)
-      by false e = refl
+  no_node (Name id) h = false_from_ne_true (bytes_eq name (slice_index_or table.names id []))
+      (λ e. both_ways _ none (list_any_at (bytes_eq name) table.names id [] h e))
   no_node NoFullName h = refl
   no_node Ambiguous h = refl
 
@@ -59,24 +46,11 @@ module _ (table : TableRead) (name : List ℕ) (none : list_any (bytes_eq name) 
   no_pieces : ResolvesInside table → (pieces : List PieceRead) → filter (is_piece_of table (Named name)) pieces ≡ []
   no_pieces inside [] = refl
   no_pieces inside (p ∷ pieces) =
-      ap
-      (λ t. if t then p ∷ filter (is_piece_of table (Named name)) pieces
-      else filter (is_piece_of table (Named name)) pieces) (no_piece inside p.occurrence)
-      ∙ no_pieces inside pieces
+      rw (no_piece inside p.occurrence) (no_pieces inside pieces)
 
 pub node_numbers_of : (web : WebRead) (table : TableRead) (marks : MarkMode) → ResolvesInside table → (node : Title)
     → node_numbers (numbers_of web table marks) node ≡ map numbers_of_piece (pieces_of web table node)
 node_numbers_of web table marks inside Program = refl
-node_numbers_of web table marks inside (Named name) = by (list_any (bytes_eq name) table.names) refl
-  where
-    by : (t : Bool) → list_any (bytes_eq name) table.names ≡ t
-        → unwrap_or
-        (lookup (bytes_eq name)
-        (map (λ name. (name, map numbers_of_piece (pieces_of web table (Named name)))) table.names)) []
-        ≡ map numbers_of_piece (pieces_of web table (Named name))
-    by true e = ap (λ o. unwrap_or o [])
-        (lookup_found (λ name. map numbers_of_piece (pieces_of web table (Named name))) name table.names e)
-    by false e =
-        ap (λ o. unwrap_or o [])
-        (lookup_none (λ name. map numbers_of_piece (pieces_of web table (Named name))) name table.names e)
-        ∙ ap (map numbers_of_piece) (sym (no_pieces table name e inside web.pieces))
+node_numbers_of web table marks inside (Named name) =
+    looked_up (λ name. map numbers_of_piece (pieces_of web table (Named name))) name table.names
+    (λ none. ap (map numbers_of_piece) (no_pieces table name none inside web.pieces))

@@ -1,12 +1,13 @@
 -- The bytes of a node are those of its pieces.
 use Rattle.std.proofs.Common.{◌≡◌, ◌∙◌, ℕ, ◌+◌, List, [], ◌∷◌, ◌++◌, map, drop, get_or, refl, ap, sym, append_assoc}
 use Rattle.std.proofs.Common.{append-nil}
-use Rattle.std.specs.Prelude.{decimal, flat_map, slice_index_or}
+use Rattle.std.proofs.lemmas.Grind.{flat_map-append}
+use Rattle.std.specs.Prelude.{flat_map, slice_index_or}
 use Rattle.tangle_files.specs.Bytes.{space, line_feed}
-use Rattle.tangle_faults.specs.declared.faults.Origin.{Origin}
+use Rattle.tangle_lines.specs.declared.origin.Origin.{Origin}
 use Rattle.tangle_scan.specs.declared.items.Item.{Item}
 use Rattle.tangle_scan.specs.declared.items.Item.TheVariants as item
-use Rattle.tangle_scan.specs.Rules.{span_text}
+use Rattle.tangle_scan.specs.ItemBytes.{bytes_in}
 use Rattle.tangle_scan.specs.Web.{PieceRead}
 use Rattle.tangle_names.specs.declared.Resolved.{Resolved}
 use Rattle.tangle_names.specs.declared.Resolved.TheVariants.{Name, NoFullName, Ambiguous}
@@ -16,12 +17,12 @@ use Rattle.tangle_plans.specs.Flat.{Symbol, Byte, MarkOf, items_flat, pieces_fla
 use Rattle.tangle_plans.specs.WebShapes.{resolved_at, shape_item, use_of}
 use Rattle.tangle_files.specs.declared.marks.MarkMode.{MarkMode}
 use Rattle.tangle_files.specs.declared.marks.MarkMode.TheVariants.{Full, Bare}
-use Rattle.tangle_expansion.specs.Numbers.{NumbersRead, closing_bytes, expansion_bytes, item_origins, mark_bytes}
-use Rattle.tangle_expansion.specs.Numbers.{mark_bytes_at, no_origin, node_numbers, numbers_at, numbers_of_piece}
+use Rattle.tangle_expansion.specs.Numbers.{NumbersRead, symbol_bytes, closing_bytes, expansion_bytes, item_origins, mark_bytes}
+use Rattle.tangle_expansion.specs.Numbers.{mark_bytes_at, no_origin, no_numbers, node_numbers, numbers_at, numbers_of_piece}
 use Rattle.tangle_expansion.specs.Numbers.{opening_bytes, origin_of_mark}
 use Rattle.tangle_expansion.specs.PieceBytes.{bytes_after_mark, items_bytes, piece_bytes, resolved_bytes, used_bytes}
-use Rattle.tangle_expansion.proofs.LineTruth.{next_mark, next_numbers}
-use Rattle.tangle_expansion.proofs.WrittenLemmas.{written-append, written-bytes}
+use Rattle.tangle_expansion.proofs.LineTruth.{next_of}
+use Rattle.tangle_expansion.proofs.WrittenLemmas.{written-bytes}
 
 then : (own tail closing rest whole : List ℕ)
     → whole ≡ own ++ rest → rest ≡ tail ++ closing → whole ≡ (own ++ tail) ++ closing
@@ -46,7 +47,7 @@ module _ (numbers : NumbersRead) where
   bytes_then : (bytes : List ℕ) (rest : List Symbol)
       → expansion_bytes numbers (map Byte bytes ++ rest) ≡ bytes ++ expansion_bytes numbers rest
   bytes_then bytes rest =
-      written-append numbers (map Byte bytes) rest
+      flat_map-append (symbol_bytes numbers) (map Byte bytes) rest
       ∙ ap (λ l. l ++ expansion_bytes numbers rest) (written-bytes numbers bytes)
 
   mark_then : (node : Title) (piece mark : ℕ) (origin : Origin) (rest : List Symbol)
@@ -64,7 +65,7 @@ module _ (numbers : NumbersRead) where
         ≡ (space ∷ resolved_bytes numbers table used r)
         ++ expansion_bytes numbers (items_flat used node piece marks items)
     use_then piece marks items (Name id) = ap (λ l. space ∷ l)
-        (written-append numbers (used (slice_index_or table.names id [])) (items_flat used node piece marks items))
+        (flat_map-append (symbol_bytes numbers) (used (slice_index_or table.names id [])) (items_flat used node piece marks items))
     use_then piece marks items NoFullName = refl
     use_then piece marks items Ambiguous = refl
 
@@ -74,25 +75,9 @@ module _ (numbers : NumbersRead) where
         → expansion_bytes numbers (items_flat used node piece marks (map (shape_item texts table) items))
         ≡ items_bytes numbers table used texts items ++ closing_bytes (numbers_at numbers node piece).section
     items_written piece marks [] origins = append-nil (closing_bytes (numbers_at numbers node piece).section)
-    items_written piece marks (item.Word span ∷ items) origins =
-        then _ _ _ _ _ (bytes_then (span_text texts span) _) (items_written piece marks items origins)
-    items_written piece marks (item.Sign span ∷ items) origins =
-        then _ _ _ _ _ (bytes_then (span_text texts span) _) (items_written piece marks items origins)
-    items_written piece marks (item.Quoted span ∷ items) origins =
-        then _ _ _ _ _ (bytes_then (span_text texts span) _) (items_written piece marks items origins)
-    items_written piece marks (item.Verbatim span ∷ items) origins =
-        then _ _ _ _ _ (bytes_then (span_text texts span) _) (items_written piece marks items origins)
-    items_written piece marks (item.Code value ∷ items) origins =
-        then _ _ _ _ _ (bytes_then (decimal value) _) (items_written piece marks items origins)
-    items_written piece marks (item.QuoteBreak ∷ items) origins =
-        ap (λ l. line_feed ∷ l) (items_written piece marks items origins)
-    items_written piece marks (item.LineEnd ∷ items) origins =
-        ap (λ l. line_feed ∷ l) (items_written piece marks items origins)
-    items_written piece marks (item.Blank ∷ items) origins =
-        ap (λ l. space ∷ l) (items_written piece marks items origins)
     items_written piece marks (item.LineMark origin ∷ items) origins =
         let next =
-        next_mark (numbers_at numbers node piece).origins (marks + 1) origin (flat_map item_origins items) origins in
+        next_of no_origin (numbers_at numbers node piece).origins (marks + 1) origin (flat_map item_origins items) origins in
         then (line_feed ∷ bytes_after_mark numbers origin) _ _ _ _
         (mark_then node piece (marks + 1) origin _ next.0) (items_written piece (marks + 1) items next.1)
     items_written piece marks (item.UseOf occurrence ∷ items) origins =
@@ -101,6 +86,11 @@ module _ (numbers : NumbersRead) where
         (items_written piece marks items origins)
     items_written piece marks (item.Defs ∷ items) origins =
         then (line_feed ∷ numbers.macros) _ _ _ _ refl (items_written piece marks items origins)
+    -- an item that is bytes
+    items_written piece marks (x ∷ items) origins =
+        then (bytes_in texts x) (items_bytes numbers table used texts items)
+        (closing_bytes (numbers_at numbers node piece).section) _ _
+        (bytes_then (bytes_in texts x) _) (items_written piece marks items origins)
 
     -- the pieces of a node, from the one with this number on
     pub pieces_written : (piece : ℕ) (pieces : List PieceRead)
@@ -111,7 +101,7 @@ module _ (numbers : NumbersRead) where
     pieces_written piece [] are = refl
     pieces_written piece (p ∷ pieces) are =
         let next =
-        next_numbers (node_numbers numbers node) piece (numbers_of_piece p) (map numbers_of_piece pieces) are in
+        next_of no_numbers (node_numbers numbers node) piece (numbers_of_piece p) (map numbers_of_piece pieces) are in
         let section : (numbers_at numbers node piece).section ≡ p.section = ap (λ n. n.section) next.0 in
         let mark : origin_of_mark numbers node piece 0 ≡ p.origin = ap (λ n. get_or n.origins 0 no_origin) next.0 in
         let marks : drop (0 + 1) (numbers_at numbers node piece).origins ≡ flat_map item_origins p.items =
@@ -124,7 +114,7 @@ module _ (numbers : NumbersRead) where
         piece_then (opening_bytes (numbers_at numbers node piece).section)
         (mark_bytes_at numbers (origin_of_mark numbers node piece 0)) _ _ _
         items (closing_bytes (numbers_at numbers node piece).section) rest
-        (written-append numbers inner after) (items_written piece 0 p.items marks)
+        (flat_map-append (symbol_bytes numbers) inner after) (items_written piece 0 p.items marks)
         (pieces_written (piece + 1) pieces next.1)
         ∙ ap
         (λ (n : ℕ). opening_bytes n ++ mark_bytes_at numbers (origin_of_mark numbers node piece 0)

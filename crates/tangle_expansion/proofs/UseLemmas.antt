@@ -1,14 +1,15 @@
 -- The uses of a plan, one after another, and the plan filled with their symbols.
-use Rattle.std.proofs.Common.{◌≡◌, ◌∙◌, ℕ, ◌+◌, ◌<◌, ◌≤◌, zero, suc, List, [], ◌∷◌, ◌++◌, map, drop, length, get_or}
-use Rattle.std.proofs.Common.{refl, ap, sym, subst, append_assoc, append-nil, arith}
+use Rattle.std.proofs.Common.{◌≡◌, ℕ, ◌+◌, ◌<◌, ◌≤◌, zero, suc, List, [], ◌∷◌, ◌++◌, map, drop, length, get_or}
+use Rattle.std.proofs.Common.{refl, ap, append_assoc, append-nil, arith}
 use Rattle.std.specs.Prelude.{Contains}
 use Rattle.std.proofs.lemmas.List.{map-append, drop_all}
 use Rattle.std.proofs.lemmas.List.Elements.{Contains-append_left, Contains-append_right}
 use Rattle.std.proofs.lemmas.Grind.{flat_map-append}
 use Rattle.tangle_files.specs.Bytes.{space}
 use Rattle.tangle_plans.specs.Shapes.{Title}
-use Rattle.tangle_plans.specs.Flat.{Symbol, Byte, Opening, MarkOf, Closing, AllMacros}
-use Rattle.tangle_plans.specs.Meaning.{bytes_between, plan_flat}
+use Rattle.tangle_plans.specs.Flat.{Symbol, Byte}
+use Rattle.tangle_plans.specs.Meaning.{bytes_between, plan_flat, own_symbols, pieces_after_step, marks_after_step}
+use Rattle.tangle_plans.specs.Meaning.{bytes_after_step}
 use Rattle.tangle_plans.specs.Slots.{Own, slots, filled_slot, filled, step_uses, uses_of}
 use Rattle.tangle_plans.specs.declared.steps.Step.{Step}
 use Rattle.tangle_plans.specs.declared.steps.Step.TheVariants as step
@@ -16,34 +17,28 @@ use Rattle.tangle_plans.proofs.DropLemmas.{drop_at}
 
 pub used_in_plan : (plan seen : List Step) (i : ℕ) (d : Step) (id : ℕ)
     → seen ≡ plan → i < length seen → Contains (step_uses (get_or seen i d)) id → Contains (uses_of plan) id
-used_in_plan plan seen i d id same h c = subst (λ l. Contains (uses_of l) id) same (among seen i h c)
+used_in_plan plan seen i d id same h c = rw same at (among seen i h c)
   where
     among : (xs : List Step) (i : ℕ)
         → i < length xs → Contains (step_uses (get_or xs i d)) id → Contains (uses_of xs) id
     among [] i h c = absurd (omega (arith, h))
     among (x ∷ xs) zero h c = Contains-append_left (step_uses x) (uses_of xs) id c
     among (x ∷ xs) (suc i) h c =
-        let low : i < length xs = omega (arith, h) in
-        Contains-append_right (step_uses x) (uses_of xs) id (among xs i low c)
+        Contains-append_right (step_uses x) (uses_of xs) id (among xs i (omega (arith, h)) c)
 
 pub uses_next : (symbols : ℕ → List Symbol) (plan seen : List Step) (i : ℕ) (s : Step) (done : List (List Symbol))
     → seen ≡ plan → i < length seen → s ≡ get_or seen i s
     → done ++ map symbols (uses_of (drop i plan)) ≡ map symbols (uses_of plan)
     → (done ++ map symbols (step_uses s)) ++ map symbols (uses_of (drop (i + 1) plan)) ≡ map symbols (uses_of plan)
 uses_next symbols plan seen i s done same h is e =
-    let next : drop i plan ≡ s ∷ drop (i + 1) plan =
-    ap (drop i) (sym same) ∙ drop_at seen i s h is ∙ ap (λ l. s ∷ drop (i + 1) l) same in
-    append_assoc done (map symbols (step_uses s)) (map symbols (uses_of (drop (i + 1) plan)))
-    ∙ ap (λ l. done ++ l) (sym (map-append symbols (step_uses s) (uses_of (drop (i + 1) plan))))
-    ∙ ap (λ l. done ++ map symbols (uses_of l)) (sym next)
-    ∙ e
+    let next : drop i plan ≡ s ∷ drop (i + 1) plan = rw same at (drop_at seen i s h is) in
+    rw (append_assoc, ← map-append) (rw next at e)
 
 pub uses_end : (symbols : ℕ → List Symbol) (plan seen : List Step) (i : ℕ) (done : List (List Symbol))
     → seen ≡ plan → length seen ≤ i
     → done ++ map symbols (uses_of (drop i plan)) ≡ map symbols (uses_of plan) → done ≡ map symbols (uses_of plan)
 uses_end symbols plan seen i done same h e =
-    sym (append-nil done)
-    ∙ ap (λ l. done ++ map symbols (uses_of l)) (sym (drop_all i plan (omega (arith, h, ap length same)))) ∙ e
+    rw (drop_all i plan (omega (arith, h, ap length same)), append-nil) at e
 
 pub bytes_filled : (symbols : ℕ → List Symbol) (bytes : List ℕ)
     → filled symbols (map (λ b. Own (Byte b)) bytes) ≡ map Byte bytes
@@ -55,21 +50,16 @@ pub plan_filled : (symbols : ℕ → List Symbol) (node : Title) (bytes : List �
     → plan_flat node bytes piece marks start plan (map symbols (uses_of plan))
     ≡ filled symbols (slots node bytes piece marks start plan)
 plan_filled symbols node bytes piece marks start [] = refl
-plan_filled symbols node bytes piece marks start (step.Open ∷ plan) =
-    ap (λ l. Opening node piece ∷ MarkOf node piece 0 ∷ l) (plan_filled symbols node bytes piece 0 start plan)
 plan_filled symbols node bytes piece marks start (step.Bytes end ∷ plan) =
-    ap (λ l. map Byte (bytes_between bytes start end) ++ l) (plan_filled symbols node bytes piece marks end plan)
-    ∙ ap (λ l. l ++ filled symbols (slots node bytes piece marks end plan))
-    (sym (bytes_filled symbols (bytes_between bytes start end)))
-    ∙ sym (flat_map-append (filled_slot symbols)
-    (map (λ b. Own (Byte b)) (bytes_between bytes start end)) (slots node bytes piece marks end plan))
-plan_filled symbols node bytes piece marks start (step.Mark ∷ plan) =
-    ap (λ l. MarkOf node piece (marks + 1) ∷ l) (plan_filled symbols node bytes piece (marks + 1) start plan)
-plan_filled symbols node bytes piece marks start (step.AllMacros ∷ plan) =
-    ap (λ l. AllMacros ∷ l) (plan_filled symbols node bytes piece marks start plan)
-plan_filled symbols node bytes piece marks start (step.Space ∷ plan) =
-    ap (λ l. Byte space ∷ l) (plan_filled symbols node bytes piece marks start plan)
+    cc (
+      plan_filled symbols node bytes piece marks end plan,
+      bytes_filled symbols (bytes_between bytes start end),
+      flat_map-append (filled_slot symbols) (map (λ b. Own (Byte b)) (bytes_between bytes start end))
+          (slots node bytes piece marks end plan),
+    )
 plan_filled symbols node bytes piece marks start (step.Use id ∷ plan) =
     ap (λ l. Byte space ∷ symbols id ++ l) (plan_filled symbols node bytes piece marks start plan)
-plan_filled symbols node bytes piece marks start (step.Close ∷ plan) =
-    ap (λ l. Closing node piece ∷ l) (plan_filled symbols node bytes (piece + 1) 0 start plan)
+plan_filled symbols node bytes piece marks start (s ∷ plan) =
+    ap (λ l. own_symbols node bytes piece marks start s ++ l)
+    (plan_filled symbols node bytes
+    (pieces_after_step piece s) (marks_after_step marks s) (bytes_after_step start s) plan)

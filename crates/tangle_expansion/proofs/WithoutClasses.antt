@@ -1,5 +1,5 @@
 -- Without their classes, the located symbols of a node are its expansion.
-use Rattle.std.proofs.Common.{◌≡◌, ◌∙◌, ℕ, ◌+◌, zero, suc, Bool, true, false, List, [], ◌∷◌, ◌++◌, map, drop, refl, ap}
+use Rattle.std.proofs.Common.{◌≡◌, ◌∙◌, ℕ, ◌+◌, zero, suc, Bool, true, false, List, [], ◌∷◌, map, drop, refl, ap}
 use Rattle.std.specs.Prelude.{filter, if◌then◌else◌}
 use Rattle.std.proofs.lemmas.List.{map-append}
 use Rattle.tangle_files.specs.Bytes.{space}
@@ -8,8 +8,8 @@ use Rattle.tangle_scan.specs.declared.items.Item.{Item}
 use Rattle.tangle_scan.specs.LineTruth.{Location, piece_locations}
 use Rattle.tangle_scan.specs.Web.{WebRead, PieceRead}
 use Rattle.tangle_names.specs.NameTable.{TableRead}
-use Rattle.tangle_plans.specs.Shapes.{Title, Named, ShapeItem, Written, Mark, AllMacros, Use, NoUse, Shapes}
-use Rattle.tangle_plans.specs.Flat.{Symbol, Byte, Opening, MarkOf, marks_after_shape_item, item_flat, items_flat}
+use Rattle.tangle_plans.specs.Shapes.{Title, Named, ShapeItem, Written, Use, Shapes}
+use Rattle.tangle_plans.specs.Flat.{Symbol, Byte, marks_after_shape_item, item_flat, items_flat}
 use Rattle.tangle_plans.specs.Flat.{pieces_flat, flat}
 use Rattle.tangle_plans.specs.WebShapes.{shape_item, is_piece_of, shapes}
 use Rattle.tangle_expansion.specs.Location.{ByteClass, LocatedItem, LocatedSymbol, locations_after, first_locations}
@@ -27,35 +27,32 @@ module _ (used : List ℕ → List LocatedSymbol) (f : List ℕ → List Symbol)
   item_without_class : (node : Title) (piece marks : ℕ) (class : ByteClass) (x : ShapeItem)
       → map (λ p. p.symbol) (located_item used node piece marks class x) ≡ item_flat f node piece marks x
   item_without_class node piece marks class (Written kind bytes) = bytes_without_class class bytes
-  item_without_class node piece marks class Mark = refl
-  item_without_class node piece marks class AllMacros = refl
   item_without_class node piece marks class (Use name) = ap (λ t. Byte space ∷ t) (same name)
-  item_without_class node piece marks class NoUse = refl
+  item_without_class node piece marks class _ = refl
 
   items_without_classes : (node : Title) (piece marks : ℕ) (items : List LocatedItem)
       → map (λ p. p.symbol) (items_located used node piece marks items)
       ≡ items_flat f node piece marks (map (λ x. x.item) items)
   items_without_classes node piece marks [] = refl
   items_without_classes node piece marks (x ∷ items) =
-      map-append (λ (p : LocatedSymbol). p.symbol) (located_item used node piece marks x.class x.item)
-      (items_located used node piece (marks_after_shape_item marks x.item) items)
-      ∙ ap (λ t. t ++ map (λ p. p.symbol) (items_located used node piece (marks_after_shape_item marks x.item) items))
-      (item_without_class node piece marks x.class x.item)
-      ∙ ap (λ t. item_flat f node piece marks x.item ++ t)
-      (items_without_classes node piece (marks_after_shape_item marks x.item) items)
+      cc (
+        map-append (λ (p : LocatedSymbol). p.symbol) (located_item used node piece marks x.class x.item)
+            (items_located used node piece (marks_after_shape_item marks x.item) items),
+        item_without_class node piece marks x.class x.item,
+        items_without_classes node piece (marks_after_shape_item marks x.item) items,
+      )
 
   pieces_without_classes : (node : Title) (piece : ℕ) (pieces : List (List LocatedItem))
       → map (λ p. p.symbol) (pieces_located used node piece pieces)
       ≡ pieces_flat f node piece (map (map (λ x. x.item)) pieces)
   pieces_without_classes node piece [] = refl
   pieces_without_classes node piece (items ∷ pieces) =
-      ap (λ t. Opening node piece ∷ MarkOf node piece 0 ∷ t)
-      (map-append (λ (p : LocatedSymbol). p.symbol)
-      (items_located used node piece 0 items) (pieces_located used node (piece + 1) pieces)
-      ∙ ap (λ t. t ++ map (λ p. p.symbol) (pieces_located used node (piece + 1) pieces))
-      (items_without_classes node piece 0 items)
-      ∙ ap (λ t. items_flat f node piece 0 (map (λ x. x.item) items) ++ t)
-      (pieces_without_classes node (piece + 1) pieces))
+      cc (
+        map-append (λ (p : LocatedSymbol). p.symbol)
+            (items_located used node piece 0 items) (pieces_located used node (piece + 1) pieces),
+        items_without_classes node piece 0 items,
+        pieces_without_classes node (piece + 1) pieces,
+      )
 
 -- for any shapes whose items have classes
 pub located_without_classes : (fuel : ℕ) (located_of : Title → List (List LocatedItem)) (shapes : Shapes)

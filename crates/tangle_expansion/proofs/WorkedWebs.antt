@@ -1,7 +1,7 @@
 -- Worked webs: the output, weight and depth of their nodes.
 use Rattle.std.proofs.Common.{◌≡◌, ℕ, false, List, [], ◌∷◌, ◌+◌, ◌-◌, ◌*◌, ◌^◌, ◌++◌, refl, inl, inr}
 use Rattle.std.specs.Fmt.{digits}
-use Rattle.std.specs.Prelude.{codes, map, flat_map, true}
+use Rattle.std.specs.Prelude.{codes, map, true}
 use Rattle.tangle_lines.specs.Reading.{SourceLine, SourceRead}
 use Rattle.tangle_lexer.specs.Steps.{lexeme, occurrences_from, tokens_from}
 use Rattle.tangle_scan.specs.Web.{WebRead, web_of}
@@ -26,17 +26,11 @@ source lines = record { files = (codes "a.w", lines) ∷ []; lines = numbered_li
 abbrev web : List (List ℕ) → WebRead
 web lines = web_of (source lines)
 
-abbrev output : List (List ℕ) → List ℕ
-output lines =
+-- the output of a node, and a line feed
+abbrev output : List (List ℕ) → Title → List ℕ
+output lines node =
     expansion_bytes (numbers_of (web lines) (table_of (web lines)) Full)
-    (flat 1001 (shapes (web lines) (table_of (web lines))) Program)
-    ++ codes "\n"
-
--- the output of a named node, and a line feed
-abbrev output_of : List (List ℕ) → List ℕ → List ℕ
-output_of lines name =
-    expansion_bytes (numbers_of (web lines) (table_of (web lines)) Full)
-    (flat 1001 (shapes (web lines) (table_of (web lines))) (Named name))
+    (flat 1001 (shapes (web lines) (table_of (web lines))) node)
     ++ codes "\n"
 
 abbrev weight_in : List (List ℕ) → Title → ℕ
@@ -45,57 +39,37 @@ weight_in lines node = weight 16777217 (shapes (web lines) (table_of (web lines)
 abbrev depth_in : List (List ℕ) → Title → ℕ
 depth_in lines node = depth 1001 (shapes (web lines) (table_of (web lines))) node
 
-abbrev written_lines : List (List ℕ) → List ℕ
-written_lines lines = flat_map (λ line. line ++ 10 ∷ []) lines
-
 abbrev one_part : List (List ℕ)
 one_part = codes "@ A." ∷ codes "@c" ∷ codes "int x;" ∷ []
 
-one_part_output : output one_part
-    ≡ written_lines (codes "/*1:*/" ∷ codes "#line 2 \"a.w\"" ∷ [] ∷ codes "int x;" ∷ codes "/*:1*/" ∷ [])
+one_part_output : output one_part Program
+    ≡ codes "/*1:*/\n#line 2 \"a.w\"\n\nint x;\n/*:1*/\n"
 unfolding lexeme tokens_from occurrences_from digits
 one_part_output = refl
 
-one_part_weight : weight_in one_part Program ≡ 11
+one_part_limits : (weight_in one_part Program ≡ 11) × (depth_in one_part Program ≡ 1)
 unfolding lexeme tokens_from occurrences_from
-one_part_weight = refl
-
-one_part_depth : depth_in one_part Program ≡ 1
-unfolding lexeme tokens_from occurrences_from
-one_part_depth = refl
+one_part_limits = (refl, refl)
 
 -- a use of a name
 abbrev one_use : List (List ℕ)
 one_use = codes "@ A." ∷ codes "@c" ∷ codes "int x=@<v@>;" ∷ codes "@ @<v@>=" ∷ codes "1" ∷ []
 
-one_use_output : output one_use ≡ written_lines (
-    codes "/*1:*/" ∷ codes "#line 2 \"a.w\"" ∷ [] ∷ codes "int x= /*2:*/"
-    ∷ codes "#line 4 \"a.w\"" ∷ [] ∷ codes "1" ∷ codes "/*:2*/"
-    ∷ codes "#line 3 \"a.w\"" ∷ codes ";" ∷ codes "/*:1*/" ∷ [])
+one_use_output : output one_use Program
+    ≡ codes "/*1:*/\n#line 2 \"a.w\"\n\nint x= /*2:*/\n#line 4 \"a.w\"\n\n1\n/*:2*/\n"
+    ++ codes "#line 3 \"a.w\"\n;\n/*:1*/\n"
 unfolding lexeme tokens_from occurrences_from digits
 one_use_output = refl
 
-one_use_program_weight : weight_in one_use Program ≡ 20
+one_use_limits : (weight_in one_use Program ≡ 20) × (weight_in one_use (Named (codes "v")) ≡ 6)
+    × (depth_in one_use Program ≡ 2) × (depth_in one_use (Named (codes "v")) ≡ 1)
 unfolding lexeme tokens_from occurrences_from
-one_use_program_weight = refl
-
-one_use_name_weight : weight_in one_use (Named (codes "v")) ≡ 6
-unfolding lexeme tokens_from occurrences_from
-one_use_name_weight = refl
-
-one_use_program_depth : depth_in one_use Program ≡ 2
-unfolding lexeme tokens_from occurrences_from
-one_use_program_depth = refl
-
-one_use_name_depth : depth_in one_use (Named (codes "v")) ≡ 1
-unfolding lexeme tokens_from occurrences_from
-one_use_name_depth = refl
+one_use_limits = (refl, refl, refl, refl)
 
 -- one more line at the top adds 1 to each line number
-shifted_output : output (codes "% top" ∷ one_use) ≡ written_lines (
-    codes "/*1:*/" ∷ codes "#line 3 \"a.w\"" ∷ [] ∷ codes "int x= /*2:*/"
-    ∷ codes "#line 5 \"a.w\"" ∷ [] ∷ codes "1" ∷ codes "/*:2*/"
-    ∷ codes "#line 4 \"a.w\"" ∷ codes ";" ∷ codes "/*:1*/" ∷ [])
+shifted_output : output (codes "% top" ∷ one_use) Program
+    ≡ codes "/*1:*/\n#line 3 \"a.w\"\n\nint x= /*2:*/\n#line 5 \"a.w\"\n\n1\n/*:2*/\n"
+    ++ codes "#line 4 \"a.w\"\n;\n/*:1*/\n"
 unfolding lexeme tokens_from occurrences_from digits
 shifted_output = refl
 
@@ -103,9 +77,9 @@ shifted_output = refl
 abbrev macros_in_program : List (List ℕ)
 macros_in_program = codes "@ A." ∷ codes "@d N 10" ∷ codes "@c" ∷ codes "@h" ∷ codes "int x=N;" ∷ []
 
-macros_in_program_output : output macros_in_program ≡ written_lines (
-    codes "/*1:*/" ∷ codes "#line 3 \"a.w\"" ∷ [] ∷ [] ∷ codes "#define N 10"
-    ∷ [] ∷ codes "#line 4 \"a.w\"" ∷ [] ∷ codes "int x=N;" ∷ codes "/*:1*/" ∷ [])
+macros_in_program_output : output macros_in_program Program
+    ≡ codes "/*1:*/\n#line 3 \"a.w\"\n\n\n#define N 10\n\n#line 4 \"a.w\"\n\nint x=N;\n"
+    ++ codes "/*:1*/\n"
 unfolding lexeme tokens_from occurrences_from digits
 macros_in_program_output = refl
 
@@ -113,9 +87,8 @@ macros_in_program_output = refl
 abbrev joined : List (List ℕ)
 joined = codes "@ A." ∷ codes "@c" ∷ codes "a@&" ∷ codes "b;" ∷ codes "c;" ∷ []
 
-joined_output : output joined ≡ written_lines (
-    codes "/*1:*/" ∷ codes "#line 2 \"a.w\"" ∷ [] ∷ codes "ab;"
-    ∷ codes "#line 5 \"a.w\"" ∷ codes "c;" ∷ codes "/*:1*/" ∷ [])
+joined_output : output joined Program
+    ≡ codes "/*1:*/\n#line 2 \"a.w\"\n\nab;\n#line 5 \"a.w\"\nc;\n/*:1*/\n"
 unfolding lexeme tokens_from occurrences_from digits
 joined_output = refl
 
@@ -125,8 +98,8 @@ ambiguous =
     codes "@ A." ∷ codes "@c" ∷ codes "@<Ini...@>" ∷ codes "@ @<Initialize@>="
     ∷ codes "x=0;" ∷ codes "@ @<Init table@>=" ∷ []
 
-ambiguous_output : output ambiguous ≡ written_lines (
-    codes "/*1:*/" ∷ codes "#line 2 \"a.w\"" ∷ [] ∷ codes " " ∷ codes "#line 3 \"a.w\"" ∷ [] ∷ codes "/*:1*/" ∷ [])
+ambiguous_output : output ambiguous Program
+    ≡ codes "/*1:*/\n#line 2 \"a.w\"\n\n \n#line 3 \"a.w\"\n\n/*:1*/\n"
 unfolding lexeme tokens_from occurrences_from digits
 ambiguous_output = refl
 
@@ -134,18 +107,16 @@ ambiguous_output = refl
 abbrev early : List (List ℕ)
 early = codes "@ A." ∷ codes "@c" ∷ codes "@<Ini...@>" ∷ codes "@ @<Initialize@>=" ∷ codes "x=0;" ∷ []
 
-early_output : output early ≡ written_lines (
-    codes "/*1:*/" ∷ codes "#line 2 \"a.w\"" ∷ [] ∷ codes " /*2:*/"
-    ∷ codes "#line 4 \"a.w\"" ∷ [] ∷ codes "x=0;" ∷ codes "/*:2*/" ∷ codes "#line 3 \"a.w\""
-    ∷ [] ∷ codes "/*:1*/" ∷ [])
+early_output : output early Program
+    ≡ codes "/*1:*/\n#line 2 \"a.w\"\n\n /*2:*/\n#line 4 \"a.w\"\n\nx=0;\n/*:2*/\n"
+    ++ codes "#line 3 \"a.w\"\n\n/*:1*/\n"
 unfolding lexeme tokens_from occurrences_from digits
 early_output = refl
 
 -- one more section at the top adds 1 to each section number and to each line number
-renumbered_output : output (codes "@ Z." ∷ one_use) ≡ written_lines (
-    codes "/*2:*/" ∷ codes "#line 3 \"a.w\"" ∷ [] ∷ codes "int x= /*3:*/"
-    ∷ codes "#line 5 \"a.w\"" ∷ [] ∷ codes "1" ∷ codes "/*:3*/"
-    ∷ codes "#line 4 \"a.w\"" ∷ codes ";" ∷ codes "/*:2*/" ∷ [])
+renumbered_output : output (codes "@ Z." ∷ one_use) Program
+    ≡ codes "/*2:*/\n#line 3 \"a.w\"\n\nint x= /*3:*/\n#line 5 \"a.w\"\n\n1\n/*:3*/\n"
+    ++ codes "#line 4 \"a.w\"\n;\n/*:2*/\n"
 unfolding lexeme tokens_from occurrences_from digits
 renumbered_output = refl
 
@@ -155,18 +126,18 @@ cyclic =
     codes "@ P." ∷ codes "@c" ∷ codes "@<A@>" ∷ codes "@ @<A@>=" ∷ codes "@<B@>"
     ∷ codes "@ @<B@>=" ∷ codes "@<A@>" ∷ codes "@ @(h.h@>=" ∷ codes "int h;" ∷ []
 
-cyclic_file : output_of cyclic (codes "h.h")
-    ≡ written_lines (codes "/*4:*/" ∷ codes "#line 8 \"a.w\"" ∷ [] ∷ codes "int h;" ∷ codes "/*:4*/" ∷ [])
+cyclic_file : output cyclic (Named (codes "h.h"))
+    ≡ codes "/*4:*/\n#line 8 \"a.w\"\n\nint h;\n/*:4*/\n"
 unfolding lexeme tokens_from occurrences_from digits
 cyclic_file = refl
 
-cyclic_name : ContainsItself (shapes (web cyclic) (table_of (web cyclic))) (Named (codes "A"))
+cyclic_names : ContainsItself (shapes (web cyclic) (table_of (web cyclic))) (Named (codes "A"))
+    × ContainsItself (shapes (web cyclic) (table_of (web cyclic))) (Named (codes "B"))
 unfolding lexeme tokens_from occurrences_from digits
-cyclic_name = (codes "B", inl (inr (inl refl)), on (inl (inr (inl refl))) here)
-
-cyclic_other : ContainsItself (shapes (web cyclic) (table_of (web cyclic))) (Named (codes "B"))
-unfolding lexeme tokens_from occurrences_from digits
-cyclic_other = (codes "A", inl (inr (inl refl)), on (inl (inr (inl refl))) here)
+cyclic_names = (
+  (codes "B", inl (inr (inl refl)), on (inl (inr (inl refl))) here),
+  (codes "A", inl (inr (inl refl)), on (inl (inr (inl refl))) here),
+)
 
 -- the same web without the cycle
 abbrev acyclic : List (List ℕ)
@@ -174,11 +145,10 @@ acyclic =
     codes "@ P." ∷ codes "@c" ∷ codes "@<A@>" ∷ codes "@ @<A@>=" ∷ codes "@<B@>"
     ∷ codes "@ @<B@>=" ∷ codes "b;" ∷ codes "@ @(h.h@>=" ∷ codes "int h;" ∷ []
 
-acyclic_output : output acyclic ≡ written_lines (
-    codes "/*1:*/" ∷ codes "#line 2 \"a.w\"" ∷ [] ∷ codes " /*2:*/" ∷ codes "#line 4 \"a.w\""
-    ∷ [] ∷ codes " /*3:*/" ∷ codes "#line 6 \"a.w\"" ∷ [] ∷ codes "b;"
-    ∷ codes "/*:3*/" ∷ codes "#line 5 \"a.w\"" ∷ [] ∷ codes "/*:2*/"
-    ∷ codes "#line 3 \"a.w\"" ∷ [] ∷ codes "/*:1*/" ∷ [])
+acyclic_output : output acyclic Program
+    ≡ codes "/*1:*/\n#line 2 \"a.w\"\n\n /*2:*/\n#line 4 \"a.w\"\n\n /*3:*/\n"
+    ++ codes "#line 6 \"a.w\"\n\nb;\n/*:3*/\n#line 5 \"a.w\"\n\n/*:2*/\n#line 3 \"a.w\"\n\n"
+    ++ codes "/*:1*/\n"
 unfolding lexeme tokens_from occurrences_from digits
 acyclic_output = refl
 
@@ -188,25 +158,12 @@ doubling =
     codes "@ @<a@>=" ∷ codes "@<b@>@<b@>" ∷ codes "@ @<b@>=" ∷ codes "@<d@>@<d@>"
     ∷ codes "@ @<d@>=" ∷ codes "@<e@>@<e@>" ∷ codes "@ @<e@>=" ∷ codes "1" ∷ []
 
-doubling_last : weight_in doubling (Named (codes "e")) ≡ 15 * 2 ^ 0 - 9
+doubling_limits : (weight_in doubling (Named (codes "e")) ≡ 15 * 2 ^ 0 - 9)
+    × (weight_in doubling (Named (codes "d")) ≡ 15 * 2 ^ 1 - 9)
+    × (weight_in doubling (Named (codes "b")) ≡ 15 * 2 ^ 2 - 9)
+    × (weight_in doubling (Named (codes "a")) ≡ 15 * 2 ^ 3 - 9) × (depth_in doubling (Named (codes "a")) ≡ 4)
 unfolding lexeme tokens_from occurrences_from
-doubling_last = refl
-
-doubling_first : weight_in doubling (Named (codes "d")) ≡ 15 * 2 ^ 1 - 9
-unfolding lexeme tokens_from occurrences_from
-doubling_first = refl
-
-doubling_second : weight_in doubling (Named (codes "b")) ≡ 15 * 2 ^ 2 - 9
-unfolding lexeme tokens_from occurrences_from
-doubling_second = refl
-
-doubling_third : weight_in doubling (Named (codes "a")) ≡ 15 * 2 ^ 3 - 9
-unfolding lexeme tokens_from occurrences_from
-doubling_third = refl
-
-doubling_depth : depth_in doubling (Named (codes "a")) ≡ 4
-unfolding lexeme tokens_from occurrences_from
-doubling_depth = refl
+doubling_limits = (refl, refl, refl, refl, refl)
 
 -- a macro over several lines
 abbrev long_macro : List (List ℕ)

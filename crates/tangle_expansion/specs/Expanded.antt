@@ -1,11 +1,12 @@
 -- The symbols of an expansion as it is in memory: there are more of them than in each expansion
 -- that it shares.
-use Rattle.std.specs.Prelude.{ℕ, ◌+◌, ◌≤◌, List, [], ◌∷◌, length, map}
+use Rattle.std.specs.Prelude.{ℕ, ◌+◌, ◌≤◌, List, [], ◌∷◌, length}
 use Rattle.std.proofs.Common.{arith, length-append}
 use denote.Param.Weighed.{most}
 use Rattle.tangle_plans.specs.Shapes.{Title}
-use Rattle.tangle_plans.specs.Flat.{Symbol, Byte}
-use Rattle.tangle_plans.specs.Meaning.{title_of, bytes_between, left_over, plan_flat}
+use Rattle.tangle_plans.specs.Flat.{Symbol}
+use Rattle.tangle_plans.specs.Meaning.{title_of, left_over, plan_flat, own_symbols}
+use Rattle.tangle_plans.specs.Meaning.{pieces_after_step, marks_after_step, bytes_after_step}
 use Rattle.tangle_plans.specs.declared.steps.Step.{Step}
 use Rattle.tangle_plans.specs.declared.steps.Step.TheVariants as step
 use Rattle.tangle_expansion.specs.declared.expansion.Expansion.TheInside.{Inside}
@@ -26,21 +27,6 @@ pub plan_is_longer : (node : Title) (bytes : List ℕ)
     → most (λ symbols. length symbols + 1) used
     ≤ length (plan_flat node bytes piece marks start plan used)
 plan_is_longer node bytes piece marks start [] used = left_over_is_longer used
-plan_is_longer node bytes piece marks start (step.Open ∷ plan) used =
-    omega (arith, plan_is_longer node bytes piece 0 start plan used)
-plan_is_longer node bytes piece marks start (step.Bytes end ∷ plan) used =
-    omega (
-      arith,
-      plan_is_longer node bytes piece marks end plan used,
-      length-append (map Byte (bytes_between bytes start end))
-          (plan_flat node bytes piece marks end plan used),
-    )
-plan_is_longer node bytes piece marks start (step.Mark ∷ plan) used =
-    omega (arith, plan_is_longer node bytes piece (marks + 1) start plan used)
-plan_is_longer node bytes piece marks start (step.AllMacros ∷ plan) used =
-    omega (arith, plan_is_longer node bytes piece marks start plan used)
-plan_is_longer node bytes piece marks start (step.Space ∷ plan) used =
-    omega (arith, plan_is_longer node bytes piece marks start plan used)
 plan_is_longer node bytes piece marks start (step.Use id ∷ plan) [] = omega arith
 plan_is_longer node bytes piece marks start (step.Use id ∷ plan) (symbols ∷ rest) =
     omega (
@@ -48,5 +34,12 @@ plan_is_longer node bytes piece marks start (step.Use id ∷ plan) (symbols ∷ 
       plan_is_longer node bytes piece marks start plan rest,
       length-append symbols (plan_flat node bytes piece marks start plan rest),
     )
-plan_is_longer node bytes piece marks start (step.Close ∷ plan) used =
-    omega (arith, plan_is_longer node bytes (piece + 1) 0 start plan used)
+plan_is_longer node bytes piece marks start (s ∷ plan) used =
+    let p = pieces_after_step piece s in
+    let m = marks_after_step marks s in
+    let b = bytes_after_step start s in
+    omega (
+      arith,
+      plan_is_longer node bytes p m b plan used,
+      length-append (own_symbols node bytes piece marks start s) (plan_flat node bytes p m b plan used),
+    )

@@ -10,3 +10,4 @@ pub mod Kept
 pub mod Outputs
 pub mod PieceBytes
 pub mod NumberRows
+pub mod Writing

@@ -3,7 +3,7 @@
 use Rattle.std.specs.Prelude.{◌≡◌, ℕ, ◌+◌, zero, suc, Bool, false, List, [], ◌∷◌, ◌++◌, map, drop}
 use Rattle.std.specs.Prelude.{if◌then◌else◌, Option, Some, None}
 use Rattle.tangle_files.specs.Bytes.{space}
-use Rattle.tangle_faults.specs.declared.faults.Origin.{Origin}
+use Rattle.tangle_lines.specs.declared.origin.Origin.{Origin}
 use Rattle.tangle_lines.specs.Reading.{SourceLine, SourceRead, origin_at}
 use Rattle.tangle_scan.specs.declared.items.Item.{Item}
 use Rattle.tangle_scan.specs.declared.items.Item.TheVariants as item
@@ -46,31 +46,23 @@ class_at lines [] = OfItem no_origin false
 class_at lines (s ∷ ss) = OfItem (origin_at lines s.line) s.in_stretch
 
 abbrev pub class_of : List SourceLine → List Location → Item → ByteClass
-class_of lines ss (item.Word span) = class_at lines ss
-class_of lines ss (item.Sign span) = class_at lines ss
-class_of lines ss (item.Quoted span) = class_at lines ss
-class_of lines ss (item.Verbatim span) = class_at lines ss
-class_of lines ss (item.Code value) = class_at lines ss
 class_of lines ss item.QuoteBreak = LineFeed
 class_of lines ss item.LineEnd = LineFeed
 class_of lines ss item.Blank = Other
 class_of lines ss (item.LineMark origin) = Other
 class_of lines ss (item.UseOf occurrence) = Other
 class_of lines ss item.Defs = Other
+class_of lines ss source_item = class_at lines ss
 
 -- the locations that remain after an item
 abbrev pub locations_after : List Location → Item → List Location
-locations_after ss (item.Word span) = drop 1 ss
-locations_after ss (item.Sign span) = drop 1 ss
-locations_after ss (item.Quoted span) = drop 1 ss
-locations_after ss (item.Verbatim span) = drop 1 ss
-locations_after ss (item.Code value) = drop 1 ss
 locations_after ss item.QuoteBreak = ss
 locations_after ss item.LineEnd = ss
 locations_after ss item.Blank = ss
 locations_after ss (item.LineMark origin) = ss
 locations_after ss (item.UseOf occurrence) = ss
 locations_after ss item.Defs = ss
+locations_after ss source_item = drop 1 ss
 
 abbrev pub first_locations : List (List Location) → List Location
 first_locations [] = []

@@ -1,7 +1,7 @@
 -- The greatest number of bytes that are written for one symbol.
 use Rattle.std.specs.Prelude.{◌<◌, ◌≤◌, ◌^◌, ℕ, List, length}
 use Rattle.std.specs.List.{All}
-use Rattle.tangle_faults.specs.declared.faults.Origin.{Origin}
+use Rattle.tangle_lines.specs.declared.origin.Origin.{Origin}
 use Rattle.tangle_plans.specs.Flat.{Symbol}
 use Rattle.tangle_expansion.specs.Numbers.{PieceNumbersRead, NumbersRead, symbol_bytes}
 

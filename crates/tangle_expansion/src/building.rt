@@ -7,14 +7,13 @@ ghost use Rattle.tangle_scan.specs.Entries.{entry_items, items_of, piece_read};
 ghost use Rattle.tangle_names.specs.NameTable.{table_of};
 ghost use Rattle.tangle_plans.specs.ItemSlots.{pieces_at};
 ghost use Rattle.tangle_plans.specs.Nodes.{IsGroupedBy};
-ghost use Rattle.tangle_expansion.specs.Numbers.{escaped, item_origins, numbers_of};
+ghost use Rattle.tangle_expansion.specs.Numbers.{escaped, escaped_byte, item_origins, numbers_of};
 ghost use Rattle.tangle_expansion.specs.Numbers.{numbers_of_piece};
 ghost use Rattle.tangle_expansion.specs.SymbolLimits.{IsShort, IsLow};
 
 use crate::macros::macros_bytes;
 use crate::node_numbers::{NodeNumbers, PieceNumbers};
 use crate::numbers::Numbers;
-use bstr::ByteSlice;
 use digraph::Rows;
 use std::alloc::Global;
 use tangle_lines::{MarkMode, NoMemory, Origin};
@@ -91,14 +90,26 @@ fn numbers_of_pieces(alloc: Global, web: &Web, pieces: &[usize]) -> Result<NodeN
     Ok(NodeNumbers::several(all))
 }
 
+/// Adds a byte of a file name, with a backslash before a backslash and before a double quote.
+fn push_escaped(bytes: &mut Vec<u8>, byte: u8) -> Result<(), NoMemory>
+    ensures { OnOk result (bytes.new.items ≡ bytes.old.items ++ escaped_byte byte) }
+{
+    if byte == b'\\' || byte == b'"' {
+        bytes.push(b'\\')?;
+    }
+    bytes.push(byte)?;
+    Ok(())
+}
+
 /// Escapes backslashes and double quotes in the name of a file, as its line marks need.
-// Backslashes come first, so that those which escape quotes are not escaped again.
 fn escaped_name(alloc: Global, name: &[u8]) -> Result<Vec<u8>, NoMemory>
     ensures { IfOk result (λ bytes. bytes.items ≡ escaped name.now) }
 {
-    let slashed = name.replace(alloc, b"\\", b"\\\\")?;
-    let quoted = slashed.as_slice().replace(alloc, b"\"", b"\\\"")?;
-    Ok(quoted)
+    let mut bytes = Vec::with_capacity(alloc, name.len())?;
+    for byte in name {
+        push_escaped(&mut bytes, *byte)?;
+    }
+    Ok(bytes)
 }
 
 /// The escaped names of all files of the web.

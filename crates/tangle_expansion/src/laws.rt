@@ -1,7 +1,7 @@
 //! Laws of the definitions of expansions and of their bytes.
 ghost use Rattle.std.specs.Prelude.{◌*◌, Bool, List, [], if◌then◌else◌, slice_index_or, ◌≡◌, ◌≢◌};
 ghost use Rattle.std.specs.Prelude.{◌<◌, ◌≤◌, ℕ, min, length, map, flat_map, Option};
-ghost use Rattle.tangle_faults.specs.declared.faults.Origin.{Origin};
+ghost use Rattle.tangle_lines.specs.declared.origin.Origin.{Origin};
 ghost use Rattle.tangle_lines.specs.Reading.{SourceRead};
 ghost use Rattle.tangle_scan.specs.Web.{WebRead, web_of};
 ghost use Rattle.tangle_scan.specs.LineTruth.{PiecesAreAtTheirLines};

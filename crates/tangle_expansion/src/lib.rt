@@ -6,20 +6,20 @@
 #![tactic(auto)]
 
 mod building;
+mod cursor;
 mod expanding;
 mod expansion;
-mod files;
 mod kept;
 mod laws;
 mod macros;
 mod node_numbers;
 mod numbers;
+mod outputs;
 mod work;
 mod writing;
 
 pub use expanding::expand;
 pub use expansion::Expansion;
-pub use files::{Output, file_size, write_file};
 pub use kept::Kept;
 pub use laws::{
     bytes_are_at_their_origins, expandable_nodes_are_light, expandable_nodes_reach_no_cycle,
@@ -28,5 +28,6 @@ pub use laws::{
     used_names_are_expandable, what_is_apart_is_written_apart,
 };
 pub use numbers::Numbers;
+pub use outputs::{Output, file_size, write_file};
 pub use work::Work;
 pub use writing::write_text;

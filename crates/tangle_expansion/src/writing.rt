@@ -1,14 +1,15 @@
 //! Writing an expansion.
-ghost use Rattle.std.specs.Prelude.{◌≡◌, ◌+◌, ◌^◌, ◌<◌, ◌≤◌, ◌++◌, decimal, drop, length};
+ghost use Rattle.std.specs.Prelude.{◌≡◌, ◌+◌, ◌^◌, ◌<◌, ◌≤◌, ◌++◌, decimal, length};
 ghost use Rattle.tangle_streams.specs.Streams.{IsWritten, IsWrittenAfter};
 ghost use Rattle.tangle_expansion.specs.Limits.{heaviest};
 ghost use Rattle.tangle_plans.specs.Meaning.{title_of, bytes_between, is_use_step};
-ghost use Rattle.tangle_plans.specs.Meaning.{pieces_after_step, marks_after_step, bytes_after_step};
-ghost use Rattle.tangle_plans.specs.Meaning.{own_symbols, before_use, after_use};
-ghost use Rattle.tangle_expansion.specs.Numbers.{node_numbers, opening_bytes, closing_bytes};
+ghost use Rattle.tangle_expansion.specs.Numbers.{node_numbers};
 ghost use Rattle.tangle_expansion.specs.Numbers.{full_mark_bytes, mark_bytes_at, expansion_bytes};
 ghost use Rattle.tangle_expansion.specs.SymbolLimits.{SymbolsAreShort};
+ghost use Rattle.tangle_expansion.specs.Writing.{IsAfterStep, rest_from, rest_after_use};
+ghost use Rattle.tangle_expansion.specs.Writing.{step_bytes, bytes_to_use};
 
+use crate::cursor::{Cursor, first_cursor};
 use crate::expansion::{Expansion, SharedExpansion};
 use crate::node_numbers::{PieceNumbers, mark_origin_at, section_at};
 use crate::numbers::Numbers;
@@ -16,31 +17,13 @@ use itoa::Buffer;
 use tangle_lines::{MarkMode, Origin, Sink, WriteFault, write_after};
 use tangle_plans::{NodeBody, Step, bytes_after_step, marks_after_step, pieces_after_step};
 
-/// A position in a plan that is being written: the numbers of steps written, of pieces closed, of
-/// marks written in the current piece, and of bytes of the body written.
-#[derive(Clone, Copy, Debug)]
-struct Cursor {
-    step: usize,
-    piece: usize,
-    marks: usize,
-    start: usize,
-    ghost pieces_low: { piece ≤ step },
-    ghost marks_low: { marks ≤ step },
-}
-
-/// The cursor at the start of a plan.
-fn first_cursor() -> Cursor
-    ensures step { result.step ≡ 0 }
-    ensures piece { result.piece ≡ 0 }
-    ensures marks { result.marks ≡ 0 }
-    ensures start { result.start ≡ 0 }
-{
-    Cursor {
-        step: 0,
-        piece: 0,
-        marks: 0,
-        start: 0,
-    }
+/// What the text of a node is written from: its body, the numbers of its web, and among those the
+/// numbers of its own pieces.
+#[derive(Drop)]
+struct NodeParts<'n> {
+    numbers: &'n Numbers,
+    body: &'n NodeBody,
+    pieces: &'n [PieceNumbers],
 }
 
 /// Writes a number between these bytes, unless `so_far` is an error.
@@ -59,30 +42,6 @@ fn write_between<S: Sink>(
     let opened = write_after(sink, so_far, before);
     let numbered = write_after(sink, opened, digits.format(number).as_bytes());
     write_after(sink, numbered, after)
-}
-
-/// Writes the comment that opens a piece.
-fn write_opening<S: Sink>(
-    section: usize,
-    sink: &mut S,
-    so_far: Result<u128, WriteFault>,
-) -> Result<u128, WriteFault>
-    ensures { IsWrittenAfter (S.stream sink.old) (S.stream sink.new)
-        so_far (opening_bytes section) result }
-{
-    write_between(b"/*", section, b":*/", sink, so_far)
-}
-
-/// Writes the comment that closes a piece.
-fn write_closing<S: Sink>(
-    section: usize,
-    sink: &mut S,
-    so_far: Result<u128, WriteFault>,
-) -> Result<u128, WriteFault>
-    ensures { IsWrittenAfter (S.stream sink.old) (S.stream sink.new)
-        so_far (closing_bytes section) result }
-{
-    write_between(b"/*:", section, b"*/", sink, so_far)
 }
 
 /// Writes a line mark as a `#line` directive.
@@ -139,49 +98,60 @@ fn is_use_step(step: Step) -> bool
 
 /// Writes the symbols of a step that is no use.
 fn write_step<S: Sink>(
-    numbers: &Numbers,
-    body: &NodeBody,
-    pieces: &[PieceNumbers],
+    text: &NodeParts,
     at: Cursor,
     step: Step,
     sink: &mut S,
     so_far: Result<u128, WriteFault>,
 ) -> Result<u128, WriteFault>
-    requires ours { pieces.now ≡ node_numbers numbers.now (title_of body.now.name) }
+    requires ours { text.now.pieces.now
+        ≡ node_numbers text.now.numbers.now (title_of text.now.body.now.name) }
     requires step { at.step + 1 < 2 ^ 64 }
     ensures { IsWrittenAfter (S.stream sink.old) (S.stream sink.new)
-        so_far (expansion_bytes numbers.now (own_symbols (title_of body.now.name)
-        body.now.bytes.items at.piece at.marks at.start step)) result }
+        so_far (step_bytes text.now.body.now at text.now.numbers.now step) result }
 {
     match step {
         Step::Open => {
-            let opened = write_opening(section_at(pieces, at.piece), sink, so_far);
-            write_mark(numbers, mark_origin_at(pieces, at.piece, 0), sink, opened)
+            let section = section_at(text.pieces, at.piece);
+            let opened = write_between(b"/*", section, b":*/", sink, so_far);
+            write_mark(
+                text.numbers,
+                mark_origin_at(text.pieces, at.piece, 0),
+                sink,
+                opened,
+            )
         }
-        Step::Bytes(end) => write_after(sink, so_far, bytes_between(&body.bytes, at.start, end)),
+        Step::Bytes(end) => write_after(
+            sink,
+            so_far,
+            bytes_between(&text.body.bytes, at.start, end),
+        ),
         Step::Mark => write_mark(
-            numbers,
-            mark_origin_at(pieces, at.piece, at.marks + 1),
+            text.numbers,
+            mark_origin_at(text.pieces, at.piece, at.marks + 1),
             sink,
             so_far,
         ),
         Step::AllMacros => {
             let opened = write_after(sink, so_far, b"\n");
-            write_after(sink, opened, numbers.macros())
+            write_after(sink, opened, text.numbers.macros())
         }
         Step::Space => write_after(sink, so_far, b" "),
         Step::Use(_) => so_far,
-        Step::Close => write_closing(section_at(pieces, at.piece), sink, so_far),
+        Step::Close => write_between(
+            b"/*:",
+            section_at(text.pieces, at.piece),
+            b"*/",
+            sink,
+            so_far,
+        ),
     }
 }
 
 /// The cursor after a step.
 fn cursor_after(at: Cursor, step: Step) -> Cursor
     requires { at.step + 1 < 2 ^ 64 }
-    ensures step { result.step ≡ at.step + 1 }
-    ensures piece { result.piece ≡ pieces_after_step at.piece step }
-    ensures marks { result.marks ≡ marks_after_step at.marks step }
-    ensures start { result.start ≡ bytes_after_step at.start step }
+    ensures { IsAfterStep at step result }
 {
     Cursor {
         step: at.step + 1,
@@ -193,34 +163,25 @@ fn cursor_after(at: Cursor, step: Step) -> Cursor
 
 /// Writes the symbols up to the next use, or to the end. Returns the cursor there.
 fn write_to_use<S: Sink>(
-    numbers: &Numbers,
-    body: &NodeBody,
-    pieces: &[PieceNumbers],
+    text: &NodeParts,
     from: Cursor,
     sink: &mut S,
     so_far: Result<u128, WriteFault>,
 ) -> (Cursor, Result<u128, WriteFault>)
-    requires { pieces.now ≡ node_numbers numbers.now (title_of body.now.name) }
-    ensures writes { IsWrittenAfter (S.stream sink.old) (S.stream sink.new) so_far
-        (expansion_bytes numbers.now (before_use (title_of body.now.name) body.now.bytes.items
-        from.piece from.marks from.start (drop from.step body.now.plan.items))) result.1 }
-    ensures rest { after_use from.piece from.marks from.start (drop from.step body.now.plan.items)
-        ≡ record {
-          piece = result.0.piece;
-          marks = result.0.marks;
-          start = result.0.start;
-          plan =
-              drop result.0.step body.now.plan.items;
-        } }
+    requires { text.now.pieces.now
+        ≡ node_numbers text.now.numbers.now (title_of text.now.body.now.name) }
+    ensures writes { IsWrittenAfter (S.stream sink.old) (S.stream sink.new)
+        so_far (bytes_to_use text.now.body.now from text.now.numbers.now) result.1 }
+    ensures rest { rest_after_use text.now.body.now from ≡ rest_from text.now.body.now result.0 }
 {
     let mut at = from;
     let mut so_far = so_far;
-    while at.step < body.plan.len() {
-        let step = body.plan[at.step];
+    while at.step < text.body.plan.len() {
+        let step = text.body.plan[at.step];
         if is_use_step(step) {
             return (cursor_after(at, step), so_far);
         }
-        so_far = write_step(numbers, body, pieces, at, step, sink, so_far);
+        so_far = write_step(text, at, step, sink, so_far);
         at = cursor_after(at, step);
     }
     (at, so_far)
@@ -246,16 +207,20 @@ impl Expansion {
     {
         let shared: &SharedExpansion = &self.shared;
         let body: &NodeBody = &shared.body;
-        let pieces = numbers.of_node(&body.name);
+        let text = NodeParts {
+            numbers,
+            body,
+            pieces: numbers.of_node(&body.name),
+        };
         let mut at = first_cursor();
         let mut so_far = so_far;
         for used in &shared.used {
-            let (next, before) = write_to_use(numbers, body, pieces, at, sink, so_far);
+            let (next, before) = write_to_use(&text, at, sink, so_far);
             let spaced = write_after(sink, before, b" ");
             so_far = used.write_text_after(numbers, sink, spaced);
             at = next;
         }
-        let (_, all) = write_to_use(numbers, body, pieces, at, sink, so_far);
+        let (_, all) = write_to_use(&text, at, sink, so_far);
         all
     }
 }

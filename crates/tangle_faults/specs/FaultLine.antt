@@ -1,38 +1,7 @@
 -- The line of a fault.
 use Rattle.std.specs.Prelude.{ℕ, List, [], ◌++◌, Option, None, Some, codes, decimal, if◌then◌else◌}
 use Rattle.tangle_faults.specs.declared.faults.FaultKind.{FaultKind}
-use Rattle.tangle_faults.specs.declared.faults.FaultKind.TheVariants.{
-  StrayMark,
-  MissingY,
-  MissingZ,
-  EmptyOld,
-  IncludeNoName,
-  IncludeMissing,
-  IncludeTooDeep,
-  ChangeMismatch,
-  SourceTooLong,
-  ChangeUnused,
-  CodeInC,
-  MisplacedH,
-  MacroName,
-  ControlText,
-  StringAt,
-  StringEnd,
-  VerbatimEnd,
-  AsciiBad,
-  CommentEnd,
-  NameEnd,
-  NameEquals,
-  NoFullName,
-  Ambiguous,
-  PrefixName,
-  Undefined,
-  Unused,
-  SelfContaining,
-  TooLarge,
-  FileClash,
-  NoProgram,
-}
+use Rattle.tangle_faults.specs.declared.faults.FaultKind.TheVariants as kind
 use Rattle.tangle_faults.specs.declared.fault_line.Ending.{Ending}
 use Rattle.tangle_faults.specs.declared.fault_line.Ending.TheVariants.{Nothing, FileName, Count}
 use Rattle.tangle_faults.specs.declared.fault_line.Ending.TheVariants.{SectionName, NameOrProgram}
@@ -40,36 +9,36 @@ use Rattle.tangle_faults.specs.Faults.{PlaceRead, FaultRead, is_error_kind}
 
 -- the message of a fault of this kind, and the kind of its ending
 abbrev pub wording : FaultKind → List ℕ × Ending
-wording StrayMark = (codes "@y or @z out of place", Nothing)
-wording MissingY = (codes "change without @y", Nothing)
-wording MissingZ = (codes "change without @z", Nothing)
-wording EmptyOld = (codes "change without old lines", Nothing)
-wording IncludeNoName = (codes "inclusion without a file name", Nothing)
-wording IncludeMissing = (codes "included file not found: ", FileName)
-wording IncludeTooDeep = (codes "inclusion too deep", Nothing)
-wording ChangeMismatch = (codes "old lines that do not match: ", Count)
-wording SourceTooLong = (codes "too many lines", Nothing)
-wording ChangeUnused = (codes "change never used", Nothing)
-wording CodeInC = (codes "definition code in C text", Nothing)
-wording MisplacedH = (codes "@h in a macro", Nothing)
-wording MacroName = (codes "macro must start with an identifier", Nothing)
-wording ControlText = (codes "control text did not end", Nothing)
-wording StringAt = (codes "single @ in quoted text", Nothing)
-wording StringEnd = (codes "quoted text did not end", Nothing)
-wording VerbatimEnd = (codes "verbatim text did not end", Nothing)
-wording AsciiBad = (codes "bad ASCII constant", Nothing)
-wording CommentEnd = (codes "comment did not end", Nothing)
-wording NameEnd = (codes "section name did not end", Nothing)
-wording NameEquals = (codes "missing section start before a definition", Nothing)
-wording NoFullName = (codes "no full name for ", SectionName)
-wording Ambiguous = (codes "several full names for ", SectionName)
-wording PrefixName = (codes "begins another name: ", SectionName)
-wording Undefined = (codes "undefined: ", SectionName)
-wording Unused = (codes "never used: ", SectionName)
-wording SelfContaining = (codes "contains itself: ", SectionName)
-wording TooLarge = (codes "too large: ", NameOrProgram)
-wording FileClash = (codes "file name is the main file's: ", SectionName)
-wording NoProgram = (codes "no program text", Nothing)
+wording kind.StrayMark = (codes "@y or @z out of place", Nothing)
+wording kind.MissingY = (codes "change without @y", Nothing)
+wording kind.MissingZ = (codes "change without @z", Nothing)
+wording kind.EmptyOld = (codes "change without old lines", Nothing)
+wording kind.IncludeNoName = (codes "inclusion without a file name", Nothing)
+wording kind.IncludeMissing = (codes "included file not found: ", FileName)
+wording kind.IncludeTooDeep = (codes "inclusion too deep", Nothing)
+wording kind.ChangeMismatch = (codes "old lines that do not match: ", Count)
+wording kind.SourceTooLong = (codes "too many lines", Nothing)
+wording kind.ChangeUnused = (codes "change never used", Nothing)
+wording kind.CodeInC = (codes "definition code in C text", Nothing)
+wording kind.MisplacedH = (codes "@h in a macro", Nothing)
+wording kind.MacroName = (codes "macro must start with an identifier", Nothing)
+wording kind.ControlText = (codes "control text did not end", Nothing)
+wording kind.StringAt = (codes "single @ in quoted text", Nothing)
+wording kind.StringEnd = (codes "quoted text did not end", Nothing)
+wording kind.VerbatimEnd = (codes "verbatim text did not end", Nothing)
+wording kind.AsciiBad = (codes "bad ASCII constant", Nothing)
+wording kind.CommentEnd = (codes "comment did not end", Nothing)
+wording kind.NameEnd = (codes "section name did not end", Nothing)
+wording kind.NameEquals = (codes "missing section start before a definition", Nothing)
+wording kind.NoFullName = (codes "no full name for ", SectionName)
+wording kind.Ambiguous = (codes "several full names for ", SectionName)
+wording kind.PrefixName = (codes "begins another name: ", SectionName)
+wording kind.Undefined = (codes "undefined: ", SectionName)
+wording kind.Unused = (codes "never used: ", SectionName)
+wording kind.SelfContaining = (codes "contains itself: ", SectionName)
+wording kind.TooLarge = (codes "too large: ", NameOrProgram)
+wording kind.FileClash = (codes "file name is the main file's: ", SectionName)
+wording kind.NoProgram = (codes "no program text", Nothing)
 
 -- the name of a section, as a fault shows it
 abbrev pub bracketed : List ℕ → List ℕ
@@ -97,7 +66,7 @@ place_bytes_if_any None = []
 place_bytes_if_any (Some place) = place_bytes place
 
 abbrev pub severity : FaultKind → List ℕ
-severity kind = if is_error_kind kind then codes "error: " else codes "warning: "
+severity k = if is_error_kind k then codes "error: " else codes "warning: "
 
 -- the line of a fault, with its line feed
 abbrev pub fault_line : FaultRead → List ℕ

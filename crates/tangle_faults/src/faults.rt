@@ -87,15 +87,6 @@ impl FaultKind {
     }
 }
 
-/// The origin of a line: the number of its file in the table of files, from 0, and the number of
-/// the line in the file, from 1.
-// A number is copied, and no proof maps numbers to names: only faults have the names of files.
-#[derive(Clone, Copy, Debug, PartialEq, Eq)]
-pub struct Origin {
-    pub file: u16,
-    pub line: u32,
-}
-
 /// The place of a line: the name of its file, and the number of the line in it.
 #[derive(Drop)]
 pub struct Place {

@@ -9,4 +9,4 @@ mod fault_line;
 mod faults;
 
 pub use fault_line::write_fault;
-pub use faults::{Fault, FaultKind, Origin, Place, add_fault};
+pub use faults::{Fault, FaultKind, Place, add_fault};

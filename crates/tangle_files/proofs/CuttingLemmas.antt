@@ -2,10 +2,9 @@
 use Rattle.std.proofs.Common.{◌≡◌, ℕ, zero, suc, ◌<◌, ◌≤◌, ◌==◌, Bool, true, false, cond, List, [], ◌∷◌, length, get_or}
 use Rattle.std.proofs.Common.{take, drop, refl, ap, sym, ◌∙◌, arith, ◌+◌, ◌-◌, ◌++◌, ◌||◌, map, length-drop}
 use Rattle.std.proofs.Common.{length-append, append_assoc}
-use Rattle.std.specs.Prelude.{nat_lt}
 use Rattle.std.specs.List.{list_any}
 use Rattle.std.proofs.lemmas.List.{take_all, drop_all, drop-drop, take-take, length-take}
-use borrow.Author.Tests.{ltb-true}
+use Rattle.std.proofs.lemmas.Bool.{le-ltb}
 use Rattle.tangle_files.specs.Lines.{raw_lines, trimmed, cut, before_first_line, before_trimmed}
 use Rattle.tangle_files.specs.Adding.{is_too_long, longest_line, most_lines}
 use Rattle.tangle_files.specs.Sharing.{slice_of}
@@ -73,10 +72,8 @@ trimmed_is_front (b ∷ bs) = by (trimmed bs) (trimmed_is_front bs) (b == 32) re
   where
     by : (t : List ℕ) → take (length t) bs ≡ t → (s : Bool)
         → (b == 32) ≡ s → take (length (before_trimmed b t)) (b ∷ bs) ≡ before_trimmed b t
-    by [] e true is =
-        ap (λ l. take (length l) (b ∷ bs)) (ap (λ t. cond t [] (b ∷ [])) is) ∙ sym (ap (λ t. cond t [] (b ∷ [])) is)
-    by [] e false is =
-        ap (λ l. take (length l) (b ∷ bs)) (ap (λ t. cond t [] (b ∷ [])) is) ∙ sym (ap (λ t. cond t [] (b ∷ [])) is)
+    by [] e true is = rw is refl
+    by [] e false is = rw is refl
     by (c ∷ cs) e s is = ap (λ l. b ∷ l) e
 
 -- the first line after a position, ended by a line feed or by the end of the text
@@ -121,13 +118,6 @@ pub record IsCutUpTo (text : List ℕ) (start : ℕ) (lines : List (List ℕ)) :
   pub few : length lines ≤ most_lines
   pub within : start ≤ length text + 1
 
-not_too_long : (n : ℕ) → n ≤ longest_line → nat_lt longest_line n ≡ false
-not_too_long n h = by (nat_lt longest_line n) refl
-  where
-    by : (b : Bool) → nat_lt longest_line n ≡ b → b ≡ false
-    by false e = refl
-    by true e = absurd (omega (arith, ltb-true longest_line n e))
-
 pub one_more_line : (text line : List ℕ) (start end : ℕ) (lines next : List (List ℕ))
     → raw_lines (drop start text) ≡ take (end - start) (drop start text) ∷ raw_lines (drop (end + 1) text)
     → line ≡ trimmed (take (end - start) (drop start text)) → length line ≤ longest_line
@@ -143,7 +133,7 @@ one_more_line text line start end lines next raw is size low high below_limit mo
     = sym (take-take (length line) (end - start) (drop start text) fits)
     ∙ ap (λ m. take (length m) whole) is ∙ trimmed_is_front whole in
     let lines_here : cut (drop start text) ≡ trimmed whole ∷ rest = ap (map trimmed) raw in
-    let fine : is_too_long (trimmed whole) ≡ false = ap is_too_long (sym is) ∙ not_too_long (length line) size in
+    let fine : is_too_long (trimmed whole) ≡ false = ap is_too_long (sym is) ∙ le-ltb longest_line (length line) size in
     record {
       made =
           ap (λ l. l ++ rest) more ∙ ap (λ p. (lines ++ p ∷ []) ++ rest) shared

@@ -1,15 +1,18 @@
 -- An edit that is not refused keeps the limits of a table.
-use Rattle.std.proofs.Common.{◌≡◌, ℕ, zero, suc, ◌+◌, ◌-◌, ◌≤◌, Bool, true, false, cond, not, List, [], ◌∷◌, ◌++◌, map}
-use Rattle.std.proofs.Common.{take, drop, refl, sym, subst, ◌∙◌, Option, None, Some, arith, length, length-append}
+use Rattle.std.proofs.Common.{◌≡◌, ℕ, ◌+◌, ◌-◌, ◌≤◌, Bool, true, false, cond, not, List, [], ◌∷◌, ◌++◌}
+use Rattle.std.proofs.Common.{take, drop, refl, sym, subst, ◌∙◌, Option, None, Some, IfSome, arith, length, length-append}
 use Rattle.std.specs.Prelude.{nat_le}
 use Rattle.std.specs.List.{All, AllByRecursion, IsDistinct}
 use Rattle.std.specs.Option.{option_map_or}
-use Rattle.std.specs.Map.{set_value, remove_entry}
+use Rattle.std.specs.Map.{set_value, remove_entry, keys_of, values_of}
 use Rattle.std.specs.Str.{bytes_eq}
 use Rattle.std.proofs.lemmas.Bool.{leb-false, leb-true, and_parts, not-false}
 use Rattle.std.proofs.lemmas.List.{length-take-le, length-drop}
-use Rattle.std.proofs.lemmas.List.Elements.{All-append}
+use Rattle.std.proofs.lemmas.List.Elements.{All-append, All-nil, All-cons, All-head, All-tail, All-map}
+use Rattle.std.proofs.lemmas.List.Elements.{All-from_recursion, recursion_from_All}
 use Rattle.std.proofs.lemmas.Map.{length-set_value, keys-set_value}
+use Rattle.std.proofs.lemmas.Map.Entries.{All-lookup}
+use Rattle.std.proofs.lemmas.Map.Views.{All-values-set_value, All-map-remove_entry}
 use Rattle.tangle_files.specs.declared.edits.Edit.{Edit}
 use Rattle.tangle_files.specs.declared.edits.Edit.TheVariants.{Insert, Remove, Replace, Create, Discard, Marks}
 use Rattle.tangle_files.specs.declared.refusal.Refusal.{Refusal}
@@ -47,20 +50,15 @@ found_in files name of_lines h =
 abbrev HasFewLines : (List ℕ × List (List ℕ)) → Type 0
 HasFewLines file = length file.1 ≤ most_lines
 
-few-set_value : (files : FileTable) (name : List ℕ) (lines : List (List ℕ)) → length lines ≤ most_lines
-    → All HasFewLines files → All HasFewLines (set_value (bytes_eq name) files lines)
-few-set_value [] name lines few h = h
-few-set_value (f ∷ fs) name lines few h = by (bytes_eq name f.0) rest (few-set_value fs name lines few rest)
-  where
-    rest : All HasFewLines fs
-    rest k d l = h (suc k) d (omega arith)
+-- the limit of lines, from the lists of lines to the files
+few-files : (files : FileTable) → All (λ lines. length lines ≤ most_lines) (values_of files) → All HasFewLines files
+few-files [] h = All-nil HasFewLines
+few-files (f ∷ fs) h =
+    All-cons HasFewLines f fs (All-head (λ lines. length lines ≤ most_lines) f.1 (values_of fs) h)
+    (few-files fs (All-tail (λ lines. length lines ≤ most_lines) f.1 (values_of fs) h))
 
-    by : (b : Bool) → All HasFewLines fs → All HasFewLines (set_value (bytes_eq name) fs lines)
-        → All HasFewLines (cond b ((f.0, lines) ∷ fs) (f ∷ set_value (bytes_eq name) fs lines))
-    by true old changed zero d l = few
-    by true old changed (suc k) d l = old k d (omega arith)
-    by false old changed zero d l = h 0 d (omega arith)
-    by false old changed (suc k) d l = changed k d (omega arith)
+few-values : (files : FileTable) → All HasFewLines files → All (λ lines. length lines ≤ most_lines) (values_of files)
+few-values files h = All-map (λ lines. length lines ≤ most_lines) (λ file. file.1) files h
 
 -- splicing keeps the limits, if the lines that it leaves are within their limit
 within-spliced : (files : FileTable) (name : List ℕ) (splice : List (List ℕ) → List (List ℕ)) (lines : List (List ℕ))
@@ -70,21 +68,16 @@ within-spliced files name splice lines is few within =
     rw is (record {
       count = rw (length-set_value (bytes_eq name) files (splice lines)) within.count;
       names = subst (IsDistinct bytes_eq) (sym (keys-set_value (bytes_eq name) files (splice lines))) within.names;
-      lines = few-set_value files name (splice lines) few within.lines;
+      lines = few-files (set_value (bytes_eq name) files (splice lines))
+          (All-values-set_value (bytes_eq name) (λ lines. length lines ≤ most_lines) files (splice lines)
+          (few-values files within.lines) few);
     })
 
 few_lines-found : (files : FileTable) (name : List ℕ) (lines : List (List ℕ))
     → lines_of files name ≡ Some lines → All HasFewLines files → length lines ≤ most_lines
-few_lines-found [] name lines is h = absurd (cc)
-few_lines-found (f ∷ fs) name lines is h = by (bytes_eq name f.0) is (λ e. few_lines-found fs name lines e rest)
-  where
-    rest : All HasFewLines fs
-    rest k d l = h (suc k) d (omega arith)
-
-    by : (b : Bool) → cond b (Some f.1) (lines_of fs name) ≡ Some lines
-        → (lines_of fs name ≡ Some lines → length lines ≤ most_lines) → length lines ≤ most_lines
-    by true e later = let same : lines ≡ f.1 = cc in rw same (h 0 f (omega arith))
-    by false e later = later e
+few_lines-found files name lines is h =
+    subst (λ o. IfSome o (λ lines. length lines ≤ most_lines)) is
+    (All-lookup (λ lines. length lines ≤ most_lines) (bytes_eq name) files h)
 
 length-spliced : (lines : List (List ℕ)) (start : ℕ) (new_lines : List (List ℕ)) (end : ℕ) → start ≤ length lines
     → length (spliced lines start new_lines end) ≡ (start + length new_lines) + (length lines - end)
@@ -92,55 +85,28 @@ length-spliced lines start new_lines end within =
     length-append (take start lines ++ new_lines) (drop end lines)
     ∙ rw (length-append (take start lines) new_lines, length-take-le start lines within, length-drop end lines) refl
 
--- removing a file keeps the limit of lines
-few-remove_entry : (files : FileTable) (name : List ℕ)
-    → All HasFewLines files → All HasFewLines (remove_entry (bytes_eq name) files)
-few-remove_entry [] name h = h
-few-remove_entry (f ∷ fs) name h = by (bytes_eq name f.0) (few-remove_entry fs name rest)
-  where
-    rest : All HasFewLines fs
-    rest k d l = h (suc k) d (omega arith)
-
-    by : (b : Bool) → All HasFewLines (remove_entry (bytes_eq name) fs)
-        → All HasFewLines (cond b fs (f ∷ remove_entry (bytes_eq name) fs))
-    by true later k d l = rest k d l
-    by false later zero d l = h 0 d (omega arith)
-    by false later (suc k) d l = later k d (omega arith)
-
 length-remove_entry : (files : FileTable) (name : List ℕ) → length (remove_entry (bytes_eq name) files) ≤ length files
 length-remove_entry [] name = omega arith
-length-remove_entry (f ∷ fs) name = by (bytes_eq name f.0) (length-remove_entry fs name)
-  where
-    by : (b : Bool) → length (remove_entry (bytes_eq name) fs) ≤ length fs
-        → length (cond b fs (f ∷ remove_entry (bytes_eq name) fs)) ≤ length (f ∷ fs)
-    by true h = omega arith
-    by false h = omega (arith, h)
-
-others-remove_entry : (P : List ℕ → Type 0) (files : FileTable) (name : List ℕ)
-    → AllByRecursion P (map (λ file. file.0) files)
-    → AllByRecursion P (map (λ file. file.0) (remove_entry (bytes_eq name) files))
-others-remove_entry P [] name h = h
-others-remove_entry P (f ∷ fs) name h = by (bytes_eq name f.0) (others-remove_entry P fs name h.1)
-  where
-    by : (b : Bool) → AllByRecursion P (map (λ file. file.0) (remove_entry (bytes_eq name) fs))
-        → AllByRecursion P (map (λ file. file.0) (cond b fs (f ∷ remove_entry (bytes_eq name) fs)))
-    by true later = h.1
-    by false later = (h.0, later)
+length-remove_entry (f ∷ fs) name =
+    elim (bytes_eq name f.0) as (λ b. length (cond b fs (f ∷ remove_entry (bytes_eq name) fs)) ≤ length (f ∷ fs)) [
+      | true ↦ omega arith
+      | false ↦ omega (arith, length-remove_entry fs name)
+    ]
 
 distinct-remove_entry : (files : FileTable) (name : List ℕ)
     → HasDistinctNames files → HasDistinctNames (remove_entry (bytes_eq name) files)
 unfolding IsDistinct
 distinct-remove_entry [] name h = h
 distinct-remove_entry (f ∷ fs) name h =
-    by (bytes_eq name f.0) (others-remove_entry (λ other. bytes_eq f.0 other ≡ false) fs name h.0)
-    (distinct-remove_entry fs name h.1)
+    elim (bytes_eq name f.0) as (λ b. HasDistinctNames (cond b fs (f ∷ remove_entry (bytes_eq name) fs))) [
+      | true ↦ h.1
+      | false ↦ (others, distinct-remove_entry fs name h.1)
+    ]
   where
-    by : (b : Bool)
-        → AllByRecursion (λ other. bytes_eq f.0 other ≡ false) (map (λ file. file.0) (remove_entry (bytes_eq name) fs))
-        → IsDistinct bytes_eq (map (λ file. file.0) (remove_entry (bytes_eq name) fs))
-        → IsDistinct bytes_eq (map (λ file. file.0) (cond b fs (f ∷ remove_entry (bytes_eq name) fs)))
-    by true others later = h.1
-    by false others later = (others, later)
+    others : AllByRecursion (λ other. bytes_eq f.0 other ≡ false) (keys_of (remove_entry (bytes_eq name) fs))
+    others = recursion_from_All _ _
+        (All-map-remove_entry (bytes_eq name) (λ file. file.0) (λ other. bytes_eq f.0 other ≡ false) fs
+        (All-from_recursion _ _ h.0))
 
 -- an edit of lines that is not refused keeps the limit of lines
 few_after_insert : (lines : List (List ℕ)) (at : ℕ) (text : List ℕ) → None ≡ insert_refusal lines at text
@@ -205,6 +171,8 @@ IsWithinLimits-edited files (Discard file) h within =
     record {
       count = let less = length-remove_entry files file.items in let few = within.count in omega (arith, less, few);
       names = distinct-remove_entry files file.items within.names;
-      lines = few-remove_entry files file.items within.lines;
+      lines = few-files (remove_entry (bytes_eq file.items) files)
+          (All-map-remove_entry (bytes_eq file.items) (λ file. file.1) (λ lines. length lines ≤ most_lines) files
+          (few-values files within.lines));
     }
 IsWithinLimits-edited files (Marks mode) h within = within

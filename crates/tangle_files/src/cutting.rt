@@ -18,15 +18,15 @@ pub(crate) const LONGEST_LINE: usize = 65_535;
 
 /// What decides whether the lines of a file are within the limits.
 #[derive(Clone, Copy)]
-pub(crate) struct LineMeasure {
+struct LineMeasure {
     /// Whether a line is longer than the limit.
-    pub(crate) is_too_long: bool,
+    is_too_long: bool,
     /// The number of lines.
-    pub(crate) count: usize,
+    count: usize,
 }
 
 /// Measures the lines of the bytes, without cutting them.
-pub(crate) fn measure_lines(bytes: &[u8]) -> LineMeasure
+fn measure_lines(bytes: &[u8]) -> LineMeasure
     ensures long { result.is_too_long ≡ list_any is_too_long (cut bytes.now) }
     ensures count { result.count ≡ length (cut bytes.now) }
 {
@@ -65,18 +65,25 @@ pub(crate) fn cut_lines(alloc: Global, bytes: Vec<u8>) -> Result<Vec<Line>, Refu
     }
 }
 
+/// Why the bytes cannot be the lines of a file.
+pub(crate) fn refusal_of_lines(bytes: &[u8]) -> Option<Refusal>
+    ensures { result ≡ cut_refusal bytes.now }
+{
+    let lines = measure_lines(bytes);
+    if lines.is_too_long {
+        return Some(Refusal::LineTooLong);
+    }
+    if lines.count > MOST_LINES {
+        return Some(Refusal::TooManyLines);
+    }
+    None
+}
+
 /// Why cutting the bytes failed: `NoMemory`, if the lines are within the limits.
 fn why_not_cut(bytes: &[u8]) -> Refusal
     ensures { result ≡ unwrap_or (cut_refusal bytes.now) Refusal.NoMemory }
 {
-    let lines = measure_lines(bytes);
-    if lines.is_too_long {
-        return Refusal::LineTooLong;
-    }
-    if lines.count > MOST_LINES {
-        return Refusal::TooManyLines;
-    }
-    Refusal::NoMemory
+    refusal_of_lines(bytes).unwrap_or(Refusal::NoMemory)
 }
 
 /// Cuts a text into lines that share it. `None` if a line is too long, there are too many lines,

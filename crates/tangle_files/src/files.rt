@@ -9,7 +9,7 @@ ghost use Rattle.tangle_files.specs.Adding.{has_file, is_name, most_files, most_
 ghost use Rattle.tangle_files.specs.Edits.{edit_refusal};
 ghost use Rattle.tangle_files.specs.Edited.{edited};
 
-use crate::cutting::{cut_lines, measure_lines};
+use crate::cutting::{cut_lines, refusal_of_lines};
 use crate::edits::Edit;
 use crate::line::Line;
 use crate::refusal::Refusal;
@@ -167,14 +167,7 @@ impl Files {
         if let Some(refusal) = self.refusal_of_name(name) {
             return Some(refusal);
         }
-        let lines = measure_lines(bytes);
-        if lines.is_too_long {
-            return Some(Refusal::LineTooLong);
-        }
-        if lines.count > MOST_LINES {
-            return Some(Refusal::TooManyLines);
-        }
-        None
+        refusal_of_lines(bytes)
     }
 
     /// The number of files, at most 256. No two files have the same name.

@@ -2,7 +2,6 @@
 ghost use Rattle.std.specs.Prelude.{◌≡◌, IfOk, IfSome, IfNone, IsOkUnless, Err};
 ghost use Rattle.std.specs.Option.{option_copied, option_map};
 ghost use Rattle.tangle_files.specs.Roles.{roles_of, roles_refusal, is_name_if_any};
-ghost use Rattle.tangle_files.specs.Adding.{has_file};
 ghost use Rattle.tangle_files.specs.Roles.{fits as roles_fit, has_file_if_any};
 
 use crate::files::{Files, is_file_name};
@@ -101,7 +100,7 @@ impl Roles {
     pub fn fits(&self, files: &Files) -> bool
         ensures { result ≡ roles_fit files.now self.now }
     {
-        is_in(files, self.web()) && is_in_if_any(files, self.change())
+        files.has(self.web()) && is_in_if_any(files, self.change())
     }
 }
 
@@ -124,18 +123,12 @@ fn copy_if_any(alloc: Global, name: Option<&[u8]>) -> Result<Option<Vec<u8>>, No
     }
 }
 
-fn is_in(files: &Files, name: &[u8]) -> bool
-    ensures { result ≡ has_file files.now name.now }
-{
-    files.has(name)
-}
-
 /// Whether the table has the file, if one is named.
 fn is_in_if_any(files: &Files, name: Option<&[u8]>) -> bool
     ensures { result ≡ has_file_if_any files.now (option_copied name.entry) }
 {
     match name {
-        Some(name) => is_in(files, name),
+        Some(name) => files.has(name),
         None => true,
     }
 }

@@ -1,2 +1,1 @@
 pub mod Folder
-pub mod MemoryFolder

@@ -1,7 +1,7 @@
 -- Bodies of nodes, and bodies that are read by their number.
-use Rattle.std.proofs.Common.{◌≡◌, ◌∙◌, ◌<◌, ◌≤◌, ◌+◌, ℕ, Bool, true, false, List, length, map, get_or, ap, sym}
+use Rattle.std.proofs.Common.{◌≡◌, ◌∙◌, ◌<◌, ◌≤◌, ℕ, Bool, true, false, List, length, map, get_or, ap, sym}
 use Rattle.std.proofs.Common.{subst, arith}
-use Rattle.std.specs.Prelude.{All, filter, sum_by, nat_lt, slice_get, None, Some, Option, IfSome}
+use Rattle.std.specs.Prelude.{All, nat_lt, slice_get, None, Some, Option, IfSome}
 use Rattle.std.specs.Borrow.{Bor}
 use Rattle.std.specs.Global.{Global}
 use Rattle.std.specs.declared.rc.Rc.{Rc}
@@ -13,22 +13,20 @@ use Rattle.digraph.specs.Graph.{row_at}
 use Rattle.tangle_scan.specs.Web.{WebRead}
 use Rattle.tangle_names.specs.NameTable.{TableRead}
 use Rattle.tangle_plans.specs.Comparing.{IsPlanned}
-use Rattle.tangle_plans.specs.ItemTags.{pieces_uses, shape_of}
 use Rattle.tangle_plans.specs.ItemSlots.{pieces_at, pieces_slots}
 use Rattle.tangle_plans.specs.Nodes.{has_piece_in, title_at}
-use Rattle.tangle_plans.specs.NodeBodies.{HoldsShape, body_title, body_uses, plan_slots, plan_uses}
+use Rattle.tangle_plans.specs.NodeBodies.{body_title, body_uses, plan_uses}
 use Rattle.tangle_plans.specs.WebShapes.{ResolvesInside}
 use Rattle.tangle_plans.specs.declared.nodes.NodeBody.{NodeBody}
-use Rattle.tangle_graph.specs.Plans.{ArePlanned, AreBodies, IsBodyAt, IsBodyOf, node_bodies}
+use Rattle.tangle_graph.specs.Plans.{ArePlanned, AreBodies, IsBodyAt, node_bodies}
 use Rattle.tangle_graph.proofs.GroupLemmas.{pieces_below}
-use Rattle.tangle_graph.proofs.WeightLemmas.{weight_counted}
 
-pub names_inside : (web : WebRead) (table : TableRead) (numbers : List ℕ) (body : NodeBody)
-    → ResolvesInside table → IsBodyOf web table numbers body
+pub names_inside : (web : WebRead) (table : TableRead) (rows : List (List ℕ)) (node : ℕ) (body : NodeBody)
+    → ResolvesInside table → IsBodyAt web table rows node body
     → All (λ id. id < length table.names) (body_uses body)
-names_inside web table numbers body inside is =
-    subst (All (λ id. id < length table.names)) (sym is.names)
-    (pieces_below table inside (pieces_at web.pieces numbers))
+names_inside web table rows node body inside is =
+    subst (All (λ id. id < length table.names)) (sym is.uses)
+    (pieces_below table inside (pieces_at web.pieces (row_at rows node)))
 
 -- a body that is read by its number
 module _ (bodies : List (Rc NodeBody Global)) (n : ℕ) where
@@ -76,46 +74,28 @@ module _ (bodies : List (Rc NodeBody Global)) (n : ℕ) where
 pub body_given : (web : WebRead) (table : TableRead) (rows : List (List ℕ))
     (bodies : List (Rc NodeBody Global)) (n : ℕ) (body : Rc NodeBody Global)
     → AreBodies web table rows (node_bodies bodies)
-    → n < length rows → body ≡ get_or bodies n body → IsBodyOf web table (row_at rows n) body.value
+    → n < length rows → body ≡ get_or bodies n body → IsBodyAt web table rows n body.value
 body_given web table rows bodies n body are low same =
     let found = are.each n low in
     let there : n < length bodies =
     omega (arith, low, are.size, length-map bodies (λ (t : Rc NodeBody Global). t.value)) in
-    subst (IsBodyOf web table (row_at rows n))
+    subst (IsBodyAt web table rows n)
     (sym (get_or_from_slice_get (node_bodies bodies) n found.0 body.value found.1)
     ∙ get_or_from_slice_get (node_bodies bodies) n body.value body.value (read bodies n body there same))
-    found.2.is_body
+    found.2
 
--- a body with the title of a node and with the plan, the shape and the uses of its pieces is the node's
-pub body_made : (web : WebRead) (table : TableRead) (rows : List (List ℕ)) (node : ℕ) (body : NodeBody)
-    → (let pieces = pieces_at web.pieces (row_at rows node) in body_title body ≡ title_at table.names node
-    → plan_slots body ≡ pieces_slots web.texts table (has_piece_in rows) (title_at table.names node) 0 pieces
-    → HoldsShape table.names (shape_of web.texts table pieces) body → body_uses body ≡ pieces_uses table pieces
-    → plan_uses body ≡ filter (has_piece_in rows) (pieces_uses table pieces) → IsBodyAt web table rows node body)
-body_made web table rows node body title plan shape uses plan_uses =
-    let has : ℕ → Bool = has_piece_in rows in
+-- the body of a node was planned
+pub planned_at : (web : WebRead) (table : TableRead) (rows : List (List ℕ)) (node : ℕ) (body : NodeBody)
+    → IsBodyAt web table rows node body → IsPlanned (has_piece_in rows) body
+planned_at web table rows node body is =
     let pieces = pieces_at web.pieces (row_at rows node) in
     record {
-      slots = plan;
-      is_body = record {
-        shape = shape;
-        names = uses;
-        weight = λ used.
-            ap (λ l. length l + sum_by used (body_uses body)) plan
-            ∙ ap (λ l. length (pieces_slots web.texts table has (title_at table.names node) 0 pieces) + sum_by used l)
-            uses
-            ∙ sym (weight_counted web.texts table has used (title_at table.names node) 0 pieces);
-      };
-      uses = plan_uses;
-      title = title;
-      planned = record {
-        texts = web.texts;
-        table = table;
-        pieces = pieces;
-        items = record { tags = shape.tags; bytes = shape.bytes; uses = uses };
-        plan = plan ∙ ap (λ t. pieces_slots web.texts table has t 0 pieces) (sym title);
-        plan_uses = plan_uses;
-      };
+      texts = web.texts;
+      table = table;
+      pieces = pieces;
+      items = record { tags = is.shape.tags; bytes = is.shape.bytes; uses = is.uses };
+      plan = is.plan ∙ ap (λ t. pieces_slots web.texts table (has_piece_in rows) t 0 pieces) (sym is.title);
+      plan_uses = is.plan_uses;
     }
 
 -- the old body of a node has the title of the node, and was planned

@@ -1,35 +1,27 @@
 -- A plan with its uses filled in is the expansion of its node.
-use Rattle.std.proofs.Common.{◌≡◌, ◌∙◌, ◌<◌, Bool, true, false, List, [], length, map, get_or, ap, sym, arith}
+use Rattle.std.proofs.Common.{◌≡◌, ◌∙◌, ◌<◌, true, List, [], length, map, get_or, ap, sym, arith}
 use Rattle.std.specs.Global.{Global}
 use Rattle.std.specs.declared.rc.Rc.{Rc}
-use Rattle.std.proofs.lemmas.List.{get_or-map, get_or_past, length-map}
+use Rattle.std.proofs.lemmas.List.{get_or-map, length-map}
 use Rattle.std.specs.Prelude.{unwrap_or}
-use Rattle.std.proofs.Math.Decide.{dec_lt}
 use Rattle.digraph.specs.Graph.{row_at}
 use Rattle.digraph.specs.Nodes.{Node}
+use Rattle.digraph.proofs.ReachLemmas.{flagged_in}
 use Rattle.tangle_plans.specs.Shapes.{Shapes}
 use Rattle.tangle_expansion.specs.Kept.{used_symbols}
 use Rattle.tangle_expansion.specs.Limits.{flat_of}
 use Rattle.tangle_plans.specs.Slots.{filled}
 use Rattle.tangle_plans.specs.declared.nodes.NodeBody.{NodeBody}
 use Rattle.tangle_expansion.specs.declared.kept.Kept.{Kept}
-use Rattle.tangle_graph.specs.Stores.{StoreRead, IsNodeIn, IsStoreOf, KeepsUsed, flag_at, is_expandable_at, slots_at}
+use Rattle.tangle_graph.specs.Stores.{StoreRead, IsNodeIn, IsStoreOf, KeepsUsed, is_expandable_at, slots_at}
 use Rattle.tangle_graph.specs.Stores.{title_in_store}
 use Rattle.tangle_graph.specs.Plans.{node_bodies}
-
--- a node whose flag is set has a flag
-pub flag_inside : (flags : List Bool) (node : Node) → flag_at flags node ≡ true → node < length flags
-flag_inside flags node e = elim (dec_lt node (length flags)) [
-  | yes low ↦ low
-  | no past ↦ absurd
-      (let no : false ≡ true = sym (get_or_past flags node false (omega (arith, past))) ∙ e in cc)
-]
 
 -- an expandable node is a node of the store
 pub expandable_in : (shapes : Shapes) (store : StoreRead) (node : Node)
     → IsStoreOf shapes store → is_expandable_at store node ≡ true → IsNodeIn store node
 expandable_in shapes store node is e =
-    omega (arith, flag_inside store.expandable node e, is.expandable_size)
+    omega (arith, flagged_in store.expandable node e, is.expandable_size)
 
 pub expanded_right : (shapes : Shapes) (store : StoreRead) (kept : Kept) (node : Node)
     → IsStoreOf shapes store → is_expandable_at store node ≡ true → KeepsUsed shapes store kept node

@@ -23,14 +23,13 @@ use Rattle.digraph.specs.Graph.{Graph, HasUse, row_at}
 use Rattle.digraph.specs.Nodes.{Node, program}
 use Rattle.digraph.specs.Reach as graph
 use Rattle.digraph.proofs.TitleLemmas.{cycle_alike}
-use Rattle.tangle_graph.specs.FaultSearches.{flag_of_node}
-use Rattle.tangle_graph.specs.Faults.{has_piece_of_node, is_too_large, ReachesCycle, AreGraphFaults, fault_of}
+use Rattle.tangle_graph.specs.Faults.{has_piece_of_node, is_too_large, ReachesCycle, AreGraphFaults, fault_of, fault_occurrence}
 use Rattle.tangle_graph.specs.Faults.{faults_of_names, first_occurrence_number, graph_faults, large_program, no_program}
 use Rattle.tangle_graph.specs.Groups.{IsGraphOf}
 use Rattle.tangle_plans.specs.Nodes.{row_has_piece, title_at}
 use Rattle.tangle_graph.specs.Nodes.{UsesTitle}
 use Rattle.tangle_graph.specs.Outputs.{is_expandable}
-use Rattle.tangle_graph.specs.Stores.{StoreRead}
+use Rattle.tangle_graph.specs.Stores.{StoreRead, flag_at}
 use Rattle.tangle_graph.specs.WebStores.{IsStoreOfWeb}
 use Rattle.tangle_graph.proofs.ReachLemmas.{cycle_by_titles}
 use Rattle.tangle_graph.proofs.StoreLemmas.{expandable_is, piece_of_shape}
@@ -98,7 +97,7 @@ same_flag false false p q = refl
 pub reaching_flag : (web : WebRead) (table : TableRead) (rows uses : Graph) → IsGraphOf web table rows uses
     → (flags : List Bool) → FlagsJust uses flags (graph.ReachesCycle (HasUse uses)) → (n : ℕ)
     → n ≤ length table.names
-    → (flag_of_node flags n ≡ true) ↔ ReachesCycle (shapes web table) (title_at table.names n)
+    → (flag_at flags n ≡ true) ↔ ReachesCycle (shapes web table) (title_at table.names n)
 reaching_flag web table rows uses is flags just n low =
     let below : n < length uses = omega (arith, low, is.uses_size) in
     let alike = cycle_alike uses (UsesTitle (shapes web table)) (title_at table.names) is.titled n below in
@@ -120,15 +119,15 @@ module _ (web : WebRead) (table : TableRead) (out : List ℕ) (made : StoreRead)
       (subst (λ t. (row_has_piece (row_at made.pieces n) ≡ true) ↔ (shapes web table t ≢ [])) titled
       (is.store.has_piece n there)) (piece_of_shape (shapes web table (title_at table.names n)))
 
-  pub containing_flag : (flag_of_node made.self_containing n ≡ true)
+  pub containing_flag : (flag_at made.self_containing n ≡ true)
       ↔ ContainsItself (shapes web table) (title_at table.names n)
-  containing_flag = subst (λ t. (flag_of_node made.self_containing n ≡ true) ↔ ContainsItself (shapes web table) t)
+  containing_flag = subst (λ t. (flag_at made.self_containing n ≡ true) ↔ ContainsItself (shapes web table) t)
       titled (is.store.contains_itself n there)
 
-  pub expandable_flag : flag_of_node made.expandable n ≡ is_expandable (shapes web table) (title_at table.names n)
+  pub expandable_flag : flag_at made.expandable n ≡ is_expandable (shapes web table) (title_at table.names n)
   expandable_flag =
-      same_flag (flag_of_node made.expandable n) (is_expandable (shapes web table) (title_at table.names n))
-      (subst (λ t. (flag_of_node made.expandable n ≡ true) ↔ IsExpandableNode (shapes web table) t) titled
+      same_flag (flag_at made.expandable n) (is_expandable (shapes web table) (title_at table.names n))
+      (subst (λ t. (flag_at made.expandable n ≡ true) ↔ IsExpandableNode (shapes web table) t) titled
       (is.store.expandable n there)) (expandable_is (shapes web table) (title_at table.names n))
 
 -- lists that are appended one after another, the first four at once
@@ -159,26 +158,26 @@ module _ (web : WebRead) (table : TableRead) (out : List ℕ) (c d r s : Node �
       (λ b. has_piece_of_node web table n
       && (not b && not (is_expandable (shapes web table) (title_at table.names n)))) (reaching n h)
 
-  same_containing : faults_of_names web table out c r kind.SelfContaining
-      ≡ faults_of_names web table out d s kind.SelfContaining
-  same_containing = same_in_range _ _ 0 (length table.names) (λ k low high.
-      ap (λ b. fault_of web table kind.SelfContaining k (if b then first_occurrence_number web table k else None))
-      (containing (suc k) (omega (arith, high))))
+  same_number : (kind : FaultKind) (id : ℕ) → id < length table.names
+      → fault_occurrence web table out c r kind id ≡ fault_occurrence web table out d s kind id
+  same_number kind.SelfContaining id h =
+      ap (λ b. if b then first_occurrence_number web table id else None) (containing (suc id) (omega (arith, h)))
+  same_number kind.TooLarge id h =
+      ap (λ b. if b then first_occurrence_number web table id else None) (same_large (suc id) (omega (arith, h)))
+  same_number _ id h = refl
 
-  same_too_large : faults_of_names web table out c r kind.TooLarge ≡ faults_of_names web table out d s kind.TooLarge
-  same_too_large = same_in_range _ _ 0 (length table.names) (λ k low high.
-      ap (λ b. fault_of web table kind.TooLarge k (if b then first_occurrence_number web table k else None))
-      (same_large (suc k) (omega (arith, high))))
+  same_names : (kind : FaultKind) → faults_of_names web table out c r kind ≡ faults_of_names web table out d s kind
+  same_names kind = same_in_range _ _ 0 (length table.names)
+      (λ k low high. ap (fault_of web table kind k) (same_number kind k (omega (arith, high))))
 
   same_program : large_program web table out c r ≡ large_program web table out d s
   same_program =
       ap (λ b. if b then fault_unplaced kind.TooLarge ∷ [] else []) (same_large program (omega arith))
 
   same_faults : graph_faults web table out c r ≡ graph_faults web table out d s
-  same_faults = λ i. faults_of_names web table out c r kind.Undefined
-      ++ (faults_of_names web table out c r kind.Unused ++ (same_containing i
-      ++ (same_too_large i
-      ++ (same_program i ++ (faults_of_names web table out c r kind.FileClash ++ no_program web table out c r)))))
+  same_faults = λ i. same_names kind.Undefined i ++ (same_names kind.Unused i
+      ++ (same_names kind.SelfContaining i ++ (same_names kind.TooLarge i
+      ++ (same_program i ++ (same_names kind.FileClash i ++ no_program web table out c r)))))
 
 pub one_list : (web : WebRead) (table : TableRead) (out : List ℕ) (a b : List FaultRead)
     → AreGraphFaults web table out a → AreGraphFaults web table out b → a ≡ b

@@ -17,7 +17,7 @@ use Rattle.tangle_names.specs.NameTable.{TableRead}
 use Rattle.tangle_names.proofs.ContainsLemmas.{cons_cases, here, no_item, into_map, out_of_map}
 use Rattle.tangle_plans.specs.ItemTags.{uses_in, uses_resolved, pieces_uses, shape_of}
 use Rattle.tangle_plans.specs.Nodes.{title_at}
-use Rattle.tangle_plans.specs.Shapes.{Shape, ShapeItem, Written, Mark, AllMacros, Use, NoUse, Named, title_eq}
+use Rattle.tangle_plans.specs.Shapes.{Shape, ShapeItem, Use, Named, title_eq}
 use Rattle.tangle_plans.specs.Shapes.{UsesInPiece, UsesInShape, Uses, IsUseOf}
 use Rattle.tangle_plans.specs.Shapes as title
 use Rattle.tangle_plans.specs.Tags.{item_names, shape_names}
@@ -88,10 +88,7 @@ item_uses (Use other) name = (
   λ c. elim (cons_cases other [] name c) [ inl same ↦ same | inr more ↦ absurd (no_item name more) ],
   λ same. subst (Contains (other ∷ [])) same (here other []),
 )
-item_uses (Written kind bytes) name = (no_item name, λ u. absurd u)
-item_uses Mark name = (no_item name, λ u. absurd u)
-item_uses AllMacros name = (no_item name, λ u. absurd u)
-item_uses NoUse name = (no_item name, λ u. absurd u)
+item_uses _ name = (no_item name, λ u. absurd u)
 
 items_use : (items : List ShapeItem) (name : List ℕ)
     → Contains (flat_map item_names items) name ↔ UsesInPiece items name
@@ -119,7 +116,7 @@ module _ (texts : List (List ℕ)) (table : TableRead) (pieces : List PieceRead)
       ((shape_uses (shape_of texts table pieces) name).1 u))
 
 -- only names of the table are used
-all_flat : {X : Type 0} (P : ℕ → Type 0) (f : X → List ℕ)
+pub all_flat : {X : Type 0} (P : ℕ → Type 0) (f : X → List ℕ)
     → ((x : X) → All P (f x)) → (xs : List X) → All P (flat_map f xs)
 all_flat P f each [] = All-nil P
 all_flat P f each (x ∷ xs) = All-append P (f x) (flat_map f xs) (each x) (all_flat P f each xs)

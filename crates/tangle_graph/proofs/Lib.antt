@@ -17,7 +17,7 @@ pub mod ExpandLemmas
 mod StoreIs
 pub mod OutputLemmas
 mod OrderingLemmas
-mod FaultLemmas
+pub mod FaultLemmas
 pub mod WeightLemmas
 pub mod UsesLemmas
 mod NameGraphLemmas

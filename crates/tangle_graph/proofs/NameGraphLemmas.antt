@@ -49,7 +49,7 @@ uses_inside web table pieces bodies inside are =
     (λ k d h. (let found = are.each k (omega (arith, h, are.size)) in
     subst (λ (body : NodeBody). All (λ id. id < length table.names) (body_uses body))
     (sym (get_or_from_slice_get bodies k found.0 d found.1))
-    (names_inside web table (row_at pieces k) found.0 inside found.2.is_body)))
+    (names_inside web table pieces k found.0 inside found.2)))
 
 module _ (ids : List (List ℕ)) (rows : Graph) (are : AreUsesOf ids rows) where
   pub each_increasing : All IsStrictlyIncreasing rows

@@ -1,5 +1,5 @@
 -- Values computed for each node along an order, in which a node comes after those that it uses.
-use Rattle.std.proofs.Common.{◌≡◌, ◌≢◌, ◌∙◌, ◌<◌, ◌≤◌, ◌+◌, ◌⊎◌, ℕ, zero, suc, List, [], ◌∷◌, ◌++◌, length, take}
+use Rattle.std.proofs.Common.{◌≡◌, ◌∙◌, ◌<◌, ◌≤◌, ◌+◌, ◌⊎◌, ℕ, zero, suc, List, [], ◌∷◌, ◌++◌, length, take}
 use Rattle.std.proofs.Common.{get_or, set, ap, sym, subst, inl, inr, arith, length-set, get_or-set_same}
 use Rattle.std.proofs.Common.{get_or-set_other}
 use Rattle.std.specs.Prelude.{Contains}
@@ -10,6 +10,7 @@ use Rattle.digraph.specs.Graph.{Graph, InRange}
 use Rattle.digraph.specs.Order.{IsOrder}
 use Rattle.digraph.specs.Titles.{IsTitled}
 use Rattle.digraph.proofs.GraphLemmas.{use_in}
+use Rattle.tangle_names.proofs.ContainsLemmas.{cons_cases, here as at_head, no_item, there}
 use Rattle.tangle_plans.specs.Shapes.{Title, Program, Named, Shapes}
 use Rattle.tangle_plans.specs.Flat.{weight, depth}
 use Rattle.tangle_graph.specs.Nodes.{UsesTitle}
@@ -18,22 +19,14 @@ use Rattle.tangle_expansion.proofs.UsedLemmas.{pieces_depth-use, pieces_weight-u
 
 -- a number is in a list or not
 pub among : (xs : List ℕ) (n : ℕ) → Contains xs n ⊎ ((c : Contains xs n) → ⊥)
-among [] n = inr (λ c. absurd (omega (arith, c.1)))
+among [] n = inr (no_item n)
 among (x ∷ xs) n = elim (ℕ_discrete x n) [
-  | yes same ↦ inl (0, omega arith, same)
-  | no other ↦ later (among xs n) other
+  | yes same ↦ inl (subst (Contains (x ∷ xs)) same (at_head x xs))
+  | no other ↦ elim (among xs n) [
+    | inl c ↦ inl (there x xs n c)
+    | inr none ↦ inr (λ c. elim (cons_cases x xs n c) [ inl e ↦ other e | inr d ↦ none d ])
+  ]
 ]
-  where
-    later : Contains xs n ⊎ ((c : Contains xs n) → ⊥) → x ≢ n → Contains (x ∷ xs) n ⊎ ((c : Contains (x ∷ xs) n) → ⊥)
-    later (inl c) apart = inl (Contains-append_right (x ∷ []) xs n c)
-    later (inr none) apart = inr (λ c. elim (cases c) [
-      | inl here ↦ absurd (apart here)
-      | inr there ↦ none there
-    ])
-      where
-        cases : Contains (x ∷ xs) n → (x ≡ n) ⊎ Contains xs n
-        cases (zero, h, e) = inl e
-        cases (suc k, h, e) = inr (k, omega (arith, h), e)
 
 pub measured_next : (graph : Graph) (value : ℕ → ℕ) (other : ℕ) (values order : List ℕ) (i n v : ℕ)
     → i < length order → n ≡ get_or order i 0 → n < length graph
@@ -79,34 +72,29 @@ measured_all value other values order i n h sofar low rest =
 
 -- A node is one level deeper than a name that it uses, and heavier by at least 1.
 
-deeper : (steps : ℕ) (shapes : Shapes) (a b : Title)
+pub deeper : (steps : ℕ) (shapes : Shapes) (a b : Title)
     → UsesTitle shapes a b → steps ≤ depth steps shapes b → suc steps ≤ depth (suc steps) shapes a
 deeper steps shapes a Program u h = absurd u
 deeper steps shapes a (Named name) u h =
     omega (arith, h, pieces_depth-use (λ other. depth steps shapes (Named other)) (shapes a) name u)
 
-heavier : (steps : ℕ) (shapes : Shapes) (a b : Title)
+pub heavier : (steps : ℕ) (shapes : Shapes) (a b : Title)
     → UsesTitle shapes a b → steps ≤ weight steps shapes b → suc steps ≤ weight (suc steps) shapes a
 heavier steps shapes a Program u h = absurd u
 heavier steps shapes a (Named name) u h =
     omega (arith, h, pieces_weight-use (λ other. weight steps shapes (Named other)) (shapes a) name u)
 
--- for each number of steps, the depth and the weight of a node that is left out of an order are at least that number
-pub left_out_deepest : (graph : Graph) (shapes : Shapes) (title : ℕ → Title) (order : List ℕ) (steps n : ℕ)
+-- for each number of steps, a measure of a node that is left out of an order is at least that number, if each use
+-- adds 1 to the measure
+pub left_out : (measure : ℕ → Shapes → Title → ℕ)
+    → ((steps : ℕ) (shapes : Shapes) (a b : Title)
+    → UsesTitle shapes a b → steps ≤ measure steps shapes b → suc steps ≤ measure (suc steps) shapes a)
+    → (graph : Graph) (shapes : Shapes) (title : ℕ → Title) (order : List ℕ) (steps n : ℕ)
     → IsTitled graph (UsesTitle shapes) title → InRange graph → IsOrder graph order
-    → n < length graph → ((c : Contains order n) → ⊥) → steps ≤ depth steps shapes (title n)
-left_out_deepest graph shapes title order zero n titled range is low out = omega arith
-left_out_deepest graph shapes title order (suc steps) n titled range is low out =
+    → n < length graph → ((c : Contains order n) → ⊥) → steps ≤ measure steps shapes (title n)
+left_out measure adds graph shapes title order zero n titled range is low out = omega arith
+left_out measure adds graph shapes title order (suc steps) n titled range is low out =
     let next = is.rest n low out in
-    deeper steps shapes (title n) (title next.0) (titled.sound n next.0 next.1)
-    (left_out_deepest graph shapes title order steps next.0 titled range is (use_in graph range n next.0 next.1) next.2)
-
-pub left_out_heaviest : (graph : Graph) (shapes : Shapes) (title : ℕ → Title) (order : List ℕ) (steps n : ℕ)
-    → IsTitled graph (UsesTitle shapes) title → InRange graph → IsOrder graph order
-    → n < length graph → ((c : Contains order n) → ⊥) → steps ≤ weight steps shapes (title n)
-left_out_heaviest graph shapes title order zero n titled range is low out = omega arith
-left_out_heaviest graph shapes title order (suc steps) n titled range is low out =
-    let next = is.rest n low out in
-    heavier steps shapes (title n) (title next.0) (titled.sound n next.0 next.1)
-    (left_out_heaviest graph shapes title order steps next.0
+    adds steps shapes (title n) (title next.0) (titled.sound n next.0 next.1)
+    (left_out measure adds graph shapes title order steps next.0
     titled range is (use_in graph range n next.0 next.1) next.2)

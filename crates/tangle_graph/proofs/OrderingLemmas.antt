@@ -8,6 +8,7 @@ use Rattle.std.proofs.lemmas.List.Elements.{All-contains, All-from_get_or}
 use Rattle.std.proofs.lemmas.Bool.{and_parts}
 use Rattle.tangle_scan.specs.Web.{WebRead, PieceRead}
 use Rattle.tangle_names.specs.NameTable.{TableRead}
+use Rattle.tangle_plans.specs.Flat.{depth}
 use Rattle.tangle_plans.specs.Shapes.{Title, Program, Named}
 use Rattle.tangle_plans.specs.Nodes.{IsGroupedBy, row_has_piece, title_at}
 use Rattle.tangle_plans.specs.ItemSlots.{pieces_at}
@@ -18,7 +19,7 @@ use Rattle.digraph.specs.Order.{IsOrder}
 use Rattle.tangle_graph.specs.Groups.{IsGraphOf}
 use Rattle.tangle_graph.specs.Ordering.{IsOrderIn}
 use Rattle.tangle_graph.specs.Stores.{StoreRead, AreWithin}
-use Rattle.tangle_graph.proofs.OrderLemmas.{among, left_out_deepest}
+use Rattle.tangle_graph.proofs.OrderLemmas.{among, deeper, left_out}
 
 module _ (web : WebRead) (table : TableRead) (made : StoreRead) (order : List ℕ)
     (graph : IsGraphOf web table made.pieces made.uses) (is : IsOrder made.uses order)
@@ -47,7 +48,7 @@ module _ (web : WebRead) (table : TableRead) (made : StoreRead) (order : List �
       let shallow : get_or made.depths n 0 < levels = (let t = three.0 in grind (arith, nat_tests)) in
       elim (among order n) [
         | inl c ↦ c
-        | inr none ↦ (let deep = left_out_deepest made.uses (shapes web table)
+        | inr none ↦ (let deep = left_out depth deeper made.uses (shapes web table)
             (title_at table.names) order levels n graph.titled graph.range is here none in
             absurd (omega (arith, deep, measured n here, shallow)))
       ]

@@ -4,7 +4,7 @@ use Rattle.std.proofs.Common.{flat_map, refl, ◌∙◌, sym, subst, inl, inr, a
 use Rattle.std.specs.Prelude.{not, if◌then◌else◌, Contains, All, option_to_list}
 use Rattle.std.specs.Str.{bytes_eq}
 use Rattle.std.proofs.lemmas.Bool.{and_parts}
-use Rattle.std.proofs.lemmas.List.Elements.{All-append, All-cons, All-nil, All-contains, All-filter}
+use Rattle.std.proofs.lemmas.List.Elements.{All-cons, All-nil, All-contains, All-filter}
 use Rattle.std.proofs.lemmas.List.Elements.{Contains-append_cases, Contains-push_cases}
 use Rattle.tangle_scan.specs.Web.{WebRead}
 use Rattle.tangle_names.specs.declared.Resolved.{Resolved}
@@ -14,7 +14,7 @@ use Rattle.tangle_names.proofs.ContainsLemmas.{out_of_filter, out_of_map}
 use Rattle.tangle_expansion.specs.Limits.{IsExpandableNode}
 use Rattle.tangle_expansion.specs.Outputs.{OutputRead}
 use Rattle.tangle_plans.specs.WebShapes.{shapes, resolved_at, IsNameBelow, ResolvesInside}
-use Rattle.tangle_plans.specs.Shapes.{Named, Shape, Shapes}
+use Rattle.tangle_plans.specs.Shapes.{Named, Shapes}
 use Rattle.tangle_plans.specs.Shapes as title
 use Rattle.digraph.specs.Nodes.{program}
 use Rattle.tangle_plans.specs.Nodes.{title_at}
@@ -22,18 +22,15 @@ use Rattle.tangle_graph.specs.Grouping.{resolved_number}
 use Rattle.tangle_graph.specs.Nodes.{IsNodeOf}
 use Rattle.tangle_graph.specs.Outputs.{shape_has_piece, is_expandable, firsts, file_occurrences, file_names}
 use Rattle.tangle_graph.specs.Outputs.{name_with_number, named_file, main_file, is_written, outputs}
+use Rattle.tangle_graph.proofs.GroupLemmas.{all_flat}
 use Rattle.tangle_graph.proofs.NodeLemmas.{title_inside}
-use Rattle.tangle_graph.proofs.StoreLemmas.{expandable_is}
+use Rattle.tangle_graph.proofs.StoreLemmas.{expandable_is, no_pieces}
 
 -- of each output file: its node is the program or a name, and is expandable if it has a piece
 pub record IsFit (shapes : Shapes) (names : List (List ℕ)) (output : OutputRead) : Type 0 where
   pub inside : IsNodeOf names output.node
   pub there : output.has_piece ≡ true → IsExpandableNode shapes (title_at names output.node)
   pub none : output.has_piece ≡ false → shapes (title_at names output.node) ≡ []
-
-no_pieces : (s : Shape) → shape_has_piece s ≡ false → s ≡ []
-no_pieces [] e = refl
-no_pieces (x ∷ s) e = absurd (let no : true ≡ false = e in cc)
 
 one_where : {X : Type 0} (b : Bool) (x y : X) → Contains (if b then x ∷ [] else []) y → (b ≡ true) × (x ≡ y)
 one_where true x y c = elim (Contains-push_cases [] x y c) [
@@ -47,11 +44,6 @@ all_firsts P [] all = all
 all_firsts P (n ∷ ns) all =
     All-cons P n (filter (λ m. not (m == n)) (firsts ns)) (all 0 n (omega arith))
     (All-filter (λ m. not (m == n)) P (firsts ns) (all_firsts P ns (λ i d h. all (suc i) d (omega (arith, h)))))
-
-all_flat : {X : Type 0} (P : ℕ → Type 0) (f : X → List ℕ) (xs : List X)
-    → ((x : X) → All P (f x)) → All P (flat_map f xs)
-all_flat P f [] each = All-nil P
-all_flat P f (x ∷ xs) each = All-append P (f x) (flat_map f xs) (each x) (all_flat P f xs each)
 
 module _ (web : WebRead) (table : TableRead) (resolves : ResolvesInside table) where
   below_one : (r : Resolved)
@@ -67,8 +59,8 @@ module _ (web : WebRead) (table : TableRead) (resolves : ResolvesInside table) w
       (flat_map (λ occurrence. option_to_list (resolved_number (resolved_at table occurrence)))
       (file_occurrences web table))
       (all_flat (λ id. id < length table.names)
-      (λ occurrence. option_to_list (resolved_number (resolved_at table occurrence))) (file_occurrences web table)
-      (λ occurrence. below_one (resolved_at table occurrence) (resolves occurrence)))
+      (λ occurrence. option_to_list (resolved_number (resolved_at table occurrence)))
+      (λ occurrence. below_one (resolved_at table occurrence) (resolves occurrence)) (file_occurrences web table))
 
   module _ (out : List ℕ) where
     main_fits : (b e : Bool) → b ≡ shape_has_piece (shapes web table title.Program)

@@ -1,9 +1,8 @@
 -- The names that a plan uses have a piece, and the plan is right if each of them is replaced by its own symbols.
-use Rattle.std.proofs.Common.{◌≡◌, ◌≢◌, ◌∙◌, ◌<◌, ◌↔◌, ℕ, suc, Bool, true, false, List, [], ◌∷◌, length, filter}
+use Rattle.std.proofs.Common.{◌≡◌, ◌≢◌, ◌∙◌, ◌<◌, ◌↔◌, ℕ, suc, Bool, true, false, List, [], length, filter}
 use Rattle.std.proofs.Common.{get_or, refl, ap, sym, subst, arith}
 use Rattle.std.specs.Prelude.{Contains, if◌then◌else◌}
 use Rattle.std.proofs.lemmas.List.Elements.{All-contains}
-use Rattle.std.proofs.lemmas.List.{nil_from_length}
 use Rattle.std.proofs.lemmas.Option.{get_or_from_slice_get}
 use Rattle.tangle_scan.specs.Web.{WebRead}
 use Rattle.tangle_names.specs.NameTable.{TableRead}
@@ -13,7 +12,7 @@ use Rattle.tangle_plans.specs.Shapes.{Title, Named, Shape, Shapes, Uses}
 use Rattle.tangle_plans.specs.Flat.{Symbol, pieces_flat, flat}
 use Rattle.tangle_plans.specs.ItemTags.{pieces_uses}
 use Rattle.tangle_plans.specs.NodeBodies.{body_title}
-use Rattle.tangle_plans.specs.Nodes.{has_piece_in, row_has_piece, title_at}
+use Rattle.tangle_plans.specs.Nodes.{has_piece_in, title_at}
 use Rattle.tangle_plans.specs.WebShapes.{ResolvesInside, pieces_of, shapes}
 use Rattle.tangle_plans.specs.declared.nodes.NodeBody.{NodeBody}
 use Rattle.tangle_expansion.specs.Limits.{levels, flat_of}
@@ -21,14 +20,11 @@ use Rattle.digraph.specs.Graph.{row_at}
 use Rattle.tangle_graph.specs.Groups.{IsGraphOf}
 use Rattle.tangle_graph.specs.Plans.{AreBodies, ArePlanned}
 use Rattle.tangle_graph.specs.Stores.{StoreRead, UsesPiece}
+use Rattle.tangle_graph.proofs.BodyLemmas.{planned_at}
 use Rattle.tangle_graph.proofs.GroupLemmas.{pieces_below, pieces_use}
 use Rattle.tangle_graph.proofs.LimitLemmas.{shape_size}
 use Rattle.tangle_graph.proofs.NodeLemmas.{title_inside}
-use Rattle.tangle_graph.proofs.StoreLemmas.{piece_of_row}
-
-no_shape : (row : List ℕ) (s : Shape) → length s ≡ length row → row_has_piece row ≡ false → s ≡ []
-no_shape [] s e t = nil_from_length s e
-no_shape (k ∷ row) s e t = absurd (let no : true ≡ false = t in cc)
+use Rattle.tangle_graph.proofs.StoreLemmas.{no_pieces, piece_in_both, piece_of_row}
 
 flat_empty : (all : Shapes) (node : Title) → all node ≡ [] → flat_of all node ≡ []
 unfolding levels
@@ -42,7 +38,7 @@ bodies_planned web table rows bodies are = record {
       ap body_title (get_or_from_slice_get bodies node found.0 body found.1) ∙ found.2.title);
   planned = λ node body low. (let found = are.each node (omega (arith, low, are.size)) in
       subst (IsPlanned (has_piece_in rows)) (sym (get_or_from_slice_get bodies node found.0 body found.1))
-      found.2.planned);
+      (planned_at web table rows node found.0 found.2));
 }
 
 module _ (web : WebRead) (table : TableRead) (made : StoreRead)
@@ -87,5 +83,6 @@ module _ (web : WebRead) (table : TableRead) (made : StoreRead)
           → (if b then symbols id else []) ≡ flat_of (shapes web table) (Named (get_or table.names id []))
       by true e = right id (record { inside = low; uses = u; has_piece = (piece_of_name id low).0 e })
       by false e = sym (flat_empty (shapes web table) (Named (get_or table.names id []))
-          (no_shape (row_at made.pieces (suc id)) (shapes web table (Named (get_or table.names id [])))
-          (size_of_name id low) e))
+          (no_pieces (shapes web table (Named (get_or table.names id [])))
+          (sym (piece_in_both (row_at made.pieces (suc id)) (shapes web table (Named (get_or table.names id [])))
+          (size_of_name id low)) ∙ e)))

@@ -4,31 +4,48 @@ use Rattle.std.proofs.Common.{subst, inl, inr, arith}
 use Rattle.std.specs.Prelude.{Contains, All, sum_by}
 use Rattle.std.proofs.lemmas.List.{get_or_default}
 use Rattle.std.proofs.lemmas.List.Elements.{All-contains}
+use Rattle.std.proofs.lemmas.List.Sums.{sum_by-cons}
 use Rattle.digraph.specs.Graph.{Graph, HasUse, row_at}
 use Rattle.digraph.specs.Nodes.{Node}
 use Rattle.tangle_scan.specs.Web.{WebRead}
 use Rattle.tangle_names.specs.NameTable.{TableRead}
+use Rattle.tangle_names.proofs.ContainsLemmas.{here, there}
 use Rattle.tangle_plans.specs.Shapes.{Title, Program, Named, Shape, ShapeItem, UsesInShape, Uses}
-use Rattle.tangle_plans.specs.Flat.{weight, pieces_depth, depth}
+use Rattle.tangle_plans.specs.Flat.{pieces_weight, pieces_depth, depth}
+use Rattle.tangle_plans.specs.ItemSlots.{pieces_at}
+use Rattle.tangle_plans.specs.ItemTags.{pieces_uses, shape_of}
 use Rattle.tangle_plans.specs.NodeBodies.{body_uses, plan_slots}
-use Rattle.tangle_plans.specs.Nodes.{title_at}
+use Rattle.tangle_plans.specs.Nodes.{has_piece_in, title_at}
 use Rattle.tangle_plans.specs.WebShapes.{shapes, ResolvesInside, pieces_of}
 use Rattle.tangle_plans.specs.declared.nodes.NodeBody.{NodeBody}
 use Rattle.tangle_expansion.specs.Limits.{weight_cap, levels, weight_of, depth_of}
 use Rattle.tangle_expansion.proofs.SameShapes.{weight_by_uses, depth_by_uses}
 use Rattle.tangle_expansion.proofs.UsedLemmas.{pieces_depth-use}
 use Rattle.tangle_graph.specs.Groups.{IsGraphOf}
-use Rattle.tangle_graph.specs.Measures.{AreMeasured, weight_of_pieces}
+use Rattle.tangle_graph.specs.Measures.{AreMeasured}
 use Rattle.tangle_graph.specs.Nodes.{UsesTitle}
-use Rattle.tangle_graph.specs.Plans.{IsBodyOf}
+use Rattle.tangle_graph.specs.Plans.{IsBodyAt}
+use Rattle.tangle_graph.proofs.GroupLemmas.{pieces_below, pieces_use}
 use Rattle.tangle_graph.proofs.LimitLemmas.{shape_size}
-use Rattle.tangle_graph.proofs.MeasureLemmas.{pieces_weigh, pieces_depth-met}
+use Rattle.tangle_graph.proofs.MeasureLemmas.{pieces_depth-met}
 use Rattle.tangle_graph.proofs.NodeLemmas.{title_inside}
+use Rattle.tangle_graph.proofs.WeightLemmas.{weight_counted}
 use Rattle.tangle_graph.proofs.OrderLemmas.{among}
 
 one_level : 1 ≤ levels
 unfolding levels
 one_level = omega arith
+
+sum_by_same : (f g : ℕ → ℕ) (xs : List ℕ) → ((x : ℕ) → Contains xs x → f x ≡ g x) → sum_by f xs ≡ sum_by g xs
+sum_by_same f g [] same = refl
+sum_by_same f g (x ∷ xs) same =
+    omega (
+      arith,
+      sum_by-cons f x xs,
+      sum_by-cons g x xs,
+      same x (here x xs),
+      sum_by_same f g xs (λ y c. same y (there x xs y c)),
+    )
 
 -- each known value is within the cap, if all values are
 pub measured_capped : (value : ℕ → ℕ) (cap : ℕ) (values nodes : List ℕ) → ((n : ℕ) → value n ≤ cap)
@@ -55,32 +72,40 @@ module _ (web : WebRead) (table : TableRead) (rows : List (List ℕ)) (uses : Gr
 
   pub weight_step : (weights : List ℕ) (body : NodeBody) (result : ℕ) → ResolvesInside table
       → AreMeasured (λ m. weight_of (shapes web table) (title_at table.names m)) weight_cap weights done
-      → IsBodyOf web table (row_at rows n) body
+      → IsBodyAt web table rows n body
       → result ≡ min weight_cap (length (plan_slots body) + sum_by (λ id. get_or weights (suc id) 0) (body_uses body))
       → result ≡ weight_of (shapes web table) (title_at table.names n)
   weight_step weights body result inside sofar is e =
-      e ∙ ap (min weight_cap) (is.weight known)
-      ∙ ap (λ ps. min weight_cap (weight_of_pieces web.texts table known ps))
-      (graph.pieces n (omega (arith, low, graph.rows_size, graph.uses_size)))
-      ∙ pieces_weigh web.texts table inside weight_cap known
-      (λ name. min weight_cap (weight weight_cap (shapes web table) (Named name)))
-      (pieces_of web table (title_at table.names n)) weighs
+      e ∙ ap (λ s. min weight_cap (length (plan_slots body) + s))
+      (sum_by_same known (λ id. by_name (get_or table.names id [])) (body_uses body) same)
+      ∙ (λ i. min weight_cap (length (is.plan i) + sum_by (λ id. by_name (get_or table.names id [])) (is.uses i)))
+      ∙ ap (min weight_cap) (sym (weight_counted web.texts table (has_piece_in rows) by_name
+      (title_at table.names n) 0 (pieces_at web.pieces (row_at rows n))))
+      ∙ ap (λ ps. min weight_cap (pieces_weight by_name (shape_of web.texts table ps))) grouped
       ∙ sym (weight_by_uses weight_cap (shapes web table) (title_at table.names n))
     where
       known : ℕ → ℕ
       known id = get_or weights (suc id) 0
 
-      weighs : (id : ℕ) → id < length table.names
-          → Uses (shapes web table) (title_at table.names n) (get_or table.names id [])
-          → min weight_cap (min weight_cap (weight weight_cap (shapes web table) (Named (get_or table.names id []))))
-          ≡ min weight_cap (known id)
-      weighs id within u =
-          let found =
-          used_found (weight_of (shapes web table)) weight_cap weights (Named (get_or table.names id [])) sofar u in
-          let same : found.0 ≡ suc id =
+      by_name : List ℕ → ℕ
+      by_name name = weight_of (shapes web table) (Named name)
+
+      grouped : pieces_at web.pieces (row_at rows n) ≡ pieces_of web table (title_at table.names n)
+      grouped = graph.pieces n (omega (arith, low, graph.rows_size, graph.uses_size))
+
+      same : (id : ℕ) → Contains (body_uses body) id → known id ≡ by_name (get_or table.names id [])
+      same id c =
+          let pieces = pieces_of web table (title_at table.names n) in
+          let used : Contains (pieces_uses table pieces) id =
+          subst (λ l. Contains l id) (is.uses ∙ ap (pieces_uses table) grouped) c in
+          let within : id < length table.names = All-contains (λ k. k < length table.names)
+          (pieces_uses table pieces) id (pieces_below table inside pieces) used in
+          let found = used_found (weight_of (shapes web table)) weight_cap weights (Named (get_or table.names id []))
+          sofar (pieces_use web.texts table pieces id used) in
+          let at : found.0 ≡ suc id =
           graph.titled.once found.0 (suc id) found.2 (omega (arith, within, graph.uses_size))
           (found.3 ∙ sym (title_inside table.names id within)) in
-          ap (min weight_cap) (sym found.4 ∙ ap (λ k. get_or weights k 0) same)
+          ap (λ k. get_or weights k 0) (sym at) ∙ found.4
 
   pub depth_step : (depths : List ℕ) (result : ℕ)
       → AreMeasured (λ m. depth_of (shapes web table) (title_at table.names m)) levels depths done

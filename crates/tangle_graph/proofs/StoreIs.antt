@@ -122,7 +122,7 @@ module _ (web : WebRead) (table : TableRead) (made : StoreRead) (inside : Resolv
   plan_uses_are a id ha c =
       let row : row_at (map plan_uses made.bodies) a
       ≡ filter (has_piece_in made.pieces) (pieces_uses table (pieces_of web table (title a))) =
-      part_is plan_uses a ha ∙ (body_is a ha).2.uses
+      part_is plan_uses a ha ∙ (body_is a ha).2.plan_uses
       ∙ ap (λ ps. filter (has_piece_in made.pieces) (pieces_uses table ps)) (pieces_are a ha) in
       plan_uses_pieces web table made is inside a id (subst (λ l. Contains l id) row c)
 
@@ -134,7 +134,7 @@ module _ (web : WebRead) (table : TableRead) (made : StoreRead) (inside : Resolv
   plans_are a symbols ha shallow right =
       let row : row_at (map plan_slots made.bodies) a
       ≡ pieces_slots web.texts table (has_piece_in made.pieces) (title a) 0 (pieces_of web table (title a)) =
-      part_is plan_slots a ha ∙ (body_is a ha).2.slots
+      part_is plan_slots a ha ∙ (body_is a ha).2.plan
       ∙ ap (pieces_slots web.texts table (has_piece_in made.pieces) (title a) 0) (pieces_are a ha) in
       ap (filled symbols) row
       ∙ node_filled web table (has_piece_in made.pieces) symbols levels (title a) inside shallow
@@ -148,7 +148,7 @@ module _ (web : WebRead) (table : TableRead) (made : StoreRead) (inside : Resolv
         found.0,
         found.1,
         subst (λ s. HoldsShape table.names s found.0)
-            (ap (shape_of web.texts table) (pieces_are a ha)) found.2.is_body.shape,
+            (ap (shape_of web.texts table) (pieces_are a ha)) found.2.shape,
       )
 
   pub store_is : made.names ≡ table.names → IsStoreOf (shapes web table) made

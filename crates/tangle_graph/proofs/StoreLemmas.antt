@@ -51,6 +51,10 @@ pub piece_of_shape : (s : Shape) → (shape_has_piece s ≡ true) ↔ (s ≢ [])
 piece_of_shape [] = (λ t. absurd (let no : false ≡ true = t in cc), λ h. absurd (h refl))
 piece_of_shape (x ∷ s) = (λ t none. (let no : x ∷ s ≡ [] = none in cc), λ h. refl)
 
+pub no_pieces : (s : Shape) → shape_has_piece s ≡ false → s ≡ []
+no_pieces [] e = refl
+no_pieces (x ∷ s) e = absurd (let no : true ≡ false = e in cc)
+
 -- the test of a node decides the property
 pub expandable_is : (shapes : Shapes) (node : Title) → (is_expandable shapes node ≡ true) ↔ IsExpandableNode shapes node
 expandable_is shapes node = (

@@ -22,7 +22,7 @@ uses_collected web table pieces bodies grouped are = record {
   row = λ n low. (let found = are.each n (omega (arith, low, grouped.size)) in
       get_or-map body_uses bodies n found.0 [] (omega (arith, low, are.size, grouped.size))
       ∙ ap body_uses (get_or_from_slice_get bodies n found.0 found.0 found.1)
-      ∙ found.2.is_body.names
+      ∙ found.2.uses
       ∙ ap (λ r. pieces_uses table (pieces_at web.pieces r)) (grouped.row n low)
       ∙ ap (pieces_uses table) (positions_read (is_piece_of_node table n) [] web.pieces no_piece));
 }

@@ -1,6 +1,6 @@
 -- The bodies of the nodes of a web.
-use Rattle.std.specs.Prelude.{◌≡◌, ◌<◌, ◌≤◌, ◌+◌, ℕ, Bool, true, false, List, length, map}
-use Rattle.std.specs.Prelude.{filter, sum_by, All, slice_get, slice_index_or, Some}
+use Rattle.std.specs.Prelude.{◌≡◌, ◌<◌, ◌≤◌, ℕ, Bool, true, false, List, length, map}
+use Rattle.std.specs.Prelude.{filter, All, slice_get, slice_index_or, Some}
 use Rattle.std.specs.Global.{Global}
 use Rattle.std.specs.declared.rc.Rc.{Rc}
 use Rattle.digraph.specs.Graph.{row_at}
@@ -14,34 +14,24 @@ use Rattle.tangle_plans.specs.NodeBodies.{HoldsShape, body_title, body_uses, pla
 use Rattle.tangle_plans.specs.NodeBodies.{names_at}
 use Rattle.tangle_plans.specs.Nodes.{has_piece_in, row_has_piece, title_at}
 use Rattle.tangle_plans.specs.declared.nodes.NodeBody.{NodeBody}
-use Rattle.tangle_graph.specs.Measures.{weight_of_pieces}
 use Rattle.tangle_graph.specs.declared.bodies.OldBodies.{OldBodies}
 
 -- the body of each node
 abbrev pub node_bodies : List (Rc NodeBody Global) → List NodeBody
 node_bodies bodies = map (λ (body : Rc NodeBody Global). body.value) bodies
 
--- the body of a node with the pieces of these numbers: it determines their shape, the names that
--- their items use, and their weight
-pub record IsBodyOf (web : WebRead) (table : TableRead)
-    (numbers : List ℕ) (body : NodeBody) : Type 0 where
-  pub shape : HoldsShape table.names (shape_of web.texts table (pieces_at web.pieces numbers)) body
-  pub names : body_uses body ≡ pieces_uses table (pieces_at web.pieces numbers)
-  pub weight : (used : ℕ → ℕ)
-      → length (plan_slots body) + sum_by used (body_uses body)
-      ≡ weight_of_pieces web.texts table used (pieces_at web.pieces numbers)
-
 -- the body of a node, where the rows have the numbers of the pieces of each node
 pub record IsBodyAt (web : WebRead) (table : TableRead)
     (rows : List (List ℕ)) (node : Node) (body : NodeBody) : Type 0 where
-  pub slots : plan_slots body
+  pub title : body_title body ≡ title_at table.names node
+  pub plan : plan_slots body
       ≡ pieces_slots web.texts table (has_piece_in rows)
       (title_at table.names node) 0 (pieces_at web.pieces (row_at rows node))
-  pub is_body : IsBodyOf web table (row_at rows node) body
-  pub uses : plan_uses body
+  pub shape : HoldsShape table.names
+      (shape_of web.texts table (pieces_at web.pieces (row_at rows node))) body
+  pub uses : body_uses body ≡ pieces_uses table (pieces_at web.pieces (row_at rows node))
+  pub plan_uses : plan_uses body
       ≡ filter (has_piece_in rows) (pieces_uses table (pieces_at web.pieces (row_at rows node)))
-  pub title : body_title body ≡ title_at table.names node
-  pub planned : IsPlanned (has_piece_in rows) body
 
 -- each node has such a body
 pub record AreBodies (web : WebRead) (table : TableRead)

@@ -16,7 +16,7 @@ use std::alloc::Global;
 use std::rc::Rc;
 use tangle_lines::NoMemory;
 use tangle_names::{NameTable, Names};
-use tangle_plans::{NodeBody, Planning, has_items_of, has_piece, plan_node};
+use tangle_plans::{BodyBuilder, NodeBody, has_items_of, has_piece, plan_node};
 use tangle_scan::Web;
 
 /// What a new store takes from an old one: its names, the rows of the pieces of its nodes, and the
@@ -146,7 +146,7 @@ struct BodyAfter {
 /// The body of the node: the old one, if its items are those of the node's pieces, else a new one.
 fn body_after(
     alloc: Global,
-    planning: &mut Planning,
+    builder: &mut BodyBuilder,
     web: &Web,
     table: &NameTable,
     pieces: &Rows<usize>,
@@ -170,7 +170,7 @@ fn body_after(
             return Ok(BodyAfter { body, is_old: true });
         }
     }
-    let body = plan_node(alloc, planning, web, table, pieces, node)?;
+    let body = plan_node(alloc, builder, web, table, pieces, node)?;
     let body = Rc::new(alloc, body)?;
     Ok(BodyAfter {
         body,
@@ -217,13 +217,13 @@ pub(crate) fn bodies_by_node(
         (λ made. AreKept old.entry table.now.names (node_bodies made.bodies.items)
         made.are_kept.items) }
 {
-    let mut planning = Planning::new(alloc);
+    let mut builder = BodyBuilder::new(alloc);
     let mut bodies = Vec::with_capacity(alloc, pieces.len())?;
     let mut are_kept = Vec::with_capacity(alloc, pieces.len())?;
     for n in 0..pieces.len() {
         let node = Node::new(n);
         let before = body_before(old, same_nodes, names, pieces, node);
-        let made = body_after(alloc, &mut planning, web, table, pieces, node, before)?;
+        let made = body_after(alloc, &mut builder, web, table, pieces, node, before)?;
         are_kept.push(made.is_old && keeps_uses(same_nodes, &made.body))?;
         bodies.push(made.body)?;
     }

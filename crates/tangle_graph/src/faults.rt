@@ -6,28 +6,26 @@ ghost use Rattle.tangle_faults.specs.Faults.{fault_unplaced};
 ghost use Rattle.tangle_graph.specs.Faults.{AreGraphFaults, first_use, has_piece_of_node};
 ghost use Rattle.tangle_graph.specs.Faults.{is_too_large};
 ghost use Rattle.tangle_graph.specs.FaultSearches.{HaveTheFaults, IsFaultSearch, fault_number};
-ghost use Rattle.tangle_graph.specs.FaultSearches.{fault_of_name, faults_of_kind, flag_of_node};
+ghost use Rattle.tangle_graph.specs.FaultSearches.{fault_of_name, faults_of_kind};
+ghost use Rattle.tangle_graph.specs.Stores.{flag_at};
 
 use crate::outputs::push_where;
-use digraph::{Node, Rows};
+use crate::store::Store;
+use digraph::Node;
 use std::alloc::{AllocError, Global};
 use tangle_lines::{Fault, FaultKind, NoMemory};
 use tangle_names::NameTable;
 use tangle_scan::Web;
 
-/// From what the faults of the graph are found: a web with its table of names and the name of its
-/// main file; for each node its pieces, and whether it contains itself, reaches a name that does,
-/// and is expandable; and for each name the number of the first use that resolves to it,
-/// or the number of all occurrences where none does.
+/// From what the faults of the graph are found: a web with its table of names, the name of its main
+/// file and its store; and for each name the number of the first use that resolves to it, or the
+/// number of all occurrences where none does.
 #[derive(Drop)]
 pub(crate) struct FaultSearch<'f, 's, 'a> {
     pub(crate) web: &'f Web<'s, 'a>,
     pub(crate) table: &'f NameTable,
     pub(crate) out: &'f [u8],
-    pub(crate) pieces: &'f Rows<usize>,
-    pub(crate) self_containing: &'f [bool],
-    pub(crate) reaching_cycles: &'f [bool],
-    pub(crate) expandable: &'f [bool],
+    pub(crate) store: &'f Store,
     pub(crate) first_uses: Vec<usize>,
 }
 
@@ -73,7 +71,7 @@ impl<'f, 's, 'a> FaultSearch<'f, 's, 'a> {
         requires node { node ≤ length self.now.table.now.names }
         ensures { result ≡ has_piece_of_node self.now.web.now self.now.table.now node }
     {
-        !self.pieces.row(node.number()).is_empty()
+        self.store.has_piece(node)
     }
 
     /// Whether the node has a piece, reaches no name that contains itself, and is beyond a limit.
@@ -81,10 +79,9 @@ impl<'f, 's, 'a> FaultSearch<'f, 's, 'a> {
         requires search { IsFaultSearch self.now }
         requires node { node ≤ length self.now.table.now.names }
         ensures { result ≡ is_too_large self.now.web.now self.now.table.now
-            (flag_of_node self.now.reaching_cycles.now) node }
+            (flag_at self.now.store.now.reaching_cycles) node }
     {
-        let n = node.number();
-        self.has_piece(node) && (!self.reaching_cycles[n] && !self.expandable[n])
+        self.has_piece(node) && (!self.store.reaches_cycle(node) && !self.store.expandable(node))
     }
 
     /// The number of the occurrence at which the name has a fault of this kind; `None` where it has
@@ -104,7 +101,7 @@ impl<'f, 's, 'a> FaultSearch<'f, 's, 'a> {
                 has_piece && (!self.table.is_file(id) && !use_number.is_some()),
                 first,
             ),
-            FaultKind::SelfContaining => number_if(self.self_containing[node.number()], first),
+            FaultKind::SelfContaining => number_if(self.store.self_containing(node), first),
             FaultKind::TooLarge => number_if(self.is_too_large(node), first),
             FaultKind::FileClash => number_if(
                 has_piece && self.table.text(id) == self.out,
@@ -145,9 +142,9 @@ impl<'f, 's, 'a> FaultSearch<'f, 's, 'a> {
         requires name { id < length self.now.table.now.names }
         ensures { result ≡ false → (kind : FaultKind) → fault_number self.now kind id ≡ None }
     {
-        let n = Node::name(id).number();
-        !self.expandable[n]
-            || (self.self_containing[n]
+        let node = Node::name(id);
+        !self.store.expandable(node)
+            || (self.store.self_containing(node)
                 || (!self.first_use(id).is_some() || self.table.is_file(id)))
     }
 

@@ -30,35 +30,8 @@ pub(crate) struct NameGraph {
 }
 
 impl NameGraph {
-    /// Builds the graph of these names, with the uses that the bodies of the nodes have.
-    pub(crate) fn build(
-        alloc: Global,
-        names: Names,
-        bodies: &[Rc<NodeBody>],
-    ) -> Result<NameGraph, NoMemory>
-        requires size { length bodies.now ≡ length names + 1 }
-        requires inside { All (All (λ id. id < length names))
-            (map body_uses (node_bodies bodies.now)) }
-        ensures names { IfOk result (λ name_graph. name_graph.names ≡ names) }
-        ensures name_graph { IfOk result
-            (λ name_graph. IsNameGraphOf (map body_uses (node_bodies bodies.now)) name_graph) }
-    {
-        let uses = uses_of_bodies(alloc, names.count(), bodies)?;
-        let users = users(alloc, &uses)?;
-        let order = order(alloc, &uses, &users)?;
-        let self_containing = self_containing(alloc, &uses, &users)?;
-        let reaching_cycles = reaching_cycles(alloc, &uses, &users, &self_containing)?;
-        Ok(NameGraph {
-            names,
-            uses,
-            users,
-            order,
-            self_containing,
-            reaching_cycles,
-        })
-    }
-
-    /// Builds the same graph, to be shared.
+    /// Builds the graph of these names, with the uses that the bodies of the nodes have, to be
+    /// shared.
     pub(crate) fn shared(
         alloc: Global,
         names: Names,
@@ -72,7 +45,20 @@ impl NameGraph {
             (λ name_graph. IsNameGraphOf (map body_uses (node_bodies bodies.now))
             name_graph.value) }
     {
-        Ok(Rc::new(alloc, NameGraph::build(alloc, names, bodies)?)?)
+        let uses = uses_of_bodies(alloc, names.count(), bodies)?;
+        let users = users(alloc, &uses)?;
+        let order = order(alloc, &uses, &users)?;
+        let self_containing = self_containing(alloc, &uses, &users)?;
+        let reaching_cycles = reaching_cycles(alloc, &uses, &users, &self_containing)?;
+        let name_graph = NameGraph {
+            names,
+            uses,
+            users,
+            order,
+            self_containing,
+            reaching_cycles,
+        };
+        Ok(Rc::new(alloc, name_graph)?)
     }
 }
 

@@ -1,6 +1,6 @@
 //! The pieces of each node.
 ghost use Rattle.std.specs.Prelude.{◌≡◌, ◌<◌, ◌+◌, ◌^◌, ◌∷◌, [], IfOk, IfSome};
-ghost use Rattle.std.specs.Prelude.{◌++◌, ℕ, length, if◌then◌else◌, true};
+ghost use Rattle.std.specs.Prelude.{◌++◌, ℕ, length, if◌then◌else◌, take, true};
 ghost use Rattle.digraph.specs.Graph.{row_at};
 ghost use Rattle.digraph.specs.Rows.{IsRowsOf};
 ghost use Rattle.tangle_names.specs.NameTable.{table_of};
@@ -52,6 +52,20 @@ fn node_of_piece(table: &NameTable, occurrence: Option<OccurrenceNumber>) -> Opt
     }
 }
 
+/// The node of the piece at this position.
+fn node_at(web: &Web, table: &NameTable, i: usize) -> Option<Node>
+    requires table { table.now ≡ table_of web.now }
+    requires piece { i < length web.now.pieces }
+    requires count { length table.now.names + 1 < 2 ^ 64 }
+    ensures next { (n : ℕ) → positions_of table.now (take (i + 1) web.now.pieces) n
+        ≡ positions_of table.now (take i web.now.pieces) n
+        ++ (if has_number_in n result then i ∷ [] else []) }
+    ensures within { IfSome result (λ n. n < length table.now.names + 1) }
+{
+    let pieces = web.pieces();
+    node_of_piece(table, pieces[i].occurrence())
+}
+
 /// The positions of the pieces of each node, in the order of the source.
 pub(crate) fn pieces_by_node(
     alloc: Global,
@@ -63,8 +77,8 @@ pub(crate) fn pieces_by_node(
         (positions_of table.now web.now.pieces)) }
 {
     let mut rows = GrowingRows::with_rows(alloc, node_count(table)?)?;
-    for (i, piece) in web.pieces().iter().enumerate() {
-        if let Some(node) = node_of_piece(table, piece.occurrence()) {
+    for i in 0..web.pieces().len() {
+        if let Some(node) = node_at(web, table, i) {
             rows.push_to(node.number(), i)?;
         }
     }
@@ -123,13 +137,8 @@ pub(crate) fn are_rows_of(
         return Ok(false);
     }
     let mut passed = vec![in alloc; 0; rows.len()]?;
-    for (i, piece) in web.pieces().iter().enumerate() {
-        if !pass_next(
-            rows,
-            &mut passed,
-            node_of_piece(table, piece.occurrence()),
-            i,
-        ) {
+    for i in 0..web.pieces().len() {
+        if !pass_next(rows, &mut passed, node_at(web, table, i), i) {
             return Ok(false);
         }
     }

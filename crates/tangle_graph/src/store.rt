@@ -15,7 +15,7 @@ ghost use Rattle.tangle_graph.specs.NameGraphs.{IsNameGraphOf};
 ghost use Rattle.tangle_graph.specs.Ordering.{IsOrderIn};
 ghost use Rattle.tangle_graph.specs.Plans.{AreBodies, AreBodiesBefore, node_bodies};
 ghost use Rattle.tangle_graph.specs.Stores.{IsStoreOf, KeepsBodies, KeepsUsed, plan_uses_at};
-ghost use Rattle.tangle_graph.specs.Stores.{body_at, slots_at, title_in_store};
+ghost use Rattle.tangle_graph.specs.Stores.{body_at, flag_at, slots_at, title_in_store};
 ghost use Rattle.tangle_graph.specs.Stores.{contains_itself_at, is_expandable_at};
 ghost use Rattle.tangle_graph.specs.Stores.{weight_at, depth_at, uses_at, users_at, has_piece_at};
 ghost use Rattle.tangle_graph.specs.WebStores.{IsStoreOfWeb};
@@ -269,6 +269,13 @@ impl Store {
         entry(&self.name_graph.self_containing, node, false)
     }
 
+    /// Whether the node reaches a name that contains itself.
+    pub(crate) fn reaches_cycle(&self, node: Node) -> bool
+        ensures { result ≡ flag_at self.now.reaching_cycles node }
+    {
+        entry(&self.name_graph.reaching_cycles, node, false)
+    }
+
     /// Whether the node is expandable: it has a piece, reaches no name that contains itself, weighs
     /// at most 16,777,216 and is at most 1,000 deep.
     pub fn expandable(&self, node: Node) -> bool
@@ -339,15 +346,11 @@ impl Store {
         requires store { IsStoreOfWeb web.now table.now out.now self.now }
         ensures { IfOk result (λ faults. AreGraphFaults web.now table.now out.now faults.items) }
     {
-        let name_graph: &NameGraph = &self.name_graph;
         let search = FaultSearch {
             web,
             table,
             out,
-            pieces: self.pieces(),
-            self_containing: &name_graph.self_containing,
-            reaching_cycles: &name_graph.reaching_cycles,
-            expandable: &self.expandable,
+            store: self,
             first_uses: table.first_numbers(alloc, web.occurrences(), Counted::Uses)?,
         };
         search.faults(alloc)

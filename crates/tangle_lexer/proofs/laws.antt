@@ -1,14 +1,14 @@
 pub mod CodesInside
-pub mod ConstantOrder
-pub mod ConstantQuotes
+pub mod ConstantCells
+pub mod CutTexts
 pub mod KeptBytes
 pub mod KeptText
-pub mod KindCells
 pub mod LexemeOrder
 pub mod NameOrder
 pub mod Points
 pub mod QuotedOrder
 pub mod RegionOrder
+pub mod RegionUnits
 pub mod SegmentPoints
 pub mod SegmentKinds
 pub mod TokenOrder

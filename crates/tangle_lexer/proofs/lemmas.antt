@@ -1,6 +1,7 @@
 pub mod BlockLemmas
 pub mod CutLemmas
 pub mod HeadLemmas
+pub mod LexemeCases
 pub mod LexemeLemmas
 pub mod NameLemmas
 pub mod NameWords

@@ -1,6 +1,6 @@
 -- The occurrences of section names.
 use Rattle.std.specs.Prelude.{ℕ, Bool, List}
-use Rattle.tangle_faults.specs.declared.faults.Origin.{Origin}
+use Rattle.tangle_lines.specs.declared.origin.Origin.{Origin}
 use Rattle.tangle_lines.specs.Reading.{SourceLine, origin_at}
 use Rattle.tangle_lexer.specs.declared.occurrences.OccurrenceRole.{OccurrenceRole}
 use Rattle.tangle_lexer.specs.Lexemes.{OccurrenceOnLine}

@@ -6,7 +6,7 @@ ghost use Rattle.tangle_lexer.specs.Lexemes.{line_end_by, include_over};
 ghost use Rattle.tangle_lexer.specs.Comments as spec;
 
 use crate::modes::{IncludeState, LexerState};
-use crate::tokens::Token;
+use crate::tokens::{Token, push_fault_if};
 use std::alloc::AllocError;
 use tangle_lines::FaultKind;
 use tangle_text::{Reader, Region, Unit, holds, is_end_code, is_section_start, unit_of};
@@ -71,7 +71,7 @@ fn ends_comment(reader: &Reader) -> bool
 }
 
 /// Whether the text ahead begins with `@>`.
-pub fn has_end_code(reader: &Reader) -> bool
+fn has_end_code(reader: &Reader) -> bool
     ensures { result ≡ spec.has_end_code reader.now }
 {
     match reader.front() {
@@ -80,20 +80,8 @@ pub fn has_end_code(reader: &Reader) -> bool
     }
 }
 
-/// Advances past `@>`, if the text ahead begins with it, and returns whether it does.
-pub fn pass_end_code(reader: &mut Reader) -> bool
-    ensures has_end_code { result ≡ spec.has_end_code reader.old }
-    ensures ahead { reader.new ≡ drop (spec.two_if (spec.has_end_code reader.old)) reader.old }
-{
-    if has_end_code(reader) {
-        reader.pass(Unit::Two);
-        return true;
-    }
-    false
-}
-
 /// Whether the text ahead begins with a section start.
-pub fn starts_section(reader: &Reader) -> bool
+fn starts_section(reader: &Reader) -> bool
     ensures { result ≡ spec.starts_section reader.now }
 {
     match reader.front() {
@@ -113,6 +101,19 @@ fn ends_region(region: Region, reader: &Reader) -> bool
     }
 }
 
+/// Advances past the end of a region, if the text ahead begins with it, and returns whether it does.
+#[inline(always)]
+pub fn pass_end(region: Region, reader: &mut Reader) -> bool
+    ensures is_there { result ≡ spec.ends_region region reader.old }
+    ensures ahead { reader.new ≡ drop (spec.two_if (spec.ends_region region reader.old)) reader.old }
+{
+    if ends_region(region, reader) {
+        reader.pass(Unit::Two);
+        return true;
+    }
+    false
+}
+
 /// Reads a block comment or a control text, with the two bytes that open it and the two that end
 /// it. If its end is missing, it has a fault of this kind.
 #[inline(always)]
@@ -130,11 +131,9 @@ fn comment_or_control_text(
     tokens.push(Token::White)?;
     reader.pass(Unit::Two);
     let include = pass_line_ends(tokens, reader, region, state)?;
-    if ends_region(region, reader) {
-        reader.pass(Unit::Two);
-    } else {
-        tokens.push(Token::Fault(kind, reader.line(state.last_line)))?;
-    }
+    let line = reader.line(state.last_line);
+    let is_ended = pass_end(region, reader);
+    push_fault_if(tokens, !is_ended, kind, line)?;
     Ok(LexerState { include, ..state })
 }
 
@@ -164,9 +163,8 @@ pub fn line_comment(
     tokens.push(Token::White)?;
     reader.pass(Unit::Two);
     reader.skip_to_end(Region::LineComment);
-    if starts_section(reader) {
-        tokens.push(Token::Fault(FaultKind::CommentEnd, reader.line(state.last_line)))?;
-    }
+    let line = reader.line(state.last_line);
+    push_fault_if(tokens, starts_section(reader), FaultKind::CommentEnd, line)?;
     Ok(state)
 }
 

@@ -17,10 +17,10 @@ ghost use Rattle.tangle_lexer.specs.Names as spec;
 ghost use Rattle.tangle_lexer.specs.Names.{IsNameSoFar};
 ghost use Rattle.tangle_text.specs.NameBytes as name_bytes;
 
-use crate::comments::pass_end_code;
+use crate::comments::pass_end;
 use crate::modes::{LexerState, Mode};
 use crate::occurrences::{Occurrence, OccurrenceRole};
-use crate::tokens::{LexerBuffers, Token};
+use crate::tokens::{LexerBuffers, Token, push_fault_if};
 use bstr::ByteSlice;
 use std::alloc::{AllocError, Global};
 use tangle_lines::{FaultKind, Source};
@@ -186,7 +186,7 @@ fn read_name(alloc: Global, reader: &mut Reader, last: u32) -> Result<Name, Allo
     reader.pass(Unit::Two);
     let text = read_text(alloc, reader)?;
     let end_line = reader.line(last);
-    let is_ended = pass_end_code(reader);
+    let is_ended = pass_end(Region::Name, reader);
     Ok(Name {
         text,
         is_file,
@@ -273,18 +273,6 @@ fn has_single_equals(reader: &Reader) -> bool
     matches!(equals_at(&further), Equals::Single)
 }
 
-/// Adds a fault if `@>` does not end the name.
-#[inline(always)]
-fn push_end_fault(tokens: &mut Vec<Token>, name: &Name) -> Result<(), AllocError>
-    ensures { OnOk result (tokens.new.items ≡ tokens.old.items
-        ++ fault_if (not name.now.is_ended) fault.NameEnd name.now.end_line) }
-{
-    if !name.is_ended {
-        tokens.push(Token::Fault(FaultKind::NameEnd, name.end_line))?;
-    }
-    Ok(())
-}
-
 /// Adds a use of this name, which is the occurrence of this number, and the faults of the use.
 fn push_use(
     tokens: &mut Vec<Token>,
@@ -298,11 +286,8 @@ fn push_use(
         ++ fault_if has_single_equals fault.NameEquals name.now.line) }
 {
     tokens.push(Token::UseOf(name.end_line, number))?;
-    push_end_fault(tokens, name)?;
-    if has_single_equals {
-        tokens.push(Token::Fault(FaultKind::NameEquals, name.line))?;
-    }
-    Ok(())
+    push_fault_if(tokens, !name.is_ended, FaultKind::NameEnd, name.end_line)?;
+    push_fault_if(tokens, has_single_equals, FaultKind::NameEquals, name.line)
 }
 
 /// Reads a name in C text. It is a use, even if it looks like a definition, which is a fault.
@@ -371,7 +356,8 @@ fn push_mention(
     ensures state { IfOk result
         (λ after. after ≡ record state { occurrences = state.occurrences + 1 }) }
 {
-    push_end_fault(&mut buffers.tokens, &name)?;
+    let tokens = &mut buffers.tokens;
+    push_fault_if(tokens, !name.is_ended, FaultKind::NameEnd, name.end_line)?;
     let after = push_occurrence(
         source,
         &mut buffers.occurrences,

@@ -12,9 +12,9 @@ ghost use Rattle.tangle_lexer.specs.declared.tokens.Token.TheVariants as token;
 ghost use Rattle.tangle_text.specs.Bytes as byte;
 ghost use Rattle.tangle_lexer.specs.Quoted as spec;
 
-use crate::comments::has_end_code;
+use crate::comments::pass_end;
 use crate::modes::{IncludeState, LexerState};
-use crate::tokens::{SpanKind, Token};
+use crate::tokens::{SpanKind, Token, push_fault_if};
 use std::alloc::AllocError;
 use tangle_lines::FaultKind;
 use tangle_text::{Front, Reader, Region, Span, Unit, holds, unit_of};
@@ -192,10 +192,7 @@ fn end_verbatim(
     };
     let line = reader.line(last);
     push_range(tokens, Region::Verbatim, line, start, reader.column())?;
-    if front.byte.is_none() {
-        tokens.push(Token::Fault(FaultKind::VerbatimEnd, line))?;
-    }
-    Ok(())
+    push_fault_if(tokens, front.byte.is_none(), FaultKind::VerbatimEnd, line)
 }
 
 /// Whether a region is empty: its end is next, or the end of the source.
@@ -223,9 +220,7 @@ fn push_empty(tokens: &mut Vec<Token>, reader: &Reader) -> Result<(), AllocError
     };
     tokens.push(Token::Span(SpanKind::Verbatim, span))?;
     if let Some(front) = reader.front() {
-        if front.byte.is_none() {
-            tokens.push(Token::Fault(FaultKind::VerbatimEnd, line))?;
-        }
+        push_fault_if(tokens, front.byte.is_none(), FaultKind::VerbatimEnd, line)?;
     }
     Ok(())
 }
@@ -256,9 +251,7 @@ pub fn verbatim_text(
 {
     reader.pass(Unit::Two);
     push_verbatim(tokens, reader, state.last_line)?;
-    if has_end_code(reader) {
-        reader.pass(Unit::Two);
-    }
+    pass_end(Region::Verbatim, reader);
     Ok(LexerState {
         include: IncludeState::Elsewhere,
         ..state

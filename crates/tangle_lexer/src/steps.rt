@@ -67,20 +67,19 @@ fn limbo(
     Ok(state)
 }
 
-/// Begins a macro or an unnamed C part, with its control code.
-fn start_block(
+/// Reads a control code that becomes this token.
+fn code_token(
     tokens: &mut Vec<Token>,
     reader: &mut Reader,
-    state: LexerState,
-    head: Token,
-    mode: Mode,
+    token: Token,
+    after: LexerState,
 ) -> Result<LexerState, AllocError>
-    ensures { IfOk result (λ after. IsRead tokens.old.items tokens.new.items reader.old reader.new
-        after (lexeme_of (head ∷ []) 1 (in_mode mode state))) }
+    ensures { IfOk result (λ state. IsRead tokens.old.items tokens.new.items reader.old reader.new
+        state (lexeme_of (token ∷ []) 1 after)) }
 {
-    tokens.push(head)?;
+    tokens.push(token)?;
     reader.pass(Unit::Two);
-    Ok(state.in_mode(mode))
+    Ok(after)
 }
 
 /// Reads a control code in documentation. It is skipped if it begins nothing.
@@ -100,10 +99,12 @@ fn documentation_code(
     match code {
         ControlCode::SectionStart => section_start(tokens, reader, state),
         ControlCode::Macro => {
-            start_block(tokens, reader, state, Token::MacroStart(line), Mode::Macro)
+            let after = state.in_mode(Mode::Macro);
+            code_token(tokens, reader, Token::MacroStart(line), after)
         }
         ControlCode::UnnamedPart => {
-            start_block(tokens, reader, state, Token::UnnamedPart(line), Mode::CPart)
+            let after = state.in_mode(Mode::CPart);
+            code_token(tokens, reader, Token::UnnamedPart(line), after)
         }
         ControlCode::Name => name_in_documentation(source, buffers, reader, state),
         _ => {
@@ -128,21 +129,6 @@ pub fn sign(
 {
     tokens.push(Token::Span(SpanKind::Sign, reader.byte_span()))?;
     reader.pass(unit);
-    Ok(after)
-}
-
-/// Reads a control code that becomes this token.
-fn code_token(
-    tokens: &mut Vec<Token>,
-    reader: &mut Reader,
-    token: Token,
-    after: LexerState,
-) -> Result<LexerState, AllocError>
-    ensures { IfOk result (λ state. IsRead tokens.old.items tokens.new.items reader.old reader.new
-        state (lexeme_of (token ∷ []) 1 after)) }
-{
-    tokens.push(token)?;
-    reader.pass(Unit::Two);
     Ok(after)
 }
 

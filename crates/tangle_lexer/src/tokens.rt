@@ -1,5 +1,9 @@
 //! The tokens that the lexer reads, and the buffers that it fills.
+ghost use Rattle.std.specs.Prelude.{◌≡◌, ◌++◌, OnOk};
+ghost use Rattle.tangle_lexer.specs.Lexemes.{fault_if};
+
 use crate::occurrences::Occurrence;
+use std::alloc::AllocError;
 use tangle_lines::FaultKind;
 use tangle_text::Span;
 
@@ -59,4 +63,20 @@ pub struct LexerBuffers {
     pub tokens: Vec<Token>,
     /// All occurrences of names that were read, in the order of the source.
     pub occurrences: Vec<Occurrence>,
+}
+
+/// Adds a fault of this kind, if `is_fault`.
+#[inline(always)]
+pub fn push_fault_if(
+    tokens: &mut Vec<Token>,
+    is_fault: bool,
+    kind: FaultKind,
+    line: u32,
+) -> Result<(), AllocError>
+    ensures { OnOk result (tokens.new.items ≡ tokens.old.items ++ fault_if is_fault kind line) }
+{
+    if is_fault {
+        tokens.push(Token::Fault(kind, line))?;
+    }
+    Ok(())
 }

@@ -52,10 +52,7 @@ pub waiting-next : (file : ℕ) (changed : Bool) (depth number next : ℕ)
     ≡ record { bytes = line; origin = record { file = file; line = next }; changed = changed; depth = depth }
     ∷ waiting_lines file changed depth (next + 1) (drop next file_lines) ++ rest
 waiting-next file changed depth number next file_lines line rest is_next first =
-    ap (λ ls. waiting_lines file changed depth (number + 1) ls ++ rest) first
-    ∙ ap
-    (λ k. record { bytes = line; origin = record { file = file; line = k }; changed = changed; depth = depth }
-    ∷ waiting_lines file changed depth (k + 1) (drop k file_lines) ++ rest) (sym is_next)
+    rw (first, is_next) refl
 
 -- one more line was taken
 pub passes-next : (cs : List Change) (lines lines₁ lines₂ : List SourceLine)
@@ -65,11 +62,6 @@ pub passes-next : (cs : List Change) (lines lines₁ lines₂ : List SourceLine)
 passes-next cs lines lines₁ lines₂ ws ws₁ ws₂ n m w before one first more unchanged plain =
     rw (one, more) (passes-more cs lines ws n 1 lines₁ (lines₁ ++ line_of w ∷ []) ws₁ ws₂ before
     (rw first (passes-line cs lines₁ ws₂ w unchanged plain)))
-
--- the waiting lines may be replaced by equal ones
-pub passes-same : (cs : List Change) (lines lines' : List SourceLine) (ws ws₁ ws' ws₁' : List WaitingLine) (n : ℕ)
-    → ws ≡ ws₁ → ws' ≡ ws₁' → PassesOn cs lines ws₁ n lines' ws₁' → PassesOn cs lines ws n lines' ws'
-passes-same cs lines lines' ws ws₁ ws' ws₁' n before after passed = rw (before, after) passed
 
 -- no change is used at a line that is not the awaited one
 pub unawaited : (cs : List Change) (w : WaitingLine)

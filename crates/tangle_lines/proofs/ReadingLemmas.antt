@@ -1,17 +1,19 @@
 -- Each step of reading takes a line, so the bound allows all steps.
 use Rattle.std.proofs.Common.{◌≡◌, ℕ, zero, suc, ◌+◌, ◌-◌, ◌<◌, ◌≤◌, Bool, true, false, cond, not, ◌&&◌, List, [], ◌∷◌}
-use Rattle.std.proofs.Common.{◌++◌, length, min, drop, Option, None, Some, refl, sym, ap, ◌∙◌, arith, true≢false}
+use Rattle.std.proofs.Common.{◌++◌, length, min, drop, Option, None, Some, refl, sym, ap, arith, true≢false}
 use Rattle.std.proofs.Common.{append_assoc, append-nil}
 use Rattle.tangle_faults.specs.declared.faults.FaultKind.TheVariants.{SourceTooLong}
 use Rattle.tangle_faults.specs.Faults.{fault_at, FaultRead}
-use Rattle.std.proofs.lemmas.Bool.{ltb-true, lt-ltb, false_from_ne_true}
+use Rattle.std.proofs.lemmas.Bool.{ltb-true, lt-ltb, le-ltb}
 use Rattle.std.specs.Prelude.{nat_lt}
 use Rattle.tangle_files.specs.Lines.{FileTable}
 use Rattle.tangle_lines.specs.Change.{Change}
-use Rattle.tangle_lines.specs.Waiting.{IsPlain, IsUsed, Makes}
+use Rattle.tangle_lines.specs.Waiting.{IsPlain, Makes}
+use Rattle.tangle_lines.specs.ReadingLaw.{ReadsByStep}
 use Rattle.tangle_lines.specs.Reading.{WaitingLine, SourceLine, Reads, place_of, State, ReadingStep, step_of, line_step}
 use Rattle.tangle_lines.specs.Reading.{plain_step, change_here, unused_faults, begins, after, reads_in, reads_from}
-use Rattle.tangle_lines.specs.Reading.{source_line_limit, before_reads}
+use Rattle.tangle_lines.specs.Reading.{source_line_limit, before_reads, change_lines, mismatch_faults, change_place}
+use Rattle.tangle_lines.specs.Reading.{unequal_lines}
 use Rattle.tangle_lines.specs.Inclusion.{included_name}
 use Rattle.tangle_lines.specs.Reading.ReadingStep.{Ends, Goes}
 
@@ -87,10 +89,7 @@ module _ (files : FileTable) (change_file : ℕ) where
       ap (before_reads out) (reads_in-enough n (suc (source_line_limit - s.taken)) s (omega arith) (omega arith))
 
   -- reading makes one step, and then reads on
-  pub reads_from-step : (s : State)
-      → reads_from files change_file s
-      ≡ after files change_file (step_of files change_file s.waiting s.changes s.taken)
-      (λ t. reads_from files change_file t)
+  pub reads_from-step : (s : State) → ReadsByStep files change_file s
   unfolding reads_in
   reads_from-step s =
       after-next (source_line_limit - s.taken) s.taken (step_of files change_file s.waiting s.changes s.taken)
@@ -109,28 +108,19 @@ module _ (files : FileTable) (change_file : ℕ) (ws : List WaitingLine) (cs : L
       ≡ record { lines = []; faults = unused_faults files change_file cs }
   reads_from-end = reads_from-step files change_file (at [] cs t)
 
-  by_limit : WaitingLine → Bool → Reads
-  by_limit w b = after files change_file
-      (cond b (line_step files change_file w ws cs t (change_here cs w))
-      (Ends (fault_at SourceTooLong (place_of files w.origin) ∷ []))) (λ s. reads_from files change_file s)
-
   reads_from-stop : (w : WaitingLine) → source_line_limit ≤ t
       → reads_from files change_file (at (w ∷ ws) cs t)
       ≡ record { lines = []; faults = fault_at SourceTooLong (place_of files w.origin) ∷ [] }
-  unfolding by_limit
-  reads_from-stop w h = reads_from-step files change_file (at (w ∷ ws) cs t) ∙ ap (by_limit w) (not_below h)
-    where
-      not_below : source_line_limit ≤ t → nat_lt t source_line_limit ≡ false
-      not_below h = false_from_ne_true (nat_lt t source_line_limit)
-          (λ e. let k : t < source_line_limit = ltb-true t source_line_limit e in absurd (omega arith))
+  reads_from-stop w h =
+      let not_below : nat_lt t source_line_limit ≡ false = le-ltb t source_line_limit h in
+      rw (reads_from-step files change_file (at (w ∷ ws) cs t), not_below) refl
 
   reads_from-line : (w : WaitingLine) → t < source_line_limit
       → reads_from files change_file (at (w ∷ ws) cs t)
       ≡ after files change_file (line_step files change_file w ws cs t (change_here cs w))
       (λ s. reads_from files change_file s)
-  unfolding by_limit
   reads_from-line w h =
-      reads_from-step files change_file (at (w ∷ ws) cs t) ∙ ap (by_limit w) (lt-ltb t source_line_limit h)
+      rw (reads_from-step files change_file (at (w ∷ ws) cs t), lt-ltb t source_line_limit h) refl
 
 -- while reading goes on, the results so far and those of the lines that wait are the whole result
 module _ (files : FileTable) (change_file : ℕ) (start : Reads) (lines : List SourceLine)
@@ -138,41 +128,22 @@ module _ (files : FileTable) (change_file : ℕ) (start : Reads) (lines : List S
     (so_far : before_reads (record { lines = lines; faults = faults })
     (reads_from files change_file (at waiting changes t))
     ≡ start) where
-  out : Reads
-  out = record { lines = lines; faults = faults }
-
   pub so_far-end : waiting ≡ []
       → start ≡ record { lines = lines; faults = faults ++ unused_faults files change_file changes }
-  unfolding out
-  so_far-end none =
-      sym so_far
-      ∙ ap (λ ws. before_reads out (reads_from files change_file (at ws changes t))) none
-      ∙ ap (before_reads out) (reads_from-end files change_file [] changes t)
-      ∙ (λ i. record { lines = append-nil lines i; faults = faults ++ unused_faults files change_file changes })
+  so_far-end none = rw (← so_far, none, reads_from-end files change_file [] changes t, append-nil) refl
 
   module _ (w : WaitingLine) (ws : List WaitingLine) (first : waiting ≡ w ∷ ws) where
     pub so_far-stop : source_line_limit ≤ t
         → start ≡ record { lines = lines; faults = faults ++ fault_at SourceTooLong (place_of files w.origin) ∷ [] }
-    unfolding out
-    so_far-stop h =
-        sym so_far
-        ∙ ap (λ ws. before_reads out (reads_from files change_file (at ws changes t))) first
-        ∙ ap (before_reads out) (reads_from-stop files change_file ws changes t w h)
-        ∙ (λ i.
-        record { lines = append-nil lines i; faults = faults ++ fault_at SourceTooLong (place_of files w.origin) ∷ [] })
+    so_far-stop h = rw (← so_far, first, reads_from-stop files change_file ws changes t w h, append-nil) refl
 
     -- a step gives more, and reading goes on in the state after it
     step_out : (more : Reads) (s : State)
-        → line_step files change_file w ws changes t (change_here changes w) ≡ Goes more s
-        → t < source_line_limit → before_reads (before_reads out more) (reads_from files change_file s) ≡ start
-    unfolding out
+        → line_step files change_file w ws changes t (change_here changes w) ≡ Goes more s → t < source_line_limit
+        → before_reads (before_reads (record { lines = lines; faults = faults }) more) (reads_from files change_file s)
+        ≡ start
     step_out more s step h =
-        before_reads-append out more (reads_from files change_file s)
-        ∙ ap (before_reads out)
-        (sym (reads_from-line files change_file ws changes t w h
-        ∙ ap (λ st. after files change_file st (λ s. reads_from files change_file s)) step))
-        ∙ ap (λ ws. before_reads out (reads_from files change_file (at ws changes t))) (sym first)
-        ∙ so_far
+        rw (before_reads-append, ← so_far, first, reads_from-line files change_file ws changes t w h, step) refl
 
     pub so_far-plain : (ws' : List WaitingLine) (lines' : List SourceLine) (faults' : List FaultRead)
         → t < source_line_limit → None ≡ change_here changes w
@@ -180,7 +151,6 @@ module _ (files : FileTable) (change_file : ℕ) (start : Reads) (lines : List S
         → before_reads (record { lines = lines'; faults = faults' })
         (reads_from files change_file (at ws' changes (t + 1)))
         ≡ start
-    unfolding out
     so_far-plain ws' lines' faults' h none made = by (included_name w.bytes) refl made
       where
         by : (name : Option (List ℕ))
@@ -188,27 +158,17 @@ module _ (files : FileTable) (change_file : ℕ) (start : Reads) (lines : List S
             → before_reads (record { lines = lines'; faults = faults' })
             (reads_from files change_file (at ws' changes (t + 1)))
             ≡ start
-        by None e made =
-            (λ i. before_reads (record { lines = made.1.0 i; faults = made.1.1 i })
-            (reads_from files change_file (at (made.0 i) changes (t + 1))))
-            ∙ step_out _ _
-            (ap (line_step files change_file w ws changes t) (sym none) ∙ ap (plain_step files w ws changes t) (sym e))
-            h
-        by (Some name) e made =
-            (λ i. before_reads (record { lines = made.1.0 i; faults = made.1.1 i })
-            (reads_from files change_file (at (made.0 i) changes (t + 1))))
-            ∙ step_out _ _
-            (ap (line_step files change_file w ws changes t) (sym none) ∙ ap (plain_step files w ws changes t) (sym e))
-            h
+        by None e made = rw (made.0, made.1.0, made.1.1) (step_out _ _ (rw (← none, ← e) refl) h)
+        by (Some name) e made = rw (made.0, made.1.0, made.1.1) (step_out _ _ (rw (← none, ← e) refl) h)
 
     pub so_far-used : (c : Change) (ws' : List WaitingLine) (faults' : List FaultRead) (n : ℕ)
         → t < source_line_limit → Some c ≡ change_here changes w
-        → IsUsed files change_file c w ws ws' faults faults' → n ≡ min (length c.old_lines) (length (w ∷ ws))
+        → n ≡ min (length c.old_lines) (length (w ∷ ws))
+        → ws' ≡ change_lines change_file w.depth c.new_lines ++ drop n (w ∷ ws)
+        → faults' ≡ faults
+        ++ mismatch_faults (change_place files change_file c) (unequal_lines (drop 1 c.old_lines) ws)
         → before_reads (record { lines = lines; faults = faults' })
         (reads_from files change_file (at ws' (drop 1 changes) (t + n)))
         ≡ start
-    unfolding out
-    so_far-used c ws' faults' n h some made count =
-        (λ i. before_reads (record { lines = sym (append-nil lines) i; faults = made.1.1 i })
-        (reads_from files change_file (at (made.0 i) (drop 1 changes) (t + count i))))
-        ∙ step_out _ _ (ap (line_step files change_file w ws changes t) (sym some)) h
+    so_far-used c ws' faults' n h some count waits adds =
+        rw (waits, adds, count, ← append-nil lines) (step_out _ _ (rw (← some) refl) h)

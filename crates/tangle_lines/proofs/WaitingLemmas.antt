@@ -1,9 +1,6 @@
 -- The lines that wait, by the file that is read first.
 use Rattle.std.proofs.Common.{◌≡◌, ℕ, zero, suc, ◌+◌, List, [], ◌∷◌, ◌++◌, length, take, get_or, set, sym, ap, ◌∙◌}
 use Rattle.std.proofs.Common.{append_assoc, append-nil, arith}
-use Rattle.std.proofs.Common.{◌<◌, drop, min}
-use Rattle.std.proofs.Math.Nat.{suc-min-suc}
-use Rattle.std.proofs.lemmas.List.{drop_min}
 use Rattle.tangle_lines.specs.Reading.{WaitingLine}
 use Rattle.tangle_lines.specs.Waiting.{stacked}
 
@@ -28,10 +25,3 @@ stacked-last (g ∷ []) zero d h = sym (append-nil g)
 stacked-last (g ∷ g' ∷ fs) zero d h = absurd (omega arith)
 stacked-last (g ∷ fs) (suc n) d h =
     ap (λ l. l ++ g) (stacked-last fs n d (omega arith)) ∙ append_assoc (get_or fs n d) (stacked (take n fs)) g
-
--- the lines that remain after one line was taken, and then one for each further old line
-pub drop-taken : {X Y : Type 0} (slice : List X) (old : List Y) (w : WaitingLine) (ws : List WaitingLine)
-    → length slice ≡ length old → 0 < length old
-    → drop (length (drop 1 slice)) ws ≡ drop (min (length old) (suc (length ws))) (w ∷ ws)
-drop-taken [] old w ws h p = absurd (omega arith)
-drop-taken (s ∷ ss) old w ws h p = rw (← h, suc-min-suc) (sym (drop_min (length ss) ws))

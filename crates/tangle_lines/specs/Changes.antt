@@ -6,6 +6,7 @@ use Rattle.tangle_faults.specs.declared.faults.FaultKind.TheVariants.{StrayMark,
 use Rattle.tangle_faults.specs.declared.faults.FaultKind.TheVariants.{EmptyOld}
 use Rattle.tangle_lines.specs.Bytes.{at_sign, letter_x, letter_y, letter_z, is_white, is_letter}
 use Rattle.tangle_lines.specs.Change.{Change}
+use Rattle.tangle_lines.specs.declared.changes.ChangeLine.{ChangeLine}
 use Rattle.tangle_lines.specs.declared.changes.ChangePhase.{ChangePhase}
 use Rattle.tangle_lines.specs.declared.changes.ChangePhase.TheVariants.{Outside, InOld, InNew}
 use Rattle.tangle_lines.specs.declared.changes.LineKind.{LineKind}
@@ -87,6 +88,10 @@ module _ (file : List ℕ) where
   next_phase (InNew c) n line EndsChange = (Outside, record { changes = closed c; faults = [] })
   next_phase (InNew c) n line IsText =
       (InNew (record c { new_lines = c.new_lines ++ (n, line) ∷ [] }), nothing_found)
+
+  -- the same for a line with its number and its kind
+  abbrev pub phase_after : ChangePhase → ChangeLine → ChangePhase × Found
+  phase_after phase line = next_phase phase line.number line.line.now line.kind
 
   -- the change and the fault at the end of the change file
   abbrev pub at_end : ChangePhase → Found

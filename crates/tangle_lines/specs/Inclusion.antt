@@ -1,12 +1,12 @@
 -- The name that a line includes.
-use Rattle.std.specs.Prelude.{ℕ, ◌==◌, ◌&&◌, ◌||◌, List, [], ◌∷◌, if◌then◌else◌, Option, None, Some}
-use Rattle.std.specs.List.{before_first}
+use Rattle.std.specs.Prelude.{ℕ, ◌==◌, ◌&&◌, ◌||◌, not, drop, List, [], ◌∷◌, if◌then◌else◌}
+use Rattle.std.specs.Prelude.{Option, None, Some}
+use Rattle.std.specs.List.{before_first, position_or_len}
 use Rattle.tangle_lines.specs.Bytes.{at_sign, double_quote, letter_i, is_white, is_letter}
 
 -- the bytes from the first one on that isn't white space
 abbrev pub after_white : List ℕ → List ℕ
-after_white [] = []
-after_white (b ∷ bs) = if is_white b then after_white bs else b ∷ bs
+after_white bytes = drop (position_or_len (λ b. not (is_white b)) bytes) bytes
 
 -- the name in the bytes after `@i` and white space: up to the next quote if it begins with one,
 -- else up to white space or a quote

@@ -1,13 +1,14 @@
 -- Reading: the source lines and the faults of files, a web and a change file.
 use Rattle.std.specs.Prelude.{ℕ, ◌+◌, ◌-◌, Bool, true, false, ◌==◌, ◌&&◌, not, nat_lt, min, get_or}
 use Rattle.std.specs.Prelude.{length, drop, List, [], ◌∷◌, ◌++◌, if◌then◌else◌, suc, zero, Option}
-use Rattle.std.specs.Prelude.{None, Some}
+use Rattle.std.specs.Prelude.{None, Some, ◌≤◌}
 use Rattle.std.specs.Str.{bytes_eq}
 use Rattle.tangle_faults.specs.declared.faults.FaultKind.TheVariants.{IncludeNoName, IncludeMissing}
 use Rattle.tangle_faults.specs.declared.faults.FaultKind.TheVariants.{IncludeTooDeep}
 use Rattle.tangle_faults.specs.declared.faults.FaultKind.TheVariants.{ChangeMismatch, SourceTooLong}
 use Rattle.tangle_faults.specs.declared.faults.FaultKind.TheVariants.{ChangeUnused}
-use Rattle.tangle_faults.specs.declared.faults.Origin.{Origin}
+use Rattle.tangle_lines.specs.declared.origin.Origin.{Origin}
+use Rattle.tangle_files.specs.Adding.{longest_line}
 use Rattle.tangle_files.specs.Lines.{FileTable, file_number, file_number_or_count, name_at}
 use Rattle.tangle_files.specs.Lines.{lines_at}
 use Rattle.tangle_files.specs.Roles.{RolesRead}
@@ -42,6 +43,10 @@ pub record SourceLine : Type 0 where
   pub bytes : List ℕ
   pub origin : Origin
   pub changed : Bool
+
+-- a line has at most 65,535 bytes
+abbrev pub IsShort : SourceLine → Type 0
+IsShort line = length line.bytes ≤ longest_line
 
 -- the result of reading: source lines, and the faults of the change file and of reading
 pub record Reads : Type 0 where

@@ -10,7 +10,7 @@ use Rattle.tangle_faults.specs.Faults.{FaultRead}
 use Rattle.tangle_lines.specs.Change.{Change}
 use Rattle.tangle_lines.specs.Inclusion.{included_name}
 use Rattle.tangle_lines.specs.Reading.{WaitingLine, SourceLine, ReadingStep, waiting_lines}
-use Rattle.tangle_lines.specs.Reading.{change_lines, plain_step, change_step, reads_from}
+use Rattle.tangle_lines.specs.Reading.{change_lines, plain_step, reads_from}
 use Rattle.tangle_lines.specs.Reading.{before_reads, source_line_limit}
 use Rattle.tangle_lines.specs.Reading.ReadingStep.{Ends, Goes}
 
@@ -44,12 +44,6 @@ abbrev pub IsPlain : FileTable → WaitingLine → List WaitingLine → List Wai
     → List SourceLine → List SourceLine → List FaultRead → List FaultRead → Type 0
 IsPlain files w ws ws' lines lines' faults faults' =
     Makes (plain_step files w ws [] 0 (included_name w.bytes)) ws' lines lines' faults faults'
-
--- a change was used at a line
-abbrev pub IsUsed : FileTable → ℕ → Change → WaitingLine → List WaitingLine
-    → List WaitingLine → List FaultRead → List FaultRead → Type 0
-IsUsed files change_file c w ws ws' faults faults' =
-    Makes (change_step files change_file c [] w ws 0) ws' [] [] faults faults'
 
 -- the first old line of the next change, if it may be used among these lines
 abbrev pub awaited : List Change → Bool → Option (List ℕ)

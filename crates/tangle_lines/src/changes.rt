@@ -4,7 +4,7 @@ ghost use Rattle.std.specs.Prelude.{◌↔◌};
 ghost use Rattle.std.specs.List.{list_all};
 ghost use Rattle.tangle_files.specs.Adding.{most_lines};
 ghost use Rattle.tangle_lines.specs.Bytes.{is_white};
-ghost use Rattle.tangle_lines.specs.Changes.{line_kind_of, next_phase, closed, at_end};
+ghost use Rattle.tangle_lines.specs.Changes.{line_kind_of, phase_after, closed, at_end};
 ghost use Rattle.tangle_lines.specs.Changes.{changes_of as changes_found};
 ghost use Rattle.tangle_lines.specs.declared.changes.ChangePhase.TheVariants.{Outside, InOld};
 ghost use Rattle.tangle_lines.specs.declared.changes.ChangePhase.TheVariants.{InNew};
@@ -107,6 +107,14 @@ impl<'a> Change<'a> {
     }
 }
 
+/// A line of a change file, with its number and its kind.
+#[derive(Clone, Copy)]
+struct ChangeLine<'a> {
+    number: u32,
+    line: &'a Line,
+    kind: LineKind,
+}
+
 /// The part of a change file to which the next line belongs.
 #[derive(Drop)]
 pub enum ChangePhase<'a> {
@@ -134,7 +142,9 @@ pub(crate) fn changes_of<'a>(
     let mut rest = lines;
     while let [line, others @ ..] = rest {
         number += 1;
-        phase = next_phase(alloc, file, phase, number, line, &mut changes, faults)?;
+        let kind = line_kind(line.bytes());
+        let line = ChangeLine { number, line, kind };
+        phase = next_phase(alloc, file, phase, &line, &mut changes, faults)?;
         rest = others;
     }
     finish(alloc, file, phase, &mut changes, faults)?;
@@ -146,30 +156,23 @@ fn next_phase<'a>(
     alloc: Global,
     file: &[u8],
     phase: ChangePhase<'a>,
-    number: u32,
-    line: &'a Line,
+    line: &ChangeLine<'a>,
     changes: &mut Vec<Change<'a>>,
     faults: &mut Vec<Fault>,
 ) -> Result<ChangePhase<'a>, NoMemory>
     ensures phase { IfOk result
-        (λ p. p ≡ (next_phase file.now phase.entry number line.entry.now
-        (line_kind_of line.entry.now)).0) }
+        (λ p. p ≡ (phase_after file.now phase.entry line.now).0) }
     ensures changes { OnOk result
         (changes.new.items ≡ changes.old.items
-        ++ (next_phase file.now phase.entry number line.entry.now
-        (line_kind_of line.entry.now)).1.changes) }
+        ++ (phase_after file.now phase.entry line.now).1.changes) }
     ensures faults { OnOk result
         (faults.new.items ≡ faults.old.items
-        ++ (next_phase file.now phase.entry number line.entry.now
-        (line_kind_of line.entry.now)).1.faults) }
+        ++ (phase_after file.now phase.entry line.now).1.faults) }
 {
-    let kind = line_kind(line.bytes());
     match phase {
-        ChangePhase::Outside => next_outside(alloc, file, number, kind, faults),
-        ChangePhase::InOld(change) => next_in_old(alloc, file, change, number, line, kind, faults),
-        ChangePhase::InNew(change) => next_in_new(
-            alloc, file, change, number, line, kind, changes, faults,
-        ),
+        ChangePhase::Outside => next_outside(alloc, file, line, faults),
+        ChangePhase::InOld(change) => next_in_old(alloc, file, change, line, faults),
+        ChangePhase::InNew(change) => next_in_new(alloc, file, change, line, changes, faults),
     }
 }
 
@@ -177,20 +180,19 @@ fn next_phase<'a>(
 fn next_outside<'a>(
     alloc: Global,
     file: &[u8],
-    number: u32,
-    kind: LineKind,
+    line: &ChangeLine<'_>,
     faults: &mut Vec<Fault>,
 ) -> Result<ChangePhase<'a>, NoMemory>
-    ensures phase { IfOk result (λ p. p ≡ (next_phase file.now Outside number [] kind).0) }
+    ensures phase { IfOk result (λ p. p ≡ (phase_after file.now Outside line.now).0) }
     ensures faults { OnOk result
         (faults.new.items ≡ faults.old.items
-        ++ (next_phase file.now Outside number [] kind).1.faults) }
+        ++ (phase_after file.now Outside line.now).1.faults) }
 {
-    match kind {
-        LineKind::BeginsChange => Ok(ChangePhase::InOld(Change::new(alloc, number))),
+    match line.kind {
+        LineKind::BeginsChange => Ok(ChangePhase::InOld(Change::new(alloc, line.number))),
         LineKind::IsText => Ok(ChangePhase::Outside),
         LineKind::BeginsNew | LineKind::EndsChange => {
-            add_fault(alloc, FaultKind::StrayMark, file, number, faults)?;
+            add_fault(alloc, FaultKind::StrayMark, file, line.number, faults)?;
             Ok(ChangePhase::Outside)
         }
     }
@@ -201,22 +203,20 @@ fn next_in_old<'a>(
     alloc: Global,
     file: &[u8],
     change: Change<'a>,
-    number: u32,
-    line: &'a Line,
-    kind: LineKind,
+    line: &ChangeLine<'a>,
     faults: &mut Vec<Fault>,
 ) -> Result<ChangePhase<'a>, NoMemory>
     ensures phase { IfOk result
-        (λ p. p ≡ (next_phase file.now (InOld change.entry) number line.entry.now kind).0) }
+        (λ p. p ≡ (phase_after file.now (InOld change.entry) line.now).0) }
     ensures faults { OnOk result
         (faults.new.items ≡ faults.old.items
-        ++ (next_phase file.now (InOld change.entry) number line.entry.now kind).1.faults) }
+        ++ (phase_after file.now (InOld change.entry) line.now).1.faults) }
 {
     let mut change = change;
-    match kind {
+    match line.kind {
         LineKind::BeginsChange => {
             add_fault(alloc, FaultKind::MissingY, file, change.at, faults)?;
-            Ok(ChangePhase::InOld(Change::new(alloc, number)))
+            Ok(ChangePhase::InOld(Change::new(alloc, line.number)))
         }
         LineKind::EndsChange => {
             add_fault(alloc, FaultKind::MissingY, file, change.at, faults)?;
@@ -229,8 +229,8 @@ fn next_in_old<'a>(
             Ok(ChangePhase::InNew(change))
         }
         LineKind::IsText => {
-            if !change.is_empty() || !is_blank(line.bytes()) {
-                change.add_old(line)?;
+            if !change.is_empty() || !is_blank(line.line.bytes()) {
+                change.add_old(line.line)?;
             }
             Ok(ChangePhase::InOld(change))
         }
@@ -243,30 +243,28 @@ fn next_in_new<'a>(
     alloc: Global,
     file: &[u8],
     change: Change<'a>,
-    number: u32,
-    line: &'a Line,
-    kind: LineKind,
+    line: &ChangeLine<'a>,
     changes: &mut Vec<Change<'a>>,
     faults: &mut Vec<Fault>,
 ) -> Result<ChangePhase<'a>, NoMemory>
     ensures phase { IfOk result
-        (λ p. p ≡ (next_phase file.now (InNew change.entry) number line.entry.now kind).0) }
+        (λ p. p ≡ (phase_after file.now (InNew change.entry) line.now).0) }
     ensures changes { OnOk result
         (changes.new.items ≡ changes.old.items
-        ++ (next_phase file.now (InNew change.entry) number line.entry.now kind).1.changes) }
+        ++ (phase_after file.now (InNew change.entry) line.now).1.changes) }
     ensures faults { OnOk result
         (faults.new.items ≡ faults.old.items
-        ++ (next_phase file.now (InNew change.entry) number line.entry.now kind).1.faults) }
+        ++ (phase_after file.now (InNew change.entry) line.now).1.faults) }
 {
     let mut change = change;
-    match kind {
+    match line.kind {
         LineKind::BeginsChange => {
             add_fault(alloc, FaultKind::MissingZ, file, change.at, faults)?;
             keep(change, changes)?;
-            Ok(ChangePhase::InOld(Change::new(alloc, number)))
+            Ok(ChangePhase::InOld(Change::new(alloc, line.number)))
         }
         LineKind::BeginsNew => {
-            add_fault(alloc, FaultKind::StrayMark, file, number, faults)?;
+            add_fault(alloc, FaultKind::StrayMark, file, line.number, faults)?;
             Ok(ChangePhase::InNew(change))
         }
         LineKind::EndsChange => {
@@ -274,7 +272,7 @@ fn next_in_new<'a>(
             Ok(ChangePhase::Outside)
         }
         LineKind::IsText => {
-            change.add_new(number, line)?;
+            change.add_new(line.number, line.line)?;
             Ok(ChangePhase::InNew(change))
         }
     }

@@ -1,6 +1,7 @@
 //! Reads a web, with its inclusions and changes.
 ghost use Rattle.std.specs.Prelude.{◌≡◌, ℕ, ◌+◌, ◌^◌, ◌<◌, ◌≤◌, [], ◌∷◌, ◌++◌, length, min, drop};
 ghost use Rattle.std.specs.Prelude.{map, true, false, None, IfOk, OnOk};
+ghost use Rattle.std.specs.List.{All};
 ghost use Rattle.std.specs.Option.{option_copied};
 ghost use Rattle.tangle_files.specs.Lines.{FileTable, file_number_or_count};
 ghost use Rattle.tangle_files.specs.Roles.{fits};
@@ -8,8 +9,9 @@ ghost use Rattle.tangle_lines.specs.ReadingLaw.{ReadsByStep};
 ghost use Rattle.tangle_lines.specs.Reading.{State, source_line_limit, inclusion, reads_from};
 ghost use Rattle.tangle_lines.specs.Reading.{before_reads, change_number, changes_in, source_of};
 ghost use Rattle.tangle_lines.specs.Reading.{begins, change_here, unequal_front, unequal_lines};
-ghost use Rattle.tangle_lines.specs.Reading.{mismatch_faults, unused_faults};
-ghost use Rattle.tangle_lines.specs.Waiting.{IsPlain, IsUsed, awaited, is_awaited};
+ghost use Rattle.tangle_lines.specs.Reading.{mismatch_faults, unused_faults, change_lines};
+ghost use Rattle.tangle_lines.specs.Reading.{IsShort};
+ghost use Rattle.tangle_lines.specs.Waiting.{IsPlain, awaited, is_awaited};
 ghost use Rattle.tangle_lines.specs.Inclusion.{included_name};
 
 use crate::changes::{Change, changes_of};
@@ -131,6 +133,7 @@ fn read_plain<'a, 'c>(
         (IsPlain files.entry.now line.now waiting.old waiting.new lines.old.items lines.new.items
         faults.old.items faults.new.items) }
     ensures one { OnOk result (length lines.new.items ≤ length lines.old.items + 1) }
+    ensures short { OnOk result (All IsShort lines.old.items → All IsShort lines.new.items) }
 {
     match included_name(line.line.bytes()) {
         Some(name) => include(alloc, files, waiting, faults, line, name),
@@ -269,30 +272,29 @@ fn add_mismatch_fault(
     Ok(())
 }
 
-/// Replaces the lines that a change takes, from this one on, by its new lines. Returns the number
-/// of lines that it took.
+/// Replaces the lines that a change takes, from this one on, by its new lines.
 fn use_change<'a, 'c>(
-    alloc: Global,
-    files: &'a Files,
     change_file: u16,
     change: &'c Change<'a>,
     line: &WaitingLine<'a>,
     waiting: &mut Waiting<'a, 'c>,
-    faults: &mut Vec<Fault>,
-) -> Result<usize, NoMemory>
+) -> Result<MatchedLines, NoMemory>
     requires { 0 < length change.now.old_lines }
-    ensures used { OnOk result
-        (IsUsed files.entry.now change_file change.entry.now line.now waiting.old waiting.new
-        faults.old.items faults.new.items) }
-    ensures taken { IfOk result
-        (λ n. n ≡ min (length change.entry.now.old_lines) (length (line.now ∷ waiting.old))) }
-    ensures small { IfOk result (λ n. n < 2 ^ 63) }
+    ensures lines { IfOk result (λ m.
+        m.lines ≡ min (length change.entry.now.old_lines) (length (line.now ∷ waiting.old))) }
+    ensures small { IfOk result (λ m. m.lines < 2 ^ 63) }
+    ensures unequal { IfOk result (λ m.
+        m.unequal ≡ unequal_lines (drop 1 change.entry.now.old_lines) waiting.old) }
+    ensures rest { IfOk result (λ m.
+        waiting.new ≡ change_lines change_file line.now.depth change.entry.now.new_lines
+        ++ drop m.lines (line.now ∷ waiting.old)) }
 {
-    let taken = take_old(after_first(change.old_lines()), waiting);
-    let file = files.name_at(change_file);
-    add_mismatch_fault(alloc, file, change.at(), taken.unequal, faults)?;
+    let further = take_old(after_first(change.old_lines()), waiting);
     waiting.open(OpenFile::of_change(change_file, change.new_lines(), line.depth))?;
-    Ok(taken.lines + 1)
+    Ok(MatchedLines {
+        lines: further.lines + 1,
+        unequal: further.unequal,
+    })
 }
 
 /// Adds the fault of the first change that was not used, if there is one.
@@ -330,6 +332,7 @@ fn read_on<'a, 'c>(
         (record { waiting = waiting.old; changes = changes.entry.now; taken = 0 }))
         ≡ record { lines = lines.items; faults = faults.new.items }) }
     ensures limit { IfOk result (λ lines. length lines.items ≤ source_line_limit) }
+    ensures short { IfOk result (λ lines. All IsShort lines.items) }
 {
     let mut lines = Vec::new(alloc);
     let mut changes = changes;
@@ -343,7 +346,10 @@ fn read_on<'a, 'c>(
         }
         match change_at(changes, &line) {
             Some(change) => {
-                taken += use_change(alloc, files, change_file, change, &line, waiting, faults)?;
+                let matched = use_change(change_file, change, &line, waiting)?;
+                let file = files.name_at(change_file);
+                add_mismatch_fault(alloc, file, change.at(), matched.unequal, faults)?;
+                taken += matched.lines;
                 changes = after_first(changes);
             }
             None => {

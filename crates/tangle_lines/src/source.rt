@@ -1,11 +1,13 @@
 //! The source: the result of reading a web.
 ghost use Rattle.std.specs.Prelude.{◌≡◌, ◌≤◌, length};
+ghost use Rattle.std.specs.List.{All};
 ghost use Rattle.tangle_files.specs.Lines.{name_at};
 ghost use Rattle.tangle_files.specs.Adding.{longest_line, most_files};
-ghost use Rattle.tangle_lines.specs.Reading.{line_at, source_line_limit, origin_at};
+ghost use Rattle.tangle_lines.specs.Reading.{line_at, source_line_limit, origin_at, IsShort};
 
+use crate::origin::Origin;
 use std::marker::Model;
-use tangle_faults::{Fault, Origin};
+use tangle_faults::Fault;
 use tangle_files::{Files, Line};
 
 /// A source line, with its origin, and whether it is from the change file. The two numbers of the
@@ -65,7 +67,8 @@ pub struct Source<'a> {
 
 impl<'a> Model for Source<'a> {
     ghost use Rattle.std.specs.Prelude.{◌≤◌, length};
-    ghost use Rattle.tangle_lines.specs.Reading.{SourceRead, source_line_limit};
+    ghost use Rattle.std.specs.List.{All};
+    ghost use Rattle.tangle_lines.specs.Reading.{SourceRead, IsShort, source_line_limit};
 
     ghost Value = { SourceRead };
 
@@ -76,7 +79,8 @@ impl<'a> Model for Source<'a> {
           s.faults.items;
     } };
 
-    ghost invariant = { λ s. length s.lines.items ≤ source_line_limit };
+    ghost invariant = { λ s.
+        (length s.lines.items ≤ source_line_limit) × All IsShort s.lines.items };
 }
 
 impl<'a> Source<'a> {
@@ -84,6 +88,7 @@ impl<'a> Source<'a> {
     pub fn count(&self) -> usize
         ensures count { result ≡ length self.now.lines }
         ensures limit { result ≤ source_line_limit }
+        ensures short { All IsShort self.now.lines }
     {
         self.lines.len()
     }

@@ -1,17 +1,18 @@
 //! The open files, as one list of the lines that wait to be read.
 ghost use Rattle.std.specs.Prelude.{◌≡◌, ◌+◌, ◌≤◌, List, [], ◌∷◌, ◌++◌, length, drop, map};
 ghost use Rattle.std.specs.Prelude.{IfSome, IfNone, IfOk, OnOk};
+ghost use Rattle.std.specs.List.{All};
 ghost use Rattle.tangle_files.specs.Adding.{most_lines};
 ghost use Rattle.tangle_lines.specs.Reading.{WaitingLine as WaitingLineRead};
-ghost use Rattle.tangle_lines.specs.Reading.{waiting_lines, change_lines};
+ghost use Rattle.tangle_lines.specs.Reading.{waiting_lines, change_lines, IsShort};
 ghost use Rattle.tangle_lines.specs.Waiting.{PassesOn};
 
 use crate::changes::Change;
+use crate::origin::Origin;
 use crate::reading::{awaited_line, is_source_line};
 use crate::source::SourceLine;
 use std::alloc::Global;
 use std::marker::Model;
-use tangle_faults::Origin;
 use tangle_files::Line;
 use tangle_streams::NoMemory;
 
@@ -146,6 +147,7 @@ impl<'a, 'c> OpenFile<'a, 'c> {
             PassesOn changes.now lines.old.items (self.old ++ rest) n lines.new.items
             (self.new ++ rest)) }
         ensures count { IfOk result (λ n. length lines.new.items ≡ length lines.old.items + n) }
+        ensures short { OnOk result (All IsShort lines.old.items → All IsShort lines.new.items) }
         ensures limit { IfOk result (λ n. n ≤ limit) }
     {
         let Rest::OfFile(file_lines, read) = self.rest else {
@@ -245,6 +247,7 @@ impl<'a, 'c> Waiting<'a, 'c> {
         ensures passed { IfOk result (λ n.
             PassesOn changes.now lines.old.items self.old n lines.new.items self.new) }
         ensures count { IfOk result (λ n. length lines.new.items ≡ length lines.old.items + n) }
+        ensures short { OnOk result (All IsShort lines.old.items → All IsShort lines.new.items) }
         ensures limit { IfOk result (λ n. n ≤ limit) }
     {
         if self.files.is_empty() {

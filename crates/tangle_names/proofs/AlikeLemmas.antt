@@ -1,9 +1,8 @@
 -- The resolution of the names depends only on how the occurrences are written.
-use Rattle.std.proofs.Common.{◌≡◌, ◌<◌, ◌+◌, ◌∙◌, ◌&&◌, ℕ, Bool, true, false, cond, not, List, [], ◌∷◌, length, map}
-use Rattle.std.proofs.Common.{filter, get_or, refl, ap, sym, Some, None, position}
-use Rattle.std.specs.Prelude.{nat_lt}
+use Rattle.std.proofs.Common.{◌≡◌, ◌<◌, ◌∙◌, ◌&&◌, ℕ, Bool, true, false, cond, not, List, [], ◌∷◌, length, map}
+use Rattle.std.proofs.Common.{filter, get_or, refl, ap, sym, position}
 use Rattle.std.specs.List.{position_or_len}
-use Rattle.std.proofs.lemmas.List.{get_or-map, length-map}
+use Rattle.std.proofs.lemmas.List.{get_or-map}
 use Rattle.std.proofs.lemmas.Simd.{map-map}
 use Rattle.tangle_lexer.specs.declared.occurrences.OccurrenceRole.TheVariants.{Mention}
 use Rattle.tangle_lexer.specs.Occurrences.{OccurrenceRead}
@@ -11,6 +10,7 @@ use Rattle.tangle_names.specs.Names.{NameText, full_names, meaning, means}
 use Rattle.tangle_names.specs.NameTable.{AreWrittenAlike, table_over, written_form}
 use Rattle.tangle_names.specs.Resolving.{first_file_number, first_number, names_in_order, names_of, resolve}
 use Rattle.tangle_names.specs.Resolving.{resolved_meaning}
+use Rattle.tangle_names.proofs.KeyLemmas.{position_or_len-map, position-map}
 
 -- an occurrence that is written like this, without role and origin
 plain : NameText × Bool × Bool → OccurrenceRead
@@ -20,18 +20,6 @@ plain w =
 bare : OccurrenceRead → OccurrenceRead
 unfolding plain
 bare o = plain (written_form o)
-
-position_or_len-map : {X Y : Type 0} (q : Y → Bool) (f : X → Y) (xs : List X)
-    → position_or_len q (map f xs) ≡ position_or_len (λ x. q (f x)) xs
-position_or_len-map q f [] = refl
-position_or_len-map q f (x ∷ xs) = ap (λ n. cond (not (q (f x))) (1 + n) 0) (position_or_len-map q f xs)
-
-position-map : {X Y : Type 0} (q : Y → Bool) (f : X → Y) (xs : List X)
-    → position q (map f xs) ≡ position (λ x. q (f x)) xs
-position-map q f xs =
-    let at = position_or_len-map q f xs in
-    let size = length-map xs f in
-    λ i. cond (nat_lt (at i) (size i)) (Some (at i)) None
 
 module _ where
   full-bare : (os : List OccurrenceRead) → full_names (map bare os) ≡ full_names os

@@ -1,72 +1,36 @@
 -- The first occurrences of names.
-use Rattle.std.proofs.Common.{◌≡◌, ◌≢◌, ◌<◌, ◌≤◌, ◌∙◌, inl, inr, ℕ, zero, suc, Bool, true, false, cond, not, ◌+◌, ◌&&◌}
-use Rattle.std.proofs.Common.{List, [], ◌∷◌, length, get_or, refl, ap, sym, arith, Option, Some, None, Contains}
+use Rattle.std.proofs.Common.{◌≡◌, ◌≢◌, ◌<◌, ◌∙◌, inl, inr, ℕ, Bool, true, false, cond, ◌&&◌}
+use Rattle.std.proofs.Common.{List, [], length, get_or, refl, ap, sym, arith, Option, Some, None}
 use Rattle.std.specs.Prelude.{slice_get, nat_lt, IsSome, find}
 use Rattle.std.specs.List.{position_or_len}
 use borrow.Author.Tests.{ltb-true, ltb-false}
 use Rattle.std.proofs.lemmas.Bool.{eq-eqb, eqb-true, and_parts}
-use Rattle.std.proofs.lemmas.Option.{slice_get_cases}
+use Rattle.std.proofs.lemmas.Option.{slice_get_cases, slice_get_within, get_or_from_slice_get}
 use Rattle.std.proofs.lemmas.List.Elements.{Contains-get_or}
 use Rattle.std.proofs.lemmas.List.Folds.{find_at}
+use Rattle.std.proofs.lemmas.List.Sums.{fails_before_first, passes_at_first}
 use Rattle.tangle_lexer.specs.Occurrences.{OccurrenceRead}
 use Rattle.tangle_names.specs.declared.Resolved.{Resolved}
-use Rattle.tangle_names.specs.declared.Resolved.TheVariants.{Name, NoFullName, Ambiguous}
+use Rattle.tangle_names.specs.declared.Resolved.TheVariants.{Name}
 use Rattle.tangle_names.specs.Names.{NameText, full_names, meaning}
 use Rattle.tangle_names.specs.Numbers.{is_number}
 use Rattle.tangle_names.specs.Resolving.{first_file_number, first_number, meanings, names_in_order, resolve}
 use Rattle.tangle_names.specs.Resolving.{resolves_to}
 use Rattle.tangle_names.specs.Laws.{IsFirst, IsFirstAsFileIfAny}
-use Rattle.tangle_names.proofs.ContainsLemmas.{no_item, cons_cases}
 use Rattle.tangle_names.proofs.LawLemmas.{occur}
+use Rattle.tangle_names.proofs.MeaningLemmas.{none_passes}
 use Rattle.tangle_names.proofs.TableLemmas.{distinct_names, is_number-means}
 
--- the first position of an item that passes
-past_first : {X : Type 0} (q : X → Bool) (x : X) (xs : List X)
-    → q x ≡ false → position_or_len q (x ∷ xs) ≡ suc (position_or_len q xs)
-past_first q x xs is = ap (λ b. cond (not b) (1 + position_or_len q xs) 0) is ∙ omega arith
-
-at_first : {X : Type 0} (q : X → Bool) (x : X) (xs : List X) → q x ≡ true → position_or_len q (x ∷ xs) ≡ 0
-at_first q x xs is = ap (λ b. cond (not b) (1 + position_or_len q xs) 0) is
-
-none_before-at : {X : Type 0} (q : X → Bool) (y : X) (ys : List X) (x : X) (b : Bool)
-    → q y ≡ b → ((n : ℕ) → n < position_or_len q ys → slice_get ys n ≡ Some x → q x ≡ false)
-    → (n : ℕ) → n < position_or_len q (y ∷ ys) → slice_get (y ∷ ys) n ≡ Some x → q x ≡ false
-none_before-at q y ys x true is rest n h found = absurd (omega (arith, h, at_first q y ys is))
-none_before-at q y ys x false is rest zero h found = let same : y ≡ x = cc in ap q (sym same) ∙ is
-none_before-at q y ys x false is rest (suc n) h found = rest n (omega (arith, h, past_first q y ys is)) found
-
+-- an item before the first that passes does not pass
 none_before : {X : Type 0} (q : X → Bool) (xs : List X) (x : X) (n : ℕ)
     → n < position_or_len q xs → slice_get xs n ≡ Some x → q x ≡ false
-none_before q [] x n h found = absurd (omega (arith, h))
-none_before q (y ∷ ys) x n h found = none_before-at q y ys x (q y) refl (none_before q ys x) n h found
-
-found_passes-at : {X : Type 0} (q : X → Bool) (y : X) (ys : List X) (x : X) (b : Bool)
-    → q y ≡ b → (slice_get ys (position_or_len q ys) ≡ Some x → q x ≡ true)
-    → slice_get (y ∷ ys) (position_or_len q (y ∷ ys)) ≡ Some x → q x ≡ true
-found_passes-at q y ys x true is rest found =
-    let here : Some y ≡ Some x = sym (ap (slice_get (y ∷ ys)) (at_first q y ys is)) ∙ found in
-    let same : y ≡ x = cc in
-    ap q (sym same) ∙ is
-found_passes-at q y ys x false is rest found = rest (sym (ap (slice_get (y ∷ ys)) (past_first q y ys is)) ∙ found)
+none_before q xs x n h found = ap q (sym (get_or_from_slice_get xs n x x found)) ∙ fails_before_first q xs n x h
 
 found_passes : {X : Type 0} (q : X → Bool) (xs : List X) (x : X)
     → slice_get xs (position_or_len q xs) ≡ Some x → q x ≡ true
-found_passes q [] x found = absurd (cc)
-found_passes q (y ∷ ys) x found = found_passes-at q y ys x (q y) refl (found_passes q ys x) found
-
-none_passes-at : {X : Type 0} (q : X → Bool) (y : X) (ys : List X) (x : X) (b : Bool)
-    → q y ≡ b → (length ys ≤ position_or_len q ys → Contains ys x → q x ≡ false)
-    → length (y ∷ ys) ≤ position_or_len q (y ∷ ys) → Contains (y ∷ ys) x → q x ≡ false
-none_passes-at q y ys x true is rest h c = absurd (omega (arith, h, at_first q y ys is))
-none_passes-at q y ys x false is rest h c = elim (cons_cases y ys x c) [
-  | inl same ↦ ap q (sym same) ∙ is
-  | inr later ↦ rest (omega (arith, h, past_first q y ys is)) later
-]
-
-none_passes : {X : Type 0} (q : X → Bool) (xs : List X) (x : X)
-    → length xs ≤ position_or_len q xs → Contains xs x → q x ≡ false
-none_passes q [] x h c = absurd (no_item x c)
-none_passes q (y ∷ ys) x h c = none_passes-at q y ys x (q y) refl (none_passes q ys x) h c
+found_passes q xs x found =
+    let n = position_or_len q xs in
+    ap q (sym (get_or_from_slice_get xs n x x found)) ∙ passes_at_first q xs x (slice_get_within xs n x found)
 
 -- an occurrence resolves to a name if it means the name
 resolves_as : (os : List OccurrenceRead) (id : ℕ) (o : OccurrenceRead) → id < length (names_in_order os)
@@ -78,8 +42,7 @@ resolves_as os id o h is = by (resolve os o) refl
 
     by : (r : Resolved) → resolve os o ≡ r → resolve os o ≡ Name id
     by (Name n) e = e ∙ ap Name (eqb-true n id (sym (ap (is_number id) e) ∙ known))
-    by NoFullName e = absurd (let clash : false ≡ true = sym (ap (is_number id) e) ∙ known in cc)
-    by Ambiguous e = absurd (let clash : false ≡ true = sym (ap (is_number id) e) ∙ known in cc)
+    by _ e = absurd (let clash : false ≡ true = sym (ap (is_number id) e) ∙ known in cc)
 
 resolves_not : (os : List OccurrenceRead) (id : ℕ) (o : OccurrenceRead) → id < length (names_in_order os)
     → resolves_to os (get_or (names_in_order os) id []) o ≡ false → resolve os o ≢ Name id

@@ -1,19 +1,21 @@
 -- The numbers that a resolution has beside the names, and the faults that are found from them.
-use Rattle.std.proofs.Common.{◌≡◌, ◌<◌, ◌+◌, ◌∙◌, ℕ, zero, suc, Bool, true, false, cond, not, ◌&&◌, List, [], ◌∷◌, ◌++◌}
-use Rattle.std.proofs.Common.{length, map, filter, flat_map, take, get_or, refl, ap, sym, subst, arith, add-zero}
+use Rattle.std.proofs.Common.{◌≡◌, ◌<◌, ◌+◌, ◌∙◌, ℕ, suc, Bool, true, false, cond, not, ◌&&◌, List, [], ◌∷◌, ◌++◌}
+use Rattle.std.proofs.Common.{length, map, filter, flat_map, take, get_or, refl, ap, sym, arith, add-zero}
 use Rattle.std.proofs.Common.{zero-add, append-nil, Some, option_to_list}
 use Rattle.std.specs.Prelude.{All, slice_get}
 use Rattle.std.specs.List.{enumerate_from}
 use Rattle.std.specs.Str.{bytes_eq}
 use Rattle.std.proofs.lemmas.List.{get_or-map, take_more, length-take-le}
+use Rattle.std.proofs.lemmas.List.Elements.{All-filter, All-map}
 use Rattle.std.proofs.lemmas.List.Folds.{find_at}
+use Rattle.std.proofs.lemmas.List.FromFn.{length-enumerate_from, get_or-enumerate_from}
 use Rattle.std.proofs.lemmas.Option.{slice_get_within, get_or_from_slice_get}
 use Rattle.tangle_faults.specs.declared.faults.FaultKind.TheVariants as kind
 use Rattle.tangle_faults.specs.Faults.{FaultRead, fault_about}
 use Rattle.tangle_lexer.specs.Occurrences.{OccurrenceRead}
 use Rattle.tangle_scan.specs.Web.{WebRead}
 use Rattle.tangle_names.specs.declared.Resolved.{Resolved}
-use Rattle.tangle_names.specs.declared.Resolved.TheVariants.{Name, NoFullName, Ambiguous}
+use Rattle.tangle_names.specs.declared.Resolved.TheVariants.{Name, NoFullName}
 use Rattle.tangle_names.specs.Faults.{begins_another, prefix_fault, resolution_fault, resolution_faults, named_place_of}
 use Rattle.tangle_names.specs.Names.{NameText, begins_with, full_names}
 use Rattle.tangle_names.specs.Numbers.{begins_another_by_number, fault_of_number, is_unresolved, numbers_from, warning}
@@ -92,22 +94,12 @@ numbers-map q f k (x ∷ xs) =
     ∙ (ap (λ r. cond (q (f x)) (k ∷ r) r) (numbers-map q f (k + 1) xs) ∙ sym (numbers-cons (λ x. q (f x)) k x xs))
 
 -- each number is that of an item
-inside_or_later : {X : Type 0} (k : ℕ) (x : X) (xs : List X) (rest : List ℕ) (b : Bool) (n d : ℕ)
-    → ((m : ℕ) → m < length rest → get_or rest m d < k + 1 + length xs)
-    → n < length (cond b (k ∷ rest) rest) → get_or (cond b (k ∷ rest) rest) n d < k + length (x ∷ xs)
-inside_or_later k x xs rest true zero d later h = omega arith
-inside_or_later k x xs rest true (suc n) d later h = omega (arith, later n (omega (arith, h)))
-inside_or_later k x xs rest false n d later h = omega (arith, later n h)
-
-numbers_inside-at : {X : Type 0} (q : X → Bool) (k : ℕ) (xs : List X) (n d : ℕ)
-    → n < length (numbers_from q k xs) → get_or (numbers_from q k xs) n d < k + length xs
-numbers_inside-at q k [] n d h = absurd (omega (arith, h))
-numbers_inside-at q k (x ∷ xs) n d h =
-    subst (λ ns. n < length ns → get_or ns n d < k + length (x ∷ xs)) (sym (numbers-cons q k x xs))
-    (inside_or_later k x xs (numbers_from q (k + 1) xs) (q x) n d (λ m g. numbers_inside-at q (k + 1) xs m d g)) h
-
 pub numbers_inside : {X : Type 0} (q : X → Bool) (xs : List X) → All (λ n. n < length xs) (numbers_from q 0 xs)
-numbers_inside q xs n d h = omega (arith, numbers_inside-at q 0 xs n d h)
+numbers_inside {X} q xs =
+    All-map (λ n. n < length xs) (λ (e : ℕ × X). e.0) (filter (λ (e : ℕ × X). q e.1) (enumerate_from 0 xs))
+    (All-filter (λ (e : ℕ × X). q e.1) (λ (e : ℕ × X). e.0 < length xs) (enumerate_from 0 xs) (λ i d low.
+    let inside : i < length xs = omega (arith, low, length-enumerate_from 0 xs) in
+    rw (get_or-enumerate_from 0 xs i d inside) (omega (arith, inside))))
 
 -- what is found from the numbers is found from the items
 by_number : {X : Type 0} (g : ℕ → List FaultRead) (f : X → List FaultRead) (q : X → Bool) (k : ℕ) (xs : List X)
@@ -131,8 +123,7 @@ by_number g f q k (x ∷ xs) at =
 by_what : (files : List (List ℕ)) (r : Resolved) (o : OccurrenceRead)
     → cond (is_unresolved r) (resolution_fault files r o) [] ≡ resolution_fault files r o
 by_what files (Name id) o = refl
-by_what files NoFullName o = refl
-by_what files Ambiguous o = refl
+by_what files _ o = refl
 
 pub faults_of_numbers : (web : WebRead) (rs : List Resolved) → rs ≡ map (resolve web.occurrences) web.occurrences
     → flat_map (fault_of_number web rs) (numbers_from is_unresolved 0 rs)

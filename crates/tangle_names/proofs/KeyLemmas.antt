@@ -1,15 +1,13 @@
 -- The keys of the set of names, as texts.
-use Rattle.std.proofs.Common.{◌≡◌, ◌<◌, ◌≤◌, ◌+◌, ◌∙◌, ◌||◌, ℕ, Bool, true, false, cond, not, ltb, List, [], ◌∷◌, ◌++◌}
-use Rattle.std.proofs.Common.{length, get_or, refl, ap, sym, subst, arith, Vec, position, Option, Some, None}
-use Rattle.std.specs.Prelude.{unwrap_or, IfSome}
+use Rattle.std.proofs.Common.{◌≡◌, ◌≤◌, ◌+◌, ◌∙◌, ◌||◌, ℕ, Bool, true, false, cond, not, ltb, List, [], ◌∷◌, ◌++◌}
+use Rattle.std.proofs.Common.{length, map, refl, ap, sym, subst, arith, Vec, position, Option, Some, None}
+use Rattle.std.specs.Prelude.{unwrap_or}
 use Rattle.std.specs.List.{list_any, position_or_len}
 use Rattle.std.specs.Str.{bytes_eq}
 use Rattle.std.specs.Global.{Global}
 use Rattle.std.proofs.lemmas.List.{map_push, length-map}
-use Rattle.std.proofs.lemmas.List.Quantifiers.{position-Some}
 use Rattle.std.proofs.lemmas.List.Sums.{prefix_len-le-length}
 use Rattle.std.proofs.lemmas.Bool.Decides.{nat_tests}
-use Rattle.std.proofs.lemmas.Slice.Eq.{bytes_eq-Decides}
 use Rattle.tangle_names.specs.Names.{NameText, One}
 use Rattle.tangle_names.specs.Resolving.{with_name}
 use Rattle.tangle_names.specs.Numbers.{key_texts}
@@ -40,11 +38,17 @@ key_texts-insert keys next v text e is =
         ∙ sym (ap (λ b. cond b (key_texts keys) (key_texts keys ++ text ∷ []))
         (same_test keys text ∙ subst (λ t. list_any (λ (k : Vec ℕ Global). bytes_eq t k.items) keys ≡ false) e found)))
 
-position-map : (keys : List (Vec ℕ Global)) (text : NameText)
-    → position_or_len (bytes_eq text) (key_texts keys)
-    ≡ position_or_len (λ (v : Vec ℕ Global). bytes_eq text v.items) keys
-position-map [] text = refl
-position-map (k ∷ keys) text = ap (λ n. cond (not (bytes_eq text k.items)) (1 + n) 0) (position-map keys text)
+pub position_or_len-map : {X Y : Type 0} (q : Y → Bool) (f : X → Y) (xs : List X)
+    → position_or_len q (map f xs) ≡ position_or_len (λ x. q (f x)) xs
+position_or_len-map q f [] = refl
+position_or_len-map q f (x ∷ xs) = ap (λ n. cond (not (q (f x))) (1 + n) 0) (position_or_len-map q f xs)
+
+pub position-map : {X Y : Type 0} (q : Y → Bool) (f : X → Y) (xs : List X)
+    → position q (map f xs) ≡ position (λ x. q (f x)) xs
+position-map q f xs =
+    let at = position_or_len-map q f xs in
+    let size = length-map xs f in
+    λ i. cond (ltb (at i) (size i)) (Some (at i)) None
 
 chosen : (n size : ℕ) → n ≤ size → unwrap_or (cond (ltb n size) (Some n) None) size ≡ n
 chosen n size most = by (ltb n size) refl
@@ -59,20 +63,4 @@ pub number_is : (keys : List (Vec ℕ Global)) (text : NameText) (found : Option
 number_is keys text found len e l =
     (λ i. unwrap_or (e i) (l i)) ∙ (chosen (position_or_len (λ (v : Vec ℕ Global). bytes_eq text v.items) keys)
     (length keys) (prefix_len-le-length (λ (v : Vec ℕ Global). not (bytes_eq text v.items)) keys)
-    ∙ sym (position-map keys text))
-
-pub position-keys : (keys : List (Vec ℕ Global)) (text : NameText)
-    → position (λ (v : Vec ℕ Global). bytes_eq text v.items) keys ≡ position (bytes_eq text) (key_texts keys)
-position-keys keys text =
-    let at = sym (position-map keys text) in
-    let size = sym (length-map keys (λ (v : Vec ℕ Global). v.items)) in
-    λ i. cond (ltb (at i) (size i)) (Some (at i)) None
-
--- the name that was found has this text
-pub found_has_text : (names : List NameText) (text : NameText) (found : Option ℕ)
-    → found ≡ position (bytes_eq text) names
-    → IfSome found (λ n. (n < length names) × (get_or names n [] ≡ text))
-found_has_text names text None e = tt
-found_has_text names text (Some n) e =
-    let at = position-Some (bytes_eq text) names n [] (sym e) in
-    (at.0, sym ((bytes_eq-Decides text (get_or names n [])).0 at.1))
+    ∙ sym (position_or_len-map (bytes_eq text) (λ (v : Vec ℕ Global). v.items) keys))

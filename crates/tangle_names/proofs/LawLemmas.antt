@@ -1,11 +1,13 @@
 -- The laws of names.
-use Rattle.std.proofs.Common.{◌≡◌, ◌≢◌, ◌+◌, ◌∙◌, suc, Bool, true, false, cond, not, ◌||◌, ◌&&◌, List, [], ◌∷◌, filter}
-use Rattle.std.proofs.Common.{get_or, refl, ap, sym, subst, arith, inl, inr, Contains, find, Some}
+use Rattle.std.proofs.Common.{◌≡◌, ◌≢◌, ◌∙◌, Bool, true, false, cond, not, ◌&&◌, List, [], ◌∷◌, filter}
+use Rattle.std.proofs.Common.{get_or, refl, ap, sym, subst, arith, Contains, find}
 use Rattle.std.specs.List.{AllByRecursion, IsDistinct, list_all, list_any, position_or_len}
 use Rattle.std.specs.Prelude.{IsSome}
 use Rattle.std.specs.Str.{bytes_eq}
 use Rattle.std.proofs.lemmas.Cmp.{nat_list_eq_equiv}
-use Rattle.std.proofs.lemmas.List.Folds.{Any-from_list_any}
+use Rattle.std.proofs.lemmas.List.Folds.{find_at}
+use Rattle.std.proofs.lemmas.List.Sums.{passes_at_first}
+use Rattle.std.proofs.lemmas.Option.{slice_get-get_or}
 use Rattle.std.proofs.lemmas.Slice.Eq.{bytes_eq-Decides}
 use Rattle.std.proofs.lemmas.Bool.{not-true, false_from_ne_true, or_parts}
 use Rattle.tangle_lexer.specs.Occurrences.{OccurrenceRead}
@@ -14,9 +16,9 @@ use Rattle.tangle_names.specs.Names.{only, only_with, prefix}
 use Rattle.tangle_names.specs.Resolving.{first_occurrence, meanings, names_in_order, resolve, resolved_meaning}
 use Rattle.tangle_names.specs.Resolving.{resolves_to}
 use Rattle.tangle_names.specs.Laws.{IsNumberOf, ResolvesFull, ResolvesPrefix}
-use Rattle.tangle_names.proofs.ContainsLemmas.{here, there, cons_cases, into_filter, out_of_filter, into_map}
+use Rattle.tangle_names.proofs.ContainsLemmas.{here, there, into_filter, out_of_filter, into_map}
 use Rattle.tangle_names.proofs.ContainsLemmas.{out_of_map}
-use Rattle.tangle_names.proofs.MeaningLemmas.{from-one}
+use Rattle.tangle_names.proofs.MeaningLemmas.{contains-any, first_inside, from-one}
 use Rattle.tangle_names.proofs.ResolvingLemmas.{meant-fold}
 use Rattle.tangle_names.proofs.TableLemmas.{Distinct, distinct_names, from_fold, names_are_full}
 
@@ -41,11 +43,6 @@ among : (os : List OccurrenceRead) (o : OccurrenceRead) (t : NameText)
 among os o t c is =
     meant-fold t (meanings os) [] (subst (Contains (meanings os)) is (into_map (meaning (full_names os)) os o c))
 
-contains-any : (t : NameText) (ts : List NameText) → list_any (bytes_eq t) ts ≡ true → Contains ts t
-contains-any t ts h =
-    let found = Any-from_list_any (bytes_eq t) ts h in
-    subst (Contains ts) (sym ((bytes_eq-Decides t found.1).0 found.4)) (found.0, found.2, found.3)
-
 means_itself : (full : List NameText) (o : OccurrenceRead) → o.is_abbreviation ≡ false → meaning full o ≡ One o.text
 means_itself full o is = ap (λ b. cond b (only_with full (prefix o.text)) (One o.text)) is
 
@@ -63,28 +60,15 @@ same os t = (
 )
 
 -- the number of a name
-number-later : (t u : NameText) (us : List NameText)
-    → IsNumberOf us (position_or_len (bytes_eq t) us) t → IsNumberOf (u ∷ us) (1 + position_or_len (bytes_eq t) us) t
-number-later t u us n =
-    let moved : 1 + position_or_len (bytes_eq t) us ≡ suc (position_or_len (bytes_eq t) us) = omega arith in
-    record { inside = omega (arith, n.inside); at = ap (λ k. get_or (u ∷ us) k []) moved ∙ n.at }
-
-number-either : (t u : NameText) (us : List NameText) → list_any (bytes_eq t) (u ∷ us) ≡ true
-    → (list_any (bytes_eq t) us ≡ true → IsNumberOf us (position_or_len (bytes_eq t) us) t)
-    → IsNumberOf (u ∷ us) (position_or_len (bytes_eq t) (u ∷ us)) t
-number-either t u us h rest = by (bytes_eq t u) refl
-  where
-    by : (b : Bool)
-        → bytes_eq t u ≡ b → IsNumberOf (u ∷ us) (cond (not (bytes_eq t u)) (1 + position_or_len (bytes_eq t) us) 0) t
-    by true is = subst (λ b. IsNumberOf (u ∷ us) (cond (not b) (1 + position_or_len (bytes_eq t) us) 0) t) (sym is)
-        (record { inside = omega arith; at = sym ((bytes_eq-Decides t u).0 is) })
-    by false is = subst (λ b. IsNumberOf (u ∷ us) (cond (not b) (1 + position_or_len (bytes_eq t) us) 0) t) (sym is)
-        (number-later t u us (rest (ap (λ b. b || list_any (bytes_eq t) us) (sym is) ∙ h)))
-
 number-at : (t : NameText) (ts : List NameText)
     → list_any (bytes_eq t) ts ≡ true → IsNumberOf ts (position_or_len (bytes_eq t) ts) t
-number-at t [] h = absurd (cc)
-number-at t (u ∷ us) h = number-either t u us h (number-at t us)
+number-at t ts h =
+    let inside = first_inside (bytes_eq t) ts t (contains-any t ts h) ((bytes_eq-Decides t t).1 refl) in
+    record {
+      inside = inside;
+      at = sym ((bytes_eq-Decides t (get_or ts (position_or_len (bytes_eq t) ts) [])).0
+          (passes_at_first (bytes_eq t) ts [] inside));
+    }
 
 pub full_law : (os : List OccurrenceRead) (o : OccurrenceRead)
     → Contains os o → o.is_abbreviation ≡ false → ResolvesFull (names_in_order os) o.text (resolve os o)
@@ -174,15 +158,9 @@ prefix_law os o c is =
 -- an occurrence resolves to each name
 found_first : (q : OccurrenceRead → Bool) (os : List OccurrenceRead) (o : OccurrenceRead)
     → Contains os o → q o ≡ true → IsSome (find q os)
-found_first q [] o c h = absurd (omega (arith, c.1))
-found_first q (p ∷ os) o c h = by (q p) refl (elim (cons_cases p os o c) as (λ _. q p ≡ false → IsSome (find q os)) [
-  | inl e ↦ (λ is. absurd (let clash : true ≡ false = sym h ∙ (ap q (sym e) ∙ is) in cc))
-  | inr d ↦ (λ is. found_first q os o d h)
-])
-  where
-    by : (b : Bool) → q p ≡ b → (q p ≡ false → IsSome (find q os)) → IsSome (find q (p ∷ os))
-    by true is rest = subst (λ b. IsSome (cond b (Some p) (find q os))) (sym is) refl
-    by false is rest = subst (λ b. IsSome (cond b (Some p) (find q os))) (sym is) (rest is)
+found_first q os o c h =
+    let at = slice_get-get_or os (position_or_len q os) o (first_inside q os o c h) in
+    subst IsSome (sym (find_at q os ∙ at)) refl
 
 pub occur : (os : List OccurrenceRead) (t : NameText) → Contains (names_in_order os) t → IsSome (first_occurrence os t)
 occur os =

@@ -1,28 +1,23 @@
 -- Whether a list has no text, one or several, and whether an item of it passes a test.
-use Rattle.std.proofs.Common.{◌≡◌, ◌≢◌, ◌∙◌, Bool, true, false, cond, ◌&&◌, ◌||◌, List, [], ◌∷◌, refl, ap, sym, subst}
-use Rattle.std.proofs.Common.{inl, inr, Contains}
-use Rattle.std.specs.List.{list_all, list_any}
-use Rattle.std.proofs.lemmas.List.Folds.{list_any-from_Any}
+use Rattle.std.proofs.Common.{◌≡◌, ◌≢◌, ◌∙◌, Bool, true, false, cond, List, [], ◌∷◌, refl, ap, sym, subst}
+use Rattle.std.proofs.Common.{inl, inr, Contains, arith, get_or, length, ◌<◌, ◌≤◌}
+use Rattle.std.specs.List.{list_all, list_any, position_or_len}
+use Rattle.std.proofs.lemmas.List.Elements.{All-contains, Contains-get_or}
+use Rattle.std.proofs.lemmas.List.Folds.{list_any-from_Any, list_any_none}
+use Rattle.std.proofs.lemmas.List.Sums.{AllPass-from_list_all, list_all-from_AllPass, fails_before_first}
+use Rattle.std.proofs.lemmas.Map.Views.{Contains-from_any}
 use Rattle.std.specs.Str.{bytes_eq}
 use Rattle.std.proofs.lemmas.Slice.Eq.{bytes_eq-Decides}
-use Rattle.std.proofs.lemmas.Bool.{and_parts}
+use Rattle.std.proofs.lemmas.Bool.{cases_lt}
 use Rattle.tangle_names.specs.Names.{NameText, Nothing, One, Several, only}
 use Rattle.tangle_names.proofs.ContainsLemmas.{here, there, no_item, cons_cases}
 
 pub list_all-from : {X : Type 0} (q : X → Bool) (xs : List X)
     → ((u : X) → Contains xs u → q u ≡ true) → list_all q xs ≡ true
-list_all-from q [] h = refl
-list_all-from q (x ∷ xs) h =
-    let first = h x (here x xs) in
-    let rest = list_all-from q xs (λ u c. h u (there x xs u c)) in
-    λ i. first i && rest i
+list_all-from q xs h = list_all-from_AllPass q xs (λ i d low. h (get_or xs i d) (Contains-get_or xs i d low))
 
 pub list_all-at : {X : Type 0} (q : X → Bool) (xs : List X) (u : X) → list_all q xs ≡ true → Contains xs u → q u ≡ true
-list_all-at q [] u h c = absurd (no_item u c)
-list_all-at q (x ∷ xs) u h c = elim (cons_cases x xs u c) [
-  | inl e ↦ subst (λ y. q y ≡ true) e (and_parts (q x) (list_all q xs) h).0
-  | inr d ↦ list_all-at q xs u (and_parts (q x) (list_all q xs) h).1 d
-]
+list_all-at q xs u h c = All-contains (λ v. q v ≡ true) xs u (AllPass-from_list_all q xs h) c
 
 pub only-nothing : (xs : List NameText) → ((t : NameText) → Contains xs t → ⊥) → Nothing ≡ only xs
 only-nothing [] h = refl
@@ -65,12 +60,23 @@ from-one (x ∷ xs) u e = by (list_all (bytes_eq x) xs) refl
 
 pub list_any-none : {X : Type 0} (q : X → Bool) (xs : List X)
     → ((v : X) → Contains xs v → q v ≡ false) → list_any q xs ≡ false
-list_any-none q [] h = refl
-list_any-none q (x ∷ xs) h =
-    let first = h x (here x xs) in
-    let rest = list_any-none q xs (λ v c. h v (there x xs v c)) in
-    λ i. first i || rest i
+list_any-none q xs h = list_any_none q xs (λ i d low. h (get_or xs i d) (Contains-get_or xs i d low))
 
 pub list_any-some : {X : Type 0} (q : X → Bool) (xs : List X) (v : X)
     → Contains xs v → q v ≡ true → list_any q xs ≡ true
 list_any-some q xs v c is = list_any-from_Any q xs (c.0, v, c.1, c.2, is)
+
+pub contains-any : (t : NameText) (ts : List NameText) → list_any (bytes_eq t) ts ≡ true → Contains ts t
+contains-any t ts h = Contains-from_any {eq = bytes_eq} (λ x y e. (bytes_eq-Decides x y).0 e) t ts h
+
+-- the first position of an item that passes
+pub none_passes : {X : Type 0} (q : X → Bool) (xs : List X) (x : X)
+    → length xs ≤ position_or_len q xs → Contains xs x → q x ≡ false
+none_passes q xs x past c = ap q (sym c.2) ∙ fails_before_first q xs c.0 x (omega (arith, past, c.1))
+
+pub first_inside : {X : Type 0} (q : X → Bool) (xs : List X) (x : X)
+    → Contains xs x → q x ≡ true → position_or_len q xs < length xs
+first_inside q xs x c is = elim (cases_lt (position_or_len q xs) (length xs)) [
+  | inl inside ↦ inside
+  | inr past ↦ absurd (let clash : true ≡ false = sym is ∙ none_passes q xs x past c in cc)
+]

@@ -1,12 +1,14 @@
 -- The name that is meant is among the names, and keeps its number.
-use Rattle.std.proofs.Common.{◌≡◌, ◌+◌, ◌∙◌, ◌||◌, ℕ, Bool, true, false, cond, not, List, [], ◌∷◌, ◌++◌, length, map}
-use Rattle.std.proofs.Common.{take, fold, get_or, refl, ap, sym, arith, inl, inr, ◌<◌, Contains}
+use Rattle.std.proofs.Common.{◌≡◌, ◌+◌, ◌∙◌, ◌||◌, ℕ, Bool, true, false, cond, List, [], ◌∷◌, ◌++◌, length, map}
+use Rattle.std.proofs.Common.{take, fold, get_or, eqb, refl, ap, sym, arith, inl, inr, ◌<◌, Contains}
 use Rattle.std.specs.List.{list_any, position_or_len}
 use Rattle.std.specs.Str.{bytes_eq}
 use Rattle.std.proofs.lemmas.Cmp.{nat_list_eq_equiv}
 use Rattle.std.proofs.lemmas.List.{map_push, take_more}
-use Rattle.std.proofs.lemmas.List.Folds.{list_any-append}
-use Rattle.std.proofs.lemmas.Bool.{or_left, or_parts}
+use Rattle.std.proofs.lemmas.Bool.Decides.{nat_tests}
+use Rattle.std.proofs.lemmas.List.Folds.{list_any-append, position_or_len_push}
+use Rattle.std.proofs.lemmas.List.Sums.{fold-append}
+use Rattle.std.proofs.lemmas.Bool.{or_left}
 use Rattle.tangle_names.specs.declared.Resolved.{Resolved}
 use Rattle.tangle_names.specs.declared.Resolved.TheVariants.{Name}
 use Rattle.tangle_names.specs.Names.{NameText, Meaning, Nothing, One, Several}
@@ -14,6 +16,7 @@ use Rattle.tangle_names.specs.Resolving.{names_of, resolved_meaning, with_name}
 use Rattle.tangle_names.specs.Sorted.{meaning_of}
 use Rattle.tangle_names.specs.declared.sorted.Meaning.{Meaning as Found}
 use Rattle.tangle_names.proofs.ContainsLemmas.{here, there, cons_cases}
+use Rattle.tangle_names.proofs.MeaningLemmas.{contains-any, first_inside}
 
 -- the name that is meant is among the names
 
@@ -57,24 +60,26 @@ meant-fold t (m ∷ ms) ts c = elim (cons_cases m ms (One t) c) [
 ]
 
 -- a name keeps its number when another name is added
-found-append : (q : NameText → Bool) (xs ys : List NameText)
-    → list_any q xs ≡ true → position_or_len q (xs ++ ys) ≡ position_or_len q xs
-found-append q [] ys h = absurd (cc)
-found-append q (x ∷ xs) ys h = by (q x) refl (found-append q xs ys)
-  where
-    by : (b : Bool) → q x ≡ b → (list_any q xs ≡ true → position_or_len q (xs ++ ys) ≡ position_or_len q xs)
-        → cond (not (q x)) (1 + position_or_len q (xs ++ ys)) 0 ≡ cond (not (q x)) (1 + position_or_len q xs) 0
-    by true is rest =
-        ap (λ b. cond (not b) (1 + position_or_len q (xs ++ ys)) 0) is
-        ∙ sym (ap (λ b. cond (not b) (1 + position_or_len q xs) 0) is)
-    by false is rest = ap (λ n. cond (not (q x)) (1 + n) 0) (rest (ap (λ b. b || list_any q xs) (sym is) ∙ h))
+kept_below : (n size other : ℕ) → n < size → cond (eqb n size) other n ≡ n
+kept_below n size other h = grind (arith, nat_tests)
 
-last-append : (q : NameText → Bool) (xs : List NameText) (y : NameText)
-    → q y ≡ true → list_any q xs ≡ false → position_or_len q (xs ++ y ∷ []) ≡ position_or_len q xs
-last-append q [] y is h = ap (λ b. cond (not b) (1 + 0) 0) is
-last-append q (x ∷ xs) y is h =
-    let both = or_parts (q x) (list_any q xs) h in
-    ap (λ n. cond (not (q x)) (1 + n) 0) (last-append q xs y is both.1)
+kept_at_end : (n size : ℕ) → cond (eqb n size) (size + 0) n ≡ n
+kept_at_end n size = grind (arith, nat_tests)
+
+found-append : (t u : NameText) (ts : List NameText) → list_any (bytes_eq t) ts ≡ true
+    → position_or_len (bytes_eq t) (ts ++ u ∷ []) ≡ position_or_len (bytes_eq t) ts
+found-append t u ts h =
+    position_or_len_push (bytes_eq t) ts u
+    ∙ kept_below (position_or_len (bytes_eq t) ts) (length ts) (length ts + cond (bytes_eq t u) 0 1)
+    (first_inside (bytes_eq t) ts t (contains-any t ts h) (nat_list_eq_equiv.refl t))
+
+last-append : (t : NameText) (ts : List NameText)
+    → position_or_len (bytes_eq t) (ts ++ t ∷ []) ≡ position_or_len (bytes_eq t) ts
+last-append t ts =
+    let n = position_or_len (bytes_eq t) ts in
+    position_or_len_push (bytes_eq t) ts t
+    ∙ ap (λ b. cond (eqb n (length ts)) (length ts + cond b 0 1) n) (nat_list_eq_equiv.refl t)
+    ∙ kept_at_end n (length ts)
 
 number-with : (ts : List NameText) (m : Meaning) (t : NameText)
     → list_any (bytes_eq t) ts ≡ true → position_or_len (bytes_eq t) (with_name ts m) ≡ position_or_len (bytes_eq t) ts
@@ -83,20 +88,16 @@ number-with ts (One u) t h = by (list_any (bytes_eq u) ts)
   where
     by : (b : Bool) → position_or_len (bytes_eq t) (cond b ts (ts ++ u ∷ [])) ≡ position_or_len (bytes_eq t) ts
     by true = refl
-    by false = found-append (bytes_eq t) ts (u ∷ []) h
+    by false = found-append t u ts h
 number-with ts Several t h = refl
 
 number-own : (ts : List NameText) (t : NameText)
     → position_or_len (bytes_eq t) (with_name ts (One t)) ≡ position_or_len (bytes_eq t) ts
-number-own ts t = by (list_any (bytes_eq t) ts) refl
+number-own ts t = by (list_any (bytes_eq t) ts)
   where
-    by : (b : Bool) → list_any (bytes_eq t) ts ≡ b
-        → position_or_len (bytes_eq t) (cond (list_any (bytes_eq t) ts) ts (ts ++ t ∷ []))
-        ≡ position_or_len (bytes_eq t) ts
-    by true is = ap (λ b. position_or_len (bytes_eq t) (cond b ts (ts ++ t ∷ []))) is
-    by false is =
-        ap (λ b. position_or_len (bytes_eq t) (cond b ts (ts ++ t ∷ []))) is
-        ∙ last-append (bytes_eq t) ts t (nat_list_eq_equiv.refl t) is
+    by : (b : Bool) → position_or_len (bytes_eq t) (cond b ts (ts ++ t ∷ [])) ≡ position_or_len (bytes_eq t) ts
+    by true = refl
+    by false = last-append t ts
 
 resolved_meaning-own : (ts : List NameText) (m : Meaning) → resolved_meaning (with_name ts m) m ≡ resolved_meaning ts m
 resolved_meaning-own ts Nothing = refl
@@ -117,11 +118,6 @@ map-agree f g (m ∷ ms) same =
     let rest = map-agree f g ms (λ n c. same n (there m ms n c)) in
     λ i. first i ∷ rest i
 
-fold-push : (ts : List NameText) (ms : List Meaning) (m : Meaning)
-    → fold with_name ts (ms ++ m ∷ []) ≡ with_name (fold with_name ts ms) m
-fold-push ts [] m = refl
-fold-push ts (n ∷ ms) m = fold-push (with_name ts n) ms m
-
 -- one more meaning
 pub names-more : (ms : List Found) (i : ℕ) (d : Found) → i < length ms
     → names_of (map meaning_of (take (i + 1) ms))
@@ -129,7 +125,7 @@ pub names-more : (ms : List Found) (i : ℕ) (d : Found) → i < length ms
 names-more ms i d h =
     ap (λ xs. names_of (map meaning_of xs)) (take_more ms i d h)
     ∙ ap names_of (map_push meaning_of (take i ms) (get_or ms i d))
-    ∙ fold-push [] (map meaning_of (take i ms)) (meaning_of (get_or ms i d))
+    ∙ fold-append with_name [] (map meaning_of (take i ms)) (meaning_of (get_or ms i d) ∷ [])
 
 pub resolved_meaning-more : (ms : List Found) (i : ℕ) (d : Found) → i < length ms
     → map (resolved_meaning (names_of (map meaning_of (take (i + 1) ms)))) (map meaning_of (take (i + 1) ms))

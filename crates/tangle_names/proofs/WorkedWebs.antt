@@ -24,17 +24,21 @@ web texts = web_of (record { files = (codes "a.w", texts) ∷ []; lines = number
 abbrev named : List (List ℕ) → TableRead × List FaultRead
 named texts = (table_of (web texts), name_faults (web texts))
 
+-- the table with this name, to which two occurrences resolve, and no fault
+abbrev one_name : List ℕ → TableRead × List FaultRead
+one_name name = (
+  record {
+    names = name ∷ [];
+    resolved = Name 0 ∷ Name 0 ∷ [];
+    first_occurrences = 0 ∷ [];
+    first_file_occurrences = None ∷ [];
+  },
+  [],
+)
+
 -- a name that is used before its definition
 used_and_defined : named (codes "@ A." ∷ codes "@c" ∷ codes "int x=@<v@>;" ∷ codes "@ @<v@>=" ∷ codes "1" ∷ [])
-    ≡ (
-      record {
-        names = codes "v" ∷ [];
-        resolved = Name 0 ∷ Name 0 ∷ [];
-        first_occurrences = 0 ∷ [];
-        first_file_occurrences = None ∷ [];
-      },
-      [],
-    )
+    ≡ one_name (codes "v")
 unfolding lexeme occurrences_from
 used_and_defined = refl
 
@@ -42,15 +46,7 @@ abbrev with_abbreviation : List (List ℕ)
 with_abbreviation = codes "@ A." ∷ codes "@c" ∷ codes "@<Ini...@>" ∷ codes "@ @<Initialize@>=" ∷ codes "x=0;" ∷ []
 
 -- an abbreviation before its full name
-abbreviated : named with_abbreviation ≡ (
-  record {
-    names = codes "Initialize" ∷ [];
-    resolved = Name 0 ∷ Name 0 ∷ [];
-    first_occurrences = 0 ∷ [];
-    first_file_occurrences = None ∷ [];
-  },
-  [],
-)
+abbreviated : named with_abbreviation ≡ one_name (codes "Initialize")
 unfolding lexeme occurrences_from
 abbreviated = refl
 
@@ -69,15 +65,7 @@ ambiguous = refl
 
 -- a name that is used twice
 used_twice : named (codes "@ A." ∷ codes "@c" ∷ codes "@<u@>@<u@>" ∷ [])
-    ≡ (
-      record {
-        names = codes "u" ∷ [];
-        resolved = Name 0 ∷ Name 0 ∷ [];
-        first_occurrences = 0 ∷ [];
-        first_file_occurrences = None ∷ [];
-      },
-      [],
-    )
+    ≡ one_name (codes "u")
 unfolding lexeme occurrences_from
 used_twice = refl
 

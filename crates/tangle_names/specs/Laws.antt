@@ -29,8 +29,7 @@ pub record BothBegin (full : List NameText) (p name other : NameText) : Type 0 w
 -- a full name resolves to the number of its own text
 abbrev pub ResolvesFull : List NameText → NameText → Resolved → Type 0
 ResolvesFull names text (Name id) = IsNumberOf names id text
-ResolvesFull names text NoFullName = ⊥
-ResolvesFull names text Ambiguous = ⊥
+ResolvesFull names text _ = ⊥
 
 -- an abbreviation with this prefix resolves to the number of the one full name that begins with it,
 -- if exactly one does

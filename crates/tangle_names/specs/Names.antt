@@ -42,6 +42,5 @@ meaning full o = if o.is_abbreviation then only_with full (prefix o.text) else O
 
 -- whether the meaning is this name
 abbrev pub means : NameText → Meaning → Bool
-means name Nothing = false
 means name (One t) = bytes_eq name t
-means name Several = false
+means name _ = false

@@ -6,12 +6,11 @@ use Rattle.std.specs.Prelude.{Some, None, option_to_list, Vec, if◌then◌else�
 use Rattle.std.specs.List.{enumerate_from, list_any, position_or_len}
 use Rattle.std.specs.Global.{Global}
 use Rattle.tangle_lexer.specs.declared.occurrences.OccurrenceRole.{OccurrenceRole}
-use Rattle.tangle_lexer.specs.declared.occurrences.OccurrenceRole.TheVariants.{Definition, Use}
-use Rattle.tangle_lexer.specs.declared.occurrences.OccurrenceRole.TheVariants.{Mention}
+use Rattle.tangle_lexer.specs.declared.occurrences.OccurrenceRole.TheVariants.{Use}
 use Rattle.tangle_names.specs.declared.first_numbers.Counted.{Counted}
 use Rattle.tangle_names.specs.declared.first_numbers.Counted.TheVariants.{All, Files, Uses}
 use Rattle.tangle_names.specs.declared.Resolved.{Resolved}
-use Rattle.tangle_names.specs.declared.Resolved.TheVariants.{Name, NoFullName, Ambiguous}
+use Rattle.tangle_names.specs.declared.Resolved.TheVariants.{Name, NoFullName}
 use Rattle.tangle_faults.specs.declared.faults.FaultKind.TheVariants as kind
 use Rattle.tangle_faults.specs.Faults.{fault_about, FaultRead}
 use Rattle.tangle_scan.specs.Web.{WebRead}
@@ -28,13 +27,11 @@ key_texts keys = map (λ (v : Vec ℕ Global). v.items) keys
 -- an occurrence with this resolution resolves to the name with this number
 abbrev pub is_number : ℕ → Resolved → Bool
 is_number id (Name n) = n == id
-is_number id NoFullName = false
-is_number id Ambiguous = false
+is_number id _ = false
 
 abbrev pub is_use : OccurrenceRole → Bool
 is_use Use = true
-is_use Definition = false
-is_use Mention = false
+is_use _ = false
 
 -- the occurrence is one of those that are counted
 abbrev pub is_counted : Counted → OccurrenceRead → Bool
@@ -72,8 +69,7 @@ numbers_from q k xs = map (λ e. e.0) (filter (λ e. q e.1) (enumerate_from k xs
 -- an occurrence with this resolution resolves to no name
 abbrev pub is_unresolved : Resolved → Bool
 is_unresolved (Name id) = false
-is_unresolved NoFullName = true
-is_unresolved Ambiguous = true
+is_unresolved _ = true
 
 -- the fault of the occurrence with this number, by its resolution
 abbrev pub fault_of_number : WebRead → List Resolved → ℕ → List FaultRead

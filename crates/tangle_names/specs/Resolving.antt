@@ -15,9 +15,8 @@ meanings os = map (meaning (full_names os)) os
 
 -- the names, and at the end the one that is meant, unless it is among them
 abbrev pub with_name : List NameText → Meaning → List NameText
-with_name names Nothing = names
 with_name names (One t) = if list_any (bytes_eq t) names then names else names ++ t ∷ []
-with_name names Several = names
+with_name names _ = names
 
 -- the names that are meant, each at the place where it is meant first
 abbrev pub names_of : List Meaning → List NameText

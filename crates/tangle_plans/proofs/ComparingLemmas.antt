@@ -1,117 +1,90 @@
 -- Lists are compared from the front.
-use Rattle.std.proofs.Common.{◌≡◌, ◌≢◌, ◌∙◌, ℕ, ◌+◌, ◌<◌, ◌≤◌, List, [], ◌∷◌, ◌++◌, length, map, drop, refl, ap, sym}
-use Rattle.std.proofs.Common.{append_assoc, append-nil, get_or, All, arith}
+use Rattle.std.proofs.Common.{◌≡◌, ◌∙◌, ℕ, ◌+◌, ◌<◌, Bool, true, false, List, [], ◌∷◌, ◌++◌, length, map, drop, ap, sym}
+use Rattle.std.proofs.Common.{append_assoc, append-nil, get_or}
+use Rattle.std.specs.Prelude.{flat_map}
 use Rattle.std.proofs.lemmas.Grind.{flat_map-append}
-use Rattle.std.proofs.lemmas.List.{append_cancel_left, map-append, drop_all, drop_more}
+use Rattle.std.proofs.lemmas.List.{append_cancel_left, map-append, drop_more}
 use Rattle.tangle_text.specs.declared.spans.Span.{Span}
 use Rattle.tangle_scan.specs.declared.items.Entry.{Entry}
 use Rattle.tangle_scan.specs.declared.items.Entry.TheVariants as entry
-use Rattle.tangle_scan.specs.Entries.{StoredPiece, entry_items, items_of, piece_read}
+use Rattle.tangle_scan.specs.Entries.{entry_items, items_of}
 use Rattle.tangle_scan.specs.ItemBytes.{bytes_in}
-use Rattle.tangle_scan.specs.SourceOrder.{IsInRange}
-use Rattle.tangle_scan.specs.Web.{PieceRead}
+use Rattle.tangle_scan.specs.Web.{WebRead, PieceRead}
 use Rattle.tangle_names.specs.NameTable.{TableRead}
-use Rattle.tangle_plans.specs.Tags.{piece_end, shape_tags, shape_bytes}
-use Rattle.tangle_plans.specs.ItemTags.{tag_in, uses_in, pieces_tags, pieces_bytes, pieces_uses, shape_of}
-use Rattle.tangle_plans.specs.ItemSlots.{pieces_at, no_piece}
+use Rattle.tangle_plans.specs.Tags.{piece_end}
+use Rattle.tangle_plans.specs.WebShapes.{name_at}
+use Rattle.tangle_plans.specs.ItemTags.{tag_in, uses_in, shape_of}
+use Rattle.tangle_plans.specs.ItemSlots.{pieces_at}
 use Rattle.tangle_plans.specs.NodeBodies.{HoldsShape, names_at, body_tags, body_bytes, body_uses}
 use Rattle.tangle_plans.specs.Comparing.{HasItemsOf}
-use Rattle.tangle_plans.specs.Fronts.{Lists, no_lists, followed_by, IsNotNext, run_lists, entry_lists, piece_lists}
+use Rattle.tangle_plans.specs.Entries.{AreEntriesAt}
+use Rattle.tangle_plans.specs.Fronts.{Lists, Passes, no_lists, followed_by, run_lists, entry_lists, piece_lists}
 use Rattle.tangle_plans.specs.Fronts.{pieces_lists}
-use Rattle.tangle_plans.specs.UnfoldedTags.{unfolded_tags}
-use Rattle.tangle_plans.specs.declared.tags.ItemTag.{ItemTag}
 use Rattle.tangle_plans.specs.declared.nodes.NodeBody.{NodeBody}
-use Rattle.tangle_scan.proofs.lemmas.StoredPieces.{pieces-count, piece-at}
 use Rattle.tangle_plans.proofs.DropLemmas.{drop_at}
 use Rattle.tangle_plans.proofs.HeldLemmas.{tags_held, bytes_held, names_held}
 use Rattle.tangle_plans.proofs.RunLemmas.{run_bytes}
 use Rattle.tangle_plans.proofs.RunItems.{run_items_tags, run_items_uses}
 
-pub lists_same : (a b : Lists) → a.tags ≡ b.tags → a.bytes ≡ b.bytes → a.uses ≡ b.uses → a ≡ b
-lists_same a b tags bytes uses =
-    ap (λ l. record { tags = l; bytes = a.bytes; uses = a.uses }) tags
-    ∙ ap (λ l. record { tags = b.tags; bytes = l; uses = a.uses }) bytes
-    ∙ ap (λ l. record { tags = b.tags; bytes = b.bytes; uses = l }) uses
-
 cancel : (front a b : Lists) → followed_by front a ≡ followed_by front b → a ≡ b
-cancel front a b e =
-    lists_same a b
-    (append_cancel_left front.tags a.tags b.tags (ap (λ (m : Lists). m.tags) e))
-    (append_cancel_left front.bytes a.bytes b.bytes (ap (λ (m : Lists). m.bytes) e))
-    (append_cancel_left front.uses a.uses b.uses (ap (λ (m : Lists). m.uses) e))
+cancel front a b e = λ i. record {
+  tags = append_cancel_left front.tags a.tags b.tags (ap (λ (m : Lists). m.tags) e) i;
+  bytes = append_cancel_left front.bytes a.bytes b.bytes (ap (λ (m : Lists). m.bytes) e) i;
+  uses = append_cancel_left front.uses a.uses b.uses (ap (λ (m : Lists). m.uses) e) i;
+}
 
 followed_by-assoc : (a b c : Lists) → followed_by (followed_by a b) c ≡ followed_by a (followed_by b c)
-followed_by-assoc a b c =
-    lists_same (followed_by (followed_by a b) c) (followed_by a (followed_by b c))
-    (append_assoc a.tags b.tags c.tags) (append_assoc a.bytes b.bytes c.bytes) (append_assoc a.uses b.uses c.uses)
+followed_by-assoc a b c = λ i. record {
+  tags = append_assoc a.tags b.tags c.tags i;
+  bytes = append_assoc a.bytes b.bytes c.bytes i;
+  uses = append_assoc a.uses b.uses c.uses i;
+}
 
--- one step after another
+followed_by-nothing : (a : Lists) → followed_by a no_lists ≡ a
+followed_by-nothing a = λ i.
+    record { tags = append-nil a.tags i; bytes = append-nil a.bytes i; uses = append-nil a.uses i }
 
--- all lists begin with the front exactly if those that remain begin with the others, and then the
--- same is left
-abbrev pub GoesOnAs : Lists → Lists → Lists → Lists → Type 0
-GoesOnAs all front here others =
-    (left : Lists)
-    → (all ≡ followed_by front left → here ≡ followed_by others left)
-    × (here ≡ followed_by others left → all ≡ followed_by front left)
+-- first lists, and then others
 
-pub passed_on : (all front here others first next after : Lists) → GoesOnAs all front here others
-    → others ≡ followed_by first after → here ≡ followed_by first next → GoesOnAs all front next after
-passed_on all front here others first next after goes is passed = λ left.
-    let same : followed_by others left ≡ followed_by first (followed_by after left)
-    = ap (λ m. followed_by m left) is ∙ followed_by-assoc first after left in (
-      (λ e. cancel first next (followed_by after left) (sym passed ∙ (goes left).0 e ∙ same)),
-      λ e. (goes left).1 (passed ∙ ap (followed_by first) e ∙ sym same),
-    )
+pub passes_on : {first after others here next new : Lists} {t r : Bool} → others ≡ followed_by first after
+    → Passes first here next t → t ≡ true → Passes after next new r → Passes others here new r
+passes_on {first} {after} {others} {here} {next} {new} is came passed rest =
+    let all = came.same passed in
+    rw is (record {
+      same = λ e. all ∙ ap (followed_by first) (rest.same e) ∙ sym (followed_by-assoc first after new);
+      other = λ e more equal. rest.other e more (cancel first next (followed_by after more)
+          (sym all ∙ equal ∙ followed_by-assoc first after more));
+    })
 
-pub other_next : (all front here others first after : Lists) → GoesOnAs all front here others
-    → others ≡ followed_by first after → IsNotNext first here → IsNotNext front all
-other_next all front here others first after goes is other = λ left e.
-    other (followed_by after left)
-    ((goes left).0 e ∙ ap (λ m. followed_by m left) is ∙ followed_by-assoc first after left)
+pub stops : {first others here next : Lists} {t : Bool} (after new : Lists) → others ≡ followed_by first after
+    → Passes first here next t → t ≡ false → Passes others here new false
+stops {first} after new is came failed =
+    rw is (record {
+      same = λ e. absurd (cc);
+      other = λ _ more equal. came.other failed (followed_by after more) (equal ∙ followed_by-assoc first after more);
+    })
 
-pub all_passed : (all front here others next : Lists)
-    → GoesOnAs all front here others → here ≡ followed_by others next → all ≡ followed_by front next
-all_passed all front here others next goes passed = (goes next).1 passed
+-- whether nothing is left after the lists
+pub nothing_left : {front here rest : Lists} {t r : Bool} → Passes front here rest t → t ≡ true
+    → (r ≡ true → rest ≡ no_lists) × (rest ≡ no_lists → r ≡ true) → (r ≡ true → here ≡ front) × (here ≡ front → r ≡ true)
+nothing_left {front} {here} {rest} came passed nothing = (
+  λ e. came.same passed ∙ ap (followed_by front) (nothing.0 e) ∙ followed_by-nothing front,
+  λ e. nothing.1 (cancel front rest no_lists (sym (came.same passed) ∙ e ∙ sym (followed_by-nothing front))),
+)
 
-pub all_other : (all front here others : Lists)
-    → GoesOnAs all front here others → IsNotNext others here → IsNotNext front all
-all_other all front here others goes other = λ left e. other left ((goes left).0 e)
-
--- the lists are those of an equal front
-pub front_passed : (front others old new : Lists)
-    → front ≡ others → old ≡ followed_by others new → old ≡ followed_by front new
-front_passed front others old new same passed = passed ∙ ap (λ f. followed_by f new) (sym same)
-
-pub front_other : (front others old : Lists) → front ≡ others → IsNotNext others old → IsNotNext front old
-front_other front others old same other = λ more e. other more (e ∙ ap (λ f. followed_by f more) same)
-
--- tags that differ
-
-pub other_tags : (front old : Lists) → ((more : List ItemTag) → old.tags ≢ front.tags ++ more) → IsNotNext front old
-other_tags front old other = λ more e. other more.tags (ap (λ (m : Lists). m.tags) e)
+pub not_passed : {front here rest : Lists} {t : Bool} → Passes front here rest t → t ≡ false
+    → (false ≡ true → here ≡ front) × (here ≡ front → false ≡ true)
+not_passed {front} came failed =
+    (λ e. absurd (cc), λ e. absurd (came.other failed no_lists (e ∙ sym (followed_by-nothing front))))
 
 -- the lists of a body
-
 abbrev pub body_lists : NodeBody → Lists
 body_lists body = record { tags = body_tags body; bytes = body_bytes body; uses = body_uses body }
 
-pub body_made : (body : NodeBody) (first : Lists) (tags : List ItemTag) (bytes : List ℕ)
-    → tags ≡ body.tags.items → bytes ≡ body.bytes.items
-    → first.tags ≡ unfolded_tags tags bytes → first.bytes ≡ bytes → first.uses ≡ body.uses.items
-    → first ≡ body_lists body
-body_made body first tags bytes same_tags same_bytes is_tags is_bytes is_uses =
-    lists_same first (body_lists body)
-    (is_tags ∙ ap (λ l. unfolded_tags l bytes) same_tags ∙ ap (unfolded_tags body.tags.items) same_bytes)
-    (is_bytes ∙ same_bytes) is_uses
-
 module _ (texts : List (List ℕ)) (table : TableRead) where
-  -- the lists of an entry
-
   pub entry_is_run : (s : Span) → entry_lists texts table (entry.Run s) ≡ run_lists texts s
-  entry_is_run s =
-      lists_same (entry_lists texts table (entry.Run s)) (run_lists texts s)
-      (run_items_tags table texts s) (run_bytes texts s) (run_items_uses table texts s)
+  entry_is_run s = λ i.
+      record { tags = run_items_tags table texts s i; bytes = run_bytes texts s i; uses = run_items_uses table texts s i }
 
   -- the entries of a piece, one by one
   pub entries_on : (entries : List Entry) (i : ℕ) (e : Entry) → i < length entries → e ≡ get_or entries i e
@@ -121,90 +94,25 @@ module _ (texts : List (List ℕ)) (table : TableRead) where
       let own = entry_items texts e in
       let rest = items_of texts (drop (i + 1) entries) in
       ap (λ l. piece_lists texts table (items_of texts l)) (drop_at entries i e h is)
-      ∙ lists_same (piece_lists texts table (own ++ rest))
-      (followed_by (entry_lists texts table e) (piece_lists texts table rest))
-      (ap (λ l. l ++ piece_end ∷ []) (map-append (tag_in table) own rest)
-      ∙ append_assoc (map (tag_in table) own) (map (tag_in table) rest) (piece_end ∷ []))
-      (flat_map-append (bytes_in texts) own rest) (flat_map-append (uses_in table) own rest)
+      ∙ (λ i. record {
+        tags = (ap (λ l. l ++ piece_end ∷ []) (map-append (tag_in table) own rest)
+            ∙ append_assoc (map (tag_in table) own) (map (tag_in table) rest) (piece_end ∷ [])) i;
+        bytes = flat_map-append (bytes_in texts) own rest i;
+        uses = flat_map-append (uses_in table) own rest i;
+      })
 
-  pub entries_over : (entries : List Entry) (i : ℕ) → length entries ≤ i
-      → piece_lists texts table (items_of texts (drop i entries)) ≡ piece_lists texts table []
-  entries_over entries i h = ap (λ l. piece_lists texts table (items_of texts l)) (drop_all i entries h)
-
-  -- the lists of pieces, by their items
-  abbrev pub read_lists : List PieceRead → Lists
-  read_lists pieces = record {
-    tags = pieces_tags table pieces;
-    bytes = pieces_bytes texts pieces;
-    uses = pieces_uses table pieces;
-  }
-
-  pub shape_lists : (pieces : List PieceRead) → All (λ (q : PieceRead). All (IsInRange texts) q.items) pieces
-      → pieces_lists texts table pieces ≡ read_lists pieces
-  shape_lists pieces spans =
-      lists_same (pieces_lists texts table pieces) (read_lists pieces)
-      (sym (tags_held texts table pieces spans)) (sym (bytes_held texts table pieces)) refl
-
-  -- the pieces, one by one
-
-  pub number_inside : (stored : List StoredPiece) (pieces : List PieceRead) (numbers : List ℕ) (i : ℕ)
-      → map (piece_read texts) stored ≡ pieces → All (λ n. n < length pieces) numbers
-      → i < length numbers → get_or numbers i 0 < length stored
-  number_inside stored pieces numbers i same inside h =
-      omega (arith, inside i 0 h, pieces-count texts stored pieces same)
-
-  pub pieces_on : (stored : List StoredPiece) (pieces : List PieceRead) (numbers : List ℕ)
-      (i : ℕ) (p : StoredPiece) (entries : List Entry)
-      → map (piece_read texts) stored ≡ pieces → All (λ n. n < length pieces) numbers
-      → i < length numbers → p ≡ get_or stored (get_or numbers i 0) p → entries ≡ p.entries
-      → read_lists (pieces_at pieces (drop i numbers))
-      ≡ followed_by (piece_lists texts table (items_of texts entries))
-      (read_lists (pieces_at pieces (drop (i + 1) numbers)))
-  pieces_on stored pieces numbers i p entries same inside h at own =
-      let read = piece_read texts in
-      let n = get_or numbers i 0 in
-      let rest = drop (i + 1) numbers in
-      let found : get_or pieces n no_piece ≡ read p
-      = piece-at texts stored pieces same n p no_piece (number_inside stored pieces numbers i same inside h) at in
-      let others = pieces_at pieces rest in
-      ap (λ l. read_lists (pieces_at pieces l)) (drop_more numbers i 0 h)
-      ∙ ap (λ q. read_lists (q ∷ others)) found
-      ∙ ap (λ l. followed_by (piece_lists texts table (items_of texts l)) (read_lists others)) (sym own)
-
-  pub pieces_over : (pieces : List PieceRead) (numbers : List ℕ) (i : ℕ)
-      → length numbers ≤ i → read_lists (pieces_at pieces (drop i numbers)) ≡ no_lists
-  pieces_over pieces numbers i h = ap (λ l. read_lists (pieces_at pieces l)) (drop_all i numbers h)
-
-  -- nothing remains after the pieces
-
-  has_items : (pieces : List PieceRead) (body : NodeBody)
-      → body_lists body ≡ followed_by (pieces_lists texts table pieces) no_lists → HasItemsOf texts table pieces body
+  -- a body has the items of the pieces exactly if it has their lists
+  pub has_items : (pieces : List PieceRead) (body : NodeBody)
+      → body_lists body ≡ pieces_lists texts table pieces → HasItemsOf texts table pieces body
   has_items pieces body e = record {
-    tags = ap (λ (m : Lists). m.tags) e ∙ append-nil (shape_tags (shape_of texts table pieces));
-    bytes = ap (λ (m : Lists). m.bytes) e ∙ append-nil (shape_bytes (shape_of texts table pieces));
-    uses = ap (λ (m : Lists). m.uses) e ∙ append-nil (pieces_uses table pieces);
+    tags = ap (λ (m : Lists). m.tags) e;
+    bytes = ap (λ (m : Lists). m.bytes) e;
+    uses = ap (λ (m : Lists). m.uses) e;
   }
 
-  items_had : (pieces : List PieceRead) (body : NodeBody)
-      → HasItemsOf texts table pieces body → body_lists body ≡ followed_by (pieces_lists texts table pieces) no_lists
-  items_had pieces body h =
-      lists_same (body_lists body) (followed_by (pieces_lists texts table pieces) no_lists)
-      (h.tags ∙ sym (append-nil (shape_tags (shape_of texts table pieces))))
-      (h.bytes ∙ sym (append-nil (shape_bytes (shape_of texts table pieces))))
-      (h.uses ∙ sym (append-nil (pieces_uses table pieces)))
-
-  pub has_other : (pieces : List PieceRead) (body : NodeBody) (first : Lists) → first ≡ body_lists body
-      → IsNotNext (pieces_lists texts table pieces) first → HasItemsOf texts table pieces body → ⊥
-  has_other pieces body first same other h = other no_lists (same ∙ items_had pieces body h)
-
-  -- whether it has them, where they were passed and something or nothing remains
-  pub has_passed : (pieces : List PieceRead) (body : NodeBody) (first rest : Lists)
-      → first ≡ body_lists body → first ≡ followed_by (pieces_lists texts table pieces) rest
-      → (rest ≡ no_lists → HasItemsOf texts table pieces body) × (HasItemsOf texts table pieces body → rest ≡ no_lists)
-  has_passed pieces body first rest same passed = (
-    (λ e. has_items pieces body (sym same ∙ passed ∙ ap (followed_by (pieces_lists texts table pieces)) e)),
-    λ h. cancel (pieces_lists texts table pieces) rest no_lists (sym passed ∙ same ∙ items_had pieces body h),
-  )
+  pub items_had : (pieces : List PieceRead) (body : NodeBody)
+      → HasItemsOf texts table pieces body → body_lists body ≡ pieces_lists texts table pieces
+  items_had pieces body h = λ i. record { tags = h.tags i; bytes = h.bytes i; uses = h.uses i }
 
   pub shape_had : (pieces : List PieceRead) (body : NodeBody)
       → HasItemsOf texts table pieces body → HoldsShape table.names (shape_of texts table pieces) body
@@ -213,3 +121,19 @@ module _ (texts : List (List ℕ)) (table : TableRead) where
     bytes = h.bytes;
     names_used = ap (names_at table.names) h.uses ∙ names_held texts table pieces;
   }
+
+-- the pieces, one by one
+pub pieces_on : (web : WebRead) (table : TableRead) (numbers : List ℕ) (i : ℕ) (entries : List Entry)
+    → i < length numbers → AreEntriesAt web (get_or numbers i 0) entries
+    → pieces_lists web.texts table (pieces_at web.pieces (drop i numbers))
+    ≡ followed_by (piece_lists web.texts table (items_of web.texts entries))
+    (pieces_lists web.texts table (pieces_at web.pieces (drop (i + 1) numbers)))
+pieces_on web table numbers i entries h at =
+    let items = items_of web.texts entries in
+    rw (drop_more numbers i 0 h, ← at.items) (sym (λ j. followed_by
+    (record {
+      tags = tags_held (name_at table) web.texts table items at.spans j ++ piece_end ∷ [];
+      bytes = bytes_held (name_at table) web.texts table items j;
+      uses = flat_map (uses_in table) items;
+    })
+    (pieces_lists web.texts table (pieces_at web.pieces (drop (i + 1) numbers)))))

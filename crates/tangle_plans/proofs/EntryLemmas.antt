@@ -3,7 +3,7 @@ use Rattle.std.proofs.Common.{◌≡◌, ◌∙◌, ℕ, ◌<◌, zero, suc, Boo
 use Rattle.std.proofs.Common.{ap, sym, subst, append_assoc, append-nil, arith, get_or, All}
 use Rattle.std.specs.Prelude.{flat_map}
 use Rattle.std.proofs.lemmas.List.Elements.{All-nil, All-cons, All-head, All-tail}
-use Rattle.std.proofs.lemmas.List.{map-append, get_or-map}
+use Rattle.std.proofs.lemmas.List.{map-append}
 use Rattle.std.proofs.Math.Seq.{take-append_seam, drop-append_seam}
 use Rattle.tangle_scan.specs.declared.items.Item.{Item}
 use Rattle.tangle_scan.specs.declared.items.Item.TheVariants as item
@@ -15,20 +15,20 @@ use Rattle.tangle_scan.specs.SourceOrder.{IsInRange}
 use Rattle.tangle_scan.specs.WellFormed.{IsUseBelow, IsWellFormed}
 use Rattle.tangle_scan.specs.Web.{PieceRead, WebRead}
 use Rattle.tangle_names.specs.declared.Resolved.{Resolved}
-use Rattle.tangle_names.specs.declared.Resolved.TheVariants.{Name, NoFullName, Ambiguous}
+use Rattle.tangle_names.specs.declared.Resolved.TheVariants.{Name}
 use Rattle.tangle_names.specs.NameTable.{TableRead}
 use Rattle.tangle_plans.specs.Shapes.{Title}
-use Rattle.tangle_plans.specs.Tags.{piece_end}
-use Rattle.tangle_plans.specs.WebShapes.{resolved_at}
-use Rattle.tangle_plans.specs.ItemTags.{use_tag, tag_in, uses_in, pieces_tags, pieces_bytes, pieces_uses}
-use Rattle.tangle_plans.specs.ItemSlots.{items_slots, pieces_at}
-use Rattle.tangle_plans.specs.Entries.{IsEntryOf, entry_tag, entry_uses, entry_bytes, marks_after_entry, entry_slots}
-use Rattle.tangle_plans.specs.Entries.{no_stored_piece, stored_at, stored_tags, stored_bytes, stored_uses}
-use Rattle.tangle_plans.specs.UnfoldedTags.{kind_tags, unfolded_tags}
+use Rattle.tangle_plans.specs.Tags.{item_tag, piece_end}
+use Rattle.tangle_plans.specs.WebShapes.{name_at, resolved_at, shape_item}
+use Rattle.tangle_plans.specs.ItemTags.{use_tag, tag_in, uses_in}
+use Rattle.tangle_plans.specs.ItemSlots.{items_slots, no_piece}
+use Rattle.tangle_plans.specs.Entries.{IsEntryOf, AreEntriesAt, entry_tag, entries_tags, entry_uses, entry_bytes}
+use Rattle.tangle_plans.specs.Entries.{marks_after_entry, entry_slots}
+use Rattle.tangle_plans.specs.UnfoldedTags.{StandFor, kind_tags, unfolded_tags}
 use Rattle.tangle_plans.specs.declared.tags.ItemTag.{ItemTag}
-use Rattle.tangle_scan.proofs.lemmas.StoredPieces.{pieces-count}
-use Rattle.tangle_plans.proofs.EachLemmas.{each_made, each_of_lists}
-use Rattle.tangle_plans.proofs.HeldLemmas.{span_length}
+use Rattle.tangle_scan.proofs.lemmas.StoredPieces.{pieces-count, piece-at}
+use Rattle.tangle_plans.proofs.EachLemmas.{each_of_lists}
+use Rattle.tangle_plans.proofs.HeldLemmas.{span_length, tags_held}
 use Rattle.tangle_plans.proofs.RunItems.{run_items_tags, run_items_uses}
 use Rattle.tangle_plans.proofs.RunLemmas.{run_bytes}
 use Rattle.tangle_plans.proofs.RunSlots.{run_slots}
@@ -71,8 +71,7 @@ entry_slots_are texts table has_piece node piece marks (entry.Run s) rest =
 module _ (texts : List (List ℕ)) (table : TableRead) where
   use_sized : (r : Resolved) → (use_tag r).size ≡ 0
   use_sized (Name id) = refl
-  use_sized NoFullName = refl
-  use_sized Ambiguous = refl
+  use_sized _ = refl
 
   -- the tag of an entry has the number of its bytes
   pub entry_sized : (e : Entry) → IsEntryOf texts table e → (entry_tag table e).size ≡ length (entry_bytes texts e)
@@ -86,8 +85,7 @@ module _ (texts : List (List ℕ)) (table : TableRead) where
 
   use_tagged : (r : Resolved) (bytes : List ℕ) → kind_tags (use_tag r).kind (use_tag r) bytes ≡ use_tag r ∷ []
   use_tagged (Name id) bytes = refl
-  use_tagged NoFullName bytes = refl
-  use_tagged Ambiguous bytes = refl
+  use_tagged _ bytes = refl
 
   -- the tag of an entry, with its bytes, stands for the tags of its items
   pub entry_tagged : (e : Entry)
@@ -102,75 +100,45 @@ module _ (texts : List (List ℕ)) (table : TableRead) where
       → unfolded_tags (t ∷ tags) (front ++ bytes) ≡ kind_tags t.kind t front ++ unfolded_tags tags bytes
   unfolded-cons t tags front bytes e =
       ap (λ n. kind_tags t.kind t (take n (front ++ bytes)) ++ unfolded_tags tags (drop n (front ++ bytes))) e
-      ∙ ap (λ l. kind_tags t.kind t l ++ unfolded_tags tags (drop (length front) (front ++ bytes)))
-      (take-append_seam front bytes)
-      ∙ ap (λ l. kind_tags t.kind t front ++ unfolded_tags tags l) (drop-append_seam front bytes)
+      ∙ (λ i. kind_tags t.kind t (take-append_seam front bytes i) ++ unfolded_tags tags (drop-append_seam front bytes i))
 
-  pub entries_unfold : (entries : List Entry) (tags : List ItemTag) (bytes : List ℕ)
-      → All (IsEntryOf texts table) entries
-      → unfolded_tags (map (entry_tag table) entries ++ tags) (flat_map (entry_bytes texts) entries ++ bytes)
-      ≡ map (tag_in table) (items_of texts entries) ++ unfolded_tags tags bytes
-  entries_unfold [] tags bytes h = refl
-  entries_unfold (e ∷ entries) tags bytes h =
-      let more = flat_map (entry_bytes texts) entries in
-      let left = map (entry_tag table) entries ++ tags in
-      ap (unfolded_tags (entry_tag table e ∷ left)) (append_assoc (entry_bytes texts e) more bytes)
-      ∙ unfolded-cons (entry_tag table e) left (entry_bytes texts e) (more ++ bytes)
-      (entry_sized e (h zero e (omega arith)))
-      ∙ ap (λ l. l ++ unfolded_tags left (more ++ bytes)) (entry_tagged e)
-      ∙ ap (λ l. map (tag_in table) (entry_items texts e) ++ l)
-      (entries_unfold entries tags bytes (λ i d low. h (suc i) d (omega (arith, low))))
-      ∙ sym (append_assoc (map (tag_in table) (entry_items texts e)) (map (tag_in table) (items_of texts entries))
-      (unfolded_tags tags bytes))
-      ∙ ap (λ l. l ++ unfolded_tags tags bytes)
-      (sym (map-append (tag_in table) (entry_items texts e) (items_of texts entries)))
+  -- the tags of entries, with their bytes, stand for the tags of their items
+  pub entries_unfold : (entries : List Entry) → All (IsEntryOf texts table) entries
+      → StandFor (map (entry_tag table) entries)
+      (flat_map (entry_bytes texts) entries) (map (tag_in table) (items_of texts entries))
+  entries_unfold [] h = λ more rest. refl
+  entries_unfold (e ∷ entries) h = λ more rest.
+      let tags = map (entry_tag table) entries ++ more in
+      let bytes = flat_map (entry_bytes texts) entries ++ rest in
+      ap (unfolded_tags (entry_tag table e ∷ tags)) (append_assoc (entry_bytes texts e) _ rest)
+      ∙ unfolded-cons (entry_tag table e) tags (entry_bytes texts e) bytes
+      (entry_sized e (All-head (IsEntryOf texts table) e entries h))
+      ∙ (λ i. entry_tagged e i ++ entries_unfold entries (All-tail (IsEntryOf texts table) e entries h) more rest i)
+      ∙ sym (ap (λ l. l ++ unfolded_tags more rest)
+      (map-append (tag_in table) (entry_items texts e) (items_of texts entries))
+      ∙ append_assoc (map (tag_in table) (entry_items texts e)) _ (unfolded_tags more rest))
 
-  -- the tags of stored pieces, with their bytes, stand for the tags of their items
-  pub pieces_unfold : (pieces : List StoredPiece)
-      → All (λ (p : StoredPiece). All (IsEntryOf texts table) p.entries) pieces
-      → unfolded_tags (stored_tags table pieces) (stored_bytes texts pieces)
-      ≡ pieces_tags table (map (piece_read texts) pieces)
-  pieces_unfold [] h = refl
-  pieces_unfold (p ∷ pieces) h =
-      let tags = stored_tags table pieces in
-      let bytes = stored_bytes texts pieces in
-      let items = map (tag_in table) (items_of texts p.entries) in
-      ap (λ l. unfolded_tags l (flat_map (entry_bytes texts) p.entries ++ bytes))
-      (append_assoc (map (entry_tag table) p.entries) (piece_end ∷ []) tags)
-      ∙ entries_unfold p.entries (piece_end ∷ tags) bytes (h zero p (omega arith))
-      ∙ ap (λ l. items ++ piece_end ∷ l)
-      (pieces_unfold pieces (λ i d low. h (suc i) d (omega (arith, low))))
-      ∙ sym (append_assoc items (piece_end ∷ []) (pieces_tags table (map (piece_read texts) pieces)))
-
--- pieces
-
-pub pieces_bytes_are : (texts : List (List ℕ)) (pieces : List StoredPiece)
-    → stored_bytes texts pieces ≡ pieces_bytes texts (map (piece_read texts) pieces)
-pieces_bytes_are texts pieces =
-    each_made (λ (p : StoredPiece). flat_map (entry_bytes texts) p.entries)
-    (λ (p : PieceRead). flat_map (bytes_in texts) p.items) (piece_read texts)
-    (λ p. sym (entries_bytes texts p.entries)) pieces
-
-pub pieces_uses_are : (texts : List (List ℕ)) (table : TableRead) (pieces : List StoredPiece)
-    → stored_uses table pieces ≡ pieces_uses table (map (piece_read texts) pieces)
-pieces_uses_are texts table pieces =
-    each_made (λ (p : StoredPiece). flat_map (entry_uses table) p.entries)
-    (λ (p : PieceRead). flat_map (uses_in table) p.items) (piece_read texts)
-    (λ p. sym (entries_uses texts table p.entries)) pieces
-
--- the stored pieces with these numbers are the pieces of the web with these numbers
-pub stored_read : (texts : List (List ℕ)) (stored : List StoredPiece) (pieces : List PieceRead) (numbers : List ℕ)
-    → map (piece_read texts) stored ≡ pieces → All (λ n. n < length pieces) numbers
-    → map (piece_read texts) (stored_at stored numbers) ≡ pieces_at pieces numbers
-stored_read texts stored pieces [] same low = refl
-stored_read texts stored pieces (n ∷ numbers) same low =
-    let within : n < length stored
-    = omega (arith, low zero 0 (omega arith), pieces-count texts stored pieces same) in
-    ap (λ p. p ∷ map (piece_read texts) (stored_at stored numbers))
-    (sym (get_or-map (piece_read texts) stored n no_stored_piece (piece_read texts no_stored_piece) within)
-    ∙ ap (λ l. get_or l n (piece_read texts no_stored_piece)) same)
-    ∙ ap (λ l. get_or pieces n (piece_read texts no_stored_piece) ∷ l)
-    (stored_read texts stored pieces numbers same (λ i d lower. low (suc i) d (omega (arith, lower))))
+  -- those of a piece with these entries, after other tags
+  pub piece_unfolds : (entries : List Entry) (tags before : List ItemTag) (bytes : List ℕ)
+      → All (IsEntryOf texts table) entries → All (IsInRange texts) (items_of texts entries)
+      → StandFor tags bytes before
+      → StandFor (tags ++ entries_tags table entries) (bytes ++ flat_map (bytes_in texts) (items_of texts entries))
+      (before ++ (map item_tag (map (shape_item texts table) (items_of texts entries)) ++ piece_end ∷ []))
+  piece_unfolds entries tags before bytes own spans h = λ more rest.
+      let items = items_of texts entries in
+      let all = map (entry_tag table) entries ++ piece_end ∷ more in
+      let written = flat_map (entry_bytes texts) entries ++ rest in
+      let held = sym (tags_held (name_at table) texts table items spans) in
+      (λ i. unfolded_tags
+      ((append_assoc tags (entries_tags table entries) more
+      ∙ ap (λ l. tags ++ l) (append_assoc (map (entry_tag table) entries) (piece_end ∷ []) more)) i)
+      ((append_assoc bytes (flat_map (bytes_in texts) items) rest
+      ∙ ap (λ l. bytes ++ (l ++ rest)) (entries_bytes texts entries)) i))
+      ∙ h all written
+      ∙ ap (λ l. before ++ l) (entries_unfold entries own (piece_end ∷ more) rest)
+      ∙ sym (append_assoc before _ (unfolded_tags more rest)
+      ∙ ap (λ l. before ++ l) (append_assoc _ (piece_end ∷ []) (unfolded_tags more rest)
+      ∙ ap (λ l. l ++ piece_end ∷ unfolded_tags more rest) held))
 
 -- what holds of each item holds of each entry
 
@@ -199,22 +167,22 @@ entries_are texts table (e ∷ entries) spans names runs =
     (All-after (IsUseBelow (length table.resolved)) (entry_items texts e) (items_of texts entries) names)
     (All-tail (IsEntryInRange texts) e entries runs))
 
--- the entries of a web's stored pieces are those of the web
-pub stored_are : (web : WebRead) (table : TableRead) (stored : List StoredPiece)
-    → IsWellFormed web → length table.resolved ≡ length web.occurrences
+-- the entries of a stored piece are those of the web's piece with this number
+pub stored_entries : (web : WebRead) (stored : List StoredPiece) (number : ℕ) (p : StoredPiece) (entries : List Entry)
     → map (piece_read web.texts) stored ≡ web.pieces
-    → All (λ (p : StoredPiece). All (IsEntryInRange web.texts) p.entries) stored
-    → All (λ (p : StoredPiece). All (IsEntryOf web.texts table) p.entries) stored
-stored_are web table stored formed ours same runs = λ i d low.
-    let p = get_or stored i d in
-    let q = piece_read web.texts d in
-    let within : i < length web.pieces
-    = omega (arith, low, pieces-count web.texts stored web.pieces same) in
-    let is : get_or web.pieces i q ≡ piece_read web.texts p
-    = ap (λ l. get_or l i q) (sym same) ∙ get_or-map (piece_read web.texts) stored i d q low in
-    entries_are web.texts table p.entries
-    (subst (λ (r : PieceRead). All (IsInRange web.texts) r.items) is (formed.spans.pieces i q within))
-    (subst (λ n. All (IsUseBelow n) (items_of web.texts p.entries)) (sym ours)
-    (subst (λ (r : PieceRead). All (IsUseBelow (length web.occurrences)) r.items) is
-    (formed.occurrences.uses i q within)))
-    (runs i d low)
+    → All (λ (p : StoredPiece). All (IsEntryInRange web.texts) p.entries) stored → IsWellFormed web
+    → number < length web.pieces → p ≡ get_or stored number p → entries ≡ p.entries → AreEntriesAt web number entries
+stored_entries web stored number p entries same runs formed low at read =
+    let within : number < length stored = omega (arith, low, pieces-count web.texts stored web.pieces same) in
+    let is = piece-at web.texts stored web.pieces same number p no_piece within at in
+    let spans = subst (λ (q : PieceRead). All (IsInRange web.texts) q.items) is
+    (formed.spans.pieces number no_piece low) in
+    let uses = subst (λ (q : PieceRead). All (IsUseBelow (length web.occurrences)) q.items) is
+    (formed.occurrences.uses number no_piece low) in
+    let run = subst (λ (q : StoredPiece). All (IsEntryInRange web.texts) q.entries) (sym at) (runs number p within) in
+    rw read (record {
+      items = ap (λ (q : PieceRead). q.items) (sym is);
+      spans = spans;
+      own = λ table ours. entries_are web.texts table p.entries spans
+          (subst (λ n. All (IsUseBelow n) (items_of web.texts p.entries)) (sym ours) uses) run;
+    })

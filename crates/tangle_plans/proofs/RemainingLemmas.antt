@@ -32,10 +32,7 @@ no_tag_is bytes run n low same found = omega (arith, no_part (take n bytes) foun
 
 pub none_left : (tags : List ItemTag) (bytes : List ℕ) (run : ℕ)
     → run ≡ 0 → tags ≡ [] → (remaining tags bytes run).tags ≡ []
-none_left tags bytes run zero none =
-    ap (λ n. run_tags (take n bytes) ++ unfolded_tags tags (drop n bytes)) zero
-    ∙ ap (λ ts. run_tags [] ++ unfolded_tags ts bytes) none
-    ∙ ap (λ ts. ts ++ []) no_run_tags
+none_left tags bytes run zero none = rw (zero, none, no_run_tags) refl
 
 -- a tag that begins, where no run was begun
 
@@ -46,36 +43,25 @@ kind_other _ t bytes other = refl
 first_left : (tags ts : List ItemTag) (t : ItemTag) (bytes : List ℕ) (run : ℕ) → run ≡ 0 → tags ≡ t ∷ ts
     → (remaining tags bytes run).tags
     ≡ kind_tags t.kind t (take t.size bytes) ++ unfolded_tags ts (drop t.size bytes)
-first_left tags ts t bytes run zero is =
-    ap (λ n. run_tags (take n bytes) ++ unfolded_tags tags (drop n bytes)) zero
-    ∙ ap (λ l. run_tags [] ++ unfolded_tags l bytes) is
-    ∙ ap (λ l. l ++ (kind_tags t.kind t (take t.size bytes) ++ unfolded_tags ts (drop t.size bytes))) no_run_tags
+first_left tags ts t bytes run zero is = rw (zero, is, no_run_tags) refl
 
 pub other_left : (tags ts : List ItemTag) (t : ItemTag) (bytes : List ℕ) (run : ℕ)
     → run ≡ 0 → tags ≡ t ∷ ts → (t.kind ≡ tag.Run → ⊥)
     → (remaining tags bytes run).tags ≡ t ∷ (remaining ts (drop t.size bytes) run).tags
 other_left tags ts t bytes run zero is other =
-    first_left tags ts t bytes run zero is
-    ∙ ap (λ l. l ++ unfolded_tags ts (drop t.size bytes)) (kind_other t.kind t (take t.size bytes) other)
-    ∙ ap (λ l. t ∷ (l ++ unfolded_tags ts (drop t.size bytes))) (sym no_run_tags)
-    ∙ ap (λ n. t ∷ (run_tags (take n (drop t.size bytes)) ++ unfolded_tags ts (drop n (drop t.size bytes)))) (sym zero)
+    rw (first_left tags ts t bytes run zero is, kind_other t.kind t (take t.size bytes) other, zero, no_run_tags) refl
 
 pub run_left : (tags ts : List ItemTag) (t : ItemTag) (bytes : List ℕ) (run : ℕ)
     → run ≡ 0 → tags ≡ t ∷ ts → t.kind ≡ tag.Run
     → (remaining tags bytes run).tags ≡ run_tags (take t.size bytes) ++ unfolded_tags ts (drop t.size bytes)
-run_left tags ts t bytes run zero is kind =
-    first_left tags ts t bytes run zero is
-    ∙ ap (λ k. kind_tags k t (take t.size bytes) ++ unfolded_tags ts (drop t.size bytes)) kind
+run_left tags ts t bytes run zero is kind = rw (first_left tags ts t bytes run zero is, kind) refl
 
 pub run_begun : (tags ts : List ItemTag) (t : ItemTag) (bytes : List ℕ) (run size : ℕ)
     → run ≡ 0 → tags ≡ t ∷ ts → t.kind ≡ tag.Run → size ≡ min t.size (length bytes)
     → remaining ts bytes size ≡ remaining tags bytes run
 run_begun tags ts t bytes run size zero is kind fits =
     ap (λ l. record { tags = l; bytes = bytes })
-    (ap (λ n. run_tags (take n bytes) ++ unfolded_tags ts (drop n bytes)) fits
-    ∙ ap (λ l. run_tags l ++ unfolded_tags ts (drop (min t.size (length bytes)) bytes)) (take_min t.size bytes)
-    ∙ ap (λ l. run_tags (take t.size bytes) ++ unfolded_tags ts l) (drop_min t.size bytes)
-    ∙ sym (run_left tags ts t bytes run zero is kind))
+    (rw (fits, take_min t.size bytes, drop_min t.size bytes) (sym (run_left tags ts t bytes run zero is kind)))
 
 -- the next part of a run that was begun
 pub part_left : (tags : List ItemTag) (t : ItemTag) (bytes : List ℕ) (run : ℕ) → t.size ≤ run
@@ -83,30 +69,19 @@ pub part_left : (tags : List ItemTag) (t : ItemTag) (bytes : List ℕ) (run : �
     → (remaining tags bytes run).tags ≡ t ∷ (remaining tags (drop t.size bytes) (run - t.size)).tags
 part_left tags t bytes run low is =
     let all : run ≡ t.size + (run - t.size) = omega arith in
-    let rest : drop t.size (take run bytes) ≡ take (run - t.size) (drop t.size bytes)
-    = ap (λ n. drop t.size (take n bytes)) all ∙ drop-take t.size (run - t.size) bytes in
-    let after : drop run bytes ≡ drop (run - t.size) (drop t.size bytes)
-    = ap (λ n. drop n bytes) all
-    ∙ sym (drop-drop (run - t.size) t.size bytes) in
-    ap (λ l. l ++ unfolded_tags tags (drop run bytes)) is
-    ∙ ap (λ l. t ∷ (run_tags l ++ unfolded_tags tags (drop run bytes))) rest
-    ∙ ap (λ l. t ∷ (run_tags (take (run - t.size) (drop t.size bytes)) ++ unfolded_tags tags l)) after
+    let rest = ap (λ n. drop t.size (take n bytes)) all ∙ drop-take t.size (run - t.size) bytes in
+    let after = ap (λ n. drop n bytes) all ∙ sym (drop-drop (run - t.size) t.size bytes) in
+    (λ i. is i ++ unfolded_tags tags (drop run bytes))
+    ∙ (λ i. t ∷ (run_tags (rest i) ++ unfolded_tags tags (after i)))
 
 -- a whole run
 pub run_passed : (tags ts : List ItemTag) (t : ItemTag) (bytes : List ℕ) (run size : ℕ)
     → run ≡ 0 → tags ≡ t ∷ ts → t ≡ record { kind = tag.Run; size = size }
     → (remaining tags bytes run).tags ≡ run_tags (take size bytes) ++ (remaining ts (drop size bytes) run).tags
-run_passed tags ts t bytes run size zero is same =
-    run_left tags ts (record { kind = tag.Run; size = size }) bytes run zero (is ∙ ap (λ x. x ∷ ts) same) refl
-    ∙ ap (λ l. run_tags (take size bytes) ++ (l ++ unfolded_tags ts (drop size bytes))) (sym no_run_tags)
-    ∙ ap (λ n. run_tags (take size bytes)
-    ++ (run_tags (take n (drop size bytes)) ++ unfolded_tags ts (drop n (drop size bytes)))) (sym zero)
+run_passed tags ts t bytes run size zero is same = rw (zero, is, same, no_run_tags) refl
 
 -- a line end
 pub line_end_left : (tags ts : List ItemTag) (t : ItemTag) (bytes rest : List ℕ) (b run : ℕ)
     → run ≡ 0 → tags ≡ t ∷ ts → t ≡ line_end_tag → bytes ≡ b ∷ rest
     → (remaining tags bytes run).tags ≡ line_end_tag ∷ (remaining ts rest run).tags
-line_end_left tags ts t bytes rest b run zero is same first =
-    let other : tag.LineEnd ≡ tag.Run → ⊥ = λ e. cc in
-    other_left tags ts line_end_tag bytes run zero (is ∙ ap (λ x. x ∷ ts) same) other
-    ∙ ap (λ l. line_end_tag ∷ (remaining ts (drop 1 l) run).tags) first
+line_end_left tags ts t bytes rest b run zero is same first = rw (zero, is, same, first, no_run_tags) refl

@@ -43,9 +43,8 @@ pub tags_moved : (line column : ℕ) (cs : List (List ℕ))
     → map part_tag (parts_of line column cs) ≡ map part_tag (parts_of 0 0 cs)
 tags_moved line column [] = refl
 tags_moved line column (c ∷ cs) =
-    ap (λ t. t ∷ map part_tag (parts_of line (column + length c) cs)) (part_moved line column c)
-    ∙ ap (λ ts. part_tag (part_of 0 0 c) ∷ ts)
-    (tags_moved line (column + length c) cs ∙ sym (tags_moved 0 (0 + length c) cs))
+    (λ i. part_moved line column c i ∷ tags_moved line (column + length c) cs i)
+    ∙ ap (λ ts. part_tag (part_of 0 0 c) ∷ ts) (sym (tags_moved 0 (0 + length c) cs))
 
 -- the tags of a run are those of its parts
 pub parts_tags : (line column : ℕ) (bs : List ℕ) → map part_tag (parts_of line column (chunks bs)) ≡ run_tags bs
@@ -149,12 +148,10 @@ parts_bytes : (texts : List (List ℕ)) (line column : ℕ) (cs : List (List ℕ
     → AreChunks cs → drop column (get_or texts line []) ≡ joined cs ++ rest
     → flat_map (bytes_in texts) (map part_item (parts_of line column cs)) ≡ joined cs
 parts_bytes texts line column [] rest h is = refl
-parts_bytes texts line column (c ∷ cs) rest h is =
-    ap (λ l. l ++ flat_map (bytes_in texts) (map part_item (parts_of line (column + length c) cs)))
-    (part_bytes texts line column c (joined cs ++ rest) h.0 (is ∙ append_assoc c (joined cs) rest))
-    ∙ ap (λ l. c ++ l)
-    (parts_bytes texts line (column + length c) cs rest h.1
-    (chunk_passed column (get_or texts line []) c cs rest is))
+parts_bytes texts line column (c ∷ cs) rest h is = λ i.
+    part_bytes texts line column c (joined cs ++ rest) h.0 (is ∙ append_assoc c (joined cs) rest) i
+    ++ parts_bytes texts line (column + length c) cs rest h.1
+    (chunk_passed column (get_or texts line []) c cs rest is) i
 
 pub run_bytes : (texts : List (List ℕ)) (s : Span)
     → flat_map (bytes_in texts) (map part_item (run_parts texts s)) ≡ span_text texts s

@@ -2,7 +2,6 @@
 use Rattle.std.proofs.Common.{◌≡◌, ◌∙◌, ℕ, Bool, List, [], ◌∷◌, ◌++◌, map, refl, ap, sym, append_assoc}
 use Rattle.std.specs.Prelude.{flat_map}
 use Rattle.std.proofs.lemmas.List.{map-append}
-use Rattle.tangle_files.specs.Bytes.{space}
 use Rattle.tangle_text.specs.declared.spans.Span.{Span}
 use Rattle.tangle_text.specs.declared.runs.RunPart.{RunPart}
 use Rattle.tangle_text.specs.declared.runs.RunPart.TheVariants as part
@@ -15,36 +14,30 @@ use Rattle.tangle_names.specs.NameTable.{TableRead}
 use Rattle.tangle_plans.specs.Shapes.{Title}
 use Rattle.tangle_plans.specs.Flat.{Byte}
 use Rattle.tangle_plans.specs.Slots.{Own, byte_slots}
-use Rattle.tangle_plans.specs.ItemSlots.{items_slots}
+use Rattle.tangle_plans.specs.ItemSlots.{marks_after_item, item_slots, items_slots}
 use Rattle.tangle_plans.proofs.RunLemmas.{run_bytes}
 
 module _ (texts : List (List ℕ)) (table : TableRead) (has_piece : ℕ → Bool) (node : Title) (piece marks : ℕ) where
-  bytes_then : (front bytes : List ℕ) (items rest : List Item)
-      → items_slots texts table has_piece node piece marks items
-      ≡ byte_slots bytes ++ items_slots texts table has_piece node piece marks rest
-      → byte_slots front ++ items_slots texts table has_piece node piece marks items
-      ≡ byte_slots (front ++ bytes) ++ items_slots texts table has_piece node piece marks rest
-  bytes_then front bytes items rest e =
-      ap (λ l. byte_slots front ++ l) e
-      ∙ sym (append_assoc (byte_slots front) (byte_slots bytes)
-      (items_slots texts table has_piece node piece marks rest))
-      ∙ ap (λ l. l ++ items_slots texts table has_piece node piece marks rest)
-      (sym (map-append (λ b. Own (Byte b)) front bytes))
+  part_slots : (p : RunPart)
+      → (item_slots texts table has_piece node piece marks (part_item p) ≡ byte_slots (bytes_in texts (part_item p)))
+      × (marks_after_item marks (part_item p) ≡ marks)
+  part_slots (part.Word s) = (refl, refl)
+  part_slots _ = (refl, refl)
 
   parts_slots : (parts : List RunPart) (rest : List Item)
       → items_slots texts table has_piece node piece marks (map part_item parts ++ rest)
       ≡ byte_slots (flat_map (bytes_in texts) (map part_item parts))
       ++ items_slots texts table has_piece node piece marks rest
   parts_slots [] rest = refl
-  parts_slots (part.Word s ∷ parts) rest =
-      bytes_then (span_text texts s) (flat_map (bytes_in texts) (map part_item parts))
-      (map part_item parts ++ rest) rest (parts_slots parts rest)
-  parts_slots (part.Sign s ∷ parts) rest =
-      bytes_then (span_text texts s) (flat_map (bytes_in texts) (map part_item parts))
-      (map part_item parts ++ rest) rest (parts_slots parts rest)
-  parts_slots (part.Space ∷ parts) rest =
-      bytes_then (space ∷ []) (flat_map (bytes_in texts) (map part_item parts))
-      (map part_item parts ++ rest) rest (parts_slots parts rest)
+  parts_slots (p ∷ parts) rest =
+      let first = bytes_in texts (part_item p) in
+      let more = flat_map (bytes_in texts) (map part_item parts) in
+      let left = items_slots texts table has_piece node piece marks rest in
+      (λ i. (part_slots p).0 i
+      ++ items_slots texts table has_piece node piece ((part_slots p).1 i) (map part_item parts ++ rest))
+      ∙ ap (λ l. byte_slots first ++ l) (parts_slots parts rest)
+      ∙ sym (ap (λ l. l ++ left) (map-append (λ b. Own (Byte b)) first more)
+      ∙ append_assoc (byte_slots first) (byte_slots more) left)
 
   -- the slots of a run's items, before more items
   pub run_slots : (s : Span) (rest : List Item)

@@ -56,16 +56,12 @@ unfolding shape_from_tags item_from_tag onto first_name
 piece_from_tags [] tags bytes names = refl
 piece_from_tags (Written k written ∷ items) tags bytes names =
     let rest = flat_map item_bytes items ++ bytes in
-    let after = shape_from_tags (map item_tag items ++ piece_end ∷ tags) in
-    let left = flat_map item_names items ++ names in
-    let seam : (written ++ flat_map item_bytes items) ++ bytes ≡ written ++ rest =
-    append_assoc written (flat_map item_bytes items) bytes in
-    written_from_tag k (length written) ((written ++ flat_map item_bytes items) ++ bytes) left after
-    ∙ ap (λ l. onto (Written k (take (length written) l)) (after (drop (length written) l) left)) seam
-    ∙ ap (λ l. onto (Written k l) (after (drop (length written) (written ++ rest)) left))
-    (take-append_seam written rest)
-    ∙ ap (λ l. onto (Written k written) (after l left)) (drop-append_seam written rest)
-    ∙ ap (onto (Written k written)) (piece_from_tags items tags bytes names)
+    rw (
+      written_from_tag k (length written),
+      append_assoc written (flat_map item_bytes items) bytes,
+      take-append_seam written rest,
+      drop-append_seam written rest,
+    ) (ap (onto (Written k written)) (piece_from_tags items tags bytes names))
 piece_from_tags (Mark ∷ items) tags bytes names = ap (onto Mark) (piece_from_tags items tags bytes names)
 piece_from_tags (AllMacros ∷ items) tags bytes names = ap (onto AllMacros) (piece_from_tags items tags bytes names)
 piece_from_tags (Use name ∷ items) tags bytes names = ap (onto (Use name)) (piece_from_tags items tags bytes names)
@@ -76,16 +72,10 @@ shape_from_its_tags : (shape : Shape)
 unfolding shape_from_tags
 shape_from_its_tags [] = refl
 shape_from_its_tags (items ∷ pieces) =
-    ap (λ l. shape_from_tags l (shape_bytes (items ∷ pieces)) (shape_names (items ∷ pieces)))
-    (append_assoc (map item_tag items) (piece_end ∷ []) (shape_tags pieces))
-    ∙ piece_from_tags items (shape_tags pieces) (shape_bytes pieces) (shape_names pieces)
+    rw append_assoc (piece_from_tags items (shape_tags pieces) (shape_bytes pieces) (shape_names pieces))
     ∙ ap (λ l. items ∷ l) (shape_from_its_tags pieces)
 
 pub same_by_tags : (s t : Shape)
     → shape_tags s ≡ shape_tags t → shape_bytes s ≡ shape_bytes t → shape_names s ≡ shape_names t → s ≡ t
 same_by_tags s t tags bytes names =
-    sym (shape_from_its_tags s)
-    ∙ ap (λ l. shape_from_tags l (shape_bytes s) (shape_names s)) tags
-    ∙ ap (λ l. shape_from_tags (shape_tags t) l (shape_names s)) bytes
-    ∙ ap (λ l. shape_from_tags (shape_tags t) (shape_bytes t) l) names
-    ∙ shape_from_its_tags t
+    sym (shape_from_its_tags s) ∙ (λ i. shape_from_tags (tags i) (bytes i) (names i)) ∙ shape_from_its_tags t

@@ -1,20 +1,21 @@
 -- What the entries of a piece give a body: the tags as they are in memory, where a run has one, and
 -- the bytes, names and slots.
-use Rattle.std.specs.Prelude.{ℕ, ◌-◌, Bool, List, [], ◌∷◌, ◌++◌, map, flat_map, length}
-use Rattle.std.specs.Prelude.{slice_index_or, None}
+use Rattle.std.specs.Prelude.{◌≡◌, ℕ, ◌-◌, Bool, List, [], ◌∷◌, ◌++◌, map, length, slice_index_or}
+use Rattle.std.specs.List.{All}
 use Rattle.tangle_text.specs.declared.spans.Span.{Span}
 use Rattle.tangle_text.specs.Text.{span_text}
 use Rattle.tangle_scan.specs.declared.items.Entry.{Entry}
 use Rattle.tangle_scan.specs.declared.items.Entry.TheVariants as entry
-use Rattle.tangle_scan.specs.Entries.{StoredPiece}
+use Rattle.tangle_scan.specs.Entries.{items_of}
 use Rattle.tangle_scan.specs.ItemBytes.{bytes_in}
 use Rattle.tangle_scan.specs.SourceOrder.{IsInRange, IsSpan}
+use Rattle.tangle_scan.specs.Web.{WebRead}
 use Rattle.tangle_scan.specs.WellFormed.{IsUseBelow}
 use Rattle.tangle_names.specs.NameTable.{TableRead}
 use Rattle.tangle_plans.specs.Shapes.{Title}
 use Rattle.tangle_plans.specs.Slots.{Slot, byte_slots}
 use Rattle.tangle_plans.specs.ItemTags.{tag_in, uses_in}
-use Rattle.tangle_plans.specs.ItemSlots.{marks_after_item, item_slots}
+use Rattle.tangle_plans.specs.ItemSlots.{marks_after_item, item_slots, no_piece}
 use Rattle.tangle_plans.specs.Tags.{piece_end}
 use Rattle.tangle_plans.specs.declared.tags.ItemKind.TheVariants as tag
 use Rattle.tangle_plans.specs.declared.tags.ItemTag.{ItemTag}
@@ -56,24 +57,9 @@ module _ (texts : List (List ℕ)) (table : TableRead) (has_piece : ℕ → Bool
   entry_slots piece marks (entry.Item x) = item_slots texts table has_piece node piece marks x
   entry_slots piece marks (entry.Run s) = byte_slots (span_text texts s)
 
--- the stored pieces with these numbers
-
-abbrev pub no_stored_piece : StoredPiece
-no_stored_piece =
-    record { section = 0; origin = record { file = 0; line = 0 }; occurrence = None; entries = [] }
-
-abbrev pub stored_at : List StoredPiece → List ℕ → List StoredPiece
-stored_at pieces numbers = map (λ n. slice_index_or pieces n no_stored_piece) numbers
-
--- the tags and bytes of stored pieces
-
-abbrev pub stored_tags : TableRead → List StoredPiece → List ItemTag
-stored_tags table pieces = flat_map (λ (p : StoredPiece). entries_tags table p.entries) pieces
-
-abbrev pub stored_bytes : List (List ℕ) → List StoredPiece → List ℕ
-stored_bytes texts pieces =
-    flat_map (λ (p : StoredPiece). flat_map (entry_bytes texts) p.entries) pieces
-
-abbrev pub stored_uses : TableRead → List StoredPiece → List ℕ
-stored_uses table pieces =
-    flat_map (λ (p : StoredPiece). flat_map (entry_uses table) p.entries) pieces
+-- the entries are those of the piece with this number
+pub record AreEntriesAt (web : WebRead) (number : ℕ) (entries : List Entry) : Type 0 where
+  pub items : items_of web.texts entries ≡ (slice_index_or web.pieces number no_piece).items
+  pub spans : All (IsInRange web.texts) (items_of web.texts entries)
+  pub own : (table : TableRead) → length table.resolved ≡ length web.occurrences
+      → All (IsEntryOf web.texts table) entries

@@ -17,11 +17,8 @@ pub data Symbol : Type 0 where
 
 -- the number of marks after an item, where there are `marks` before it
 abbrev pub marks_after_shape_item : ℕ → ShapeItem → ℕ
-marks_after_shape_item marks (Written kind bytes) = marks
 marks_after_shape_item marks Mark = marks + 1
-marks_after_shape_item marks shape.AllMacros = marks
-marks_after_shape_item marks (Use name) = marks
-marks_after_shape_item marks NoUse = marks
+marks_after_shape_item marks _ = marks
 
 -- the symbols of an item of the piece with this number, after this number of marks; `used` gives
 -- the symbols of names
@@ -57,10 +54,8 @@ flat (suc fuel) shapes node =
 
 abbrev pub item_weight : (List ℕ → ℕ) → ShapeItem → ℕ
 item_weight used (Written kind bytes) = length bytes
-item_weight used Mark = 1
-item_weight used shape.AllMacros = 1
 item_weight used (Use name) = 1 + used name
-item_weight used NoUse = 1
+item_weight used _ = 1
 
 abbrev pub items_weight : (List ℕ → ℕ) → List ShapeItem → ℕ
 items_weight used [] = 0
@@ -78,11 +73,8 @@ weight (suc fuel) shapes node =
 -- The depth: 0 without a piece, else one more than the greatest depth among the used names.
 
 abbrev pub item_depth : (List ℕ → ℕ) → ShapeItem → ℕ
-item_depth used (Written kind bytes) = 0
-item_depth used Mark = 0
-item_depth used shape.AllMacros = 0
 item_depth used (Use name) = used name
-item_depth used NoUse = 0
+item_depth used _ = 0
 
 abbrev pub items_depth : (List ℕ → ℕ) → List ShapeItem → ℕ
 items_depth used [] = 0

@@ -1,5 +1,5 @@
 -- The tags, bytes and uses of a body, which are compared from the front.
-use Rattle.std.specs.Prelude.{◌≢◌, ℕ, List, [], ◌∷◌, ◌++◌, map, flat_map}
+use Rattle.std.specs.Prelude.{◌≡◌, ◌≢◌, ℕ, Bool, true, false, List, [], ◌∷◌, ◌++◌, map, flat_map}
 use Rattle.tangle_text.specs.Text.{span_text}
 use Rattle.tangle_text.specs.declared.spans.Span.{Span}
 use Rattle.tangle_scan.specs.declared.items.Item.{Item}
@@ -35,9 +35,10 @@ followed_by front more = record {
   uses = front.uses ++ more.uses;
 }
 
--- the lists do not begin with these ones
-abbrev pub IsNotNext : Lists → Lists → Type 0
-IsNotNext front lists = (more : Lists) → lists ≢ followed_by front more
+-- `passed` says whether the old lists begin with these ones; if so, the new ones are the rest
+pub record Passes (front old new : Lists) (passed : Bool) : Type 0 where
+  pub same : passed ≡ true → old ≡ followed_by front new
+  pub other : passed ≡ false → (more : Lists) → old ≢ followed_by front more
 
 -- the lists of a run
 abbrev pub run_lists : List (List ℕ) → Span → Lists

@@ -1,13 +1,13 @@
 -- The slots that the pieces of a web give a plan.
-use Rattle.std.specs.Prelude.{ℕ, ◌+◌, Bool, if◌then◌else◌, List, [], ◌∷◌, ◌++◌, decimal, map}
+use Rattle.std.specs.Prelude.{ℕ, ◌+◌, Bool, if◌then◌else◌, List, [], ◌∷◌, ◌++◌, map}
 use Rattle.std.specs.Prelude.{slice_index_or, None}
-use Rattle.tangle_files.specs.Bytes.{space, line_feed}
+use Rattle.tangle_files.specs.Bytes.{space}
 use Rattle.tangle_scan.specs.declared.items.Item.{Item}
 use Rattle.tangle_scan.specs.declared.items.Item.TheVariants as item
-use Rattle.tangle_scan.specs.Rules.{span_text}
+use Rattle.tangle_scan.specs.ItemBytes.{bytes_in}
 use Rattle.tangle_scan.specs.Web.{PieceRead}
 use Rattle.tangle_names.specs.declared.Resolved.{Resolved}
-use Rattle.tangle_names.specs.declared.Resolved.TheVariants.{Name, NoFullName, Ambiguous}
+use Rattle.tangle_names.specs.declared.Resolved.TheVariants.{Name}
 use Rattle.tangle_names.specs.NameTable.{TableRead}
 use Rattle.tangle_plans.specs.Shapes.{Title}
 use Rattle.tangle_plans.specs.Flat.{Byte, Opening, MarkOf, Closing, AllMacros}
@@ -17,37 +17,20 @@ use Rattle.tangle_plans.specs.Slots.{Slot, Own, Used, byte_slots}
 -- the number of marks after an item, where there are `marks` before it
 abbrev pub marks_after_item : ℕ → Item → ℕ
 marks_after_item marks (item.LineMark origin) = marks + 1
-marks_after_item marks (item.Word span) = marks
-marks_after_item marks (item.Sign span) = marks
-marks_after_item marks (item.Quoted span) = marks
-marks_after_item marks item.QuoteBreak = marks
-marks_after_item marks (item.Verbatim span) = marks
-marks_after_item marks (item.Code value) = marks
-marks_after_item marks item.Blank = marks
-marks_after_item marks item.LineEnd = marks
-marks_after_item marks (item.UseOf occurrence) = marks
-marks_after_item marks item.Defs = marks
+marks_after_item marks _ = marks
 
 -- a use of a name with a piece has the name's number; any other use is a space
 abbrev pub name_slots : (ℕ → Bool) → Resolved → List Slot
 name_slots has_piece (Name id) = if has_piece id then Used id ∷ [] else Own (Byte space) ∷ []
-name_slots has_piece NoFullName = Own (Byte space) ∷ []
-name_slots has_piece Ambiguous = Own (Byte space) ∷ []
+name_slots has_piece _ = Own (Byte space) ∷ []
 
 module _ (texts : List (List ℕ)) (table : TableRead) (has_piece : ℕ → Bool) (node : Title) where
   abbrev pub item_slots : ℕ → ℕ → Item → List Slot
-  item_slots piece marks (item.Word span) = byte_slots (span_text texts span)
-  item_slots piece marks (item.Sign span) = byte_slots (span_text texts span)
-  item_slots piece marks (item.Quoted span) = byte_slots (span_text texts span)
-  item_slots piece marks item.QuoteBreak = byte_slots (line_feed ∷ [])
-  item_slots piece marks (item.Verbatim span) = byte_slots (span_text texts span)
-  item_slots piece marks (item.Code value) = byte_slots (decimal value)
-  item_slots piece marks item.Blank = byte_slots (space ∷ [])
-  item_slots piece marks item.LineEnd = byte_slots (line_feed ∷ [])
   item_slots piece marks (item.LineMark origin) = Own (MarkOf node piece (marks + 1)) ∷ []
   item_slots piece marks (item.UseOf occurrence) =
       name_slots has_piece (resolved_at table occurrence)
   item_slots piece marks item.Defs = Own AllMacros ∷ []
+  item_slots piece marks x = byte_slots (bytes_in texts x)
 
   -- the slots of these items, and then the closing of the piece
   abbrev pub items_slots : ℕ → ℕ → List Item → List Slot

@@ -2,10 +2,9 @@
 use Rattle.std.specs.Prelude.{ℕ, ◌-◌, List, [], ◌∷◌, ◌++◌, length, map, flat_map, decimal}
 use Rattle.tangle_scan.specs.declared.items.Item.{Item}
 use Rattle.tangle_scan.specs.declared.items.Item.TheVariants as item
-use Rattle.tangle_scan.specs.ItemBytes.{bytes_in}
 use Rattle.tangle_scan.specs.Web.{PieceRead}
 use Rattle.tangle_names.specs.declared.Resolved.{Resolved}
-use Rattle.tangle_names.specs.declared.Resolved.TheVariants.{Name, NoFullName, Ambiguous}
+use Rattle.tangle_names.specs.declared.Resolved.TheVariants.{Name}
 use Rattle.tangle_names.specs.NameTable.{TableRead}
 use Rattle.tangle_plans.specs.WebShapes.{resolved_at, shape_item}
 use Rattle.tangle_plans.specs.Shapes.{Shape}
@@ -15,13 +14,11 @@ use Rattle.tangle_plans.specs.declared.tags.ItemTag.{ItemTag}
 
 abbrev pub use_tag : Resolved → ItemTag
 use_tag (Name id) = record { kind = tag.Use; size = 0 }
-use_tag NoFullName = record { kind = tag.NoUse; size = 0 }
-use_tag Ambiguous = record { kind = tag.NoUse; size = 0 }
+use_tag _ = record { kind = tag.NoUse; size = 0 }
 
 abbrev pub uses_resolved : Resolved → List ℕ
 uses_resolved (Name id) = id ∷ []
-uses_resolved NoFullName = []
-uses_resolved Ambiguous = []
+uses_resolved _ = []
 
 module _ (table : TableRead) where
   -- the tag of an item, whose size is the length of the item's span
@@ -41,9 +38,6 @@ module _ (table : TableRead) where
   abbrev pub piece_tags : List Item → List ItemTag
   piece_tags items = map tag_in items ++ piece_end ∷ []
 
-  abbrev pub pieces_tags : List PieceRead → List ItemTag
-  pieces_tags pieces = flat_map (λ (p : PieceRead). piece_tags p.items) pieces
-
   -- the number of the name that an item uses, if it is a use that resolves to one
   abbrev pub uses_in : Item → List ℕ
   uses_in (item.UseOf occurrence) = uses_resolved (resolved_at table occurrence)
@@ -51,10 +45,6 @@ module _ (table : TableRead) where
 
   abbrev pub pieces_uses : List PieceRead → List ℕ
   pieces_uses pieces = flat_map (λ (p : PieceRead). flat_map uses_in p.items) pieces
-
-module _ (texts : List (List ℕ)) where
-  abbrev pub pieces_bytes : List PieceRead → List ℕ
-  pieces_bytes pieces = flat_map (λ (p : PieceRead). flat_map (bytes_in texts) p.items) pieces
 
 -- the shape of a node with these pieces
 abbrev pub shape_of : List (List ℕ) → TableRead → List PieceRead → Shape

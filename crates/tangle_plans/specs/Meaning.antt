@@ -51,39 +51,21 @@ module _ (node : Title) (bytes : List ℕ) where
 
 abbrev pub is_use_step : Step → Bool
 is_use_step (step.Use id) = true
-is_use_step step.Open = false
-is_use_step (step.Bytes end) = false
-is_use_step step.Mark = false
-is_use_step step.AllMacros = false
-is_use_step step.Space = false
-is_use_step step.Close = false
+is_use_step _ = false
 
 abbrev pub pieces_after_step : ℕ → Step → ℕ
 pieces_after_step piece step.Close = piece + 1
-pieces_after_step piece step.Open = piece
-pieces_after_step piece (step.Bytes end) = piece
-pieces_after_step piece step.Mark = piece
-pieces_after_step piece step.AllMacros = piece
-pieces_after_step piece step.Space = piece
-pieces_after_step piece (step.Use id) = piece
+pieces_after_step piece _ = piece
 
 abbrev pub marks_after_step : ℕ → Step → ℕ
 marks_after_step marks step.Open = 0
 marks_after_step marks step.Close = 0
 marks_after_step marks step.Mark = marks + 1
-marks_after_step marks (step.Bytes end) = marks
-marks_after_step marks step.AllMacros = marks
-marks_after_step marks step.Space = marks
-marks_after_step marks (step.Use id) = marks
+marks_after_step marks _ = marks
 
 abbrev pub bytes_after_step : ℕ → Step → ℕ
 bytes_after_step start (step.Bytes end) = end
-bytes_after_step start step.Open = start
-bytes_after_step start step.Mark = start
-bytes_after_step start step.AllMacros = start
-bytes_after_step start step.Space = start
-bytes_after_step start (step.Use id) = start
-bytes_after_step start step.Close = start
+bytes_after_step start _ = start
 
 -- a position in a plan that is being written, with the remaining steps
 pub record PlanCursor : Type 0 where

@@ -47,11 +47,8 @@ Shapes = Title → Shape
 
 -- the item is a use of the name
 abbrev pub IsUseOf : ShapeItem → List ℕ → Type 0
-IsUseOf (Written kind bytes) name = ⊥
-IsUseOf Mark name = ⊥
-IsUseOf AllMacros name = ⊥
 IsUseOf (Use other) name = other ≡ name
-IsUseOf NoUse name = ⊥
+IsUseOf _ name = ⊥
 
 -- the piece has a use of the name
 abbrev pub UsesInPiece : List ShapeItem → List ℕ → Type 0

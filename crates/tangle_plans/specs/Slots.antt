@@ -1,6 +1,6 @@
 -- The slots of a plan: the node's own symbols, and the uses between them.
 use Rattle.std.specs.Prelude.{◌≡◌, ◌≤◌, ℕ, ◌+◌, Bool, true, false, nat_lt, if◌then◌else◌, List, []}
-use Rattle.std.specs.Prelude.{◌∷◌, ◌++◌, length, map, flat_map}
+use Rattle.std.specs.Prelude.{◌∷◌, ◌++◌, length, map, flat_map, fold}
 use Rattle.std.specs.List.{AllByRecursion}
 use Rattle.tangle_files.specs.Bytes.{space}
 use Rattle.tangle_plans.specs.Shapes.{Title}
@@ -44,49 +44,20 @@ filled symbols ss = flat_map (filled_slot symbols) ss
 -- the names that a step uses
 abbrev pub step_uses : Step → List ℕ
 step_uses (step.Use id) = id ∷ []
-step_uses step.Open = []
-step_uses (step.Bytes end) = []
-step_uses step.Mark = []
-step_uses step.AllMacros = []
-step_uses step.Space = []
-step_uses step.Close = []
+step_uses _ = []
 
 abbrev pub uses_of : List Step → List ℕ
 uses_of [] = []
 uses_of (s ∷ plan) = step_uses s ++ uses_of plan
 
--- the numbers of pieces, marks and bytes after the steps of a plan
-
-abbrev pub pieces_after_plan : ℕ → List Step → ℕ
-pieces_after_plan piece [] = piece
-pieces_after_plan piece (s ∷ plan) = pieces_after_plan (pieces_after_step piece s) plan
-
-abbrev pub marks_after_plan : ℕ → List Step → ℕ
-marks_after_plan marks [] = marks
-marks_after_plan marks (s ∷ plan) = marks_after_plan (marks_after_step marks s) plan
-
-abbrev pub bytes_after_plan : ℕ → List Step → ℕ
-bytes_after_plan start [] = start
-bytes_after_plan start (s ∷ plan) = bytes_after_plan (bytes_after_step start s) plan
-
 -- if the step has bytes, they end at this position or before
 abbrev pub EndsWithin : ℕ → Step → Type 0
 EndsWithin most (step.Bytes end) = end ≤ most
-EndsWithin most step.Open = Unit {0}
-EndsWithin most step.Mark = Unit {0}
-EndsWithin most step.AllMacros = Unit {0}
-EndsWithin most step.Space = Unit {0}
-EndsWithin most (step.Use id) = Unit {0}
-EndsWithin most step.Close = Unit {0}
+EndsWithin most _ = Unit {0}
 
 abbrev pub has_bytes : Step → Bool
 has_bytes (step.Bytes end) = true
-has_bytes step.Open = false
-has_bytes step.Mark = false
-has_bytes step.AllMacros = false
-has_bytes step.Space = false
-has_bytes (step.Use id) = false
-has_bytes step.Close = false
+has_bytes _ = false
 
 -- the step of the bytes between two positions, if there are any
 abbrev pub step_of_bytes : ℕ → ℕ → List Step
@@ -95,9 +66,9 @@ step_of_bytes start end = if nat_lt start end then step.Bytes end ∷ [] else []
 -- bytes and a plan while they are made: `start` is the end of the bytes that steps have, and each
 -- step's bytes end within the bytes
 pub record IsMade (bytes : List ℕ) (plan : List Step) (piece marks start : ℕ) : Type 0 where
-  pub pieces : piece ≡ pieces_after_plan 0 plan
-  pub marks_of_piece : marks ≡ marks_after_plan 0 plan
-  pub used : start ≡ bytes_after_plan 0 plan
+  pub pieces : piece ≡ fold pieces_after_step 0 plan
+  pub marks_of_piece : marks ≡ fold marks_after_step 0 plan
+  pub used : start ≡ fold bytes_after_step 0 plan
   pub within : start ≤ length bytes
   pub pieces_few : piece ≤ length plan
   pub marks_few : marks ≤ length plan

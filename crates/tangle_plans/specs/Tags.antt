@@ -39,17 +39,11 @@ piece_end = record { kind = tag.PieceEnd; size = 0 }
 
 abbrev pub item_bytes : ShapeItem → List ℕ
 item_bytes (Written k bytes) = bytes
-item_bytes Mark = []
-item_bytes AllMacros = []
-item_bytes (Use name) = []
-item_bytes NoUse = []
+item_bytes _ = []
 
 abbrev pub item_names : ShapeItem → List (List ℕ)
-item_names (Written k bytes) = []
-item_names Mark = []
-item_names AllMacros = []
 item_names (Use name) = name ∷ []
-item_names NoUse = []
+item_names _ = []
 
 abbrev pub shape_tags : Shape → List ItemTag
 shape_tags shape = flat_map (λ items. map item_tag items ++ piece_end ∷ []) shape

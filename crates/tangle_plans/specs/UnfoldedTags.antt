@@ -1,6 +1,6 @@
 -- The tags of a body as they are in memory, where a run of words, signs and single spaces has one
 -- tag, and the tags of the items that they stand for.
-use Rattle.std.specs.Prelude.{ℕ, ◌-◌, List, [], ◌∷◌, ◌++◌, map, take, drop}
+use Rattle.std.specs.Prelude.{◌≡◌, ℕ, ◌-◌, List, [], ◌∷◌, ◌++◌, map, take, drop}
 use Rattle.tangle_text.specs.declared.runs.RunPart.{RunPart}
 use Rattle.tangle_text.specs.declared.runs.RunPart.TheVariants as part
 use Rattle.tangle_text.specs.Runs.{chunks, parts_of}
@@ -28,3 +28,8 @@ abbrev pub unfolded_tags : List ItemTag → List ℕ → List ItemTag
 unfolded_tags [] bytes = []
 unfolded_tags (t ∷ tags) bytes =
     kind_tags t.kind t (take t.size bytes) ++ unfolded_tags tags (drop t.size bytes)
+
+-- these tags and bytes, before any others, stand for these tags
+abbrev pub StandFor : List ItemTag → List ℕ → List ItemTag → Type 0
+StandFor tags bytes unfolded = (more : List ItemTag) (rest : List ℕ)
+    → unfolded_tags (tags ++ more) (bytes ++ rest) ≡ unfolded ++ unfolded_tags more rest

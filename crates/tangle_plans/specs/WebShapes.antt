@@ -7,28 +7,33 @@ use Rattle.tangle_scan.specs.declared.items.Item.TheVariants as item
 use Rattle.tangle_scan.specs.Rules.{span_text}
 use Rattle.tangle_scan.specs.Web.{WebRead, PieceRead}
 use Rattle.tangle_names.specs.declared.Resolved.{Resolved}
-use Rattle.tangle_names.specs.declared.Resolved.TheVariants.{Name, NoFullName, Ambiguous}
+use Rattle.tangle_names.specs.declared.Resolved.TheVariants.{Name, NoFullName}
 use Rattle.tangle_names.specs.NameTable.{TableRead}
 use Rattle.tangle_plans.specs.Shapes.{Title, Program, Named, title_eq, ShapeItem, Written}
 use Rattle.tangle_plans.specs.Shapes.{Mark, AllMacros, Use, NoUse, Shapes}
 use Rattle.tangle_plans.specs.Shapes as kind
+
+-- a use, by its resolution, where `name` gives the name with each number
+abbrev pub named_use : (ℕ → List ℕ) → Resolved → ShapeItem
+named_use name (Name id) = Use (name id)
+named_use name _ = NoUse
 
 module _ (table : TableRead) where
   -- what the occurrence with this number resolves to
   abbrev pub resolved_at : ℕ → Resolved
   resolved_at occurrence = slice_index_or table.resolved occurrence NoFullName
 
-  -- a use, by its resolution
+  -- the name with this number in the table
+  abbrev pub name_at : ℕ → List ℕ
+  name_at id = slice_index_or table.names id []
+
   abbrev pub use_of : Resolved → ShapeItem
-  use_of (Name id) = Use (slice_index_or table.names id [])
-  use_of NoFullName = NoUse
-  use_of Ambiguous = NoUse
+  use_of resolved = named_use name_at resolved
 
   -- the node of the name to which an occurrence resolves
   abbrev pub node_of : Resolved → Option Title
   node_of (Name id) = Some (Named (slice_index_or table.names id []))
-  node_of NoFullName = None
-  node_of Ambiguous = None
+  node_of _ = None
 
   -- the node of a piece with this occurrence; without an occurrence it is the program. A piece
   -- whose occurrence resolves to no name has no node, and is dropped.
@@ -46,28 +51,31 @@ module _ (table : TableRead) where
 -- an occurrence with this resolution resolves to one of the first `count` names, or to none
 abbrev pub IsNameBelow : ℕ → Resolved → Type 0
 IsNameBelow count (Name id) = id < count
-IsNameBelow count NoFullName = Unit {0}
-IsNameBelow count Ambiguous = Unit {0}
+IsNameBelow count _ = Unit {0}
 
 -- each occurrence that resolves to a name resolves to one of the table
 abbrev pub ResolvesInside : TableRead → Type 0
 ResolvesInside table =
     (occurrence : ℕ) → IsNameBelow (length table.names) (resolved_at table occurrence)
 
-module _ (texts : List (List ℕ)) (table : TableRead) where
+module _ (name : ℕ → List ℕ) (texts : List (List ℕ)) (table : TableRead) where
   -- an item of a shape, with the kind and the bytes that the scanner cut, and without an origin
-  abbrev pub shape_item : Item → ShapeItem
-  shape_item (item.Word span) = Written kind.Word (span_text texts span)
-  shape_item (item.Sign span) = Written kind.Sign (span_text texts span)
-  shape_item (item.Quoted span) = Written kind.Quoted (span_text texts span)
-  shape_item item.QuoteBreak = Written kind.QuoteBreak (line_feed ∷ [])
-  shape_item (item.Verbatim span) = Written kind.Verbatim (span_text texts span)
-  shape_item (item.Code value) = Written kind.AsciiConstant (decimal value)
-  shape_item item.Blank = Written kind.Blank (space ∷ [])
-  shape_item item.LineEnd = Written kind.LineEnd (line_feed ∷ [])
-  shape_item (item.LineMark origin) = Mark
-  shape_item (item.UseOf occurrence) = use_of table (resolved_at table occurrence)
-  shape_item item.Defs = AllMacros
+  abbrev pub named_item : Item → ShapeItem
+  named_item (item.Word span) = Written kind.Word (span_text texts span)
+  named_item (item.Sign span) = Written kind.Sign (span_text texts span)
+  named_item (item.Quoted span) = Written kind.Quoted (span_text texts span)
+  named_item item.QuoteBreak = Written kind.QuoteBreak (line_feed ∷ [])
+  named_item (item.Verbatim span) = Written kind.Verbatim (span_text texts span)
+  named_item (item.Code value) = Written kind.AsciiConstant (decimal value)
+  named_item item.Blank = Written kind.Blank (space ∷ [])
+  named_item item.LineEnd = Written kind.LineEnd (line_feed ∷ [])
+  named_item (item.LineMark origin) = Mark
+  named_item (item.UseOf occurrence) = named_use name (resolved_at table occurrence)
+  named_item item.Defs = AllMacros
+
+-- an item of a shape, with the names of the table
+abbrev pub shape_item : List (List ℕ) → TableRead → Item → ShapeItem
+shape_item texts table x = named_item (name_at table) texts table x
 
 module _ (web : WebRead) (table : TableRead) where
   -- the pieces of a node, in the order of the source

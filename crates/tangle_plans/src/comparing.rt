@@ -10,7 +10,7 @@ ghost use Rattle.tangle_scan.specs.Entries.{items_of};
 ghost use Rattle.tangle_scan.specs.ItemBytes.{bytes_in};
 ghost use Rattle.tangle_names.specs.NameTable.{TableRead};
 ghost use Rattle.tangle_plans.specs.Comparing.{HasItemsOf, IsPlanned};
-ghost use Rattle.tangle_plans.specs.Fronts.{IsNotNext, followed_by, lists_left, no_lists};
+ghost use Rattle.tangle_plans.specs.Fronts.{Passes, followed_by, lists_left, no_lists};
 ghost use Rattle.tangle_plans.specs.Fronts.{run_lists, item_lists, entry_lists, piece_lists};
 ghost use Rattle.tangle_plans.specs.Fronts.{pieces_lists};
 ghost use Rattle.tangle_plans.specs.Entries.{IsEntryOf};
@@ -21,6 +21,7 @@ ghost use Rattle.tangle_plans.specs.NodeBodies.{body_title, plan_slots, plan_use
 ghost use Rattle.tangle_plans.specs.UnfoldedTags.{run_tags};
 ghost use Rattle.tangle_plans.specs.declared.tags.ItemTag.{ItemTag as TagRead};
 
+use crate::entries::entries_at;
 use crate::nodes::NodeBody;
 use crate::tags::{piece_end, tag_of};
 use crate::tags_left::{TagsLeft, tag_of_part};
@@ -109,10 +110,8 @@ fn after_use_of<'o>(uses: &'o [usize], table: &NameTable, item: &Item) -> Option
 fn pass_item(left: &mut Left, web: &Web, table: &NameTable, item: &Item) -> bool
     requires span { IsInRange web.now.texts item.now }
     requires name { IsUseBelow (length table.now.resolved) item.now }
-    ensures passed { result ≡ true → lists_left left.old
-        ≡ followed_by (item_lists web.now.texts table.now item.now) (lists_left left.new) }
-    ensures other { result ≡ false
-        → IsNotNext (item_lists web.now.texts table.now item.now) (lists_left left.old) }
+    ensures { Passes (item_lists web.now.texts table.now item.now)
+        (lists_left left.old) (lists_left left.new) result }
 {
     let bytes = left.tags.bytes();
     if !left.tags.pass_tag(tag_of(item, table)) {
@@ -151,10 +150,8 @@ fn pass_parts(tags: &mut TagsLeft, web: &Web, span: Span) -> bool
 /// runs there.
 fn pass_run(left: &mut Left, web: &Web, span: Span) -> bool
     requires { IsSpan web.now.texts span }
-    ensures passed { result ≡ true → lists_left left.old
-        ≡ followed_by (run_lists web.now.texts span) (lists_left left.new) }
-    ensures other { result ≡ false
-        → IsNotNext (run_lists web.now.texts span) (lists_left left.old) }
+    ensures { Passes (run_lists web.now.texts span)
+        (lists_left left.old) (lists_left left.new) result }
 {
     let Some(_) = after_bytes(left.tags.bytes(), web.text(span)) else {
         return false;
@@ -184,10 +181,8 @@ fn pass_line_end(left: &mut Left, entry: &Entry) -> bool
 #[inline(always)]
 fn pass_entry(left: &mut Left, web: &Web, table: &NameTable, entry: &Entry) -> bool
     requires { IsEntryOf web.now.texts table.now entry.now }
-    ensures passed { result ≡ true → lists_left left.old
-        ≡ followed_by (entry_lists web.now.texts table.now entry.now) (lists_left left.new) }
-    ensures other { result ≡ false
-        → IsNotNext (entry_lists web.now.texts table.now entry.now) (lists_left left.old) }
+    ensures { Passes (entry_lists web.now.texts table.now entry.now)
+        (lists_left left.old) (lists_left left.new) result }
 {
     if pass_line_end(left, entry) {
         return true;
@@ -201,12 +196,8 @@ fn pass_entry(left: &mut Left, web: &Web, table: &NameTable, entry: &Entry) -> b
 /// Passes a piece that has these entries, and says whether it came next.
 fn pass_piece(left: &mut Left, web: &Web, table: &NameTable, entries: &[Entry]) -> bool
     requires { All (IsEntryOf web.now.texts table.now) entries.now }
-    ensures passed { result ≡ true → lists_left left.old ≡ followed_by
-        (piece_lists web.now.texts table.now (items_of web.now.texts entries.now))
-        (lists_left left.new) }
-    ensures other { result ≡ false → IsNotNext
-        (piece_lists web.now.texts table.now (items_of web.now.texts entries.now))
-        (lists_left left.old) }
+    ensures { Passes (piece_lists web.now.texts table.now (items_of web.now.texts entries.now))
+        (lists_left left.old) (lists_left left.new) result }
 {
     for entry in entries {
         if !pass_entry(left, web, table, entry) {
@@ -220,16 +211,12 @@ fn pass_piece(left: &mut Left, web: &Web, table: &NameTable, entries: &[Entry]) 
 fn pass_pieces(left: &mut Left, web: &Web, table: &NameTable, numbers: &[usize]) -> bool
     requires numbers { All (λ n. n < length web.now.pieces) numbers.now }
     requires ours { length table.now.resolved ≡ length web.now.occurrences }
-    ensures passed { result ≡ true → lists_left left.old ≡ followed_by
+    ensures { Passes
         (pieces_lists web.now.texts table.now (pieces_at web.now.pieces numbers.now))
-        (lists_left left.new) }
-    ensures other { result ≡ false → IsNotNext
-        (pieces_lists web.now.texts table.now (pieces_at web.now.pieces numbers.now))
-        (lists_left left.old) }
+        (lists_left left.old) (lists_left left.new) result }
 {
-    let pieces = web.pieces();
     for number in numbers {
-        if !pass_piece(left, web, table, pieces[*number].entries()) {
+        if !pass_piece(left, web, table, entries_at(web, *number)) {
             return false;
         }
     }
@@ -244,6 +231,16 @@ fn is_nothing(left: &mut Left) -> bool
         return false;
     }
     left.tags.next().is_none()
+}
+
+/// Whether the tags, bytes and uses that remain are those of these pieces.
+fn has_pieces(mut left: Left, web: &Web, table: &NameTable, numbers: &[usize]) -> bool
+    requires numbers { All (λ n. n < length web.now.pieces) numbers.now }
+    requires ours { length table.now.resolved ≡ length web.now.occurrences }
+    ensures { (result ≡ true) ↔ (lists_left left.entry
+        ≡ pieces_lists web.now.texts table.now (pieces_at web.now.pieces numbers.now)) }
+{
+    pass_pieces(&mut left, web, table, numbers) && is_nothing(&mut left)
 }
 
 /// Whether a body has the tags, bytes and uses of these pieces. If so, planning these pieces makes
@@ -262,9 +259,9 @@ pub fn has_items_of(old: &NodeBody, web: &Web, table: &NameTable, numbers: &[usi
         → plan_uses old.now ≡ filter has_piece (pieces_uses table.now
         (pieces_at web.now.pieces numbers.now)) }
 {
-    let mut left = Left {
+    let left = Left {
         tags: TagsLeft::new(&old.tags, &old.bytes),
         uses: &old.uses,
     };
-    pass_pieces(&mut left, web, table, numbers) && is_nothing(&mut left)
+    has_pieces(left, web, table, numbers)
 }

@@ -4,18 +4,19 @@
 //! [`has_items_of`] compares a body with pieces, and [`NodeBody::has_shape_of`] two bodies.
 #![tactic(auto)]
 
+mod body_builder;
 mod comparing;
 mod counting;
+mod entries;
 mod laws;
 mod nodes;
-mod planning;
 mod shapes;
 mod steps;
 mod tags;
 mod tags_left;
 
+pub use body_builder::{BodyBuilder, has_piece, plan_node};
 pub use comparing::has_items_of;
 pub use laws::{names_resolve_inside, tags_settle_the_shape};
 pub use nodes::NodeBody;
-pub use planning::{Planning, has_piece, plan_node};
 pub use steps::{Step, bytes_after_step, marks_after_step, pieces_after_step};

@@ -8,5 +8,6 @@ pub mod MacroEnds
 pub mod OccurrenceRange
 pub mod PieceBytes
 pub mod SpanOrder
+pub mod TokenSteps
 pub mod WebLaws
 pub mod WebsApart

@@ -1,10 +1,9 @@
 pub mod ItemViews
 pub mod StoredPieces
-pub mod TextLemmas
 pub mod UnfoldedTokens
-pub mod Gaps
 pub mod WebBuilderLemmas
 pub mod ItemsByOrigin
+pub mod KeptTokens
 pub mod MacroItemLemmas
 pub mod PartLemmas
 pub mod PlainPartLemmas

@@ -3,7 +3,7 @@ use Rattle.std.specs.Prelude.{◌≡◌, ◌<◌, ℕ, ◌+◌, nat_le, length}
 use Rattle.std.specs.Prelude.{Bool, true, false, ◌&&◌, ◌||◌, not, if◌then◌else◌}
 use Rattle.std.specs.Prelude.{List, [], ◌∷◌, flat_map, Option, Some, None}
 use Rattle.std.specs.List.{AllZip}
-use Rattle.tangle_faults.specs.declared.faults.Origin.{Origin}
+use Rattle.tangle_lines.specs.declared.origin.Origin.{Origin}
 use Rattle.tangle_lexer.specs.declared.tokens.Token.{Token}
 use Rattle.tangle_lexer.specs.declared.tokens.Token.TheVariants as token
 use Rattle.tangle_scan.specs.declared.items.Item.{Item}
@@ -32,22 +32,14 @@ with_line_end (Some p) = Some (next_line p)
 -- next mark.
 abbrev pub counted_items : Option Origin → List Item → List CountedItem
 counted_items origin [] = []
-counted_items origin (item.Word s ∷ items) =
-    record { item = item.Word s; origin = origin } ∷ counted_items origin items
-counted_items origin (item.Sign s ∷ items) =
-    record { item = item.Sign s; origin = origin } ∷ counted_items origin items
-counted_items origin (item.Quoted s ∷ items) =
-    record { item = item.Quoted s; origin = origin } ∷ counted_items origin items
-counted_items origin (item.Verbatim s ∷ items) =
-    record { item = item.Verbatim s; origin = origin } ∷ counted_items origin items
-counted_items origin (item.Code b ∷ items) =
-    record { item = item.Code b; origin = origin } ∷ counted_items origin items
 counted_items origin (item.LineMark p ∷ items) = counted_items (Some p) items
 counted_items origin (item.LineEnd ∷ items) = counted_items (with_line_end origin) items
 counted_items origin (item.QuoteBreak ∷ items) = counted_items (with_line_end origin) items
 counted_items origin (item.UseOf occurrence ∷ items) = counted_items None items
 counted_items origin (item.Defs ∷ items) = counted_items None items
 counted_items origin (item.Blank ∷ items) = counted_items origin items
+counted_items origin (x ∷ items) =
+    record { item = x; origin = origin } ∷ counted_items origin items
 
 -- A source item, its source line, and whether it is in a stretch, where the counted origin may be
 -- that of another line. Locations are made from the tokens of the part, since the item of an ASCII

@@ -1,9 +1,9 @@
 -- What the rules for items give for the tokens that a pass has not read yet.
 use Rattle.std.specs.Prelude.{◌≡◌, ◌≤◌, ℕ, ◌+◌, max, Bool, true, false, ◌==◌, ◌&&◌, ◌||◌, not}
 use Rattle.std.specs.Prelude.{if◌then◌else◌}
-use Rattle.std.specs.Prelude.{List, [], ◌∷◌, ◌++◌, length, take, drop}
+use Rattle.std.specs.Prelude.{List, [], ◌∷◌, ◌++◌, length, take, drop, slice_get, ◌-◌}
 use Rattle.std.specs.Prelude.{Option, Some, None, option_to_list}
-use Rattle.tangle_faults.specs.declared.faults.Origin.{Origin}
+use Rattle.tangle_lines.specs.declared.origin.Origin.{Origin}
 use Rattle.tangle_lexer.specs.declared.tokens.Token.{Token}
 use Rattle.tangle_lexer.specs.declared.tokens.Token.TheVariants as token
 use Rattle.tangle_scan.specs.declared.items.Item.{Item}
@@ -88,16 +88,6 @@ is_rare (token.AsciiConstant value line) = true
 is_rare (token.AllMacros line) = true
 is_rare e = false
 
-abbrev pub is_front_gap : Token → Bool
-is_front_gap token.White = true
-is_front_gap (token.LineEnd line) = true
-is_front_gap e = false
-
--- the tokens after the white space and the line ends at the front
-abbrev pub after_front : List Token → List Token
-after_front [] = []
-after_front (e ∷ es) = if is_front_gap e then after_front es else e ∷ es
-
 -- the second token needs no white space before it, where the first is the name of a macro
 abbrev pub is_name_spaced : List (List ℕ) → List Token → Bool
 is_name_spaced texts [] = true
@@ -149,10 +139,12 @@ abbrev pub entry_continues : List (List ℕ) → Entry → Bool
 entry_continues texts (entry.Item x) = item_continues texts x
 entry_continues texts (entry.Run s) = last_byte texts s == backslash
 
+abbrev pub last_continues : List (List ℕ) → Option Entry → Bool
+last_continues texts None = false
+last_continues texts (Some x) = entry_continues texts x
+
 abbrev pub entries_continue : List (List ℕ) → List Entry → Bool
-entries_continue texts [] = false
-entries_continue texts (x ∷ []) = entry_continues texts x
-entries_continue texts (x ∷ y ∷ entries) = entries_continue texts (y ∷ entries)
+entries_continue texts entries = last_continues texts (slice_get entries (length entries - 1))
 
 -- The items for tokens that were not read yet. `keeps`: white space before an item is a blank.
 -- `continues`: the next line continues this one if it ends here. `white`: white space is directly

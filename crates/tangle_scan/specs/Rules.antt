@@ -4,7 +4,7 @@ use Rattle.std.specs.Prelude.{ℕ, ◌+◌, Bool, true, false, ◌==◌, nat_le,
 use Rattle.std.specs.Prelude.{if◌then◌else◌, codes, Option, None, Some, is_some}
 use Rattle.std.specs.Prelude.{List, [], ◌∷◌, ◌++◌, length, get_or}
 use Rattle.std.specs.List.{list_any}
-use Rattle.tangle_faults.specs.declared.faults.Origin.{Origin}
+use Rattle.tangle_lines.specs.declared.origin.Origin.{Origin}
 use Rattle.tangle_lines.specs.Reading.{SourceLine, origin_at}
 use Rattle.tangle_text.specs.declared.spans.Span.{Span}
 use Rattle.tangle_scan.specs.declared.items.Item.{Item}
@@ -285,11 +285,15 @@ part_items lines line tokens =
 
 -- Macros have no marks, and white space and line ends after @d are skipped.
 
+abbrev pub is_front_gap : Token → Bool
+is_front_gap token.White = true
+is_front_gap (token.LineEnd line) = true
+is_front_gap e = false
+
+-- the tokens after the white space and the line ends at the front
 abbrev pub without_front_gaps : List Token → List Token
 without_front_gaps [] = []
-without_front_gaps (token.White ∷ es) = without_front_gaps es
-without_front_gaps (token.LineEnd line ∷ es) = without_front_gaps es
-without_front_gaps (e ∷ es) = e ∷ es
+without_front_gaps (e ∷ es) = if is_front_gap e then without_front_gaps es else e ∷ es
 
 abbrev pub unmarked_items : List Token → List Item
 unmarked_items [] = []

@@ -21,9 +21,10 @@ use crate::plain_parts::{
     CountedOrigin, counted_on, line_end_item, push_some, span_item, token_items,
 };
 use crate::touching::ends_in_backslash;
+use crate::views::parts_of_run;
 use tangle_lexer::{SpanKind, Token};
 use tangle_lines::{NoMemory, Source};
-use tangle_text::{RunPart, RunParts, Span};
+use tangle_text::{RunPart, Span};
 
 /// What is directly before a position, if faults are left out.
 #[derive(Clone, Copy)]
@@ -62,29 +63,15 @@ struct RarePartState {
     start: Start,
 }
 
-#[inline(always)]
-fn is_constant(token: Token) -> bool
-    ensures { result ≡ rules.is_constant token }
-{
-    matches!(token, Token::AsciiConstant(..))
-}
-
-#[inline(always)]
-fn is_word(token: Token) -> bool
-    ensures { result ≡ rules.is_word_token token }
-{
-    matches!(token, Token::Span(SpanKind::Word, _))
-}
-
 /// Whether a blank goes between `last` and a token that is an item.
 #[inline(always)]
 fn needs_blank(last: Last, token: Token) -> bool
     ensures { result ≡ passes.needs_blank last token }
 {
-    match last {
-        Last::White | Last::ContinuedWhite => true,
-        Last::AsciiConstant => is_constant(token) || is_word(token),
-        Last::Word => is_constant(token),
+    match (last, token) {
+        (Last::White | Last::ContinuedWhite, _) => true,
+        (Last::AsciiConstant, Token::AsciiConstant(..) | Token::Span(SpanKind::Word, _)) => true,
+        (Last::Word, Token::AsciiConstant(..)) => true,
         _ => false,
     }
 }
@@ -299,7 +286,7 @@ fn add_run(
     ensures limit { IfOk result (λ next. highest next ≤ highest at) }
     ensures start { IfOk result (λ next. next.start.items ≤ length items.new.items) }
 {
-    let mut parts = RunParts::new(source.line(span.line as usize), span);
+    let mut parts = parts_of_run(source, span);
     let mut at = at;
     while let Some(part) = parts.next() {
         at = add_run_part(items, at, part)?;

@@ -1,6 +1,5 @@
 //! The scanner's run over a source.
-ghost use Rattle.std.specs.Prelude.{◌≡◌, ◌<◌, ◌+◌, ◌^◌, length, map, IfOk};
-ghost use Rattle.tangle_text.specs.Text.{text_from};
+ghost use Rattle.std.specs.Prelude.{◌≡◌, map, IfOk};
 ghost use Rattle.tangle_lexer.specs.Steps.{all_tokens, all_occurrences};
 ghost use Rattle.tangle_scan.specs.Web.{web_of};
 ghost use Rattle.tangle_lexer.specs.Occurrences.{occurrence_of};
@@ -21,7 +20,6 @@ use tangle_text::Reader;
 
 /// Gathers the pieces, macros and faults of a source, and the occurrences of its names.
 fn gather(alloc: Global, source: &Source) -> Result<(WebBuilder, Vec<Occurrence>), NoMemory>
-    requires { length (text_from 0 source.now.lines) + 1 < 2 ^ 64 }
     ensures builder { IfOk result (λ r. builder_read (texts_of source.now.lines) r.0
         ≡ builder_with source.now nothing (all_tokens source.now.lines)) }
     ensures runs { IfOk result (λ r. RunsAreInRange (texts_of source.now.lines) r.0.pieces) }
@@ -34,6 +32,7 @@ fn gather(alloc: Global, source: &Source) -> Result<(WebBuilder, Vec<Occurrence>
         tokens: Vec::new(alloc),
         occurrences: Vec::new(alloc),
     };
+    // The count of sections cannot overflow: each has a byte of the text, which is short.
     let mut reader = Reader::new(source);
     let first = first_state(source);
     let (mut state, mut next_head) = next_block(source, &mut buffers, &mut reader, first)?;
@@ -44,16 +43,6 @@ fn gather(alloc: Global, source: &Source) -> Result<(WebBuilder, Vec<Occurrence>
         builder.add_block(alloc, source, &mut macro_buffer, head, &buffers.tokens)?;
     }
     Ok((builder, buffers.occurrences))
-}
-
-/// Proves that the text of a source is short: at most 2,000,000 lines, each of at most 65,535 bytes
-/// and a line end. The loop is for the proof alone, and changes nothing.
-fn text_is_short(source: &Source)
-    ensures { length (text_from 0 source.now.lines) < 2 ^ 63 }
-{
-    for number in 0..source.count() {
-        let _ = source.line(number);
-    }
 }
 
 /// Scans the lines of a source: finds its sections, C parts, macros and section names, by the rules
@@ -81,8 +70,6 @@ pub fn scan<'s, 'a>(alloc: Global, source: &'s Source<'a>) -> Result<Web<'s, 'a>
     ensures line_truth { IfOk result (λ web. PiecesAreAtTheirLines source.now web) }
     ensures apart { IfOk result (λ web. StaysApart source.now web) }
 {
-    // The count of sections cannot overflow, since each section has a byte of the text.
-    text_is_short(source);
     let (builder, occurrences) = gather(alloc, source)?;
     Ok(Web::new(source, builder, occurrences))
 }

@@ -235,14 +235,14 @@ pub(crate) fn has_rare(tokens: &[Token]) -> bool
 
 /// Whether a token is white space or a line end.
 fn is_front_gap(token: Token) -> bool
-    ensures { result ≡ passes.is_front_gap token }
+    ensures { result ≡ rules.is_front_gap token }
 {
     matches!(token, Token::White | Token::LineEnd(_))
 }
 
 /// The tokens after the white space and the line ends at their front.
 fn after_front(tokens: &[Token]) -> &[Token]
-    ensures { result.now ≡ passes.after_front tokens.now }
+    ensures { result.now ≡ rules.without_front_gaps tokens.now }
 {
     let mut rest = tokens;
     while let [token, others @ ..] = rest {

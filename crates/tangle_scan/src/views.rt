@@ -23,7 +23,7 @@ fn item_of_part(part: RunPart) -> Item
 }
 
 /// The parts of a run of this source.
-fn parts_of_run<'a>(source: &Source<'a>, span: Span) -> RunParts<'a>
+pub(crate) fn parts_of_run<'a>(source: &Source<'a>, span: Span) -> RunParts<'a>
     requires { IsSpan (texts_of source.now.lines) span }
     ensures { result ≡ run_parts (texts_of source.now.lines) span }
 {

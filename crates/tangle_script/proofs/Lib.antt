@@ -3,5 +3,4 @@ pub mod CommandLemmas
 pub mod ConversationLemmas
 pub mod BufferLemmas
 pub mod RunLemmas
-pub mod NothingReadLemmas
-pub mod ShortLemmas
+pub mod FailureLemmas

@@ -1,17 +1,19 @@
 -- The request of a command is that of its row of the table.
-use Rattle.std.proofs.Common.{◌≡◌, ◌∙◌, ◌⊎◌, inl, inr, ℕ, ◌<◌, ◌≤◌, ◌+◌, ◌-◌, ◌*◌, ◌==◌, Bool, true, false, cond}
-use Rattle.std.proofs.Common.{length, take, drop, List, [], ◌∷◌, ◌++◌, Option, Some, None, ap, subst, sym, refl, arith}
-use Rattle.std.proofs.Common.{take-append-drop, bytes_eq}
+use Rattle.std.proofs.Common.{◌≡◌, ◌∙◌, ◌⊎◌, inl, inr, ℕ, ◌<◌, ◌≤◌, ◌+◌, ◌-◌, ◌*◌, ◌==◌, Bool, true}
+use Rattle.std.proofs.Common.{false, cond, length, take, drop, List, [], ◌∷◌, ◌++◌, Option, Some}
+use Rattle.std.proofs.Common.{None, ap, subst, sym, refl, arith, take-append-drop, bytes_eq}
 use Rattle.std.specs.Prelude.{◌&&◌, codes, nat_lt}
 use Rattle.std.specs.List.{list_all}
-use Rattle.std.proofs.lemmas.Bool.{eqb-true, lt-ltb}
+use Rattle.std.proofs.lemmas.Bool.{and_parts, eqb-true, lt-ltb}
 use Rattle.std.proofs.lemmas.Slice.Eq.{bytes_eq-Decides}
 use borrow.Author.Tests.{ltb-true}
-use Rattle.tangle_script.specs.Requests.{Command, Request, after_word, file_request, number_and_file, numbered}
-use Rattle.tangle_script.specs.Requests.{request_of, request_with, row, text_request}
-use Rattle.tangle_script.specs.Requests.Request.{Insert, Replace, Remove, Create, Discard, Show, MarksFull, MarksNone}
-use Rattle.tangle_script.specs.Requests.Request.{Begin, Commit, Cancel, Faults, Work, Quit, BadCommand}
-use Rattle.tangle_script.specs.Table.{CommandAsks, AsksForItsRow, IsNumbered, IsRow, is_digit, value_after}
+use Rattle.tangle_script.specs.Requests.{Command, Request, after_word, file_request}
+use Rattle.tangle_script.specs.Requests.{number_and_file, numbered, request_of, request_with, row}
+use Rattle.tangle_script.specs.Requests.{text_request}
+use Rattle.tangle_script.specs.Requests.Request.{Insert, Replace, Remove}
+use Rattle.tangle_script.specs.Requests.Request.{BadCommand}
+use Rattle.tangle_script.specs.Table.{CommandAsks, AsksForItsRow, IsNumbered, IsRow, is_digit}
+use Rattle.tangle_script.specs.Table.{value_after}
 
 -- digits, one space and a file are read as the number and the file
 
@@ -21,19 +23,9 @@ read_number : (count n : ℕ) (digits file : List ℕ) → list_all is_digit dig
 read_number count n [] file all few some =
     ap (λ b. cond b (Some (n, file)) None) (lt-ltb 0 count (omega arith))
 read_number count n (d ∷ ds) file all few some =
-    by (is_digit d) all (nat_lt count 9) (lt-ltb count 9 (omega arith))
-    (λ h. read_number (count + 1) (n * 10 + (d - 48)) ds file h (omega arith) (omega arith))
-  where
-    by : (b : Bool) → (b && list_all is_digit ds) ≡ true → (t : Bool) → t ≡ true
-        → (list_all is_digit ds ≡ true
-        → number_and_file (count + 1) (n * 10 + (d - 48)) (ds ++ 32 ∷ file)
-        ≡ Some (value_after (n * 10 + (d - 48)) ds, file))
-        → cond (b && t) (number_and_file (count + 1) (n * 10 + (d - 48)) (ds ++ 32 ∷ file))
-        (cond ((d == 32) && nat_lt 0 count) (Some (n, ds ++ 32 ∷ file)) None)
-        ≡ Some (value_after (n * 10 + (d - 48)) ds, file)
-    by true all true e h = h all
-    by true all false e h = absurd (cc)
-    by false all t e h = absurd (cc)
+    let digits = and_parts (is_digit d) (list_all is_digit ds) all in
+    rw (digits.0, lt-ltb count 9 (omega arith))
+    (read_number (count + 1) (n * 10 + (d - 48)) ds file digits.1 (omega arith) (omega arith))
 
 -- what is read as a number and a file is digits, one space and the file
 
@@ -45,45 +37,42 @@ pub record IsRead (count n : ℕ) (rest : List ℕ) (number : ℕ) (file : List 
   pub value : value_after n digits ≡ number
   pub whole : rest ≡ digits ++ 32 ∷ file
 
-ended_number : (count n b : ℕ) (bs : List ℕ) (p : ℕ × List ℕ) (v : Bool) → (b == 32) ≡ v
-    → (w : Bool) → nat_lt 0 count ≡ w → cond (v && w) (Some (n, bs)) None ≡ Some p
-    → IsRead count n (b ∷ bs) p.0 p.1
-ended_number count n b bs p true is true some e = record {
-  digits = [];
-  all = refl;
-  few = omega arith;
-  some = omega (arith, ltb-true 0 count some);
-  value = cc;
-  whole = ap (λ c. c ∷ bs) (eqb-true b 32 is) ∙ (let same : bs ≡ p.1 = cc in ap (λ l. 32 ∷ l) same);
-}
-ended_number count n b bs p true is false some e = absurd (cc)
-ended_number count n b bs p false is w some e = absurd (cc)
-
 number_read : (count n : ℕ) (rest : List ℕ) (p : ℕ × List ℕ) → number_and_file count n rest ≡ Some p
     → IsRead count n rest p.0 p.1
 number_read count n [] p e = absurd (cc)
 number_read count n (b ∷ bs) p e =
-    by (is_digit b) refl (nat_lt count 9) refl e (number_read (count + 1) (n * 10 + (b - 48)) bs p)
+    by (is_digit b && nat_lt count 9) refl ((b == 32) && nat_lt 0 count) refl e
+    (number_read (count + 1) (n * 10 + (b - 48)) bs p)
   where
-    by : (t : Bool) → is_digit b ≡ t → (u : Bool) → nat_lt count 9 ≡ u
-        → cond (t && u) (number_and_file (count + 1) (n * 10 + (b - 48)) bs)
-        (cond ((b == 32) && nat_lt 0 count) (Some (n, bs)) None) ≡ Some p
+    by : (t : Bool) → (is_digit b && nat_lt count 9) ≡ t → (u : Bool)
+        → ((b == 32) && nat_lt 0 count) ≡ u
+        → cond t (number_and_file (count + 1) (n * 10 + (b - 48)) bs) (cond u (Some (n, bs)) None)
+        ≡ Some p
         → (number_and_file (count + 1) (n * 10 + (b - 48)) bs ≡ Some p
         → IsRead (count + 1) (n * 10 + (b - 48)) bs p.0 p.1) → IsRead count n (b ∷ bs) p.0 p.1
-    by true digit true fits e h =
+    by true is u are e h =
         let k = h e in
-        let less : count < 9 = ltb-true count 9 fits in
+        let digit = and_parts (is_digit b) (nat_lt count 9) is in
         record {
           digits = b ∷ k.digits;
-          all = ap (λ t. t && list_all is_digit k.digits) digit ∙ k.all;
-          few = omega (arith, k.few);
+          all = ap (λ t. t && list_all is_digit k.digits) digit.0 ∙ k.all;
+          few = omega (arith, k.few, ltb-true count 9 digit.1);
           some = omega arith;
           value = k.value;
           whole = ap (λ l. b ∷ l) k.whole;
         }
-    by true digit false fits e h =
-        ended_number count n b bs p (b == 32) refl (nat_lt 0 count) refl e
-    by false digit u fits e h = ended_number count n b bs p (b == 32) refl (nat_lt 0 count) refl e
+    by false is true are e h =
+        let space = and_parts (b == 32) (nat_lt 0 count) are in
+        record {
+          digits = [];
+          all = refl;
+          few = omega arith;
+          some = omega (arith, ltb-true 0 count space.1);
+          value = cc;
+          whole = ap (λ c. c ∷ bs) (eqb-true b 32 space.0)
+              ∙ (let same : bs ≡ p.1 = cc in ap (λ l. 32 ∷ l) same);
+        }
+    by false is false are e h = absurd (cc)
 
 -- a row is read as its request
 
@@ -200,35 +189,24 @@ module _ (c : Command) where
       by None t = none_row c.line refl t
       by (Some text) t = some_row c.line text refl t
 
-  no_row : request_of c ≡ BadCommand → (r : Request) → IsRow c r → ⊥
-  no_row bad r h = subst (IsRow c) (sym (row_asked c r h) ∙ bad) h
-
   -- a command that is in a row is not bad
   row_asks : (r : Request) → IsRow c r → CommandAsks c r
   row_asks BadCommand h = absurd h
   row_asks r h = h
 
-  request_asks : CommandAsks c (request_of c)
-  request_asks = elim row_or_bad [
-    | inl h ↦ row_asks (request_of c) h
-    | inr bad ↦ subst (CommandAsks c) (sym bad) (no_row bad)
-  ]
-
-  asks_row : (r : Request) → CommandAsks c r → IsRow c r ⊎ (r ≡ BadCommand)
-  asks_row BadCommand h = inr refl
-  asks_row r h = inl h
-
-  bad_once : ((r : Request) → IsRow c r → ⊥) → BadCommand ≡ request_of c
-  bad_once none = elim row_or_bad [
+  asks_once : (r : Request) → CommandAsks c r → r ≡ request_of c
+  asks_once BadCommand none = elim row_or_bad [
     | inl h ↦ absurd (none (request_of c) h)
     | inr bad ↦ sym bad
   ]
-
-  asks_once : (r : Request) → CommandAsks c r → r ≡ request_of c
-  asks_once r h = elim (asks_row r h) [
-    | inl k ↦ sym (row_asked c r k)
-    | inr bad ↦ bad ∙ bad_once (subst (CommandAsks c) bad h)
-  ]
+  asks_once r h = sym (row_asked c r h)
 
   pub asks_for_its_row : AsksForItsRow c
-  asks_for_its_row = (request_asks, asks_once)
+  asks_for_its_row = (
+    elim row_or_bad [
+      | inl h ↦ row_asks (request_of c) h
+      | inr bad ↦ subst (CommandAsks c) (sym bad)
+          (λ r h. subst (IsRow c) (sym (row_asked c r h) ∙ bad) h)
+    ],
+    asks_once,
+  )

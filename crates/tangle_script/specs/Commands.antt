@@ -1,6 +1,6 @@
 -- The bytes of a script: its lines, and the commands that have ended.
-use Rattle.std.specs.Prelude.{◌≡◌, ◌⊎◌, ℕ, ◌==◌, Bool, true, false, List, [], ◌∷◌, ◌++◌, Option}
-use Rattle.std.specs.Prelude.{None, Some, if◌then◌else◌}
+use Rattle.std.specs.Prelude.{◌≡◌, ℕ, ◌==◌, Bool, true, false, List, [], ◌∷◌, ◌++◌, Option, None}
+use Rattle.std.specs.Prelude.{Some, if◌then◌else◌}
 use Rattle.tangle_script.specs.Requests.{Command, takes_text}
 
 -- the lines that end in these bytes; `before` is the beginning of the first line
@@ -12,10 +12,6 @@ ended before (b ∷ bs) = if b == 10 then before ∷ ended [] bs else ended (bef
 abbrev pub unended : List ℕ → List ℕ → List ℕ
 unended before [] = before
 unended before (b ∷ bs) = if b == 10 then unended [] bs else unended (before ++ b ∷ []) bs
-
-abbrev pub last_line : List ℕ → List (List ℕ)
-last_line [] = []
-last_line (b ∷ bs) = (b ∷ bs) ∷ []
 
 -- the command of a line that takes no text; an empty line is none
 abbrev pub alone : List ℕ → List Command
@@ -38,11 +34,6 @@ waiting None (line ∷ lines) =
     if takes_text line then waiting (Some line) lines else waiting None lines
 waiting (Some head) (line ∷ lines) = waiting None lines
 
--- the command of a line whose text is missing
-abbrev pub textless : Option (List ℕ) → List Command
-textless None = []
-textless (Some head) = record { line = head; text = None } ∷ []
-
 -- the commands that have ended in the bytes read so far
 abbrev pub ended_commands : List ℕ → List Command
 ended_commands read = commands_of None (ended [] read)
@@ -57,12 +48,21 @@ after_waiting_line (Some head) rest = head ++ 10 ∷ rest
 abbrev pub pending : List ℕ → List ℕ
 pending read = after_waiting_line (waiting None (ended [] read)) (unended [] read)
 
--- the commands at the end of a script, where a last line without a line feed is a line too
-abbrev pub commands_at_end : List (List ℕ) → List Command
-commands_at_end lines = commands_of None lines ++ textless (waiting None lines)
+-- the text at the end of a script, if there is one
+abbrev pub last_text : List ℕ → Option (List ℕ)
+last_text [] = None
+last_text bytes = Some bytes
 
+-- the command at the end of a script: that of the line that waits for its text, if there is one,
+-- else that of a last line without a line feed
+abbrev pub last_commands : Option (List ℕ) → List ℕ → List Command
+last_commands None last = alone last
+last_commands (Some head) last = record { line = head; text = last_text last } ∷ []
+
+-- the commands of a whole script
 abbrev pub all_commands : List ℕ → List Command
-all_commands read = commands_at_end (ended [] read ++ last_line (unended [] read))
+all_commands read =
+    ended_commands read ++ last_commands (waiting None (ended [] read)) (unended [] read)
 
 -- the command of a line, with its text if it takes one
 abbrev pub found_commands : List ℕ → Option (List ℕ) → List Command
@@ -74,8 +74,16 @@ abbrev pub is_no_command : List ℕ → Option (List ℕ) → Bool
 is_no_command [] None = true
 is_no_command _ _ = false
 
--- no command has ended in these bytes: at most one line has, and it waits for its text
-abbrev pub OnlyWaits : List ℕ → Type 0
-OnlyWaits bytes =
-    (ended [] bytes ≡ [])
-    ⊎ ((head : List ℕ) × (ended [] bytes ≡ head ∷ []) × (takes_text head ≡ true))
+-- the line takes a text, and it has ended
+abbrev pub Waits : Option (List ℕ) → Type 0
+Waits None = Unit {0}
+Waits (Some head) = (ended [] head ≡ []) × (takes_text head ≡ true)
+
+-- no command has ended in these bytes: they are a line that waits for its text, if there is one,
+-- and bytes without a line feed
+pub record OnlyWaits (bytes : List ℕ) : Type 0 where
+  pub head : Option (List ℕ)
+  pub last : List ℕ
+  pub waits : Waits head
+  pub no_feed : ended [] last ≡ []
+  pub are : bytes ≡ after_waiting_line head last

@@ -113,7 +113,7 @@ unfoldable pub request_of : Command → Request
 request_of c = request_with c.line c.text
 
 -- whether the line takes the next line as its text
-abbrev pub takes_text : List ℕ → Bool
+unfoldable pub takes_text : List ℕ → Bool
 takes_text line =
     is_some (after_word (codes "insert ") line) || is_some (after_word (codes "replace ") line)
 

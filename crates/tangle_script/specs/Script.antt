@@ -1,9 +1,8 @@
 -- How the commands of a script are answered.
-use Rattle.std.specs.Prelude.{◌≡◌, ◌<◌, ◌⊎◌, ℕ, Bool, true, false, List, [], ◌∷◌, ◌++◌, codes}
-use Rattle.std.specs.Prelude.{length, take, Option, Result, Ok, Err}
+use Rattle.std.specs.Prelude.{◌≡◌, ◌⊎◌, ℕ, Bool, true, false, List, [], ◌∷◌, ◌++◌, codes, Option}
+use Rattle.std.specs.Prelude.{Result, Ok, Err}
 use Rattle.std.specs.List.{list_any}
-use Rattle.std.specs.Io.KnownBytes.{Appends}
-use Rattle.tangle_streams.specs.Streams.{Failed, Stream, TakesAll, TakesPrefix}
+use Rattle.tangle_streams.specs.Streams.{Stream, TakesAll, TakesPrefix}
 use Rattle.tangle_script.specs.Requests.{Command, Request, is_edit, is_quit, request_of}
 
 -- the states of a project and a writer at a moment
@@ -55,32 +54,35 @@ module _ {State : Type 0} (answers : State → Request → List ℕ → State �
   pub record AreAnswered (old new : Exchange State) (commands : List Command) : Type 0 where
     pub output : List ℕ
     pub answered : Dialogue old.state commands output new.state
-    pub written : Appends old.stream.taken new.stream.taken output
-    pub failures : new.stream.failures ≡ old.stream.failures
+    pub written : TakesAll old.stream new.stream output
+
+  -- a command that ends the run was answered
+  abbrev pub IsQuitAnswered : Command → Exchange State → Exchange State → Type 0
+  IsQuitAnswered c old new = (is_quit (request_of c) ≡ true) × AreAnswered old new (c ∷ [])
+
+  -- the writer failed in the answer to a command, and has a proper prefix of it
+  abbrev pub IsAnswerCut : Command → Exchange State → Exchange State → Type 0
+  IsAnswerCut c old new =
+      (answer : List ℕ) × Replies old.state (request_of c) answer new.state
+      × TakesPrefix old.stream new.stream answer
+
+  -- One of these commands is the last of the run, which ends there in this way. The commands before
+  -- it were answered, and none of them ends the run.
+  pub record HasLast (way : Command → Exchange State → Exchange State → Type 0)
+      (old new : Exchange State) (commands : List Command) : Type 0 where
+    pub front : List Command
+    pub last : Command
+    pub later : List Command
+    pub are : commands ≡ front ++ last ∷ later
+    pub no_quit : has_quit front ≡ false
+    pub before : Exchange State
+    pub is_answered : AreAnswered old before front
+    pub at_last : way last before new
 
   -- the writer failed; it has the answers to the first commands, and a prefix of the next answer
-  pub record IsCut (old new : Exchange State) (commands : List Command) : Type 0 where
-    pub front : List Command
-    pub last : Command
-    pub later : List Command
-    pub are : commands ≡ front ++ last ∷ later
-    pub no_quit : has_quit front ≡ false
-    pub before : State
-    pub output : List ℕ
-    pub answer : List ℕ
-    pub answered : Dialogue old.state front output before
-    pub cut : Replies before (request_of last) answer new.state
-    pub count : ℕ
-    pub within : count < length answer
-    pub written : Appends old.stream.taken new.stream.taken (output ++ take count answer)
-    pub failed : Failed old.stream.failures new.stream.failures
+  abbrev pub IsCut : Exchange State → Exchange State → List Command → Type 0
+  IsCut old new commands = HasLast IsAnswerCut old new commands
 
   -- the commands up to the first `quit` were answered
-  pub record IsQuit (old new : Exchange State) (commands : List Command) : Type 0 where
-    pub front : List Command
-    pub last : Command
-    pub later : List Command
-    pub are : commands ≡ front ++ last ∷ later
-    pub no_quit : has_quit front ≡ false
-    pub quit : is_quit (request_of last) ≡ true
-    pub is_answered : AreAnswered old new (front ++ last ∷ [])
+  abbrev pub IsQuit : Exchange State → Exchange State → List Command → Type 0
+  IsQuit old new commands = HasLast IsQuitAnswered old new commands

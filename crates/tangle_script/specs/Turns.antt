@@ -1,42 +1,64 @@
 -- A run while it goes on, and the reasons for which it ends.
 use Rattle.std.specs.Prelude.{◌≡◌, ℕ, Bool, true, false, List, [], ◌∷◌, length, Option, None, Some}
+use Rattle.std.specs.Prelude.{Result, Ok, Err}
 use Rattle.std.specs.Io.KnownBytes.{Consumes, IsAtEnd, Keeps}
 use Rattle.tangle_streams.specs.Streams.{one_more_failure}
 use Rattle.tangle_script.specs.Requests.{Command, Request}
-use Rattle.tangle_script.specs.Commands.{ended_commands, pending}
-use Rattle.tangle_script.specs.Script.{IsCut, IsQuit, AreAnswered, Conversation, Exchange, has_quit}
-use Rattle.tangle_script.specs.Endings.{IsStatus, ConversationEnds}
+use Rattle.tangle_script.specs.Commands.{pending}
+use Rattle.tangle_script.specs.Script.{IsCut, IsQuit, IsQuitAnswered, IsAnswerCut, HasLast}
+use Rattle.tangle_script.specs.Script.{AreAnswered, Conversation, Exchange, has_quit}
+use Rattle.tangle_script.specs.Endings.{AreRead, EndedAreAnswered, IsStatus, ConversationEnds}
 use Rattle.tangle_script.specs.declared.answering.End.{End}
 use Rattle.tangle_script.specs.declared.answering.End.TheVariants.{Done, Failed as IsFailed}
 
 module _ {State : Type 0} (answers : State → Request → List ℕ → State → Type 0) where
-  -- these commands were answered up to a `quit` or up to a failure of the writer
-  abbrev pub Breaks : End → Exchange State → Exchange State → List Command → Type 0
-  Breaks Done old new commands = IsQuit answers old new commands
-  Breaks IsFailed old new commands = IsCut answers old new commands
+  -- these commands were answered, and none of them ends the run
+  abbrev pub GoesOn : Exchange State → Exchange State → List Command → Type 0
+  GoesOn old new commands = AreAnswered answers old new commands × (has_quit commands ≡ false)
+
+  -- the commands of a line were answered; `quit` is whether one of them ends the run
+  abbrev pub AnswersLine : Bool → Exchange State → Exchange State → List Command → Type 0
+  AnswersLine true old new commands =
+      AreAnswered answers old new commands × IsQuit answers old new commands
+  AnswersLine false old new commands = GoesOn old new commands
+
+  -- the commands of a line were answered, or the writer failed
+  abbrev pub EndsLine : {E : Type 0} → Result Bool E → Exchange State → Exchange State
+      → List Command → Type 0
+  EndsLine (Ok quit) old new commands = AnswersLine quit old new commands
+  EndsLine (Err fault) old new commands = IsCut answers old new commands
+
+  -- what happens at the last command of a run that ends for this reason before the script does
+  abbrev pub ends_at : End → Command → Exchange State → Exchange State → Type 0
+  ends_at Done = IsQuitAnswered answers
+  ends_at IsFailed = IsAnswerCut answers
+
+  -- these commands were answered, and the run goes on; or it ended at one of them
+  abbrev pub EndsPart : {T : Type 0} → Result T End → Exchange State → Exchange State
+      → List Command → Type 0
+  EndsPart (Ok result) old new commands = GoesOn old new commands
+  EndsPart (Err end) old new commands = HasLast answers (ends_at end) old new commands
+
+  -- the commands at the end of a script were answered, or the writer failed
+  abbrev pub EndsScript : End → Exchange State → Exchange State → List Command → Type 0
+  EndsScript Done old new commands = AreAnswered answers old new commands
+  EndsScript IsFailed old new commands = IsCut answers old new commands
 
   -- `count` bytes were read, the commands that ended in them are answered, and `buffered` is in the
   -- buffer
   pub record IsMidway (old now : Conversation State) (buffered : List ℕ) (count : ℕ) : Type 0 where
     pub read : List ℕ
-    pub given : Consumes old.remaining now.remaining read
+    pub are_read : AreRead old now read
     pub counted : length read ≡ count
-    pub reader_failures : now.reader_failures ≡ old.reader_failures
-    pub no_quit : has_quit (ended_commands read) ≡ false
-    pub is_answered : AreAnswered answers old.exchange now.exchange (ended_commands read)
+    pub answered : EndedAreAnswered answers old.exchange now.exchange read
     pub buffered_is : buffered ≡ pending read
 
-  -- a run came to its end, and its status is that of its faults
-  abbrev pub EndsAnswered : (State → Bool → Type 0) → Conversation State → Conversation State
-      → Type 0
-  EndsAnswered has_error old new =
-      (status : ℕ) → IsStatus has_error new.exchange.state status
-      → ConversationEnds answers has_error old new status
-
-  -- how a run ends for this reason
+  -- how a run ends for this reason: where it is done, its status is that of its faults
   abbrev pub EndsBy : (State → Bool → Type 0) → End → Conversation State → Conversation State
       → Type 0
-  EndsBy has_error Done old new = EndsAnswered has_error old new
+  EndsBy has_error Done old new =
+      (status : ℕ) → IsStatus has_error new.exchange.state status
+      → ConversationEnds answers has_error old new status
   EndsBy has_error IsFailed old new = ConversationEnds answers has_error old new 3
 
 -- whether the script has another byte; `None` where the reader failed

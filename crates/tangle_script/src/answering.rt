@@ -1,11 +1,10 @@
 //! Answers the commands in a part of a script.
-ghost use Rattle.std.specs.Prelude.{◌≡◌, ◌≤◌, drop, length, false, IfErr, IfOk};
+ghost use Rattle.std.specs.Prelude.{◌≡◌, ◌≤◌, drop, length, IfOk};
 ghost use Rattle.std.specs.Option.{option_copied};
 ghost use Rattle.tangle_script.specs.Commands.{OnlyWaits, all_commands, ended_commands};
 ghost use Rattle.tangle_script.specs.Commands.{found_commands, is_no_command, pending};
-ghost use Rattle.tangle_script.specs.Script.{IsCut, AreAnswered, has_quit, exchange};
-ghost use Rattle.tangle_script.specs.Turns.{Breaks};
-ghost use Rattle.tangle_script.specs.declared.answering.End.TheVariants.{Failed};
+ghost use Rattle.tangle_script.specs.Script.{exchange};
+ghost use Rattle.tangle_script.specs.Turns.{EndsLine, EndsPart, EndsScript};
 
 use crate::commands::{first_command, last_command};
 use crate::project::{Project, SinkFailed};
@@ -16,7 +15,7 @@ use tangle_streams::Sink;
 /// Why a run ends.
 #[derive(Clone, Copy, Debug, PartialEq, Eq)]
 pub enum End {
-    /// A `quit` was answered.
+    /// A `quit` was answered, or the script came to its end.
     Done,
     /// The reader or the writer failed, or memory ran out.
     Failed,
@@ -40,16 +39,10 @@ fn answer_line<P: Project, S: Sink>(
     text: Option<&[u8]>,
     sink: &mut S,
 ) -> Result<bool, SinkFailed>
-    ensures answered { IfOk result (λ _. AreAnswered P.answers
+    ensures { EndsLine P.answers result
         (exchange (P.state session.old draft.old) (S.stream sink.old))
         (exchange (P.state session.new draft.new) (S.stream sink.new))
-        (found_commands line.now (option_copied text.entry))) }
-    ensures quit { IfOk result (λ quit.
-        has_quit (found_commands line.now (option_copied text.entry)) ≡ quit) }
-    ensures cut { IfErr result (λ _. IsCut P.answers
-        (exchange (P.state session.old draft.old) (S.stream sink.old))
-        (exchange (P.state session.new draft.new) (S.stream sink.new))
-        (found_commands line.now (option_copied text.entry))) }
+        (found_commands line.now (option_copied text.entry)) }
 {
     if is_no_command(line, text) {
         return Ok(false);
@@ -74,17 +67,12 @@ pub fn answer_all<P: Project, S: Sink>(
     bytes: &[u8],
     sink: &mut S,
 ) -> Result<usize, End>
-    ensures answered { IfOk result (λ _. AreAnswered P.answers
+    ensures answered { EndsPart P.answers result
         (exchange (P.state session.old draft.old) (S.stream sink.old))
         (exchange (P.state session.new draft.new) (S.stream sink.new))
-        (ended_commands bytes.now)) }
-    ensures no_quit { IfOk result (λ _. has_quit (ended_commands bytes.now) ≡ false) }
+        (ended_commands bytes.now) }
     ensures used { IfOk result (λ used.
         (pending bytes.now ≡ drop used bytes.now) × (used ≤ length bytes.now)) }
-    ensures breaks { IfErr result (λ end. Breaks P.answers end
-        (exchange (P.state session.old draft.old) (S.stream sink.old))
-        (exchange (P.state session.new draft.new) (S.stream sink.new))
-        (ended_commands bytes.now)) }
 {
     let mut rest = bytes;
     while let Some(found) = first_command(rest) {
@@ -99,31 +87,24 @@ pub fn answer_all<P: Project, S: Sink>(
 }
 
 /// Answers the command at the end of a script: a line without a line feed, or one whose text is
-/// missing or has no line feed.
-///
-/// # Errors
-///
-/// `End::Failed` where the sink failed before it took all of the answer.
+/// missing or has no line feed. Returns `End::Failed` where the sink failed before it took all of
+/// the answer.
 pub fn answer_last<P: Project, S: Sink>(
     alloc: Global,
     session: &mut P::Session,
     draft: &mut P::Draft,
     bytes: &[u8],
     sink: &mut S,
-) -> Result<(), End>
+) -> End
     requires { OnlyWaits bytes.now }
-    ensures answered { IfOk result (λ _. AreAnswered P.answers
+    ensures { EndsScript P.answers result
         (exchange (P.state session.old draft.old) (S.stream sink.old))
         (exchange (P.state session.new draft.new) (S.stream sink.new))
-        (all_commands bytes.now)) }
-    ensures cut { IfErr result (λ end. (end ≡ Failed) × IsCut P.answers
-        (exchange (P.state session.old draft.old) (S.stream sink.old))
-        (exchange (P.state session.new draft.new) (S.stream sink.new))
-        (all_commands bytes.now)) }
+        (all_commands bytes.now) }
 {
     let (line, text) = last_command(bytes);
     match answer_line::<P, S>(alloc, session, draft, line, text, sink) {
-        Ok(_) => Ok(()),
-        Err(_) => Err(End::Failed),
+        Ok(_) => End::Done,
+        Err(_) => End::Failed,
     }
 }

@@ -164,6 +164,7 @@ fn text_request<'a>(line: &'a [u8], text: &'a [u8]) -> Request<'a>
 }
 
 /// Whether the line takes the next line as its text.
+#[tactic(auto, unfolding(crate::specs::Requests::takes_text))]
 pub fn takes_text(line: &[u8]) -> bool
     ensures { result ≡ takes_text line.now }
 {

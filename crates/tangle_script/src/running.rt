@@ -1,17 +1,12 @@
 //! Runs a script: each command is answered before more of the script is read.
-ghost use Rattle.std.specs.Prelude.{◌≡◌, ◌<◌, ◌≤◌, ◌+◌, ℕ, length, take, false};
-ghost use Rattle.std.specs.Prelude.{IfErr, IfOk, MatchResult, OnOk};
-ghost use Rattle.std.specs.Io.KnownBytes.{IsAtEnd};
+ghost use Rattle.std.specs.Prelude.{◌≡◌, ◌≤◌, length, take, OnOk};
 ghost use Rattle.tangle_script.specs.Buffer.{bytes};
 ghost use Rattle.tangle_script.specs.Commands.{OnlyWaits, ended_commands, pending};
-ghost use Rattle.tangle_script.specs.Script.{AreAnswered, Conversation, has_quit, conversation};
-ghost use Rattle.tangle_script.specs.BufferSpace.{chunk};
-ghost use Rattle.tangle_script.specs.Script.{exchange};
-ghost use Rattle.tangle_script.specs.Endings.{IsStatus, ConversationEnds, script_limit};
+ghost use Rattle.tangle_script.specs.Script.{exchange, conversation};
+ghost use Rattle.tangle_script.specs.Endings.{IsStatus, ConversationEnds};
 ghost use Rattle.tangle_script.specs.NothingRead.{Status3NeedsFailure};
 ghost use Rattle.tangle_script.specs.Short.{ShortNeedsNoMemory};
-ghost use Rattle.tangle_script.specs.Turns.{Breaks, EndsAnswered, EndsBy, IsMidway, Probes};
-ghost use Rattle.tangle_script.specs.Turns.{counted_probe};
+ghost use Rattle.tangle_script.specs.Turns.{EndsPart, EndsBy, Probes, counted_probe};
 
 use crate::answering::{End, answer_all, answer_last};
 use crate::buffer::{Buffer, CHUNK};
@@ -36,16 +31,11 @@ fn answer_chunk<P: Project, S: Sink>(
 ) -> Result<(), End>
     requires within { searched ≤ length (bytes buffer.old) }
     requires waits { OnlyWaits (take searched (bytes buffer.old)) }
-    ensures answered { IfOk result (λ _. AreAnswered P.answers
+    ensures answered { EndsPart P.answers result
         (exchange (P.state session.old draft.old) (S.stream sink.old))
         (exchange (P.state session.new draft.new) (S.stream sink.new))
-        (ended_commands (bytes buffer.old))) }
-    ensures no_quit { OnOk result (has_quit (ended_commands (bytes buffer.old)) ≡ false) }
+        (ended_commands (bytes buffer.old)) }
     ensures pending { OnOk result (bytes buffer.new ≡ pending (bytes buffer.old)) }
-    ensures breaks { IfErr result (λ end. Breaks P.answers end
-        (exchange (P.state session.old draft.old) (S.stream sink.old))
-        (exchange (P.state session.new draft.new) (S.stream sink.new))
-        (ended_commands (bytes buffer.old))) }
 {
     if !ends_a_line(&buffer.as_slice()[searched..]) {
         return Ok(());
@@ -53,50 +43,6 @@ fn answer_chunk<P: Project, S: Sink>(
     let used = answer_all::<P, S>(alloc, session, draft, buffer.as_slice(), sink)?;
     buffer.discard(used);
     Ok(())
-}
-
-// Reads once, and answers the commands that have ended. Returns the number of bytes read: 0 at the
-// end of the script.
-fn turn<P: Project, R: Feed, S: Sink>(
-    alloc: Global,
-    session: &mut P::Session,
-    draft: &mut P::Draft,
-    feed: &mut R,
-    buffer: &mut Buffer,
-    most: usize,
-    sink: &mut S,
-) -> Result<usize, End>
-    requires some { 0 < most }
-    requires few { most ≤ chunk }
-    requires waits { OnlyWaits (bytes buffer.old) }
-    ensures ends { (old : Conversation P.State) (count : ℕ) → count + most ≤ script_limit
-        → IsMidway P.answers old
-        (conversation (P.state session.old draft.old) (S.stream sink.old)
-        (R.remaining feed.old) (R.failures feed.old))
-        (bytes buffer.old) count
-        → MatchResult result
-        (λ n. IsMidway P.answers old
-        (conversation (P.state session.new draft.new) (S.stream sink.new)
-        (R.remaining feed.new) (R.failures feed.new))
-        (bytes buffer.new) (count + n))
-        (λ end. EndsBy P.answers P.has_error end old
-        (conversation (P.state session.new draft.new) (S.stream sink.new)
-        (R.remaining feed.new) (R.failures feed.new))) }
-    ensures end { IfOk result (λ n. n ≡ 0 → IsAtEnd (R.remaining feed.new)) }
-    ensures within { IfOk result (λ n. n ≤ most) }
-{
-    match buffer.make_space() {
-        Err(_) => return Err(End::Failed),
-        Ok(()) => {}
-    }
-    let searched = buffer.as_slice().len();
-    match buffer.read(feed, most) {
-        None => Err(End::Failed),
-        Some(count) => match answer_chunk::<P, S>(alloc, session, draft, buffer, searched, sink) {
-            Ok(()) => Ok(count),
-            Err(end) => Err(end),
-        },
-    }
 }
 
 // Whether the script ends at the limit of its length; `None` where the reader failed.
@@ -109,71 +55,44 @@ fn ends_here<R: Feed>(feed: &mut R) -> Option<bool>
     Some(count == 0)
 }
 
-// Ends a run that has read as many bytes as a script may have.
-fn end_full<P: Project, R: Feed, S: Sink>(
-    alloc: Global,
-    session: &mut P::Session,
-    draft: &mut P::Draft,
-    feed: &mut R,
-    buffered: &[u8],
-    sink: &mut S,
-) -> Result<(), End>
-    requires { OnlyWaits buffered.now }
-    ensures { (old : Conversation P.State) (count : ℕ) → count ≡ script_limit
-        → IsMidway P.answers old
-        (conversation (P.state session.old draft.old) (S.stream sink.old)
-        (R.remaining feed.old) (R.failures feed.old))
-        buffered.now count
-        → MatchResult result
-        (λ _. EndsAnswered P.answers P.has_error old
-        (conversation (P.state session.new draft.new) (S.stream sink.new)
-        (R.remaining feed.new) (R.failures feed.new)))
-        (λ end. EndsBy P.answers P.has_error end old
-        (conversation (P.state session.new draft.new) (S.stream sink.new)
-        (R.remaining feed.new) (R.failures feed.new))) }
-{
-    match ends_here(feed) {
-        None => Err(End::Failed),
-        Some(false) => Err(End::Failed),
-        Some(true) => answer_last::<P, S>(alloc, session, draft, buffered, sink),
-    }
-}
-
-// Reads the script to its end, and answers its commands.
+// Reads the script to its end, and answers the commands that have ended after each chunk.
 fn read_script<P: Project, R: Feed, S: Sink>(
     alloc: Global,
     session: &mut P::Session,
     draft: &mut P::Draft,
     feed: &mut R,
     sink: &mut S,
-) -> Result<(), End>
-    ensures { MatchResult result
-        (λ _. EndsAnswered P.answers P.has_error
+) -> End
+    ensures { EndsBy P.answers P.has_error result
         (conversation (P.state session.old draft.old) (S.stream sink.old)
         (R.remaining feed.old) (R.failures feed.old))
         (conversation (P.state session.new draft.new) (S.stream sink.new)
-        (R.remaining feed.new) (R.failures feed.new)))
-        (λ end. EndsBy P.answers P.has_error end
-        (conversation (P.state session.old draft.old) (S.stream sink.old)
-        (R.remaining feed.old) (R.failures feed.old))
-        (conversation (P.state session.new draft.new) (S.stream sink.new)
-        (R.remaining feed.new) (R.failures feed.new))) }
+        (R.remaining feed.new) (R.failures feed.new)) }
 {
     let mut buffer = Buffer::new(alloc);
     let mut count = 0;
     while count < SCRIPT_LIMIT {
-        let most = CHUNK.min(SCRIPT_LIMIT - count);
-        match turn::<P, R, S>(alloc, session, draft, feed, &mut buffer, most, sink) {
-            Err(end) => return Err(end),
-            Ok(given) => {
-                if given == 0 {
-                    return answer_last::<P, S>(alloc, session, draft, buffer.as_slice(), sink);
-                }
-                count += given;
-            }
+        if let Err(_) = buffer.make_space() {
+            return End::Failed;
         }
+        let searched = buffer.as_slice().len();
+        let given = match buffer.read(feed, CHUNK.min(SCRIPT_LIMIT - count)) {
+            Some(given) => given,
+            None => return End::Failed,
+        };
+        if given == 0 {
+            return answer_last::<P, S>(alloc, session, draft, buffer.as_slice(), sink);
+        }
+        if let Err(end) = answer_chunk::<P, S>(alloc, session, draft, &mut buffer, searched, sink) {
+            return end;
+        }
+        count += given;
     }
-    end_full::<P, R, S>(alloc, session, draft, feed, buffer.as_slice(), sink)
+    match ends_here(feed) {
+        Some(true) => answer_last::<P, S>(alloc, session, draft, buffer.as_slice(), sink),
+        Some(false) => End::Failed,
+        None => End::Failed,
+    }
 }
 
 fn status_at_end<P: Project>(session: &P::Session) -> u8
@@ -200,9 +119,8 @@ pub fn run_script<P: Project, R: Feed, S: Sink>(
         result }
 {
     match read_script::<P, R, S>(alloc, session, draft, feed, sink) {
-        Ok(()) => status_at_end::<P>(session),
-        Err(End::Done) => status_at_end::<P>(session),
-        Err(End::Failed) => 3,
+        End::Done => status_at_end::<P>(session),
+        End::Failed => 3,
     }
 }
 

@@ -1,5 +1,5 @@
 -- The analysis of a web is made from its files and roles.
-use Rattle.std.proofs.Common.{◌≡◌, ◌∙◌, ◌++◌, ℕ, List, ap, sym, subst, append_assoc}
+use Rattle.std.proofs.Common.{◌≡◌, ◌∙◌, ◌++◌, ℕ, List, ap, refl, sym, subst, append_assoc}
 use Rattle.tangle_faults.specs.Faults.{FaultRead}
 use Rattle.tangle_files.specs.Lines.{FileTable}
 use Rattle.tangle_lines.specs.Reading.{SourceRead, source_of}
@@ -15,15 +15,15 @@ pub faults_joined : (s w t g a b c : List FaultRead) → a ≡ s ++ w → b ≡ 
 faults_joined s w t g a b c first second third =
     third ∙ ap (λ l. l ++ g) (second ∙ ap (λ l. l ++ t) first) ∙ append_assoc (s ++ w) t g ∙ append_assoc s w (t ++ g)
 
-pub at_source : (files : FileTable) (roles : RolesRead) (source : SourceRead)
-    → source ≡ source_of files roles → source ≡ source_at files roles
+pub read_at : (files : FileTable) (roles : RolesRead)
+    → source_at files roles ≡ source_of files roles
 unfolding source_at
-at_source files roles source e = e
+read_at files roles = refl
 
-pub at_web : (files : FileTable) (roles : RolesRead) (source : SourceRead) (web : WebRead)
-    → source ≡ source_of files roles → web ≡ web_of source → web ≡ web_at files roles
+pub scanned_at : (files : FileTable) (roles : RolesRead)
+    → web_at files roles ≡ web_of (source_at files roles)
 unfolding web_at
-at_web files roles source web e is = is ∙ ap web_of (at_source files roles source e)
+scanned_at files roles = refl
 
 -- neither the source nor the web depends on how line marks are written
 pub analyses : (files : FileTable) (roles : RolesRead) (source : SourceRead) (web : WebRead)
@@ -32,8 +32,10 @@ pub analyses : (files : FileTable) (roles : RolesRead) (source : SourceRead) (we
     → IsAnalysisOf source web out marks analysis → IsAnalysisAt files (record roles { marks = marks }) analysis
 analyses files roles source web out marks analysis source_is web_is out_is made =
     let to : RolesRead = record roles { marks = marks } in
-    subst (λ s. IsAnalysisOf s (web_at files to) roles.out marks analysis) (at_source files to source source_is)
-    (subst (λ w. IsAnalysisOf source w roles.out marks analysis) (at_web files to source web source_is web_is)
+    let read : source ≡ source_at files to = source_is ∙ sym (read_at files to) in
+    subst (λ s. IsAnalysisOf s (web_at files to) roles.out marks analysis) read
+    (subst (λ w. IsAnalysisOf source w roles.out marks analysis)
+    (web_is ∙ ap web_of read ∙ sym (scanned_at files to))
     (subst (λ o. IsAnalysisOf source web o marks analysis) out_is made))
 
 -- an analysis whose line marks are written as the roles say is that of the roles

@@ -1,13 +1,14 @@
 -- The web and the change file are there after an edit that is not refused.
-use Rattle.std.proofs.Common.{◌+◌, ◌≡◌, ◌∙◌, inl, inr, ℕ, Bool, true, false, cond, ◌||◌, List, [], ◌∷◌, ◌++◌, Option}
+use Rattle.std.proofs.Common.{◌+◌, ◌≡◌, ◌∙◌, inl, inr, ℕ, Bool, true, false, ◌||◌, List, [], ◌∷◌, ◌++◌, Option}
 use Rattle.std.proofs.Common.{None}
 use Rattle.std.proofs.Common.{Some, Result, Err, refl, ap, subst, sym, arith}
-use Rattle.std.specs.Prelude.{◌⊎◌, is_some, IfSome, IfNone, IsOkUnless}
+use Rattle.std.specs.Prelude.{◌⊎◌, IfSome, IfNone, IsOkUnless}
 use Rattle.std.specs.List.{list_any}
 use Rattle.std.specs.Map.{set_value, remove_entry}
 use Rattle.std.specs.Option.{option_map, option_map_or}
 use Rattle.std.specs.Str.{bytes_eq}
 use Rattle.std.proofs.lemmas.Bool.{and_parts, and_from, false_from_ne_true, or_left, or_parts, true≢false}
+use Rattle.std.proofs.lemmas.Grind.{common_steps}
 use Rattle.std.proofs.lemmas.Map.{keys-set_value}
 use Rattle.std.proofs.lemmas.Map.Made.{is_some-lookup}
 use Rattle.std.proofs.lemmas.Slice.Eq.{bytes_eq-Decides}
@@ -48,34 +49,21 @@ stays_edited files name other change = by (lines_of files name)
 pub has_file-append : (files more : FileTable) (name : List ℕ)
     → has_file (files ++ more) name ≡ (has_file files name || has_file more name)
 has_file-append [] more name = refl
-has_file-append (f ∷ files) more name = by (bytes_eq name f.0) (has_file-append files more name)
-  where
-    by : (b : Bool) → has_file (files ++ more) name ≡ (has_file files name || has_file more name)
-        → is_some (cond b (Some f.1) (lines_of (files ++ more) name))
-        ≡ (is_some (cond b (Some f.1) (lines_of files name)) || has_file more name)
-    by true rest = refl
-    by false rest = rest
+has_file-append (f ∷ files) more name = grind (arith, common_steps, has_file-append files more name)
+
+-- a name that is one name is not another
+other_name : (name other x : List ℕ) → bytes_eq name other ≡ false → bytes_eq name x ≡ true
+    → bytes_eq other x ≡ false
+other_name name other x apart e =
+    false_from_ne_true _ (λ same. true≢false (sym ((bytes_eq-Decides name other).1
+    ((bytes_eq-Decides name x).0 e ∙ sym ((bytes_eq-Decides other x).0 same))) ∙ apart))
 
 -- a file other than the discarded one stays
 kept_apart : (files : FileTable) (name other : List ℕ) → bytes_eq name other ≡ false
     → has_file (remove_entry (bytes_eq name) files) other ≡ has_file files other
 kept_apart [] name other apart = refl
-kept_apart (f ∷ files) name other apart = by (bytes_eq name f.0) refl (kept_apart files name other apart)
-  where
-    missed : bytes_eq name f.0 ≡ true → bytes_eq other f.0 ≡ false
-    missed e = false_from_ne_true _ (λ same. true≢false (sym ((bytes_eq-Decides name other).1
-        ((bytes_eq-Decides name f.0).0 e ∙ sym ((bytes_eq-Decides other f.0).0 same))) ∙ apart))
-
-    under : (b : Bool) (o p : Option (List (List ℕ)))
-        → is_some o ≡ is_some p → is_some (cond b (Some f.1) o) ≡ is_some (cond b (Some f.1) p)
-    under true o p e = refl
-    under false o p e = e
-
-    by : (a : Bool) → bytes_eq name f.0 ≡ a
-        → has_file (remove_entry (bytes_eq name) files) other ≡ has_file files other
-        → has_file (cond a files (f ∷ remove_entry (bytes_eq name) files)) other ≡ has_file (f ∷ files) other
-    by true e rest = sym (ap (λ b. is_some (cond b (Some f.1) (lines_of files other))) (missed e))
-    by false e rest = under (bytes_eq other f.0) _ _ rest
+kept_apart (f ∷ files) name other apart =
+    grind (arith, common_steps, other_name name other f.0 apart, kept_apart files name other apart)
 
 -- the edit doesn't discard the file of this name
 abbrev Spares : Edit → List ℕ → Type 0
@@ -124,12 +112,18 @@ none_first None (Some refused) h = absurd (cc)
 none_first (Some refusal) after h = absurd (cc)
 
 -- the web and the change file are there after a list that is not refused
-pub fits_all : (files : FileTable) (roles : RolesRead) (edits : List Edit) → fits files roles ≡ true
+fits_all : (files : FileTable) (roles : RolesRead) (edits : List Edit) → fits files roles ≡ true
     → list_refusal files roles edits ≡ None → fits (edited_all files edits) roles ≡ true
 fits_all files roles [] h none = h
 fits_all files roles (edit ∷ edits) h none =
     let parts = none_first (session_refusal files roles edit) (list_refusal (edited files edit) roles edits) none in
     fits_all (edited files edit) roles edits (fits_edited files roles edit h parts.0) parts.1
+
+pub fits_made : (files made : FileTable) (roles : RolesRead) (edits : List Edit)
+    → made ≡ edited_all files edits
+    → fits files roles ≡ true → list_refusal files roles edits ≡ None → fits made roles ≡ true
+fits_made files made roles edits is h none =
+    subst (λ fs. fits fs roles ≡ true) (sym is) (fits_all files roles edits h none)
 
 -- a list of one edit is refused where the edit is
 pub one_refused : (o : Option Refusal) → first_refused o None ≡ option_map of_first o
@@ -185,23 +179,13 @@ refused_alike files roles marks edit = refl
 abbrev failed : {T : Type 0} → Refusal → Result T Refusal
 failed refusal = Err refusal
 
--- An edit of the files failed: the session refuses it, for its file or for its role, or memory ran out.
+-- an edit of the files failed: the session refuses it, or memory ran out
 pub refused_in_session : (T : Type 0) (of_files of_role : Option Refusal) (refusal : Refusal)
     → IfSome of_files (λ e. failed {T = T} refusal ≡ Err e)
     → IfNone of_files (IsOkUnless (failed {T = T} refusal) NoMemory)
-    → IfSome (or_else of_files of_role)
-    (λ e. (failed {T = T} refusal ≡ Err e) ⊎ (failed {T = T} refusal ≡ Err NoMemory))
-refused_in_session T None None refusal some none = tt
-refused_in_session T None (Some e) refusal some none = inr (ap (λ r. failed {T = T} r) none)
-refused_in_session T (Some e) of_role refusal some none = inl some
-
-pub only_memory : (T : Type 0) (of_files of_role : Option Refusal) (refusal : Refusal)
-    → IfSome of_files (λ e. failed {T = T} refusal ≡ Err e)
-    → IfNone of_files (IsOkUnless (failed {T = T} refusal) NoMemory)
-    → IfNone (or_else of_files of_role) (IsOkUnless (failed {T = T} refusal) NoMemory)
-only_memory T None None refusal some none = none
-only_memory T None (Some e) refusal some none = tt
-only_memory T (Some e) of_role refusal some none = tt
+    → (or_else of_files of_role ≡ Some refusal) ⊎ (refusal ≡ NoMemory)
+refused_in_session T None of_role refusal some none = inr none
+refused_in_session T (Some e) of_role refusal some none = inl cc
 
 own_number : (at : ℕ) (refusal : Refusal)
     → (Some (record { at = at; refusal = refusal }) ≡ Some (numbered at refusal)) ⊎ (numbered at refusal ≡ list_memory)
@@ -209,15 +193,12 @@ own_number at NoMemory = inr refl
 own_number at refusal = inl refl
 
 -- the first remaining edit was not made: the list is refused for it, or memory ran out
-pub numbered_refusal : (T : Type 0) (at : ℕ) (of_edit : Option Refusal) (after : Option ListRefusal) (refusal : Refusal)
-    → IfSome of_edit (λ e. (failed {T = T} refusal ≡ Err e) ⊎ (failed {T = T} refusal ≡ Err NoMemory))
-    → IfNone of_edit (IsOkUnless (failed {T = T} refusal) NoMemory)
+pub numbered_refusal : (at : ℕ) (of_edit : Option Refusal) (after : Option ListRefusal)
+    (refusal : Refusal)
+    → (of_edit ≡ Some refusal) ⊎ (refusal ≡ NoMemory)
     → (refused_at at of_edit after ≡ Some (numbered at refusal)) ⊎ (numbered at refusal ≡ list_memory)
-numbered_refusal T at None after refusal some none = inr (ap (numbered at) none)
-numbered_refusal T at (Some e) after refusal (inl same) none =
-    let equal : refusal ≡ e = cc in
-    subst
-    (λ r. (Some (record { at = at; refusal = r }) ≡ Some (numbered at refusal)) ⊎ (numbered at refusal ≡ list_memory))
-    equal (own_number at refusal)
-numbered_refusal T at (Some e) after refusal (inr same) none =
-    let equal : refusal ≡ NoMemory = cc in inr (ap (numbered at) equal)
+numbered_refusal at of_edit after refusal (inl is) =
+    subst (λ o. (refused_at at o after ≡ Some (numbered at refusal))
+    ⊎ (numbered at refusal ≡ list_memory))
+    (sym is) (own_number at refusal)
+numbered_refusal at of_edit after refusal (inr is) = inr (ap (numbered at) is)

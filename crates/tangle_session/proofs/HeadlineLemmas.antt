@@ -1,8 +1,8 @@
 -- The state that a history leaves: the files with the accepted edits made, and what is shown of them.
-use Rattle.std.proofs.Common.{◌≡◌, ◌∙◌, ℕ, List, [], ◌∷◌, ◌++◌, length, map, refl, ap, sym, subst, arith}
+use Rattle.std.proofs.Common.{◌≡◌, ◌∙◌, ℕ, List, [], ◌∷◌, ◌++◌, length, refl, ap, sym, subst, arith}
 use Rattle.std.proofs.Common.{append_assoc, append-nil}
-use Rattle.std.specs.Prelude.{Option, None, Some, Ok, Err, Result, option_map, unwrap_or, zip, IfNone, IfSome}
-use Rattle.std.specs.Prelude.{IsOkUnless, OnOk}
+use Rattle.std.specs.Prelude.{Option, None, Some, Ok, Err, Result, unwrap_or, zip, IfNone, IfSome}
+use Rattle.std.specs.Prelude.{IsOkUnless}
 use Rattle.tangle_streams.specs.Streams.{Stream}
 use Rattle.tangle_files.specs.Edited.{edited, edited_all, edited_roles, joined, roles_after}
 use Rattle.tangle_files.specs.Lines.{FileTable}
@@ -10,35 +10,26 @@ use Rattle.tangle_files.specs.Roles.{RolesRead}
 use Rattle.tangle_files.specs.declared.edits.Edit.{Edit}
 use Rattle.tangle_files.specs.declared.refusal.Refusal.{Refusal}
 use Rattle.tangle_files.specs.declared.refusal.Refusal.TheVariants.{NoMemory}
-use Rattle.tangle_files.specs.declared.marks.MarkMode.TheVariants.{Full}
 use Rattle.tangle_session.specs.Edits.{of_first, session_refusal}
-use Rattle.tangle_lines.specs.Reading.{source_of}
-use Rattle.tangle_scan.specs.Web.{web_of}
 use Rattle.tangle_names.specs.NameTable.{table_of}
 use Rattle.tangle_session.specs.Files.{source_at, web_at}
 use Rattle.tangle_session.specs.Headline.{Call, EditsRead, Single, Several, History, Started, Edited, IsAnswered}
 use Rattle.tangle_session.specs.Headline.{ListsLastExpanded, ByStart, ByLast, IsPlainTangling}
-use Rattle.tangle_session.specs.Headline.{NoOutputReachesACycle, EachCycleIsReported, ShowsPlainTangling, ShowsLastWork}
+use Rattle.tangle_session.specs.Headline.{ShowsPlainTangling, ShowsLastWork}
 use Rattle.tangle_session.specs.Headline.{accepted, edits_of, files_after, roles_with, web_after}
 use Rattle.tangle_session.specs.Sessions.{AreMade, ListsAffectedOfWebs, SessionRead}
-use Rattle.tangle_session.specs.Tangle.{AreFaultsOf, output_at, outputs_of}
-use Rattle.tangle_session.specs.Writes.{IsTrueFile, WritesOutput}
+use Rattle.tangle_session.specs.Tangle.{AreFaultsOf, outputs_of}
 use Rattle.tangle_session.specs.declared.headline.Shown.{Shown}
+use Rattle.tangle_session.proofs.AnalysisLemmas.{read_at, scanned_at}
 use Rattle.tangle_session.specs.declared.refusing.ListRefusal.{ListRefusal}
 
 -- one more call
 
-accepted_one : (edits : EditsRead) (done : Unit {0}) (calls : List Call)
-    → accepted (calls ++ (edits, Ok done) ∷ []) ≡ accepted calls ++ edits_of edits ∷ []
-accepted_one edits done [] = refl
-accepted_one edits done ((e, Ok d) ∷ calls) = ap (λ l. edits_of e ∷ l) (accepted_one edits done calls)
-accepted_one edits done ((e, Err r) ∷ calls) = accepted_one edits done calls
-
-accepted_none : (edits : EditsRead) (refused : ListRefusal) (calls : List Call)
-    → accepted (calls ++ (edits, Err refused) ∷ []) ≡ accepted calls
-accepted_none edits refused [] = refl
-accepted_none edits refused ((e, Ok d) ∷ calls) = ap (λ l. edits_of e ∷ l) (accepted_none edits refused calls)
-accepted_none edits refused ((e, Err r) ∷ calls) = accepted_none edits refused calls
+accepted-append : (calls more : List Call)
+    → accepted (calls ++ more) ≡ accepted calls ++ accepted more
+accepted-append [] more = refl
+accepted-append ((e, Ok d) ∷ calls) more = ap (λ l. edits_of e ∷ l) (accepted-append calls more)
+accepted-append ((e, Err r) ∷ calls) more = accepted-append calls more
 
 files_then : (files : FileTable) (first then : List Edit)
     → edited_all files (first ++ then) ≡ edited_all (edited_all files first) then
@@ -89,9 +80,9 @@ reached_made files roles lists before after edits reached are =
     let roles_now : after.roles ≡ roles_with roles (lists ++ edits ∷ []) =
     are.roles ∙ ap (λ rs. roles_after rs edits) reached.roles_are ∙ sym (roles_more roles lists edits) in
     let web_before : web_at before.files before.roles ≡ web_after files roles lists =
-    ap (λ fs. web_at fs before.roles) reached.files_are ∙ ap (web_at (files_after files lists)) reached.roles_are in
+    λ i. web_at (reached.files_are i) (reached.roles_are i) in
     let web_now : web_at after.files after.roles ≡ web_after files roles (lists ++ edits ∷ []) =
-    ap (λ fs. web_at fs after.roles) files_now ∙ ap (web_at (files_after files (lists ++ edits ∷ []))) roles_now in
+    λ i. web_at (files_now i) (roles_now i) in
     record {
       files_are = files_now;
       roles_are = roles_now;
@@ -100,22 +91,30 @@ reached_made files roles lists before after edits reached are =
           (subst (λ web. ListsAffectedOfWebs web (web_at after.files after.roles) after.work) web_before are.work));
     }
 
+were_made : (before after : SessionRead) (edits : EditsRead) (done : Unit {0})
+    → IsAnswered before edits (Ok done) after → AreMade before (edits_of edits) after
+were_made before after (Single edit) done is = is.1
+were_made before after (Several edits) done is = is.1
+
+unchanged : (before after : SessionRead) (edits : EditsRead) (refused : ListRefusal)
+    → IsAnswered before edits (Err refused) after → after ≡ before
+unchanged before after (Single edit) refused is = is.1
+unchanged before after (Several edits) refused is = is.1
+
 reached_edited : (files : FileTable) (roles : RolesRead) (calls : List Call)
     (before after : SessionRead) (edits : EditsRead) (answer : Result (Unit {0}) ListRefusal)
     → IsReached files roles (accepted calls) before → IsAnswered before edits answer after
     → IsReached files roles (accepted (calls ++ (edits, answer) ∷ [])) after
-reached_edited files roles calls before after (Single edit) (Ok done) reached is =
-    subst (λ lists. IsReached files roles lists after) (sym (accepted_one (Single edit) done calls))
-    (reached_made files roles (accepted calls) before after (edit ∷ []) reached is.1)
-reached_edited files roles calls before after (Several edits) (Ok done) reached is =
-    subst (λ lists. IsReached files roles lists after) (sym (accepted_one (Several edits) done calls))
-    (reached_made files roles (accepted calls) before after edits reached is.1)
-reached_edited files roles calls before after (Single edit) (Err refused) reached is =
-    subst (λ lists. IsReached files roles lists after) (sym (accepted_none (Single edit) refused calls))
-    (subst (λ s. IsReached files roles (accepted calls) s) (sym is.1) reached)
-reached_edited files roles calls before after (Several edits) (Err refused) reached is =
-    subst (λ lists. IsReached files roles lists after) (sym (accepted_none (Several edits) refused calls))
-    (subst (λ s. IsReached files roles (accepted calls) s) (sym is.1) reached)
+reached_edited files roles calls before after edits (Ok done) reached is =
+    subst (λ lists. IsReached files roles lists after)
+    (sym (accepted-append calls ((edits, Ok done) ∷ [])))
+    (reached_made files roles (accepted calls) before after (edits_of edits) reached
+    (were_made before after edits done is))
+reached_edited files roles calls before after edits (Err refused) reached is =
+    subst (λ lists. IsReached files roles lists after)
+    (sym (accepted-append calls ((edits, Err refused) ∷ []) ∙ append-nil (accepted calls)))
+    (subst (λ s. IsReached files roles (accepted calls) s)
+    (sym (unchanged before after edits refused is)) reached)
 
 pub reached : {files : FileTable} {roles : RolesRead} {calls : List Call} {session : SessionRead}
     → History files roles calls session → IsReached files roles (accepted calls) session
@@ -145,14 +144,6 @@ one_refused before after edit refusal answer is refused only same =
 
 -- what is shown
 
-pub read_at : (files : FileTable) (roles : RolesRead) → source_at files roles ≡ source_of files roles
-unfolding source_at
-read_at files roles = refl
-
-pub scanned_at : (files : FileTable) (roles : RolesRead) → web_at files roles ≡ web_of (source_at files roles)
-unfolding web_at
-scanned_at files roles = refl
-
 abbrev pub plain_at : (files : FileTable) (roles : RolesRead) (faults : List _)
     → AreFaultsOf files roles faults → IsPlainTangling files roles (outputs_of files roles) faults
 plain_at files roles faults are = record {
@@ -169,38 +160,14 @@ plain_at files roles faults are = record {
 }
 
 module _ (name : List ℕ) (old new : Stream) (shown : Shown) where
-  pub record Answers (s : SessionRead) : Type 0 where
-    pub files_are : shown.files.now ≡ s.files
-    pub roles_are : shown.roles.now ≡ s.roles
-    pub names : shown.names ≡ map (λ file. file.0) (outputs_of s.files s.roles)
-    pub size : shown.size ≡ option_map length (output_at s.files s.roles name)
-    pub written : WritesOutput (output_at s.files s.roles name) old new shown.written
-    pub line_truth : s.roles.marks ≡ Full → OnOk shown.written (IsTrueFile s.files s.roles name)
-    pub faults : AreFaultsOf s.files s.roles shown.faults.now
-    pub no_cycle : NoOutputReachesACycle (web_at s.files s.roles) (table_of (web_at s.files s.roles)) s.roles.out
-    pub cycles : EachCycleIsReported (web_at s.files s.roles) (table_of (web_at s.files s.roles)) shown.faults.now
-
-  shows_now : (s : SessionRead) → Answers s → ShowsPlainTangling s.files s.roles name old new shown
-  shows_now s answers = record {
-    files_are = answers.files_are;
-    roles_are = answers.roles_are;
-    output_files = outputs_of s.files s.roles;
-    plain = plain_at s.files s.roles shown.faults.now answers.faults;
-    names = answers.names;
-    size = answers.size;
-    written = answers.written;
-    line_truth = answers.line_truth;
-    no_cycle = answers.no_cycle;
-    cycles = answers.cycles;
-  }
-
-  pub shows : (s : SessionRead) → Answers s → (files : FileTable) (roles : RolesRead) (calls : List Call)
+  pub shows : (s : SessionRead) → ShowsPlainTangling s.files s.roles name old new shown
+      → (files : FileTable) (roles : RolesRead) (calls : List Call)
       → History files roles calls s
       → ShowsPlainTangling (files_after files (accepted calls)) (roles_with roles (accepted calls)) name old new shown
-  shows s answers files roles calls history =
+  shows s now files roles calls history =
       let at = reached history in
       subst (λ rs. ShowsPlainTangling (files_after files (accepted calls)) rs name old new shown) at.roles_are
-      (subst (λ fs. ShowsPlainTangling fs s.roles name old new shown) at.files_are (shows_now s answers))
+      (subst (λ fs. ShowsPlainTangling fs s.roles name old new shown) at.files_are now)
 
   pub shows_work : (s : SessionRead) → shown.work ≡ length s.work
       → (files : FileTable) (roles : RolesRead) (calls : List Call) → History files roles calls s

@@ -111,9 +111,12 @@ module _ (web : WebRead) (out : List ℕ) (faults : List FaultRead)
   reached =
       ap (slice_get web.occurrences) number ∙ sym (find_at (resolves_to web.occurrences name) web.occurrences) ∙ first
 
+  abbrev fault : FaultRead
+  fault = fault_about kind.SelfContaining (named_place_of web.file_names o.origin) name
+
   one_fault : fault_of web (table_of web) kind.SelfContaining id
-      (fault_occurrence web (table_of web) out are.contains_itself are.reaches_cycle kind.SelfContaining id)
-      ≡ fault_about kind.SelfContaining (named_place_of web.file_names o.origin) name ∷ []
+      (fault_occurrence web (table_of web) out are.contains_itself are.reaches_cycle
+      kind.SelfContaining id) ≡ fault ∷ []
   one_fault =
       ap
       (λ b. fault_of web (table_of web) kind.SelfContaining id
@@ -124,28 +127,26 @@ module _ (web : WebRead) (out : List ℕ) (faults : List FaultRead)
       (name_with_number (table_of web) id)) (option_to_list x)) reached
       ∙ ap (λ t. fault_about kind.SelfContaining (named_place_of web.file_names o.origin) t ∷ []) text
 
-  among : Contains (faults_of_names web (table_of web) out are.contains_itself are.reaches_cycle kind.SelfContaining)
-      (fault_about kind.SelfContaining (named_place_of web.file_names o.origin) name)
+  among : Contains (faults_of_names web (table_of web) out are.contains_itself are.reaches_cycle
+      kind.SelfContaining) fault
   among =
       in_mapped (λ k. fault_of web (table_of web) kind.SelfContaining k
       (fault_occurrence web (table_of web) out are.contains_itself are.reaches_cycle kind.SelfContaining k))
-      (range_with_len 0 (length (table_of web).names)) id
-      (fault_about kind.SelfContaining (named_place_of web.file_names o.origin) name)
+      (range_with_len 0 (length (table_of web).names)) id fault
       (in_range (length (table_of web).names) id low)
-      (subst (λ l. Contains l (fault_about kind.SelfContaining (named_place_of web.file_names o.origin) name))
-      (sym one_fault) (0, omega arith, refl))
+      (subst (λ l. Contains l fault) (sym one_fault) (0, omega arith, refl))
 
-  pub reported : Contains faults (fault_about kind.SelfContaining (named_place_of web.file_names o.origin) name)
+  pub reported : Contains faults fault
   reported =
-      let x = fault_about kind.SelfContaining (named_place_of web.file_names o.origin) name in
-      subst (λ l. Contains l (fault_about kind.SelfContaining (named_place_of web.file_names o.origin) name))
-      (sym are.list)
+      subst (λ l. Contains l fault) (sym are.list)
       (Contains-append_right
-      (faults_of_names web (table_of web) out are.contains_itself are.reaches_cycle kind.Undefined) _ x
+      (faults_of_names web (table_of web) out are.contains_itself are.reaches_cycle kind.Undefined)
+      _ fault
       (Contains-append_right (faults_of_names web (table_of web) out are.contains_itself are.reaches_cycle kind.Unused)
-      _ x
+      _ fault
       (Contains-append_left
-      (faults_of_names web (table_of web) out are.contains_itself are.reaches_cycle kind.SelfContaining) _ x among)))
+      (faults_of_names web (table_of web) out are.contains_itself are.reaches_cycle
+      kind.SelfContaining) _ fault among)))
 
 pub reported_in : (source : SourceRead) (web : WebRead) (out : List ℕ) (faults : List FaultRead) (name : List ℕ)
     → AreFaults source web out faults → ContainsItself (shapes_of web) (Named name)

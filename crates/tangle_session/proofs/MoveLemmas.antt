@@ -1,8 +1,9 @@
 -- Webs that are written the same, apart from origins, have the same shapes, so an edit from one to the other expands
 -- nothing.
-use Rattle.std.proofs.Common.{◌≡◌, ◌∙◌, ℕ, Bool, true, false, not, cond, List, [], ◌∷◌, map, filter, refl, ap, sym}
+use Rattle.std.proofs.Common.{◌≡◌, ◌∙◌, ℕ, Bool, not, List, [], ◌∷◌, map, filter, refl, ap, sym}
 use Rattle.std.proofs.Common.{arith}
 use Rattle.std.specs.Prelude.{Option, None, Some, if◌then◌else◌}
+use Rattle.std.proofs.lemmas.Grind.{common_steps}
 use Rattle.std.proofs.lemmas.Simd.{map-map}
 use Rattle.tangle_lexer.specs.Occurrences.{OccurrenceRead}
 use Rattle.tangle_scan.specs.Web.{WebRead, PieceRead}
@@ -36,16 +37,7 @@ full_said ss = map (λ s. s.0) (filter (λ s. not s.1) ss)
 
 full_same : (os : List OccurrenceRead) → full_names os ≡ full_said (map occurrence_form os)
 full_same [] = refl
-full_same (o ∷ os) = by (not o.is_abbreviation) (full_same os)
-  where
-    by : (b : Bool) → full_names os ≡ full_said (map occurrence_form os)
-        → map (λ (x : OccurrenceRead). x.text)
-        (cond b (o ∷ filter (λ x. not x.is_abbreviation) os) (filter (λ x. not x.is_abbreviation) os))
-        ≡ map (λ (s : SaidOccurrence). s.0)
-        (cond b (occurrence_form o ∷ filter (λ s. not s.1) (map occurrence_form os))
-        (filter (λ s. not s.1) (map occurrence_form os)))
-    by true h = ap (λ l. o.text ∷ l) h
-    by false h = h
+full_same (o ∷ os) = grind (arith, common_steps, full_same os)
 
 abbrev meaning_said : List NameText → SaidOccurrence → Meaning
 meaning_said full s = if s.1 then only_with full (prefix s.0) else One s.0
@@ -100,25 +92,12 @@ module _ (table : TableRead) where
   shapes_said pieces node =
       map (λ p. map item_said p.1) (filter (λ p. is_node table node (node_of_occurrence table p.0)) pieces)
 
-  one_shape : (texts : List (List ℕ)) (piece : PieceRead)
-      (rest : List PieceRead) (rest_said : List SaidPiece) (b : Bool)
-      → map (λ (x : PieceRead). map (shape_item texts table) x.items) rest
-      ≡ map (λ (s : SaidPiece). map item_said s.1) rest_said
-      → map (λ (x : PieceRead). map (shape_item texts table) x.items) (cond b (piece ∷ rest) rest)
-      ≡ map (λ (s : SaidPiece). map item_said s.1) (cond b (piece_form texts piece ∷ rest_said) rest_said)
-  one_shape texts piece rest rest_said true h =
-      ap (λ x. x ∷ map (λ (y : PieceRead). map (shape_item texts table) y.items) rest) (items_same texts piece.items)
-      ∙ ap (λ l. map item_said (map (item_form texts) piece.items) ∷ l) h
-  one_shape texts piece rest rest_said false h = h
-
   shape_same : (texts : List (List ℕ)) (node : Title) (pieces : List PieceRead)
       → map (λ (p : PieceRead). map (shape_item texts table) p.items) (filter (is_piece_of table node) pieces)
       ≡ shapes_said (map (piece_form texts) pieces) node
   shape_same texts node [] = refl
   shape_same texts node (p ∷ pieces) =
-      one_shape texts p (filter (is_piece_of table node) pieces)
-      (filter (λ s. is_node table node (node_of_occurrence table s.0)) (map (piece_form texts) pieces))
-      (is_piece_of table node p) (shape_same texts node pieces)
+      grind (arith, common_steps, items_same texts p.items, shape_same texts node pieces)
 
 -- the shapes of a web are a function of how the web is written
 shapes_same : (web : WebRead) (node : Title)

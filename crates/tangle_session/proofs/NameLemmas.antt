@@ -1,6 +1,6 @@
 -- No two outputs of a web have the same name.
 use Rattle.std.proofs.Common.{◌≡◌, ◌≢◌, ◌∙◌, ◌<◌, ◌==◌, ◌&&◌, ◌||◌, ◌++◌, ℕ, Bool, true, false, List, [], ◌∷◌, length}
-use Rattle.std.proofs.Common.{map, filter, get_or, refl, ap, sym, subst, arith}
+use Rattle.std.proofs.Common.{map, filter, get_or, ap, sym, subst, arith}
 use Rattle.std.specs.Prelude.{not, if◌then◌else◌, Some, All, AllPairs, Contains}
 use Rattle.std.specs.List.{IsDistinct}
 use Rattle.std.specs.Str.{bytes_eq}
@@ -32,11 +32,7 @@ use Rattle.tangle_session.specs.Tangle.{output_at, outputs_of}
 use Rattle.tangle_session.proofs.OutputLemmas.{names_written}
 
 other_number : (n m : ℕ) → not (m == n) ≡ true → n ≢ m
-other_number n m e same = by (m == n) refl e
-  where
-    by : (b : Bool) → (m == n) ≡ b → not b ≡ true → ⊥
-    by true t d = absurd (let no : false ≡ true = d in cc)
-    by false t d = absurd (grind (arith, nat_tests))
+other_number n m e same = grind (arith, nat_tests)
 
 firsts_once : (ns : List ℕ) → AllPairs (λ a b. a ≢ b) (firsts ns)
 firsts_once [] = λ i j d less h. absurd (omega (arith, h))

@@ -8,6 +8,7 @@ use Rattle.std.specs.Option.{option_map}
 use Rattle.std.specs.Str.{bytes_eq}
 use Rattle.std.proofs.lemmas.Map.Keys.{IsDistinct-head, IsDistinct-tail}
 use Rattle.std.proofs.lemmas.Slice.Eq.{bytes_eq-Decides}
+use Rattle.std.proofs.lemmas.Grind.{common_steps}
 use Rattle.tangle_files.specs.declared.marks.MarkMode.{MarkMode}
 use Rattle.tangle_scan.specs.Web.{WebRead}
 use Rattle.tangle_names.specs.NameTable.{table_of}
@@ -57,25 +58,18 @@ pub look_up : (web : WebRead) (marks : MarkMode) (name : List ℕ) (os : List Ou
     → lookup (bytes_eq name) (map (named_bytes web marks) os)
     ≡ option_map (output_bytes web marks) (find (λ o. bytes_eq name o.name) os)
 look_up web marks name [] = refl
-look_up web marks name (o ∷ os) = by (bytes_eq name o.name) (look_up web marks name os)
-  where
-    by : (b : Bool)
-        → lookup (bytes_eq name) (map (named_bytes web marks) os)
-        ≡ option_map (output_bytes web marks) (find (λ o. bytes_eq name o.name) os)
-        → cond b (Some (output_bytes web marks o)) (lookup (bytes_eq name) (map (named_bytes web marks) os))
-        ≡ option_map (output_bytes web marks) (cond b (Some o) (find (λ o. bytes_eq name o.name) os))
-    by true e = refl
-    by false e = e
+look_up web marks name (o ∷ os) = grind (arith, common_steps, look_up web marks name os)
 
 -- an item that is found in a list is an item of the list
 pub found_in : {X : Type 0} (p : X → Bool) (xs : List X) (x : X) → find p xs ≡ Some x → Contains xs x
 found_in p [] x e = absurd (let no : None ≡ Some x = e in cc)
-found_in p (y ∷ xs) x e = by (p y) refl e (found_in p xs x)
+found_in p (y ∷ xs) x e = by (p y) e (found_in p xs x)
   where
-    by : (b : Bool)
-        → p y ≡ b → cond b (Some y) (find p xs) ≡ Some x → (find p xs ≡ Some x → Contains xs x) → Contains (y ∷ xs) x
-    by true t d next = (0, omega arith, (let same : Some y ≡ Some x = d in cc))
-    by false f d next = (let rest = next d in (suc rest.0, (let h = rest.1 in omega (arith, h)), rest.2))
+    by : (b : Bool) → cond b (Some y) (find p xs) ≡ Some x → (find p xs ≡ Some x → Contains xs x)
+        → Contains (y ∷ xs) x
+    by true d next = (0, omega arith, (let same : Some y ≡ Some x = d in cc))
+    by false d next = let rest = next d in
+        (suc rest.0, (let h = rest.1 in omega (arith, h)), rest.2)
 
 -- the names of the outputs are the names of the output files
 pub names_written : (web : WebRead) (marks : MarkMode) (os : List OutputRead)

@@ -1,14 +1,15 @@
 -- The fields of a session's state, which are made one after another, agree with the files.
-use Rattle.std.proofs.Common.{◌≡◌, ◌∙◌, ◌&&◌, arith, ℕ, Bool, true, false, List, [], ◌∷◌, length, refl, ap, sym}
+use Rattle.std.proofs.Common.{◌≡◌, ◌∙◌, arith, ℕ, Bool, true, false, List, [], ◌∷◌, length, refl, ap, sym}
 use Rattle.std.proofs.Common.{subst, Bor, Contains, map}
 use Rattle.std.specs.List.{IsDistinct}
 use Rattle.std.specs.Option.{option_copied, option_map}
 use Rattle.std.specs.Str.{bytes_eq}
-use Rattle.std.specs.Prelude.{if◌then◌else◌, Option, Some, None, is_some, Result, Err, find}
+use Rattle.std.specs.Prelude.{◌↔◌, Option, Some, None, is_some, Result, Err, find}
+use Rattle.std.proofs.lemmas.Grind.{common_steps}
 use Rattle.tangle_streams.specs.Streams.{Stream}
 use Rattle.tangle_files.specs.Lines.{FileTable}
 use Rattle.tangle_files.specs.Adding.{has_file}
-use Rattle.tangle_files.specs.Roles.{RolesRead, has_file_if_any, fits}
+use Rattle.tangle_files.specs.Roles.{RolesRead, fits}
 use Rattle.tangle_files.specs.declared.refusal.Refusal.TheVariants.{NoWeb, NoChange}
 use Rattle.tangle_files.specs.declared.refusal.Refusal.{Refusal}
 use Rattle.tangle_files.specs.declared.refusal.Refusal.TheVariants as refusal
@@ -46,19 +47,13 @@ pub lists_nodes : (web : WebRead) (store : StoreRead) (nodes : List Node) → Is
     → store.names ≡ (table_of web).names → keeping.ListsExpandable store nodes → ListsExpandableOfWeb web nodes
 lists_nodes web store nodes is names_are lists = record {
   once = lists.once;
-  just = λ node. (
-    λ c. (let both = (lists.just node).0 c in (
-      subst (λ l. IsNodeOf l node) names_are both.0,
-      subst (λ l. IsExpandableNode (shapes_of web) (title_at l node))
-          names_are ((is.expandable node both.0).0 both.1),
-    )),
-    λ both. (let inside : IsNodeOf store.names node = subst (λ l. IsNodeOf l node) (sym names_are) both.0 in
-        (lists.just node).1 (
-          inside,
-          (is.expandable node inside).1
-              (subst (λ l. IsExpandableNode (shapes_of web) (title_at l node)) (sym names_are) both.1),
-        )),
-  );
+  just = subst
+      (λ names. (node : Node) → Contains nodes node
+      ↔ (IsNodeOf names node × IsExpandableNode (shapes_of web) (title_at names node))) names_are
+      (λ node. (
+        λ c. (let both = (lists.just node).0 c in (both.0, (is.expandable node both.0).0 both.1)),
+        λ both. (lists.just node).1 (both.0, (is.expandable node both.0).1 both.1),
+      ));
 }
 
 -- the list that has each affected node of the store has each affected node of the web
@@ -67,18 +62,16 @@ pub lists_titles : (old new : WebRead) (store : StoreRead) (nodes : List Node)
     → affected.ListsAffected (shapes_of old) (shapes_of new) store nodes → ListsAffectedOfWebs old new nodes
 lists_titles old new store nodes is names_are lists = record {
   once = lists.once;
-  just = λ node. (
-    λ c. (
-      subst (λ l. IsNodeOf l node) names_are (lists.only node c).0,
-      subst (λ l. IsAffected levels heaviest (shapes_of old) (shapes_of new) (title_at l node))
-          names_are (lists.only node c).1,
-    ),
-    λ both. (let inside : IsNodeOf store.names node = subst (λ l. IsNodeOf l node) (sym names_are) both.0 in
-        let at = lists.all (title_at (table_of new).names node) both.1 in
-        let same =
-        is.once at.0 node (lists.only at.0 at.2).0 inside (at.1 ∙ ap (λ l. title_at l node) (sym names_are)) in
-        subst (Contains nodes) same at.2),
-  );
+  just = subst
+      (λ names. (node : Node) → Contains nodes node
+      ↔ (IsNodeOf names node × IsAffected levels heaviest (shapes_of old) (shapes_of new)
+      (title_at names node)))
+      names_are
+      (λ node. (
+        lists.only node,
+        λ both. (let at = lists.all (title_at store.names node) both.1 in
+            subst (Contains nodes) (is.once at.0 node (lists.only at.0 at.2).0 both.0 at.1) at.2),
+      ));
 }
 
 -- the web does not depend on the setting for line marks
@@ -96,29 +89,15 @@ expands_nothing web (node ∷ nodes) lists = absurd (((lists.just node).0 (0, om
 
 pub no_change : (files : FileTable) (roles : RolesRead)
     → fits files roles ≡ false → has_file files roles.web ≡ true → Some NoChange ≡ start_refusal files roles
-no_change files roles e there = by (has_file files roles.web) (has_file_if_any files roles.change) e there
-  where
-    by : (a b : Bool)
-        → (a && b) ≡ false → a ≡ true → Some NoChange ≡ (if a then (if b then None else Some NoChange) else Some NoWeb)
-    by true false e t = refl
-    by a b e t = absurd (cc)
+no_change files roles e there = grind (arith, common_steps)
 
 pub no_web : (files : FileTable) (roles : RolesRead)
     → has_file files roles.web ≡ false → Some NoWeb ≡ start_refusal files roles
-no_web files roles missing = by (has_file files roles.web) missing
-  where
-    by : (a : Bool) → a ≡ false
-        → Some NoWeb ≡ (if a then (if has_file_if_any files roles.change then None else Some NoChange) else Some NoWeb)
-    by true t = absurd (cc)
-    by false t = refl
+no_web files roles missing = rw missing refl
 
 -- where no refusal to start applies, the files fit the roles
 pub fit_to_start : (files : FileTable) (roles : RolesRead) → None ≡ start_refusal files roles → fits files roles ≡ true
-fit_to_start files roles e = by (has_file files roles.web) (has_file_if_any files roles.change) e
-  where
-    by : (a b : Bool) → None ≡ (if a then (if b then None else Some NoChange) else Some NoWeb) → (a && b) ≡ true
-    by true true e = refl
-    by a b e = absurd (cc)
+fit_to_start files roles e = grind (arith, common_steps)
 
 pub some_copied : {X : Type 0} (o : Option (Bor X)) → is_some (option_copied o) ≡ is_some o
 some_copied None = refl

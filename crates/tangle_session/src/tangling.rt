@@ -1,16 +1,13 @@
 //! The state of a session: files with what tangling makes of them.
-ghost use Rattle.std.specs.Prelude.{◌≡◌, ◌⊎◌, true, None, Some, Err, find, map};
-ghost use Rattle.std.specs.Prelude.{IfErr, IfNone, IfOk, IfSome, IsOkUnless, OnOk};
+ghost use Rattle.std.specs.Prelude.{◌≡◌, ◌⊎◌, None, Some, find, map, IfErr, IfOk, OnOk};
 ghost use Rattle.std.specs.List.{IsDistinct};
 ghost use Rattle.std.specs.Option.{option_copied};
 ghost use Rattle.std.specs.Str.{bytes_eq};
 ghost use Rattle.tangle_files.specs.Edited.{edited, edited_all, roles_after};
 ghost use Rattle.tangle_files.specs.declared.refusal.Refusal.TheVariants.{NoMemory as no_memory};
-ghost use Rattle.tangle_files.specs.Roles.{RolesRead, fits};
-ghost use Rattle.tangle_graph.specs.Stores.{KeepsBodies};
 ghost use Rattle.tangle_session.specs.Edits.{list_memory, list_refusal, session_refusal};
 ghost use Rattle.tangle_session.specs.Files.{web_at};
-ghost use Rattle.tangle_session.specs.Sessions.{AgreesWithFiles, IsAnalysisAt, ListsAffectedOfWebs};
+ghost use Rattle.tangle_session.specs.Sessions.{AgreesWithFiles, ListsAffectedOfWebs};
 
 use crate::analysis::Analysis;
 use crate::refusing::{ListRefusal, refusal_of_role};
@@ -72,10 +69,9 @@ pub(crate) fn marks_after(roles: &Roles, edits: &[Edit]) -> MarkMode
 /// is already edited and must be dropped.
 fn edit_copy(copy: &mut Files, roles: &Roles, edit: &Edit) -> Result<(), Refusal>
     ensures made { OnOk result (copy.new ≡ edited copy.old edit.now) }
-    ensures refused { IfSome (session_refusal copy.old roles.now edit.now)
-        (λ refusal. (result ≡ Err refusal) ⊎ (result ≡ Err no_memory)) }
-    ensures only { IfNone (session_refusal copy.old roles.now edit.now)
-        (IsOkUnless result no_memory) }
+    ensures unrefused { OnOk result (session_refusal copy.old roles.now edit.now ≡ None) }
+    ensures refused { IfErr result (λ refusal.
+        (session_refusal copy.old roles.now edit.now ≡ Some refusal) ⊎ (refusal ≡ no_memory)) }
 {
     copy.edit(edit)?;
     match refusal_of_role(roles, edit) {
@@ -100,42 +96,6 @@ fn edited_copy(files: &Files, roles: &Roles, edits: &[Edit]) -> Result<Files, Li
     Ok(copy)
 }
 
-/// Makes the state for this analysis of the files. The expansions of unaffected nodes are shared
-/// with the old state.
-fn expand_over(
-    alloc: Global,
-    old: &SessionState,
-    files: Files,
-    analysis: Analysis,
-) -> Result<SessionState, NoMemory>
-    requires agrees { (before after : RolesRead)
-        × AgreesWithFiles old.now.files before old.now × IsAnalysisAt files after analysis }
-    requires kept { KeepsBodies old.now.analysis.store analysis.store analysis.are_kept.items }
-    ensures files { IfOk result (λ new. new.files ≡ files) }
-    ensures agrees { (before after : RolesRead) → AgreesWithFiles old.now.files before old.now
-        → IsAnalysisAt files after analysis → fits files after ≡ true
-        → IfOk result (λ new. AgreesWithFiles new.files after new) }
-    ensures work { (before after : RolesRead) → AgreesWithFiles old.now.files before old.now
-        → IsAnalysisAt files after analysis → IfOk result (λ new.
-        ListsAffectedOfWebs (web_at old.now.files before) (web_at new.files after) new.work) }
-{
-    let mut work = Work::new(alloc);
-    let kept = expand_again(
-        alloc,
-        &old.analysis.store,
-        &old.kept,
-        &analysis.store,
-        &analysis.are_kept,
-        &mut work,
-    )?;
-    Ok(SessionState {
-        files,
-        analysis,
-        kept,
-        work,
-    })
-}
-
 /// The state after a list of edits, with this setting for line marks: the files are tangled again,
 /// and the expansions of unaffected nodes are kept.
 pub(crate) fn tangle_again(
@@ -158,6 +118,19 @@ pub(crate) fn tangle_again(
 {
     let files = edited_copy(&old.files, roles, edits)?;
     let analysis = Analysis::build(alloc, &files, roles, marks, Some(&old.analysis))?;
-    let next = expand_over(alloc, old, files, analysis)?;
-    Ok(next)
+    let mut work = Work::new(alloc);
+    let kept = expand_again(
+        alloc,
+        &old.analysis.store,
+        &old.kept,
+        &analysis.store,
+        &analysis.are_kept,
+        &mut work,
+    )?;
+    Ok(SessionState {
+        files,
+        analysis,
+        kept,
+        work,
+    })
 }

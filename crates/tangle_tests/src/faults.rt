@@ -1,8 +1,8 @@
 //! The lines of faults in streams that take no more, and flushes.
 use std::io::{self, ErrorKind, Write};
 use std::test::Fail;
-use tangle_folders::MemorySink;
 use tangle_lines::{Fault, FaultKind, IoSink, Sink, WriteFault, write_after, write_fault};
+use tangle_memory_folder::MemorySink;
 
 const LINE: &[u8] = b"a.w:7: error: undefined: <n>\n";
 

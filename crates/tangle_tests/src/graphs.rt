@@ -4,9 +4,9 @@ use crate::support::files_with;
 use std::alloc::{AllocError, Global};
 use std::test::Fail;
 use tangle_affected::expand_all;
-use tangle_folders::MemorySink;
 use tangle_graph::{Expansion, Kept, Node, Numbers, Store, Work, same_shape};
 use tangle_lines::{MarkMode, NoMemory, Source, WriteFault};
+use tangle_memory_folder::MemorySink;
 use tangle_names::NameTable;
 use tangle_scan::scan;
 

@@ -3,8 +3,8 @@ use crate::support::AMPLE;
 use ctangle_cli::{LoadFault, run_ctangle, write_load};
 use std::alloc::Global;
 use std::test::Fail;
-use tangle_folders::{MemoryFolder, MemorySink};
 use tangle_lines::Refusal;
+use tangle_memory_folder::{MemoryFolder, MemorySink};
 
 const IN_C: &[u8] = b"/*1:*/\n#line 2 \"a.w\"\n\nint x;\n/*:1*/\n";
 

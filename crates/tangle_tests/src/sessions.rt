@@ -4,8 +4,8 @@ use crate::support::{AMPLE, end_failures, fail_allocation, files_with, start};
 use std::alloc::{AllocError, Global};
 use std::process::Abort;
 use std::test::Fail;
-use tangle_folders::MemorySink;
 use tangle_lines::{Edit, Files, Refusal, Roles, write_after, write_fault};
+use tangle_memory_folder::MemorySink;
 use tangle_session::{Edits, ListRefusal, Session, ask_all, start_and_edit};
 
 // Files and roles, as bytes.

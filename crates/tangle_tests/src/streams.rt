@@ -6,8 +6,8 @@ use ctangle_cli::run_retangle;
 use std::alloc::Global;
 use std::process::Abort;
 use std::test::Fail;
-use tangle_folders::MemorySink;
 use tangle_lines::{Feed, IoFeed, IoSink, Refusal, Sink};
+use tangle_memory_folder::MemorySink;
 use tangle_session::{Session, ask_all};
 
 /// A writer that takes one byte a call until it has taken `left` further ones, and then fails.

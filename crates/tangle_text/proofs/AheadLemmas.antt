@@ -1,32 +1,36 @@
 -- The text ahead at a position of a line.
-use Rattle.std.proofs.Common.{◌≡◌, ℕ, ◌+◌, ◌<◌, ◌≤◌, suc, Bool, List, [], ◌∷◌, Some, None, false, true, IsSome, length}
-use Rattle.std.proofs.Common.{get_or, slice_get, drop, inl, inr, refl, ap, sym, ◌∙◌, arith, drop-cons, zero}
+use Rattle.std.proofs.Common.{◌≡◌, ℕ, ◌+◌, ◌<◌, ◌≤◌, ◌^◌, ◌*◌, suc, Bool, List, [], ◌∷◌, None, zero}
+use Rattle.std.proofs.Common.{false, true, IsSome, length, get_or, slice_get, drop, inl, inr, refl, arith, drop-cons}
+use Rattle.std.specs.List.{All}
 use Rattle.std.proofs.Math.ListN.{drop_of_length-le}
-use Rattle.std.proofs.lemmas.Option.{get_or_from_slice_get, slice_get_cases}
-use Rattle.tangle_lines.specs.Reading.{SourceLine}
-use Rattle.tangle_lines.specs.Reading.{no_line}
-use Rattle.tangle_text.specs.Text.{text_from, byte_at, front_line, front_column, span_at, Cell}
+use Rattle.std.proofs.lemmas.List.{length-append}
+use Rattle.std.proofs.lemmas.List.Elements.{All-head, All-tail}
+use Rattle.std.proofs.lemmas.Option.{slice_get-get_or, slice_get_cases, slice_get_past}
+use Rattle.tangle_lines.specs.Reading.{SourceLine, IsShort, no_line, source_line_limit}
+use Rattle.tangle_text.specs.declared.reader.Reader.TheInside.{Inside}
+use Rattle.tangle_text.specs.Text.{line_text, text_from, byte_at, Cell}
 use Rattle.tangle_text.specs.Ahead.{rest_of, IsFront}
 
--- at a byte
-pub rest_of-byte : (lines : List SourceLine) (bytes : List ℕ) (line column b : ℕ)
-    → column < length bytes → slice_get bytes column ≡ Some b
-    → rest_of lines bytes line column false
-    ≡ record { line = line; column = column; byte = Some b } ∷ rest_of lines bytes line (column + 1) false
-rest_of-byte lines bytes line column b h is =
-    let n : column + 1 ≡ suc column = omega arith in
-    let e : drop column bytes ≡ b ∷ drop (column + 1) bytes =
-    drop-cons bytes column 0 h
-    ∙ (ap (λ x. x ∷ drop (suc column) bytes) (get_or_from_slice_get bytes column b 0 is)
-    ∙ ap (λ n. b ∷ drop n bytes) (sym n)) in
-    rw e refl
+-- the text of a source is short, since its lines are
 
--- at a line end
-pub rest_of-line_end : (lines : List SourceLine) (bytes : List ℕ) (line column : ℕ) → length bytes ≤ column
-    → rest_of lines bytes line column false
-    ≡ record { line = line; column = column; byte = None } ∷ text_from (line + 1) (drop (line + 1) lines)
-rest_of-line_end lines bytes line column h =
-    rw (drop_of_length-le bytes h) refl
+length-line_text : (line column : ℕ) (bytes : List ℕ) → length (line_text line column bytes) ≡ length bytes + 1
+length-line_text line column [] = refl
+length-line_text line column (b ∷ bs) = omega (arith, length-line_text line (column + 1) bs)
+
+length-text_from : (line : ℕ) (ls : List SourceLine) → All IsShort ls → length (text_from line ls) ≤ 65536 * length ls
+length-text_from line [] short = omega arith
+length-text_from line (l ∷ ls) short =
+    omega (
+      arith,
+      length-append (line_text line 0 l.bytes) (text_from (line + 1) ls),
+      length-line_text line 0 l.bytes,
+      All-head IsShort l ls short,
+      length-text_from (line + 1) ls (All-tail IsShort l ls short),
+    )
+
+pub text_is_short : (ls : List SourceLine) → length ls ≤ source_line_limit → All IsShort ls
+    → length (text_from 0 ls) < 2 ^ 63
+text_is_short ls few short = omega (arith, length-text_from 0 ls short)
 
 -- at the beginning of a line
 pub text_from-line : (lines : List SourceLine) (n : ℕ) → n < length lines →
@@ -35,40 +39,45 @@ text_from-line lines n h =
     let next : n + 1 ≡ suc n = omega arith in
     rw (drop-cons lines n no_line h, next) refl
 
--- the byte at a position
-pub byte_at-rest : (lines : List SourceLine) (bytes : List ℕ) (line column : ℕ)
-    → byte_at 0 (rest_of lines bytes line column false) ≡ slice_get bytes column
-byte_at-rest lines bytes line column =
-    elim ((slice_get_cases bytes column).1) [
-      | inl here ↦ ap (byte_at 0) (rest_of-byte lines bytes line column here.0 here.1 here.2) ∙ sym here.2
-      | inr past ↦ ap (byte_at 0) (rest_of-line_end lines bytes line column past.0) ∙ sym past.1
-    ]
+module _ (lines : List SourceLine) (bytes : List ℕ) (line column : ℕ) where
+  -- at a byte
+  pub rest_of-byte : column < length bytes
+      → rest_of lines bytes line column false
+      ≡ record { line = line; column = column; byte = slice_get bytes column }
+      ∷ rest_of lines bytes line (column + 1) false
+  rest_of-byte h =
+      let next : column + 1 ≡ suc column = omega arith in
+      rw (drop-cons bytes column 0 h, slice_get-get_or bytes column 0 h, next) refl
 
--- the line and the column of a position
-pub front_line-rest : (lines : List SourceLine) (bytes : List ℕ) (line column last : ℕ) (done : Bool)
-    → done ≡ false → front_line last (rest_of lines bytes line column done) ≡ line
-front_line-rest lines bytes line column last done is =
-    elim ((slice_get_cases bytes column).1) [
-      | inl here ↦ rw is (ap (front_line last) (rest_of-byte lines bytes line column here.0 here.1 here.2))
-      | inr past ↦ rw is (ap (front_line last) (rest_of-line_end lines bytes line column past.0))
-    ]
+  -- at a line end
+  rest_of-line_end : length bytes ≤ column
+      → rest_of lines bytes line column false
+      ≡ record { line = line; column = column; byte = None } ∷ text_from (line + 1) (drop (line + 1) lines)
+  rest_of-line_end h = rw (drop_of_length-le bytes h) refl
 
-pub front_column-rest : (lines : List SourceLine) (bytes : List ℕ) (line column : ℕ) (done : Bool)
-    → done ≡ false → front_column (rest_of lines bytes line column done) ≡ column
-front_column-rest lines bytes line column done is =
-    elim ((slice_get_cases bytes column).1) [
-      | inl here ↦ rw is (ap front_column (rest_of-byte lines bytes line column here.0 here.1 here.2))
-      | inr past ↦ rw is (ap front_column (rest_of-line_end lines bytes line column past.0))
-    ]
+  -- the first cell at a position of a line
+  pub rest_of-cell : rest_of lines bytes line column false
+      ≡ record { line = line; column = column; byte = slice_get bytes column }
+      ∷ drop 1 (rest_of lines bytes line column false)
+  rest_of-cell =
+      elim ((slice_get_cases bytes column).1) [
+        | inl here ↦ rw (rest_of-byte here.1) refl
+        | inr past ↦ rw (rest_of-line_end past.0, past.1) refl
+      ]
 
--- the text isn't at its end at a position of a line
-pub rest-inside : (lines : List SourceLine) (bytes : List ℕ) (line column : ℕ) (done : Bool)
-    → done ≡ false → 0 < length (rest_of lines bytes line column done)
-rest-inside lines bytes line column done is =
-    elim ((slice_get_cases bytes column).1) [
-      | inl here ↦ rw (is, rest_of-byte lines bytes line column here.0 here.1 here.2) (omega arith)
-      | inr past ↦ rw (is, rest_of-line_end lines bytes line column past.0) (omega arith)
-    ]
+  -- advancing over a byte
+  pub advance-byte : (done : Bool) → column < length bytes
+      → rest_of lines bytes line (column + 1) done ≡ drop 1 (rest_of lines bytes line column done)
+  advance-byte true h = refl
+  advance-byte false h = rw (rest_of-byte h) refl
+
+  -- the front at a line end
+  pub front-line_end : (done : Bool) → done ≡ false → length bytes ≤ column
+      → IsFront (rest_of lines bytes line column done)
+      (record { byte = slice_get bytes column; next = byte_at 0 (text_from (line + 1) (drop (line + 1) lines)) })
+  front-line_end done is h =
+      rw (is, rest_of-line_end h, slice_get_past bytes column h)
+      (record { inside = omega arith; byte = refl; next = refl })
 
 -- the front at a byte
 pub front-byte : (lines : List SourceLine) (bytes : List ℕ) (line column : ℕ) (done : Bool)
@@ -76,58 +85,35 @@ pub front-byte : (lines : List SourceLine) (bytes : List ℕ) (line column : ℕ
     → IsFront (rest_of lines bytes line column done)
     (record { byte = slice_get bytes column; next = slice_get bytes (column + 1) })
 front-byte lines bytes line column done is h =
-    elim ((slice_get_cases bytes column).1) [
-      | inl here ↦
-          let e = rest_of-byte lines bytes line column here.0 here.1 here.2 in
-          rw (is, e, here.2)
-          (record { inside = omega arith; byte = refl; next = byte_at-rest lines bytes line (column + 1) })
-      | inr past ↦ absurd (omega (arith, past.0))
-    ]
+    rw (is, rest_of-byte lines bytes line column h, rest_of-cell lines bytes line (column + 1))
+    (record { inside = omega arith; byte = refl; next = refl })
 
--- the front at a line end
-pub front-line_end : (lines : List SourceLine) (bytes : List ℕ) (line column : ℕ) (done : Bool)
-    → done ≡ false → length bytes ≤ column
-    → IsFront (rest_of lines bytes line column done)
-    (record { byte = slice_get bytes column; next = byte_at 0 (text_from (line + 1) (drop (line + 1) lines)) })
-front-line_end lines bytes line column done is h =
-    elim ((slice_get_cases bytes column).1) [
-      | inl here ↦ absurd (omega (arith, here.1))
-      | inr past ↦
-          let e = rest_of-line_end lines bytes line column past.0 in
-          rw (is, e, past.1) (record { inside = omega arith; byte = refl; next = refl })
-    ]
-
--- advancing over a byte
-pub advance-byte : (lines : List SourceLine) (bytes : List ℕ) (line column : ℕ) (done : Bool) → column < length bytes →
-    rest_of lines bytes line (column + 1) done ≡ drop 1 (rest_of lines bytes line column done)
-advance-byte lines bytes line column true h = refl
-advance-byte lines bytes line column false h =
-    elim ((slice_get_cases bytes column).1) [
-      | inl here ↦ sym (ap (drop 1) (rest_of-byte lines bytes line column here.0 here.1 here.2))
-      | inr past ↦ absurd (omega (arith, past.0))
-    ]
+-- a reader that is at a byte
+pub record IsAtByte (r : Inside) (text : List Cell) : Type 0 where
+  pub done : r.is_done ≡ false
+  pub inside : r.column < length r.bytes.now
+  pub ahead : text ≡ record { line = r.line; column = r.column; byte = slice_get r.bytes.now r.column }
+      ∷ rest_of r.source.now.lines r.bytes.now r.line (r.column + 1) false
 
 none-some : IsSome {T = ℕ} None → ⊥
 none-some h = cc
 
--- if there is a byte, the column is inside its line
-pub byte-inside : (lines : List SourceLine) (bytes : List ℕ) (line column : ℕ) (done : Bool)
-    → IsSome (byte_at 0 (rest_of lines bytes line column done))
-    → (done ≡ false) × (column < length bytes)
-byte-inside lines bytes line column true h = absurd (none-some h)
-byte-inside lines bytes line column false h =
-    elim ((slice_get_cases bytes column).1) [
-      | inl here ↦ (refl, here.1)
-      | inr past ↦ absurd (none-some (rw (byte_at-rest lines bytes line column, past.1) at h))
-    ]
-
-pub span_at-rest : (lines : List SourceLine) (bytes : List ℕ) (line column count : ℕ) →
-    span_at count (rest_of lines bytes line column false) ≡ record { line = line; start = column; end = column + count }
-span_at-rest lines bytes line column count =
-    elim ((slice_get_cases bytes column).1) [
-      | inl here ↦ ap (span_at count) (rest_of-byte lines bytes line column here.0 here.1 here.2)
-      | inr past ↦ ap (span_at count) (rest_of-line_end lines bytes line column past.0)
-    ]
+pub at-byte : (r : Inside) (text : List Cell)
+    → rest_of r.source.now.lines r.bytes.now r.line r.column r.is_done ≡ text → IsSome (byte_at 0 text)
+    → IsAtByte r text
+at-byte r text is some = by r.is_done refl
+  where
+    by : (done : Bool) → r.is_done ≡ done → IsAtByte r text
+    by true e = absurd (none-some (rw (← is, e) at some))
+    by false e =
+        elim ((slice_get_cases r.bytes.now r.column).1) [
+          | inl here ↦ record {
+            done = e;
+            inside = here.1;
+            ahead = rw (← is, e) (rest_of-byte r.source.now.lines r.bytes.now r.line r.column here.1);
+          }
+          | inr past ↦ absurd (none-some (rw (← is, e, rest_of-line_end r.source.now.lines r.bytes.now r.line r.column past.0) at some))
+        ]
 
 -- the byte at a distance is the first one after that many cells
 pub byte_at-drop : (n : ℕ) (text : List Cell) → byte_at n text ≡ byte_at 0 (drop n text)

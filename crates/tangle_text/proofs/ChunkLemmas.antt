@@ -1,26 +1,29 @@
--- Bytes up to an `@` belong to the name that is being read.
-use Rattle.std.proofs.Common.{◌≡◌, ◌<◌, ◌≤◌, ℕ, ◌+◌, ◌-◌, zero, suc, Bool, false, List, [], ◌∷◌, ◌++◌, Option, Some}
-use Rattle.std.proofs.Common.{take, drop, length, get_or, refl, ap, sym, subst, ◌∙◌, arith, nat_eq, length-drop, inl}
-use Rattle.std.proofs.Common.{inr}
-use Rattle.std.proofs.lemmas.Bool.Decides.{eqb_tells}
+-- Bytes up to an `@` are skipped in prose, and belong to the name that is being read.
+use Rattle.std.proofs.Common.{◌≡◌, ◌<◌, ◌≤◌, ℕ, ◌+◌, ◌-◌, zero, suc, Bool, true, false, List, [], ◌∷◌, ◌++◌, Option, Some}
+use Rattle.std.proofs.Common.{take, drop, length, get_or, refl, ap, sym, ◌∙◌, arith, nat_eq, length-drop}
+use Rattle.std.proofs.lemmas.Bool.{ne_eqb}
 use Rattle.std.proofs.lemmas.List.{get_or-drop}
 use Rattle.tangle_lines.specs.Reading.{SourceLine}
+use Rattle.tangle_text.specs.declared.regions.Region.{Region}
 use Rattle.tangle_text.specs.declared.regions.Region.TheVariants as region
 use Rattle.tangle_text.specs.declared.regions.Unit.TheVariants as unit
 use Rattle.tangle_text.specs.Text.{Cell, line_text, text_from, byte_at}
 use Rattle.tangle_text.specs.Regions.{unit_of, region_end, more_by, unless_stop}
-use Rattle.tangle_text.specs.NameBytes.{name_bytes, BeginsName}
+use Rattle.tangle_text.specs.NameBytes.{BeginsName}
 use Rattle.tangle_text.specs.Ahead.{rest_of}
 use Rattle.tangle_text.proofs.RegionLemmas.{region_end-one}
 use Rattle.tangle_text.proofs.UnitLemmas.{from_units, name_bytes_of, name_bytes-are}
 use Rattle.tangle_text.proofs.RunLemmas.{rest_of-further}
 
 -- a byte that is no `@` is a unit of its own
-plain-one : (b : ℕ) (next : Option ℕ) → nat_eq b 64 ≡ false → unit_of region.Name (Some b) next ≡ unit.One
-plain-one b next h = rw h refl
+abbrev pub PassesAll : Region → Type 0
+PassesAll r = (b : ℕ) (next : Option ℕ) → nat_eq b 64 ≡ false → unit_of r (Some b) next ≡ unit.One
 
-not-at : (b : ℕ) → (b ≡ 64 → ⊥) → nat_eq b 64 ≡ false
-not-at b h = elim (eqb_tells b 64) [ inl same ↦ absurd (h same.1) | inr differ ↦ differ.0 ]
+in-name : PassesAll region.Name
+in-name b next h = rw h refl
+
+pub in-prose : PassesAll region.Prose
+in-prose b next h = rw h refl
 
 units-line : (line column : ℕ) (bs : List ℕ) (rest : List Cell) (n : ℕ)
     → n ≤ length bs → ((k : ℕ) → k < n → get_or bs k 0 ≡ 64 → ⊥)
@@ -32,49 +35,58 @@ units-line line column (b ∷ bs) rest (suc n) h other =
     let cs = line_text line (column + 1) bs ++ rest in
     let c : Cell = record { line = line; column = column; byte = Some b } in
     ap (λ u. unless_stop u (name_bytes_of u c (byte_at 0 cs) ++ from_units name_bytes_of region.Name (more_by u) cs))
-    (plain-one b (byte_at 0 cs) (not-at b (other 0 (omega arith))))
+    (in-name b (byte_at 0 cs) (ne_eqb b 64 (other 0 (omega arith))))
     ∙ ap (λ l. b ∷ l)
     (units-line line (column + 1) bs rest n (omega (arith, h)) (λ k lt. other (suc k) (omega (arith, lt))))
 
-end-line : (line column : ℕ) (bs : List ℕ) (rest : List Cell) (n : ℕ)
+end-line : (r : Region) → PassesAll r → (line column : ℕ) (bs : List ℕ) (rest : List Cell) (n : ℕ)
     → n ≤ length bs → ((k : ℕ) → k < n → get_or bs k 0 ≡ 64 → ⊥)
-    → region_end region.Name (line_text line column bs ++ rest)
-    ≡ region_end region.Name (drop n (line_text line column bs ++ rest))
-end-line line column bs rest zero h other = refl
-end-line line column [] rest (suc n) h other = absurd (omega (arith, h))
-end-line line column (b ∷ bs) rest (suc n) h other =
+    → region_end r (drop n (line_text line column bs ++ rest)) ≡ region_end r (line_text line column bs ++ rest)
+end-line r one line column bs rest zero h other = refl
+end-line r one line column [] rest (suc n) h other = absurd (omega (arith, h))
+end-line r one line column (b ∷ bs) rest (suc n) h other =
     let cs = line_text line (column + 1) bs ++ rest in
     let c : Cell = record { line = line; column = column; byte = Some b } in
-    region_end-one region.Name (c ∷ cs) (plain-one b (byte_at 0 cs) (not-at b (other 0 (omega arith))))
-    ∙ end-line line (column + 1) bs rest n (omega (arith, h)) (λ k lt. other (suc k) (omega (arith, lt)))
+    end-line r one line (column + 1) bs rest n (omega (arith, h)) (λ k lt. other (suc k) (omega (arith, lt)))
+    ∙ sym (region_end-one r (c ∷ cs) (one b (byte_at 0 cs) (ne_eqb b 64 (other 0 (omega arith)))))
 
-pub bytes_begin : (lines : List SourceLine) (bytes : List ℕ) (line column end : ℕ) (done : Bool) (old : List Cell)
-    → done ≡ false → rest_of lines bytes line column done ≡ old
-    → column ≤ end → end ≤ length bytes → ((k : ℕ) → column + k < end → get_or bytes (column + k) 0 ≡ 64 → ⊥)
-    → BeginsName (take (end - column) (drop column bytes)) old (rest_of lines bytes line end done)
-bytes_begin lines bytes line column end done old here is low high other =
-    let n = end - column in
-    let bs = drop column bytes in
-    let after = text_from (line + 1) (drop (line + 1) lines) in
-    let few : n ≤ length bs = omega (arith, low, high, length-drop column bytes) in
-    let plain = λ (k : ℕ) (lt : k < n) (same : get_or bs k 0 ≡ 64).
-    other k (omega (arith, lt, low)) (sym (get_or-drop column bytes k 0) ∙ same) in
-    let front : line_text line column bs ++ after ≡ old = sym (ap (rest_of lines bytes line column) here) ∙ is in
-    let next : rest_of lines bytes line end done ≡ drop n old
-    = ap (λ k. rest_of lines bytes line k done) (omega (arith, low))
-    ∙ rest_of-further lines bytes line column n done (omega (arith, low, high)) ∙ ap (drop n) is in
-    let units : from_units name_bytes_of region.Name 0 old
-    ≡ take n bs ++ from_units name_bytes_of region.Name 0 (drop n old)
-    = subst
-    (λ t. from_units name_bytes_of region.Name 0 t ≡ take n bs ++ from_units name_bytes_of region.Name 0 (drop n t))
-    front (units-line line column bs after n few plain) in
-    let ends : region_end region.Name old ≡ region_end region.Name (drop n old)
-    = subst (λ t. region_end region.Name t ≡ region_end region.Name (drop n t))
-    front (end-line line column bs after n few plain) in
-    record {
-      units =
-          name_bytes-are old ∙ units ∙ ap (λ xs. take n bs ++ xs) (sym (name_bytes-are (drop n old)))
-          ∙ ap (λ t. take n bs ++ name_bytes t) (sym next);
-      end = ends ∙ ap (region_end region.Name) (sym next);
-      shorter = omega (arith, ap length next, length-drop n old);
-    }
+-- the text ahead after a range of a line that has no `@`
+module _ (lines : List SourceLine) (bytes : List ℕ) (line column end : ℕ) (low : column ≤ end)
+    (high : end ≤ length bytes) (other : (k : ℕ) → column + k < end → get_or bytes (column + k) 0 ≡ 64 → ⊥) where
+  other-after : (k : ℕ) → k < end - column → get_or (drop column bytes) k 0 ≡ 64 → ⊥
+  other-after k lt same = other k (omega (arith, lt, low)) (sym (get_or-drop column bytes k 0) ∙ same)
+
+  pub rest_of-after : (done : Bool)
+      → rest_of lines bytes line end done ≡ drop (end - column) (rest_of lines bytes line column done)
+  rest_of-after done =
+      let next : end ≡ column + (end - column) = omega (arith, low) in
+      ap (λ k. rest_of lines bytes line k done) next
+      ∙ rest_of-further lines bytes line column (end - column) done (omega (arith, low, high))
+
+  pub region_end-after : (r : Region) → PassesAll r → (done : Bool)
+      → region_end r (rest_of lines bytes line end done) ≡ region_end r (rest_of lines bytes line column done)
+  region_end-after r one true = refl
+  region_end-after r one false =
+      rw (rest_of-after false)
+      (end-line r one line column (drop column bytes) (text_from (line + 1) (drop (line + 1) lines)) (end - column)
+      (omega (arith, low, high, length-drop column bytes)) other-after)
+
+  pub bytes_begin : BeginsName (take (end - column) (drop column bytes))
+      (rest_of lines bytes line column false) (rest_of lines bytes line end false)
+  bytes_begin = record {
+    units =
+        rw (
+          name_bytes-are (rest_of lines bytes line column false),
+          name_bytes-are (rest_of lines bytes line end false),
+          rest_of-after false,
+        )
+        (units-line line column (drop column bytes) (text_from (line + 1) (drop (line + 1) lines)) (end - column)
+        (omega (arith, low, high, length-drop column bytes)) other-after);
+    end = sym (region_end-after region.Name in-name false);
+    shorter =
+        omega (
+          arith,
+          ap length (rest_of-after false),
+          length-drop (end - column) (rest_of lines bytes line column false),
+        );
+  }

@@ -1,6 +1,7 @@
 -- Ordinary bytes, which have no meaning, are skipped one by one.
 use Rattle.std.proofs.Common.{◌≡◌, ℕ, ◌+◌, zero, suc, Bool, true, false, not, ◌||◌, List, [], ◌∷◌, ◌++◌, Option, Some}
 use Rattle.std.proofs.Common.{None, drop, refl, sym, ◌∙◌, arith}
+use Rattle.std.specs.List.{prefix_len}
 use Rattle.std.proofs.lemmas.Bool.{false≢true, not-true}
 use Rattle.tangle_text.specs.declared.regions.Region.{Region}
 use Rattle.tangle_text.specs.declared.regions.Region.TheVariants as region
@@ -8,7 +9,6 @@ use Rattle.tangle_text.specs.declared.regions.Unit.TheVariants as unit
 use Rattle.tangle_text.specs.Bytes.{holds}
 use Rattle.tangle_text.specs.Text.{Cell, line_text, byte_at}
 use Rattle.tangle_text.specs.Regions.{unit_of, region_end, is_ordinary, holds_ordinary, AreOrdinary, skips_ordinary}
-use Rattle.tangle_text.specs.Ahead.{run_length}
 use Rattle.tangle_text.proofs.RegionLemmas.{region_end-one}
 
 pub or-false : (a b : Bool) → not (a || b) ≡ true → (not a ≡ true) × (b ≡ false)
@@ -29,18 +29,12 @@ byte-one r b next skips h =
     go : (r : Region) → skips_ordinary r ≡ true → holds 64 (Some b) ≡ false
         → holds 42 (Some b) ≡ false → holds 92 (Some b) ≡ false → holds 34 (Some b) ≡ false
         → holds 39 (Some b) ≡ false → holds 62 (Some b) ≡ false → unit_of r (Some b) next ≡ unit.One
-    go region.BlockComment skips at asterisk backslash quote apostrophe greater = rw (at, asterisk) refl
-    go region.ControlText skips at asterisk backslash quote apostrophe greater = rw at refl
-    go region.Verbatim skips at asterisk backslash quote apostrophe greater = rw at refl
-    go region.DoubleQuote skips at asterisk backslash quote apostrophe greater = rw (at, backslash, quote) refl
-    go region.Apostrophe skips at asterisk backslash quote apostrophe greater = rw (at, backslash, apostrophe) refl
-    go region.HeaderName skips at asterisk backslash quote apostrophe greater = rw (at, greater) refl
-    go region.LineComment skips at asterisk backslash quote apostrophe greater = rw at refl
     go region.Name skips at asterisk backslash quote apostrophe greater = absurd (false≢true skips)
     go region.Word skips at asterisk backslash quote apostrophe greater = absurd (false≢true skips)
     go region.White skips at asterisk backslash quote apostrophe greater = absurd (false≢true skips)
     go region.Prose skips at asterisk backslash quote apostrophe greater = absurd (false≢true skips)
     go region.BadConstant skips at asterisk backslash quote apostrophe greater = absurd (false≢true skips)
+    go r skips at asterisk backslash quote apostrophe greater = simp (at, asterisk, backslash, quote, apostrophe, greater)
 
 pub cell-one : (r : Region) (b next : Option ℕ)
     → skips_ordinary r ≡ true → holds_ordinary b ≡ true → unit_of r b next ≡ unit.One
@@ -56,13 +50,13 @@ region_end-ordinary r is (suc n) (c ∷ cs) h =
 
 -- the run of ordinary bytes in a line
 pub run-ordinary : (line column : ℕ) (bytes : List ℕ) (rest : List Cell)
-    → AreOrdinary (run_length is_ordinary bytes) (line_text line column bytes ++ rest)
+    → AreOrdinary (prefix_len is_ordinary bytes) (line_text line column bytes ++ rest)
 run-ordinary line column [] rest = tt
 run-ordinary line column (b ∷ bs) rest = go (is_ordinary b) refl (run-ordinary line (column + 1) bs rest)
   where
     go : (t : Bool)
-        → is_ordinary b ≡ t → AreOrdinary (run_length is_ordinary bs) (line_text line (column + 1) bs ++ rest)
-        → AreOrdinary (run_length is_ordinary (b ∷ bs)) (line_text line column (b ∷ bs) ++ rest)
+        → is_ordinary b ≡ t → AreOrdinary (prefix_len is_ordinary bs) (line_text line (column + 1) bs ++ rest)
+        → AreOrdinary (prefix_len is_ordinary (b ∷ bs)) (line_text line column (b ∷ bs) ++ rest)
     go true h more =
-        let n : run_length is_ordinary (b ∷ bs) ≡ suc (run_length is_ordinary bs) = rw h (omega arith) in rw n (h, more)
-    go false h more = let n : run_length is_ordinary (b ∷ bs) ≡ 0 = rw h refl in rw n tt
+        let n : prefix_len is_ordinary (b ∷ bs) ≡ suc (prefix_len is_ordinary bs) = rw h (omega arith) in rw n (h, more)
+    go false h more = let n : prefix_len is_ordinary (b ∷ bs) ≡ 0 = rw h refl in rw n tt

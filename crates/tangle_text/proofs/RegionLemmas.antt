@@ -1,5 +1,5 @@
 -- Regions, unit by unit.
-use Rattle.std.proofs.Common.{◌≡◌, ℕ, ◌+◌, suc, List, [], ◌∷◌, drop, refl, ap, sym, ◌∙◌, arith}
+use Rattle.std.proofs.Common.{◌≡◌, ℕ, ◌+◌, suc, List, [], ◌∷◌, drop, refl, ap, sym, arith}
 use Rattle.tangle_text.specs.declared.regions.Region.{Region}
 use Rattle.tangle_text.specs.declared.regions.Unit.{Unit as Unit-of}
 use Rattle.tangle_text.specs.declared.regions.Unit.TheVariants as unit
@@ -23,30 +23,26 @@ region_end-counted r text = ap (λ n. drop n text) (count-is r text)
 
 pub region_end-stop : (r : Region) (text : List Cell) → unit_at r text ≡ unit.Stop → region_end r text ≡ text
 region_end-stop r [] h = region_end-nothing r
-region_end-stop r (c ∷ cs) h = region_end-counted r (c ∷ cs) ∙ none
-  where
-    none : drop (counted r 0 (c ∷ cs)) (c ∷ cs) ≡ c ∷ cs
-    none = rw h refl
+region_end-stop r (c ∷ cs) h = rw (region_end-counted r (c ∷ cs), h) refl
 
 pub region_end-one : (r : Region) (text : List Cell)
     → unit_at r text ≡ unit.One → region_end r text ≡ region_end r (drop 1 text)
 region_end-one r [] h = refl
-region_end-one r (c ∷ cs) h = region_end-counted r (c ∷ cs) ∙ passed ∙ sym (region_end-counted r cs)
-  where
-    passed : drop (counted r 0 (c ∷ cs)) (c ∷ cs) ≡ drop (counted r 0 cs) cs
-    passed = rw h (drop-more (counted r 0 cs) c cs)
+region_end-one r (c ∷ cs) h =
+    rw (region_end-counted r (c ∷ cs), h, drop-more (counted r 0 cs) c cs, region_end-counted r cs) refl
 
 region_end-two : (r : Region) (text : List Cell)
     → unit_at r text ≡ unit.Two → region_end r text ≡ region_end r (drop 1 (drop 1 text))
 region_end-two r [] h = refl
-region_end-two r (c ∷ []) h = region_end-counted r (c ∷ []) ∙ passed ∙ sym (region_end-counted r [])
-  where
-    passed : drop (counted r 0 (c ∷ [])) (c ∷ []) ≡ drop (counted r 0 []) []
-    passed = rw h refl
-region_end-two r (c ∷ d ∷ cs) h = region_end-counted r (c ∷ d ∷ cs) ∙ passed ∙ sym (region_end-counted r cs)
-  where
-    passed : drop (counted r 0 (c ∷ d ∷ cs)) (c ∷ d ∷ cs) ≡ drop (counted r 0 cs) cs
-    passed = rw h (drop-more (1 + counted r 0 cs) c (d ∷ cs) ∙ drop-more (counted r 0 cs) d cs)
+region_end-two r (c ∷ []) h = rw (region_end-counted r (c ∷ []), h, region_end-nothing r) refl
+region_end-two r (c ∷ d ∷ cs) h =
+    rw (
+      region_end-counted r (c ∷ d ∷ cs),
+      h,
+      drop-more (1 + counted r 0 cs) c (d ∷ cs),
+      drop-more (counted r 0 cs) d cs,
+      region_end-counted r cs,
+    ) refl
 
 -- a unit that isn't the end of a region is skipped
 pub region_end-go : (r : Region) (text : List Cell) (u : Unit-of) → unit_at r text ≡ u → (u ≡ unit.Stop → ⊥) →

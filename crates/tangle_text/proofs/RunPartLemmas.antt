@@ -1,17 +1,18 @@
 -- Runs: how many cells they have, and their words, signs and spaces.
 use Rattle.std.proofs.Common.{◌≡◌, ℕ, ◌+◌, ◌<◌, ◌≤◌, ◌==◌, zero, suc, Bool, true, false, List, [], ◌∷◌, ◌++◌, Some}
-use Rattle.std.proofs.Common.{length, take, drop, get_or, slice_get, refl, ap, ◌∙◌, arith, drop-cons, drop-drop, inl}
+use Rattle.std.proofs.Common.{cond, length, take, drop, get_or, slice_get, refl, ap, ◌∙◌, arith, drop-cons, drop-drop, inl}
 use Rattle.std.proofs.Common.{inr}
+use Rattle.std.specs.List.{prefix_len}
+use Rattle.std.proofs.lemmas.List.Sums.{prefix_len-le-length}
 use Rattle.std.proofs.lemmas.Bool.Decides.{eqb_tells}
 use Rattle.std.proofs.lemmas.List.{length-take-le}
 use Rattle.tangle_lines.specs.Reading.{SourceLine}
 use Rattle.tangle_text.proofs.RunChunks.{alone-chunk, alone-before}
-use Rattle.tangle_text.proofs.RunLemmas.{run-fits}
 use Rattle.tangle_files.specs.Bytes.{space}
 use Rattle.tangle_text.specs.Bytes.{is_word_byte}
 use Rattle.tangle_text.specs.declared.runs.RunPart.TheVariants as part
 use Rattle.tangle_text.specs.Text.{Cell, line_text, text_from}
-use Rattle.tangle_text.specs.Ahead.{rest_of, run_length}
+use Rattle.tangle_text.specs.Ahead.{rest_of}
 use Rattle.tangle_text.specs.Runs.{is_in_run, run_count, run_size, with_front_byte, chunks, parts_of}
 
 pub run_count-line : (line column : ℕ) (bs : List ℕ) (rest : List Cell)
@@ -47,38 +48,38 @@ get-drop bytes zero = refl
 get-drop [] (suc column) = refl
 get-drop (b ∷ bs) (suc column) = get-drop bs column
 
-first-next : (bytes : List ℕ) (column : ℕ) → slice_get (drop (suc column) bytes) 0 ≡ slice_get bytes (column + 1)
-first-next bytes column =
-    let next : suc column ≡ column + 1 = omega arith in
-    get-drop bytes (suc column) ∙ ap (slice_get bytes) next
+pub run_size_step : (bytes : List ℕ) (column : ℕ) → column < length bytes
+    → run_size (drop column bytes)
+    ≡ cond (is_in_run (get_or bytes column 0) (slice_get bytes (column + 1))) (1 + run_size (drop (column + 1) bytes)) 0
+run_size_step bytes column h =
+    let next : column + 1 ≡ suc column = omega arith in
+    rw (drop-cons bytes column 0 h, get-drop bytes (suc column), next) refl
 
 pub run_size-over : (bytes : List ℕ) (column next : ℕ) → column < length bytes → next ≡ column + 1
     → is_in_run (get_or bytes column 0) (slice_get bytes (column + 1)) ≡ true
     → run_size (drop column bytes) ≡ 1 + run_size (drop next bytes)
-run_size-over bytes column next h after is =
-    let further : next ≡ suc column = omega (arith, after) in
-    rw (drop-cons bytes column 0 h, first-next bytes column, is, further) refl
+run_size-over bytes column next h after is = rw (run_size_step bytes column h, is, after) refl
 
 pub run_size-end : (bytes : List ℕ) (column : ℕ) → column < length bytes
     → is_in_run (get_or bytes column 0) (slice_get bytes (column + 1)) ≡ false
     → run_size (drop column bytes) ≡ 0
-run_size-end bytes column h is = rw (drop-cons bytes column 0 h, first-next bytes column, is) refl
+run_size-end bytes column h is = rw (run_size_step bytes column h, is) refl
 
 -- the word bytes at the front are a chunk
 pub chunks-word : (b : ℕ) (bs : List ℕ) → is_word_byte b ≡ true
-    → chunks (b ∷ bs) ≡ (b ∷ take (run_length is_word_byte bs) bs) ∷ chunks (drop (run_length is_word_byte bs) bs)
+    → chunks (b ∷ bs) ≡ (b ∷ take (prefix_len is_word_byte bs) bs) ∷ chunks (drop (prefix_len is_word_byte bs) bs)
 chunks-word b [] h = refl
 chunks-word b (c ∷ cs) h = go (is_word_byte c) refl (chunks-word c cs)
   where
     go : (t : Bool) → is_word_byte c ≡ t
         → (is_word_byte c ≡ true
         → chunks (c ∷ cs)
-        ≡ (c ∷ take (run_length is_word_byte cs) cs) ∷ chunks (drop (run_length is_word_byte cs) cs))
+        ≡ (c ∷ take (prefix_len is_word_byte cs) cs) ∷ chunks (drop (prefix_len is_word_byte cs) cs))
         → chunks (b ∷ c ∷ cs)
-        ≡ (b ∷ take (run_length is_word_byte (c ∷ cs)) (c ∷ cs))
-        ∷ chunks (drop (run_length is_word_byte (c ∷ cs)) (c ∷ cs))
+        ≡ (b ∷ take (prefix_len is_word_byte (c ∷ cs)) (c ∷ cs))
+        ∷ chunks (drop (prefix_len is_word_byte (c ∷ cs)) (c ∷ cs))
     go true e more =
-        let n : 1 + run_length is_word_byte cs ≡ suc (run_length is_word_byte cs) = omega arith in
+        let n : 1 + prefix_len is_word_byte cs ≡ suc (prefix_len is_word_byte cs) = omega arith in
         ap (with_front_byte b) (more e) ∙ rw (h, e, n) refl
     go false e more =
         alone-before b (c ∷ cs) h e ∙ rw e refl
@@ -104,18 +105,18 @@ sign-next line column bytes h differs none =
 
 pub word-next : (line column : ℕ) (bytes : List ℕ) → column < length bytes
     → (get_or bytes column 0 ≡ space → ⊥) → is_word_byte (get_or bytes column 0) ≡ true
-    → (end : ℕ) → end ≡ column + 1 + run_length is_word_byte (drop (column + 1) bytes)
+    → (end : ℕ) → end ≡ column + 1 + prefix_len is_word_byte (drop (column + 1) bytes)
     → parts_of line column (chunks (drop column bytes))
     ≡ part.Word (record { line = line; start = column; end = end }) ∷ parts_of line end (chunks (drop end bytes))
 word-next line column bytes h differs is end e =
     let other = not-space (get_or bytes column 0) differs in
     let b = get_or bytes column 0 in
     let bs = drop (suc column) bytes in
-    let n = run_length is_word_byte bs in
+    let n = prefix_len is_word_byte bs in
     let chunk = b ∷ take n bs in
     let next : column + 1 ≡ suc column = omega arith in
-    let size : length (take n bs) ≡ n = length-take-le n bs (run-fits is_word_byte bs) in
-    let end-is : end ≡ column + 1 + n = e ∙ ap (λ k. column + 1 + run_length is_word_byte (drop k bytes)) next in
+    let size : length (take n bs) ≡ n = length-take-le n bs (prefix_len-le-length is_word_byte bs) in
+    let end-is : end ≡ column + 1 + n = e ∙ ap (λ k. column + 1 + prefix_len is_word_byte (drop k bytes)) next in
     let last : column + length chunk ≡ end = omega (arith, size, end-is) in
     let rest : drop n bs ≡ drop end bytes
     = drop-drop n (suc column) bytes ∙ ap (λ k. drop k bytes) (omega (arith, end-is)) in

@@ -1,6 +1,6 @@
 -- The cells of a region, counted one by one.
 use Rattle.std.proofs.Common.{◌≡◌, ℕ, zero, suc, ◌+◌, Bool, true, false, ◌&&◌, ◌||◌, List, [], ◌∷◌, ◌++◌, length}
-use Rattle.std.proofs.Common.{flat_map, Option, None, refl, ap, sym, ◌∙◌, arith}
+use Rattle.std.proofs.Common.{flat_map, Option, None, refl, ap, sym, arith}
 use Rattle.tangle_text.specs.declared.regions.Region.{Region}
 use Rattle.tangle_text.specs.declared.regions.Region.TheVariants as region
 use Rattle.tangle_text.specs.declared.regions.Unit.{Unit as Unit-of}
@@ -45,17 +45,11 @@ count-is r (c ∷ d ∷ cs) = by (unit_at r (c ∷ d ∷ cs)) (count-is r (d ∷
 
 pub count-one : (r : Region) (c : Cell) (cs : List Cell)
     → unit_at r (c ∷ cs) ≡ unit.One → count_before r (c ∷ cs) ≡ 1 + count_before r cs
-count-one r c cs e = count-is r (c ∷ cs) ∙ passed ∙ ap (λ n. 1 + n) (sym (count-is r cs))
-  where
-    passed : counted r 0 (c ∷ cs) ≡ 1 + counted r 0 cs
-    passed = rw e refl
+count-one r c cs e = rw (count-is r (c ∷ cs), e, count-is r cs) refl
 
 pub count-two : (r : Region) (c d : Cell) (cs : List Cell)
     → unit_at r (c ∷ d ∷ cs) ≡ unit.Two → count_before r (c ∷ d ∷ cs) ≡ 1 + (1 + count_before r cs)
-count-two r c d cs e = count-is r (c ∷ d ∷ cs) ∙ passed ∙ ap (λ n. 1 + (1 + n)) (sym (count-is r cs))
-  where
-    passed : counted r 0 (c ∷ d ∷ cs) ≡ 1 + (1 + counted r 0 cs)
-    passed = rw e refl
+count-two r c d cs e = rw (count-is r (c ∷ d ∷ cs), e, count-is r cs) refl
 
 -- What `f` gives for each unit of a region, in order. `k` cells at the front belong to an earlier unit.
 abbrev pub from_units : {A : Type 0} → (Unit-of → Cell → Option ℕ → List A) → Region → ℕ → List Cell → List A

@@ -1,6 +1,6 @@
 -- The text ahead of a position.
-use Rattle.std.specs.Prelude.{◌≡◌, ◌<◌, ℕ, ◌+◌, Bool, true, false, List, [], ◌∷◌, ◌++◌, length}
-use Rattle.std.specs.Prelude.{drop, if◌then◌else◌}
+use Rattle.std.specs.Prelude.{◌≡◌, ◌<◌, ℕ, ◌+◌, Bool, true, false, List, [], ◌++◌, length}
+use Rattle.std.specs.Prelude.{drop}
 use Rattle.tangle_lines.specs.Reading.{SourceLine}
 use Rattle.tangle_text.specs.declared.reader.Front.{Front}
 use Rattle.tangle_text.specs.Text.{Cell, line_text, text_from, byte_at}
@@ -16,8 +16,3 @@ pub record IsFront (text : List Cell) (front : Front) : Type 0 where
   pub inside : 0 < length text
   pub byte : byte_at 0 text ≡ front.byte
   pub next : byte_at 1 text ≡ front.next
-
--- the number of bytes at the front of a line that pass the test
-abbrev pub run_length : (ℕ → Bool) → List ℕ → ℕ
-run_length test [] = 0
-run_length test (b ∷ bs) = if test b then 1 + run_length test bs else 0

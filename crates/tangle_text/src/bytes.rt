@@ -9,10 +9,7 @@ use crate::classes::is_word_byte;
 pub fn holds(expected: u8, byte: Option<u8>) -> bool
     ensures { result ≡ spec.holds expected byte }
 {
-    match byte {
-        Some(byte) => byte == expected,
-        None => false,
-    }
+    matches!(byte, Some(byte) if byte == expected)
 }
 
 /// Whether a byte is a space, a tab, a carriage return, a vertical tab or a form feed.
@@ -37,40 +34,28 @@ pub fn lower(byte: u8) -> u8
 pub fn holds_white(byte: Option<u8>) -> bool
     ensures { result ≡ spec.holds_white byte }
 {
-    match byte {
-        Some(byte) => is_white(byte),
-        None => false,
-    }
+    matches!(byte, Some(byte) if is_white(byte))
 }
 
 /// Whether the byte at a position is white space, or the position is a line end.
 pub fn is_white_or_line_end(byte: Option<u8>) -> bool
     ensures { result ≡ spec.is_white_or_line_end byte }
 {
-    match byte {
-        Some(byte) => is_white(byte),
-        None => true,
-    }
+    byte.is_none() || holds_white(byte)
 }
 
 /// Whether the byte at a position is a word byte; false at a line end.
 pub fn holds_word_byte(byte: Option<u8>) -> bool
     ensures { result ≡ spec.holds_word_byte byte }
 {
-    match byte {
-        Some(byte) => is_word_byte(byte),
-        None => false,
-    }
+    matches!(byte, Some(byte) if is_word_byte(byte))
 }
 
 /// Whether the byte at a position is an octal digit; false at a line end.
 pub fn is_octal(byte: Option<u8>) -> bool
     ensures { result ≡ spec.is_octal byte }
 {
-    match byte {
-        Some(byte) => b'0' <= byte && byte <= b'7',
-        None => false,
-    }
+    matches!(byte, Some(b'0'..=b'7'))
 }
 
 /// Whether a section starts at the position: with `@` before white space or a line end, or with

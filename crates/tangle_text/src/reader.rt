@@ -1,9 +1,10 @@
 //! Reads the text ahead of a position.
-ghost use Rattle.std.specs.Prelude.{◌≡◌, ◌≤◌, ◌<◌, ◌+◌, ℕ, List, [], length, take, drop};
+ghost use Rattle.std.specs.Prelude.{◌≡◌, ◌≤◌, ◌<◌, ◌+◌, ◌^◌, ℕ, List, [], length, take, drop};
 ghost use Rattle.std.specs.Prelude.{get_or, slice_get, IsSome, IfSome, IfNone, true, false};
+ghost use Rattle.std.specs.List.{prefix_len};
 ghost use Rattle.tangle_files.specs.Adding.{longest_line};
 ghost use Rattle.tangle_lines.specs.Bytes as lines;
-ghost use Rattle.tangle_text.specs.Ahead.{IsFront, run_length};
+ghost use Rattle.tangle_text.specs.Ahead.{IsFront};
 ghost use Rattle.tangle_text.specs.Bytes as byte;
 ghost use Rattle.tangle_text.specs.NameBytes.{BeginsName};
 ghost use Rattle.tangle_text.specs.declared.regions.Region.TheVariants as region;
@@ -112,7 +113,7 @@ macro_rules! run_end {
 #[inline(always)]
 pub(crate) fn word_end(bytes: &[u8], from: usize) -> usize
     requires { from ≤ length bytes.now }
-    ensures end { result ≡ from + run_length byte.is_word_byte (drop from bytes.now) }
+    ensures end { result ≡ from + prefix_len byte.is_word_byte (drop from bytes.now) }
     ensures inside { result ≤ length bytes.now }
 {
     run_end!(is_word_byte, bytes, from)
@@ -121,7 +122,7 @@ pub(crate) fn word_end(bytes: &[u8], from: usize) -> usize
 /// The column after the run of ordinary bytes from this column on.
 fn ordinary_end(bytes: &[u8], from: usize) -> usize
     requires { from ≤ length bytes.now }
-    ensures end { result ≡ from + run_length regions.is_ordinary (drop from bytes.now) }
+    ensures end { result ≡ from + prefix_len regions.is_ordinary (drop from bytes.now) }
     ensures inside { result ≤ length bytes.now }
 {
     run_end!(is_ordinary, bytes, from)
@@ -131,7 +132,7 @@ fn ordinary_end(bytes: &[u8], from: usize) -> usize
 #[inline(always)]
 fn white_end(bytes: &[u8], from: usize) -> usize
     requires { from ≤ length bytes.now }
-    ensures end { result ≡ from + run_length lines.is_white (drop from bytes.now) }
+    ensures end { result ≡ from + prefix_len lines.is_white (drop from bytes.now) }
     ensures inside { result ≤ length bytes.now }
 {
     let mut end = from;
@@ -155,7 +156,8 @@ fn first_byte(source: &Source, line: usize) -> Option<u8>
 impl<'s, 'a> Reader<'s, 'a> {
     /// Reads the whole text of a source.
     pub fn new(source: &'s Source<'a>) -> Self
-        ensures { result ≡ text_from 0 source.now.lines }
+        ensures text { result ≡ text_from 0 source.now.lines }
+        ensures short { length result < 2 ^ 63 }
     {
         if source.count() == 0 {
             return Reader {

@@ -47,6 +47,7 @@ fn goes_over(bytes: &[u8], column: usize) -> bool
 
 /// The column after the run that begins at this column of a line.
 // Four bytes are tested in a turn, as for words.
+#[tactic(auto, using(crate::proofs::RunPartLemmas::run_size_step))]
 #[inline(always)]
 pub(crate) fn run_end(bytes: &[u8], from: usize) -> usize
     requires { from ≤ length bytes.now }

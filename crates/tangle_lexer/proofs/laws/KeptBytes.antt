@@ -1,8 +1,9 @@
 -- The bytes of the segments that are kept are those in the spans of the tokens of C parts.
 use Rattle.std.proofs.Common.{◌≡◌, ℕ, zero, suc, ◌+◌, ◌-◌, Bool, true, false, not, List, [], ◌∷◌, ◌++◌, take, drop}
-use Rattle.std.proofs.Common.{flat_map, Option, Some, None, refl, ap, sym, ◌∙◌, arith, append_assoc, append-nil, cond}
-use Rattle.std.proofs.Common.{◌==◌, if◌then◌else◌}
+use Rattle.std.proofs.Common.{flat_map, Option, Some, None, refl, ap, sym, ◌∙◌, arith, append_assoc, append-nil}
+use Rattle.std.proofs.Common.{if◌then◌else◌}
 use Rattle.std.proofs.lemmas.Grind.{flat_map-append}
+use Rattle.std.proofs.lemmas.Bool.{cond_both}
 use Rattle.std.specs.List.{list_any}
 use Rattle.tangle_faults.specs.declared.faults.FaultKind.{FaultKind}
 use Rattle.tangle_faults.specs.declared.faults.FaultKind.TheVariants as fault
@@ -11,66 +12,36 @@ use Rattle.tangle_lexer.specs.declared.tokens.Token.TheVariants as token
 use Rattle.tangle_lexer.specs.declared.modes.Mode.{Mode}
 use Rattle.tangle_lexer.specs.declared.modes.Mode.TheVariants as mode
 use Rattle.tangle_lexer.specs.declared.modes.LexerState.{LexerState}
-use Rattle.tangle_lexer.specs.declared.modes.IncludeState.{IncludeState}
-use Rattle.tangle_lexer.specs.declared.lexeme_kinds.ControlCode.{ControlCode}
 use Rattle.tangle_lexer.specs.declared.lexeme_kinds.ControlCode.TheVariants as code
 use Rattle.tangle_lexer.specs.declared.lexeme_kinds.LexemeKind.{LexemeKind}
 use Rattle.tangle_lexer.specs.declared.lexeme_kinds.LexemeKind.TheVariants as lexeme_kind
 use Rattle.tangle_text.specs.declared.regions.Region.{Region}
 use Rattle.tangle_text.specs.declared.regions.Region.TheVariants as region
-use Rattle.tangle_text.specs.declared.regions.Unit.{Unit as Unit-of}
-use Rattle.tangle_text.specs.declared.regions.Unit.TheVariants as unit
 use Rattle.tangle_lexer.specs.declared.constants.AsciiConstant.{AsciiConstant}
-use Rattle.tangle_lines.specs.Bytes.{at_sign}
-use Rattle.tangle_text.specs.Bytes.{holds, is_line_end}
+use Rattle.tangle_lines.specs.Bytes.{at_sign, double_quote}
+use Rattle.tangle_text.specs.Bytes.{apostrophe, greater_sign, is_line_end}
 use Rattle.tangle_text.specs.Text.{Cell, byte_at, front_line, span_at}
-use Rattle.tangle_text.specs.Regions.{count_before, unless_stop, unit_at, more_by}
-use Rattle.tangle_lexer.proofs.lemmas.LexemeLemmas.{line_end_of, line_ends-are}
-use Rattle.tangle_text.proofs.UnitLemmas.{from_units}
-use Rattle.tangle_lexer.specs.Lexemes.{Lexeme, lexeme_of, fault_if, in_mode}
-use Rattle.tangle_lexer.specs.Comments.{line_ends, ends_comment, starts_section, has_end_code}
+use Rattle.tangle_text.specs.Regions.{count_before, units}
+use Rattle.tangle_lexer.specs.Lexemes.{Lexeme, fault_if, in_mode}
+use Rattle.tangle_lexer.specs.Comments.{unit_line_end, line_ends, ends_comment, starts_section, has_end_code}
 use Rattle.tangle_lexer.specs.Constants.{constant_at, constant_lexeme}
 use Rattle.tangle_lexer.specs.Names.{name_end, is_ended, name_faults, after_name, has_single_equals}
 use Rattle.tangle_lexer.specs.Names.{definition_or_mention, definition_count}
-use Rattle.tangle_lexer.specs.Steps.{code_at, byte_kind, kind_by, kind_at, prose, section_start, documentation_code}
-use Rattle.tangle_lexer.specs.Steps.{c_code, c_lexeme, macro_code, macro_lexeme, lexeme_in, lexeme, lexemes}
-use Rattle.tangle_lexer.specs.Segments.{Segment, segment, span_points, byte_points, kept_points, code_segments}
+use Rattle.tangle_lexer.specs.Simple.{is_c_part}
+use Rattle.tangle_lexer.specs.Steps.{kind_at, c_lexeme, lexeme, lexemes}
+use Rattle.tangle_lexer.specs.Segments.{Segment, segment, span_points, byte_points, kept_points}
 use Rattle.tangle_lexer.specs.Segments.{c_segments, segments_in, segments, text_segments, verbatim_segments}
 use Rattle.tangle_lexer.specs.Segments.SegmentKind.{ControlBytes}
 use Rattle.tangle_lexer.proofs.lemmas.PlainTokens.{is_not_plain, fault_if-plain}
-use Rattle.tangle_lexer.proofs.lemmas.PlainLexemes.{IsPlainLexeme, use-plain, code-plain, kind-plain}
+use Rattle.tangle_lexer.proofs.lemmas.PlainLexemes.{IsPlainLexeme, use-plain, fault-plain, kind-plain}
+use Rattle.tangle_lexer.proofs.lemmas.LexemeCases.{OpensLexeme, kind-opens, lexeme-by}
+use Rattle.tangle_lexer.proofs.lemmas.StepLemmas.{lexeme-here}
 use Rattle.tangle_lexer.proofs.laws.Points.{Point, after_cell, after_cells, HoldsBytes, IsTextAt, text-after_cells}
-use Rattle.tangle_lexer.proofs.laws.RegionOrder.{more-bytes}
+use Rattle.tangle_lexer.proofs.laws.RegionOrder.{holds-byte, some-byte, more-bytes}
 use Rattle.tangle_lexer.proofs.laws.WhiteOrder.{word-bytes}
-use Rattle.tangle_lexer.proofs.laws.KindCells.{CodeCells, Cells, kind-cells}
-use Rattle.tangle_lexer.proofs.laws.SegmentPoints.{token_points, points-append, bytes-columns}
-use Rattle.tangle_lexer.proofs.laws.KeptText.{text_points, double_quoted-keeps, apostrophe-keeps, header_name-keeps}
-use Rattle.tangle_lexer.proofs.laws.KeptText.{verbatim-keeps}
-
--- lexemes that do not begin with @
-
-abbrev pub NoAtSign : LexemeKind → Option ℕ → Type 0
-NoAtSign (lexeme_kind.Control code) b = Unit {0}
-NoAtSign _ b = holds at_sign b ≡ false
-
-no-sign : (kind : LexemeKind) (b : Option ℕ) → holds at_sign b ≡ false → NoAtSign kind b
-no-sign (lexeme_kind.Control code) b h = tt
-no-sign _ b h = h
-
-kind-no-sign : (inc : IncludeState) (b next : Option ℕ) → NoAtSign (kind_by inc b next) b
-kind-no-sign inc None next = refl
-kind-no-sign inc (Some b) next = by (b == at_sign) refl
-  where
-    by : (t : Bool) → holds at_sign (Some b) ≡ t
-        → NoAtSign (cond t (lexeme_kind.Control (code_at next)) (byte_kind inc b next)) (Some b)
-    by true h = tt
-    by false h = no-sign (byte_kind inc b next) (Some b) h
-
--- the tokens of C parts
-
-abbrev pub in_part : Mode → Bool
-in_part mode.CPart = true
-in_part _ = false
+use Rattle.tangle_lexer.proofs.laws.SegmentPoints.{token_points, fault-points, points-append, bytes-columns}
+use Rattle.tangle_lexer.proofs.laws.CutTexts.{double_quote-cut, apostrophe-cut, header_name-cut}
+use Rattle.tangle_lexer.proofs.laws.KeptText.{text_points, quoted-keeps, verbatim-keeps}
 
 -- the points of the spans of tokens in C parts; the flag says whether the first token is in one
 abbrev pub part_points : Bool → List Token → List (ℕ × ℕ)
@@ -82,57 +53,36 @@ part_points within (token.NamedPart line occurrence ∷ us) = part_points true u
 part_points within (token.Span kind s ∷ us) = (if within then span_points s else []) ++ part_points within us
 part_points within (_ ∷ us) = part_points within us
 
-part_points-within : (ts us : List Token)
-    → list_any is_not_plain ts ≡ false → part_points true (ts ++ us) ≡ token_points ts ++ part_points true us
-part_points-within [] us h = refl
-part_points-within (token.Section ∷ ts) us h = cc
-part_points-within (token.MacroStart line ∷ ts) us h = cc
-part_points-within (token.UnnamedPart line ∷ ts) us h = cc
-part_points-within (token.NamedPart line occurrence ∷ ts) us h = cc
-part_points-within (token.UseOf line occurrence ∷ ts) us h = cc
-part_points-within (token.Run s ∷ ts) us h = cc
-part_points-within (token.Span kind s ∷ ts) us h =
-    ap (λ ps. span_points s ++ ps) (part_points-within ts us h)
+-- plain tokens are in one part, or outside of all
+part_points-plain : (within : Bool) (ts us : List Token) → list_any is_not_plain ts ≡ false
+    → part_points within (ts ++ us) ≡ (if within then token_points ts else []) ++ part_points within us
+part_points-plain true [] us h = refl
+part_points-plain false [] us h = refl
+part_points-plain within (token.Section ∷ ts) us h = cc
+part_points-plain within (token.MacroStart line ∷ ts) us h = cc
+part_points-plain within (token.UnnamedPart line ∷ ts) us h = cc
+part_points-plain within (token.NamedPart line occurrence ∷ ts) us h = cc
+part_points-plain within (token.UseOf line occurrence ∷ ts) us h = cc
+part_points-plain within (token.Run s ∷ ts) us h = cc
+part_points-plain true (token.Span kind s ∷ ts) us h =
+    ap (λ ps. span_points s ++ ps) (part_points-plain true ts us h)
     ∙ sym (append_assoc (span_points s) (token_points ts) (part_points true us))
-part_points-within (_ ∷ ts) us h = part_points-within ts us h
-
-part_points-outside : (ts us : List Token)
-    → list_any is_not_plain ts ≡ false → part_points false (ts ++ us) ≡ part_points false us
-part_points-outside [] us h = refl
-part_points-outside (token.Section ∷ ts) us h = cc
-part_points-outside (token.MacroStart line ∷ ts) us h = cc
-part_points-outside (token.UnnamedPart line ∷ ts) us h = cc
-part_points-outside (token.NamedPart line occurrence ∷ ts) us h = cc
-part_points-outside (token.UseOf line occurrence ∷ ts) us h = cc
-part_points-outside (token.Run s ∷ ts) us h = cc
-part_points-outside (_ ∷ ts) us h = part_points-outside ts us h
+part_points-plain false (token.Span kind s ∷ ts) us h = part_points-plain false ts us h
+part_points-plain within (_ ∷ ts) us h = part_points-plain within ts us h
 
 -- tokens without a span have no points
 
-fault-points : (b : Bool) (kind : FaultKind) (line : ℕ) → token_points (fault_if b kind line) ≡ []
-fault-points true kind line = refl
-fault-points false kind line = refl
-
-stop-points : (u : Unit-of) (us : List Token) → token_points us ≡ [] → token_points (unless_stop u us) ≡ []
-stop-points unit.Stop us h = refl
-stop-points _ us h = h
-
-units-points : (r : Region) (k : ℕ) (text : List Cell) → token_points (from_units line_end_of r k text) ≡ []
-units-points r zero [] = refl
-units-points r (suc k) [] = refl
-units-points r (suc k) (c ∷ cs) = units-points r k cs
-units-points r zero (c ∷ cs) =
-    stop-points (unit_at r (c ∷ cs)) _ (by (is_line_end c.byte) (units-points r (more_by (unit_at r (c ∷ cs))) cs))
-  where
-    by : (b : Bool) → token_points (from_units line_end_of r (more_by (unit_at r (c ∷ cs))) cs) ≡ []
-        → token_points
-        (cond b (token.LineEnd c.line ∷ []) [] ++ from_units line_end_of r (more_by (unit_at r (c ∷ cs))) cs)
-        ≡ []
-    by true h = h
-    by false h = h
+points-flat : (f : List Cell → List Token)
+    → ((u : List Cell) → token_points (f u) ≡ []) → (us : List (List Cell)) → token_points (flat_map f us) ≡ []
+points-flat f h [] = refl
+points-flat f h (u ∷ us) = rw (points-append (f u) (flat_map f us), h u) (points-flat f h us)
 
 line_ends-points : (r : Region) (text : List Cell) → token_points (line_ends r text) ≡ []
-line_ends-points r text = ap token_points (line_ends-are r text) ∙ units-points r 0 text
+line_ends-points r text = points-flat unit_line_end one (units r text)
+  where
+    one : (u : List Cell) → token_points (unit_line_end u) ≡ []
+    one [] = refl
+    one (c ∷ cs) = cond_both (is_line_end c.byte) _ [] (λ ts. token_points ts ≡ []) (λ e. refl) (λ e. refl)
 
 -- white space, line ends and the fault of a comment or control text have no points
 white-points : (r : Region) (text : List Cell) (b : Bool) (kind : FaultKind) (line : ℕ)
@@ -156,13 +106,12 @@ module _ (width : ℕ → ℕ) (count : ℕ) where
       let e : c.column + n - c.column ≡ n = omega arith in
       rw (e, bytes-columns width count at n (c ∷ cs) is h, is.0.line, is.0.column) refl
 
-  -- The bytes in the spans of a lexeme's tokens are those that its segments keep: for each control code, and for each
-  -- kind.
+  -- the bytes in the spans of a lexeme's tokens are those that its segments keep
 
-  abbrev CodeKeeps : ControlCode → LexerState → List Cell → Type 0
-  CodeKeeps kind s text =
-      token_points (c_code kind s text).tokens
-      ≡ flat_map kept_points (code_segments kind (1 + (c_code kind s text).more) text)
+  abbrev KindKeeps : LexemeKind → LexerState → List Cell → Type 0
+  KindKeeps kind s text =
+      token_points (c_lexeme kind s text).tokens
+      ≡ flat_map kept_points (c_segments kind (1 + (c_lexeme kind s text).more) text)
 
   verbatim-kept : (text : List Cell)
       → flat_map kept_points (verbatim_segments text)
@@ -180,11 +129,11 @@ module _ (width : ℕ → ℕ) (count : ℕ) where
       by true cells = refl
       by false cells = refl
 
-  code-keeps : (kind : ControlCode) (s : LexerState) (at : Point) (c : Cell) (cs : List Cell)
-      → IsTextAt width count at (c ∷ cs)
-      → CodeCells kind c.byte (byte_at 0 cs) → CodeKeeps kind s (c ∷ cs)
-  code-keeps code.DoubleAt s at c cs is h = span-keeps at 1 c cs is (h.0, tt)
-  code-keeps code.Name s at c cs is h =
+  kind-keeps : (kind : LexemeKind) (s : LexerState) (at : Point) (c : Cell) (cs : List Cell)
+      → IsTextAt width count at (c ∷ cs) → OpensLexeme kind (c ∷ cs) → KindKeeps kind s (c ∷ cs)
+  kind-keeps (lexeme_kind.Control code.DoubleAt) s at c cs is o =
+      span-keeps at 1 c cs is (holds-byte at_sign c.byte o.0, tt)
+  kind-keeps (lexeme_kind.Control code.Name) s at c cs is o =
       let text : List Cell = c ∷ cs in
       let others : List Token =
       fault_if (has_single_equals (after_name text)) fault.NameEquals (front_line s.last_line text) in
@@ -192,148 +141,105 @@ module _ (width : ℕ → ℕ) (count : ℕ) where
       ∙ ap (λ ps. ps ++ token_points others)
       (fault-points (not (is_ended text)) fault.NameEnd (front_line s.last_line (name_end text)))
       ∙ fault-points (has_single_equals (after_name text)) fault.NameEquals (front_line s.last_line text)
-  code-keeps code.ControlText s at c cs is h =
+  kind-keeps (lexeme_kind.Control code.ControlText) s at c cs is o =
       let rest : List Cell = drop (count_before region.ControlText (drop 1 cs)) (drop 1 cs) in
       white-points region.ControlText (drop 1 cs) (not (has_end_code rest))
       fault.ControlText (front_line s.last_line rest)
-  code-keeps code.Verbatim s at c cs is h =
+  kind-keeps (lexeme_kind.Control code.Verbatim) s at c cs is o =
       verbatim-keeps width count (after_cells at 2 (c ∷ cs)) (drop 1 cs) (text-after_cells width count at 2 (c ∷ cs) is)
       ∙ sym (verbatim-kept (c ∷ cs))
-  code-keeps code.AsciiConstant s at c cs is h = constant-points (constant_at (drop 1 cs)) s (c ∷ cs)
-  code-keeps _ s at c cs is h = refl
-
-  kind-keeps : (kind : LexemeKind) (s : LexerState) (at : Point) (c : Cell) (cs : List Cell)
-      → IsTextAt width count at (c ∷ cs)
-      → Cells kind c.byte (byte_at 0 cs) → NoAtSign kind c.byte
-      → token_points (c_lexeme kind s (c ∷ cs)).tokens
-      ≡ flat_map kept_points (c_segments kind (1 + (c_lexeme kind s (c ∷ cs)).more) (c ∷ cs))
-  kind-keeps (lexeme_kind.Control kind) s at c cs is h k = code-keeps kind s at c cs is h
-  kind-keeps lexeme_kind.BlockComment s at c cs is h k =
+  kind-keeps (lexeme_kind.Control code.AsciiConstant) s at c cs is o =
+      constant-points (constant_at (drop 1 cs)) s (c ∷ cs)
+  kind-keeps lexeme_kind.BlockComment s at c cs is o =
       let rest : List Cell = drop (count_before region.BlockComment (drop 1 cs)) (drop 1 cs) in
       white-points region.BlockComment (drop 1 cs) (not (ends_comment rest))
       fault.CommentEnd (front_line s.last_line rest)
-  kind-keeps lexeme_kind.LineComment s at c cs is h k =
+  kind-keeps lexeme_kind.LineComment s at c cs is o =
       let rest : List Cell = drop (count_before region.LineComment (drop 1 cs)) (drop 1 cs) in
       fault-points (starts_section rest) fault.CommentEnd (front_line s.last_line rest)
-  kind-keeps lexeme_kind.DoubleQuote s at c cs is h k = double_quoted-keeps width count s at c cs is h k
-  kind-keeps lexeme_kind.Apostrophe s at c cs is h k = apostrophe-keeps width count s at c cs is h k
-  kind-keeps lexeme_kind.HeaderName s at c cs is h k = header_name-keeps width count s at c cs is h k
-  kind-keeps lexeme_kind.LineEnd s at c cs is h k = refl
-  kind-keeps lexeme_kind.White s at c cs is h k = refl
-  kind-keeps lexeme_kind.Word s at c cs is h k =
+  kind-keeps lexeme_kind.DoubleQuote s at c cs is o =
+      quoted-keeps width count region.DoubleQuote double_quote-cut double_quote refl s at c cs is (some-byte c.byte o.0) o.1
+  kind-keeps lexeme_kind.Apostrophe s at c cs is o =
+      quoted-keeps width count region.Apostrophe apostrophe-cut apostrophe refl s at c cs is (some-byte c.byte o.0) o.1
+  kind-keeps lexeme_kind.HeaderName s at c cs is o =
+      quoted-keeps width count region.HeaderName header_name-cut greater_sign refl s at c cs is (some-byte c.byte o.0) o.1
+  kind-keeps lexeme_kind.Word s at c cs is o =
       span-keeps at (1 + count_before region.Word cs) c cs is
-      (more-bytes 1 (count_before region.Word cs) (c ∷ cs) (h, tt) (word-bytes cs))
-  kind-keeps lexeme_kind.Other s at c cs is h k = span-keeps at 1 c cs is (h, tt)
+      (more-bytes 1 (count_before region.Word cs) (c ∷ cs) (some-byte c.byte o.0, tt) (word-bytes cs))
+  kind-keeps lexeme_kind.Other s at c cs is o = span-keeps at 1 c cs is (some-byte c.byte o.0, tt)
+  kind-keeps _ s at c cs is o = refl
 
   -- The same with the tokens after the lexeme: each counts only if it is in a C part.
 
   abbrev Keeps : Mode → Lexeme → List Segment → Type 0
   Keeps m here ss =
       (us : List Token)
-      → part_points (in_part m) (here.tokens ++ us)
-      ≡ flat_map kept_points ss ++ part_points (in_part here.after.mode) us
+      → part_points (is_c_part m) (here.tokens ++ us)
+      ≡ flat_map kept_points ss ++ part_points (is_c_part here.after.mode) us
 
-  plain-within : (s : LexerState) (here : Lexeme) (ss : List Segment) → s.mode ≡ mode.CPart
-      → IsPlainLexeme s here → token_points here.tokens ≡ flat_map kept_points ss → Keeps mode.CPart here ss
-  plain-within s here ss m p e us =
-      part_points-within here.tokens us p.tokens.none
-      ∙ rw e (ap (λ x. flat_map kept_points ss ++ part_points (in_part x) us) (sym (p.mode ∙ m)))
-
-  plain-outside : (s : LexerState) (here : Lexeme) → in_part s.mode ≡ false → IsPlainLexeme s here → (us : List Token)
-      → part_points false (here.tokens ++ us) ≡ part_points (in_part here.after.mode) us
-  plain-outside s here m p us =
-      part_points-outside here.tokens us p.tokens.none ∙ ap (λ x. part_points x us) (sym (ap in_part p.mode ∙ m))
-
-  code-within : (kind : ControlCode) (s : LexerState) (c : Cell) (cs : List Cell)
-      → s.mode ≡ mode.CPart → CodeKeeps kind s (c ∷ cs)
-      → Keeps mode.CPart (c_code kind s (c ∷ cs)) (code_segments kind (1 + (c_code kind s (c ∷ cs)).more) (c ∷ cs))
-  code-within code.SectionStart s c cs m e us = refl
-  code-within code.Name s c cs m e us =
-      part_points-within
-      (name_faults s.last_line (c ∷ cs)
-      ++ fault_if (has_single_equals (after_name (c ∷ cs))) fault.NameEquals (front_line s.last_line (c ∷ cs)))
-      us (use-plain s (c ∷ cs)).none
+  kind-within : (kind : LexemeKind) (s : LexerState) (text : List Cell) → s.mode ≡ mode.CPart → KindKeeps kind s text
+      → Keeps mode.CPart (c_lexeme kind s text) (c_segments kind (1 + (c_lexeme kind s text).more) text)
+  kind-within (lexeme_kind.Control code.SectionStart) s text m e us = refl
+  kind-within (lexeme_kind.Control code.Name) s text m e us =
+      part_points-plain true
+      (name_faults s.last_line text
+      ++ fault_if (has_single_equals (after_name text)) fault.NameEquals (front_line s.last_line text))
+      us (use-plain s text).none
       ∙ rw (e, m) refl
-  code-within kind s c cs m e us =
-      plain-within s (c_code kind s (c ∷ cs)) (code_segments kind (1 + (c_code kind s (c ∷ cs)).more) (c ∷ cs))
-      m (code-plain kind s (c ∷ cs) (λ k. cc) (λ k. cc)) e us
-
-  kind-within : (kind : LexemeKind) (s : LexerState) (c : Cell) (cs : List Cell) → s.mode ≡ mode.CPart
-      → token_points (c_lexeme kind s (c ∷ cs)).tokens
-      ≡ flat_map kept_points (c_segments kind (1 + (c_lexeme kind s (c ∷ cs)).more) (c ∷ cs))
-      → Keeps mode.CPart (c_lexeme kind s (c ∷ cs)) (c_segments kind (1 + (c_lexeme kind s (c ∷ cs)).more) (c ∷ cs))
-  kind-within (lexeme_kind.Control kind) s c cs m e = code-within kind s c cs m e
-  kind-within kind s c cs m e = plain-within s (c_lexeme kind s (c ∷ cs))
-      (c_segments kind (1 + (c_lexeme kind s (c ∷ cs)).more) (c ∷ cs)) m (kind-plain kind s (c ∷ cs) (λ k. k)) e
+  kind-within kind s text m e us =
+      let p = kind-plain kind s text tt in
+      let ps = flat_map kept_points (c_segments kind (1 + (c_lexeme kind s text).more) text) in
+      part_points-plain true (c_lexeme kind s text).tokens us p.tokens.none
+      ∙ ap (λ qs. qs ++ part_points true us) e
+      ∙ ap (λ x. ps ++ part_points (is_c_part x) us) (sym (p.mode ∙ m))
 
   -- a lexeme outside of C parts adds no points; the mode after it says whether a C part begins
 
   abbrev Leads : Lexeme → Type 0
-  Leads here = (us : List Token) → part_points false (here.tokens ++ us) ≡ part_points (in_part here.after.mode) us
+  Leads here = (us : List Token) → part_points false (here.tokens ++ us) ≡ part_points (is_c_part here.after.mode) us
+
+  plain-leads : (s : LexerState) (here : Lexeme) → is_c_part s.mode ≡ false → IsPlainLexeme s here → Leads here
+  plain-leads s here m p us =
+      part_points-plain false here.tokens us p.tokens.none ∙ ap (λ x. part_points x us) (sym (ap is_c_part p.mode ∙ m))
 
   name-leads : (s : LexerState) (text : List Cell)
-      → in_part s.mode ≡ false → (o : Option ℕ) → Leads (definition_or_mention o s text)
+      → is_c_part s.mode ≡ false → (o : Option ℕ) → Leads (definition_or_mention o s text)
   name-leads s text m None us =
-      part_points-outside (name_faults s.last_line text) us (fault_if-plain _ fault.NameEnd _).none
+      part_points-plain false (name_faults s.last_line text) us (fault_if-plain _ fault.NameEnd _).none
       ∙ ap (λ x. part_points x us) (sym m)
   name-leads s text m (Some k) us = refl
 
-  documentation-leads : (kind : ControlCode) (s : LexerState) (text : List Cell)
-      → in_part s.mode ≡ false → Leads (documentation_code kind s text)
-  documentation-leads code.SectionStart s text m us = refl
-  documentation-leads code.Macro s text m us = refl
-  documentation-leads code.UnnamedPart s text m us = refl
-  documentation-leads code.Name s text m us = name-leads s text m (definition_count text) us
-  documentation-leads _ s text m us = rw m refl
-
-  macro-code-leads : (kind : ControlCode) (s : LexerState) (text : List Cell)
-      → in_part s.mode ≡ false → Leads (macro_code kind s text)
-  macro-code-leads code.SectionStart s text m us = refl
-  macro-code-leads code.Macro s text m us = refl
-  macro-code-leads code.UnnamedPart s text m us = refl
-  macro-code-leads code.Name s text m us =
-      name-leads (in_mode mode.Documentation s) text refl (definition_count text) us
-  macro-code-leads code.Format s text m us = refl
-  macro-code-leads code.AllMacros s text m us = rw m refl
-  macro-code-leads kind s text m us =
-      plain-outside s (c_code kind s text) m (code-plain kind s text (λ k. cc) (λ k. cc)) us
-
-  macro-leads : (kind : LexemeKind) (s : LexerState) (text : List Cell)
-      → in_part s.mode ≡ false → Leads (macro_lexeme kind s text)
-  macro-leads (lexeme_kind.Control kind) s text m = macro-code-leads kind s text m
-  macro-leads kind s text m = plain-outside s (c_lexeme kind s text) m (kind-plain kind s text (λ k. k))
-
-  if-leads : (b : Bool) (x y : Lexeme) → Leads x → Leads y → Leads (if b then x else y)
-  if-leads true x y h k = h
-  if-leads false x y h k = k
+  lexeme-leads : (s : LexerState) (text : List Cell) → is_c_part s.mode ≡ false → Leads (lexeme s text)
+  lexeme-leads s text out =
+      lexeme-by Leads s text (record {
+        section = λ us. refl;
+        macro = λ o us. refl;
+        part = λ o us. refl;
+        used = λ m o. absurd (let never : false ≡ true = sym out ∙ ap is_c_part m in cc);
+        name = λ m. name-leads s text out (definition_count text);
+        ending = λ m. name-leads (in_mode mode.Documentation s) text refl (definition_count text);
+        skip = λ outside n us. rw out refl;
+        format = λ m us. refl;
+        misplaced = λ m o. plain-leads s _ out (fault-plain fault.MisplacedH s text);
+        inside = λ within kind p o. plain-leads s _ out (kind-plain kind s text p);
+      })
 
   lexeme-keeps : (s : LexerState) (at : Point) (c : Cell) (cs : List Cell) → IsTextAt width count at (c ∷ cs)
       → Keeps s.mode (lexeme s (c ∷ cs)) (segments_in s.mode s (1 + (lexeme s (c ∷ cs)).more) (c ∷ cs))
-  unfolding lexeme
   lexeme-keeps s at c cs is = by s.mode refl
     where
-      skip : (n : ℕ) → in_part s.mode ≡ false → Leads (lexeme_of [] n s)
-      skip n m us = rw m refl
-
       by : (m : Mode)
-          → s.mode ≡ m → Keeps m (lexeme_in m s (c ∷ cs)) (segments_in m s (1 + (lexeme_in m s (c ∷ cs)).more) (c ∷ cs))
-      by mode.Limbo e =
-          if-leads (starts_section (c ∷ cs)) (section_start s) _ (λ us. refl)
-          (if-leads (holds at_sign c.byte) (lexeme_of [] 1 s) (prose s (c ∷ cs))
-          (skip 1 (ap in_part e)) (skip (count_before region.Prose cs) (ap in_part e)))
-      by mode.Documentation e =
-          if-leads (holds at_sign c.byte) _ (prose s (c ∷ cs))
-          (documentation-leads (code_at (byte_at 0 cs)) s (c ∷ cs) (ap in_part e))
-          (skip (count_before region.Prose cs) (ap in_part e))
-      by mode.CPart e =
-          kind-within (kind_at s.include (c ∷ cs)) s c cs e
-          (kind-keeps (kind_at s.include (c ∷ cs)) s at c cs is
-          (kind-cells s.include c.byte (byte_at 0 cs)) (kind-no-sign s.include c.byte (byte_at 0 cs)))
-      by mode.Macro e = macro-leads (kind_at s.include (c ∷ cs)) s (c ∷ cs) (ap in_part e)
+          → s.mode ≡ m → Keeps m (lexeme s (c ∷ cs)) (segments_in m s (1 + (lexeme s (c ∷ cs)).more) (c ∷ cs))
+      by mode.CPart m =
+          let kind : LexemeKind = kind_at s.include (c ∷ cs) in
+          rw (lexeme-here s (c ∷ cs) kind m refl)
+          (kind-within kind s (c ∷ cs) m
+          (kind-keeps kind s at c cs is (kind-opens s.include c.byte (byte_at 0 cs))))
+      by _ m = lexeme-leads s (c ∷ cs) (ap is_c_part m)
 
   -- all lexemes: the points of the spans in C parts are those of the segments that are kept
   pub segments-keep : (k : ℕ) (s : LexerState) (text : List Cell) (at : Point) → IsTextAt width count at text
-      → part_points (in_part s.mode) (flat_map (λ l. l.tokens) (lexemes k s text))
+      → part_points (is_c_part s.mode) (flat_map (λ l. l.tokens) (lexemes k s text))
       ≡ flat_map kept_points (segments k s text)
   segments-keep k s [] at is = refl
   segments-keep (suc k) s (c ∷ cs) at is = segments-keep k s cs (after_cell c) is.1

@@ -1,7 +1,7 @@
 -- The ranges of quoted and verbatim texts have all bytes of these texts but the second @ of each @@.
 use Rattle.std.proofs.Common.{◌≡◌, ℕ, zero, suc, ◌+◌, ◌-◌, ◌≤◌, Bool, true, false, not, List, [], ◌∷◌, ◌++◌, take, drop}
-use Rattle.std.proofs.Common.{Option, Some, None, inl, inr, refl, ap, sym, ◌∙◌, arith, subst, cond, nat_eq, ◌&&◌, ◌||◌}
-use Rattle.std.proofs.Common.{◌⊎◌, append_assoc, append-nil, flat_map}
+use Rattle.std.proofs.Common.{Option, Some, None, inl, inr, refl, ap, sym, ◌∙◌, arith, subst, cond, ◌==◌, ◌&&◌}
+use Rattle.std.proofs.Common.{append_assoc, append-nil, flat_map}
 use Rattle.std.proofs.Math.Seq.{take-add}
 use Rattle.std.proofs.lemmas.Bool.Decides.{eqb_tells}
 use Rattle.std.proofs.lemmas.Bool.{and_right}
@@ -12,23 +12,20 @@ use Rattle.tangle_lexer.specs.declared.tokens.Token.TheVariants as token
 use Rattle.tangle_lexer.specs.declared.modes.LexerState.{LexerState}
 use Rattle.tangle_text.specs.declared.regions.Region.{Region}
 use Rattle.tangle_text.specs.declared.regions.Region.TheVariants as region
-use Rattle.tangle_text.specs.declared.regions.Unit.{Unit as Unit-of}
-use Rattle.tangle_text.specs.declared.regions.Unit.TheVariants as unit
-use Rattle.tangle_lines.specs.Bytes.{at_sign, double_quote}
-use Rattle.tangle_text.specs.Bytes.{backslash, greater_sign, apostrophe, holds, is_line_end}
+use Rattle.tangle_lines.specs.Bytes.{at_sign}
+use Rattle.tangle_text.specs.Bytes.{holds, is_line_end}
 use Rattle.tangle_text.specs.Text.{Cell, byte_at, span_at}
-use Rattle.tangle_text.specs.Regions.{unit_by, quoted_unit, unit_of, unit_at, count_before}
-use Rattle.tangle_text.proofs.UnitLemmas.{count-one, count-two}
+use Rattle.tangle_text.specs.Regions.{count_before}
 use Rattle.tangle_lexer.specs.Lexemes.{fault_if}
-use Rattle.tangle_lexer.specs.Quoted.{cut_range, unit_tokens, next_start, cut_tokens, quote_end, one_if, quoted_text}
+use Rattle.tangle_lexer.specs.Quoted.{cut_range, cut_tokens, quote_end, one_if, quoted_text}
 use Rattle.tangle_lexer.specs.Quoted.{verbatim_end, empty_end, verbatim_tokens}
 use Rattle.tangle_lexer.specs.Segments.{points_by, kept_points, byte_points, cell_kind, text_segments}
 use Rattle.tangle_lexer.specs.Segments.SegmentKind.{Kept, SecondAtSign, LineEnd}
-use Rattle.tangle_lexer.proofs.laws.Points.{Point, point_at, IsByte, after_by, IsCellAt, IsTextAt, after-byte}
-use Rattle.tangle_lexer.proofs.laws.RegionOrder.{goes-byte, holds-byte}
-use Rattle.tangle_lexer.proofs.laws.QuotedOrder.{no-at_sign, quoted-takes, include-takes, verbatim-takes}
+use Rattle.tangle_lexer.proofs.laws.Points.{Point, point_at, IsByte, IsTextAt, after-byte}
+use Rattle.tangle_lexer.proofs.laws.CutTexts.{IsCut, verbatim-cut, cut-by}
+use Rattle.tangle_lexer.proofs.laws.RegionOrder.{other-byte, holds-byte}
 use Rattle.tangle_lexer.proofs.laws.SegmentPoints.{columns_to, columns-next, columns-nothing, byte-point, token_points}
-use Rattle.tangle_lexer.proofs.laws.SegmentPoints.{cut-points}
+use Rattle.tangle_lexer.proofs.laws.SegmentPoints.{fault-points, cut-points}
 
 -- the points of the bytes that are kept of such a text
 abbrev pub text_points : Bool → List Cell → List (ℕ × ℕ)
@@ -73,80 +70,17 @@ points-before after_at_sign (x ∷ xs) ys ps h =
     ∙ sym (append_assoc (points_by (cell_kind after_at_sign x) (x ∷ []))
     (text_points (holds at_sign x.byte && not after_at_sign) xs) ps)
 
--- in these regions both cells of a unit of two are @, or neither is
-abbrev PairsAtSigns : Region → Type 0
-PairsAtSigns r = (b n : Option ℕ) → unit_of r b n ≡ unit.Two → holds at_sign b ≡ holds at_sign n
-
--- in these regions no @ follows an @ that is a unit of one cell
-abbrev LeavesNoAtSign : Region → Type 0
-LeavesNoAtSign r = (b n : Option ℕ) → unit_of r b n ≡ unit.One → holds at_sign b ≡ true → holds at_sign n ≡ false
-
-quoted-pairs : (close : ℕ) (b n : Option ℕ) → quoted_unit close b n ≡ unit.Two → holds at_sign b ≡ holds at_sign n
-quoted-pairs close b n e =
-    by (holds close b || is_line_end b) (holds at_sign b) (holds at_sign n) (holds backslash b) (no-at_sign b) e
-  where
-    by : (ends p q back : Bool)
-        → (back ≡ true → p ≡ false) → unit_by ends ((p && q) || (back && not q)) ≡ unit.Two → p ≡ q
-    by true p q back k e = cc
-    by false true true back k e = refl
-    by false false false back k e = refl
-    by false true false true k e = k refl
-    by false true false false k e = cc
-    by false false true true k e = cc
-    by false false true false k e = cc
-
-quoted-leaves : (close : ℕ) (b n : Option ℕ)
-    → quoted_unit close b n ≡ unit.One → holds at_sign b ≡ true → holds at_sign n ≡ false
-quoted-leaves close b n e h = by (holds close b || is_line_end b) (holds at_sign b)
-    (holds at_sign n) (holds backslash b && not (holds at_sign n)) e h
-  where
-    by : (ends p q x : Bool) → unit_by ends ((p && q) || x) ≡ unit.One → p ≡ true → q ≡ false
-    by true p q x e h = cc
-    by false true true x e h = cc
-    by false true false x e h = refl
-    by false false q x e h = cc
-
-pairs-by : (ends p q : Bool) → unit_by ends (p && q) ≡ unit.Two → p ≡ q
-pairs-by true p q e = cc
-pairs-by false true true e = refl
-pairs-by false true false e = cc
-pairs-by false false true e = cc
-pairs-by false false false e = refl
-
-leaves-by : (ends p q : Bool) → unit_by ends (p && q) ≡ unit.One → p ≡ true → q ≡ false
-leaves-by true p q e h = cc
-leaves-by false true true e h = cc
-leaves-by false true false e h = refl
-leaves-by false false q e h = cc
-
-include-pairs : PairsAtSigns region.HeaderName
-include-pairs b n e = pairs-by _ (holds at_sign b) (holds at_sign n) e
-
-include-leaves : LeavesNoAtSign region.HeaderName
-include-leaves b n e h = leaves-by _ (holds at_sign b) (holds at_sign n) e h
-
-verbatim-pairs : PairsAtSigns region.Verbatim
-verbatim-pairs b n e = pairs-by _ (holds at_sign b) (holds at_sign n) e
-
-verbatim-leaves : LeavesNoAtSign region.Verbatim
-verbatim-leaves b n e h = leaves-by _ (holds at_sign b) (holds at_sign n) e h
-
 module _ (width : ℕ → ℕ) (count : ℕ) where
-  -- a text that is cut, in a region; `last` gives the points of its end
-  module _ (r : Region) (stops : (n : Option ℕ) → unit_of r None n ≡ unit.Stop)
-      (pairs : PairsAtSigns r) (leaves : LeavesNoAtSign r)
-      (takes : (b : Option ℕ) → unit_of r b None ≡ unit.Two → holds backslash b ≡ true)
-      (ends : ℕ → List Cell → List Token) (last : List Cell → List (ℕ × ℕ))
+  -- a text that is cut; `last` gives the points of its end
+  module _ (r : Region) (cut : IsCut r) (ends : ℕ → List Cell → List Token) (last : List Cell → List (ℕ × ℕ))
       (stop : (at : Point) (start : ℕ) (text : List Cell) → start ≤ at.column → IsTextAt width count at text
       → token_points (ends start text) ≡ columns_to at.line start at.column ++ last text) where
     -- the points of the first `n` cells, which are the region, and those of its end
     abbrev kept_of : ℕ → List Cell → List (ℕ × ℕ)
     kept_of n text = text_points false (take n text) ++ last (drop n text)
 
-    abbrev CutKeeps : Point → ℕ → List Cell → Type 0
-    CutKeeps at start text =
-        token_points (cut_tokens ends r 0 start text)
-        ≡ columns_to at.line start at.column ++ kept_of (count_before r text) text
+    abbrev Keeps : Point → ℕ → List Token → ℕ → List Cell → Type 0
+    Keeps at start ts n text = token_points ts ≡ columns_to at.line start at.column ++ kept_of n text
 
     -- the points of a current range with one more byte
     after-range : (line start column : ℕ) (ps : List (ℕ × ℕ)) → start ≤ column
@@ -157,11 +91,9 @@ module _ (width : ℕ → ℕ) (count : ℕ) where
 
     one-points : (c : Cell) (cs : List Cell) (n : ℕ)
         → IsByte c.byte → (holds at_sign c.byte ≡ true → holds at_sign (byte_at 0 cs) ≡ false)
-        → kept_of (1 + n) (c ∷ cs) ≡ (c.line, c.column) ∷ kept_of n cs
+        → kept_of (suc n) (c ∷ cs) ≡ (c.line, c.column) ∷ kept_of n cs
     one-points c cs n byte alone =
-        let e : 1 + n ≡ suc n = omega arith in
-        ap (λ k. kept_of k (c ∷ cs)) e
-        ∙ ap (λ ps. (ps ++ text_points (holds at_sign c.byte && true) (take n cs)) ++ last (drop n cs))
+        ap (λ ps. (ps ++ text_points (holds at_sign c.byte && true) (take n cs)) ++ last (drop n cs))
         (kept-byte false c byte refl)
         ∙ ap (λ ps. (c.line, c.column) ∷ ps ++ last (drop n cs)) (by (holds at_sign c.byte) alone)
       where
@@ -170,156 +102,71 @@ module _ (width : ℕ → ℕ) (count : ℕ) where
         by false h = refl
         by true h = after_at_sign-off true (take n cs) (front-take n cs (h refl))
 
-    one-keeps : (at : Point) (start : ℕ) (c : Cell) (cs : List Cell)
-        → start ≤ at.column → IsTextAt width count at (c ∷ cs) → unit_at r (c ∷ cs) ≡ unit.One
-        → ((p : Point) (s : ℕ) → s ≤ p.column → IsTextAt width count p cs → CutKeeps p s cs)
-        → CutKeeps at start (c ∷ cs)
-    one-keeps at start c cs h is e next =
-        let byte = goes-byte r stops c.byte (byte_at 0 cs) unit.One e (λ k. cc) in
-        let text = subst (λ p. IsTextAt width count p cs) (after-byte c byte) is.1 in
-        let n : ℕ = count_before r cs in
-        let kept = next (point_at c.line (c.column + 1)) start (omega (arith, h, is.0.column)) text in
-        let tokens : cut_tokens ends r 0 start (c ∷ cs)
-        ≡ fault_if (holds at_sign c.byte) fault.StringAt c.line ++ cut_tokens ends r 0 start cs = rw e refl in
-        let counts : count_before r (c ∷ cs) ≡ 1 + n = count-one r c cs e in
-        rw (tokens, counts, one-points c cs n byte (leaves c.byte (byte_at 0 cs) e), ← is.0.line, ← is.0.column)
-        (by (holds at_sign c.byte) ∙ kept
-        ∙ after-range c.line start c.column (kept_of n cs) (omega (arith, h, is.0.column)))
-      where
-        by : (b : Bool)
-            → token_points (fault_if b fault.StringAt c.line ++ cut_tokens ends r 0 start cs)
-            ≡ token_points (cut_tokens ends r 0 start cs)
-        by true = refl
-        by false = refl
-
     -- a unit of two cells that begins with a byte: the second cell is kept if it is a byte and the first is not @
     abbrev second_points : Bool → Cell → List (ℕ × ℕ)
     second_points sign d = points_by (cell_kind (sign && true) d) (d ∷ [])
 
-    two-points : (c d : Cell) (cs : List Cell) (n : ℕ) → IsByte c.byte → holds at_sign c.byte ≡ holds at_sign d.byte
-        → kept_of (1 + (1 + n)) (c ∷ d ∷ cs)
-        ≡ (c.line, c.column) ∷ second_points (holds at_sign c.byte) d ++ kept_of n cs
-    two-points c d cs n byte same =
-        let e : 1 + (1 + n) ≡ suc (suc n) = omega arith in
-        ap (λ k. kept_of k (c ∷ d ∷ cs)) e
-        ∙ ap (λ ps. (ps
+    two-points : (c d : Cell) (cs : List Cell) (n : ℕ) (sign : Bool)
+        → IsByte c.byte → holds at_sign c.byte ≡ sign → holds at_sign d.byte ≡ sign
+        → kept_of (suc (suc n)) (c ∷ d ∷ cs) ≡ (c.line, c.column) ∷ second_points sign d ++ kept_of n cs
+    two-points c d cs n sign byte first second =
+        ap (λ ps. (ps
         ++ (second_points (holds at_sign c.byte) d
         ++ text_points (holds at_sign d.byte && not (holds at_sign c.byte && true)) (take n cs))) ++ last (drop n cs))
         (kept-byte false c byte refl)
         ∙ ap
-        (λ b. (c.line, c.column) ∷ (second_points (holds at_sign c.byte) d ++ text_points b (take n cs))
-        ++ last (drop n cs)) (by (holds at_sign c.byte) (holds at_sign d.byte) same)
+        (λ a. (c.line, c.column) ∷ (second_points a d
+        ++ text_points (holds at_sign d.byte && not (a && true)) (take n cs)) ++ last (drop n cs)) first
+        ∙ ap
+        (λ b. (c.line, c.column) ∷ (second_points sign d ++ text_points b (take n cs)) ++ last (drop n cs))
+        (ap (λ b. b && not (sign && true)) second ∙ by sign)
         ∙ ap (λ ps. (c.line, c.column) ∷ ps)
-        (append_assoc (second_points (holds at_sign c.byte) d) (text_points false (take n cs)) (last (drop n cs)))
+        (append_assoc (second_points sign d) (text_points false (take n cs)) (last (drop n cs)))
       where
-        by : (a b : Bool) → a ≡ b → (b && not (a && true)) ≡ false
-        by true true h = refl
-        by true false h = refl
-        by false false h = refl
-        by false true h = cc
-
-    two-keeps : (at : Point) (start : ℕ) (c d : Cell) (cs : List Cell)
-        → start ≤ at.column → IsTextAt width count at (c ∷ d ∷ cs) → unit_at r (c ∷ d ∷ cs) ≡ unit.Two
-        → ((p : Point) (s : ℕ) → s ≤ p.column → IsTextAt width count p cs → CutKeeps p s cs)
-        → CutKeeps at start (c ∷ d ∷ cs)
-    two-keeps at start c d cs h is e next =
-        let byte = goes-byte r stops c.byte d.byte unit.Two e (λ k. cc) in
-        let after : IsTextAt width count (point_at c.line (c.column + 1)) (d ∷ cs) =
-        subst (λ p. IsTextAt width count p (d ∷ cs)) (after-byte c byte) is.1 in
-        let n : ℕ = count_before r cs in
-        let tokens : cut_tokens ends r 0 start (c ∷ d ∷ cs)
-        ≡ unit_tokens r unit.Two start c d.byte ++ cut_tokens ends r 0 (next_start unit.Two start c d.byte) cs =
-        rw e refl in
-        let counts : count_before r (c ∷ d ∷ cs) ≡ 1 + (1 + n) = count-two r c d cs e in
-        rw (tokens, counts, two-points c d cs n byte (pairs c.byte d.byte e), ← is.0.line, ← is.0.column)
-        (by d.byte refl (holds at_sign c.byte) (holds backslash c.byte) (second c.byte d.byte e) after.0 after.1)
-      where
-        low : start ≤ c.column
-        low = omega (arith, h, is.0.column)
-
-        -- the second cell is a byte, and is @ if and only if the first is; or it is a line end after a backslash
-        second : (b x : Option ℕ) → unit_of r b x ≡ unit.Two
-            → (IsByte x × (holds at_sign b ≡ holds at_sign x))
-            ⊎ ((holds at_sign b ≡ false) × (holds backslash b ≡ true))
-        second b (Some x) e = inl (tt, pairs b (Some x) e)
-        second b None e = inr (no-at_sign b (takes b e), takes b e)
-
-        Goal : Bool → Bool → Option ℕ → Type 0
-        Goal sign back x =
-            token_points (cond sign (cut_range r c.line start (c.column + 1))
-            (cond (back && is_line_end x) (cut_range r c.line start (c.column + 1) ++ token.QuoteBreak ∷ []) [])
-            ++ cut_tokens ends r 0 (cond sign (c.column + 2) (cond (back && is_line_end x) 0 start)) cs)
-            ≡ columns_to c.line start c.column
-            ++ ((c.line, c.column) ∷ second_points sign d ++ kept_of (count_before r cs) cs)
-
-        -- both bytes are kept, in the current range
-        simple : (b : ℕ) → d.byte ≡ Some b → IsCellAt width count (point_at c.line (c.column + 1)) d
-            → IsTextAt width count (point_at d.line (d.column + 1)) cs → Goal false false (Some b)
-        simple b e cell text =
-            let kept = next (point_at d.line (d.column + 1)) start (omega (arith, low, cell.column)) text in
-            let rest : List (ℕ × ℕ) = kept_of (count_before r cs) cs in
-            let there = kept-byte false d (rw e tt) refl in
-            kept
-            ∙ after-range d.line start d.column rest (omega (arith, low, cell.column))
-            ∙ rw (there, cell.line, cell.column) (after-range c.line start c.column ((c.line, c.column + 1) ∷ rest) low)
-
-        by : (x : Option ℕ) → d.byte ≡ x → (sign back : Bool)
-            → (IsByte x × (sign ≡ holds at_sign x)) ⊎ ((sign ≡ false) × (back ≡ true))
-            → IsCellAt width count (point_at c.line (c.column + 1)) d → IsTextAt width count (after_by x d) cs
-            → Goal sign back x
-        by None e sign back (inl k) cell text = absurd k.0
-        by None e true back (inr k) cell text = absurd (let f = k.0 in cc)
-        by None e false false (inr k) cell text = absurd (let f = k.1 in cc)
-        by None e false true k cell text =
-            let kept = next (point_at (d.line + 1) 0) 0 (omega arith) text in
-            let rest : List (ℕ × ℕ) = kept_of (count_before r cs) cs in
-            let none : second_points false d ≡ [] = rw e refl in
-            rw (append_assoc, none)
-            (cut-points r c.line start (c.column + 1) (token.QuoteBreak ∷ cut_tokens ends r 0 0 cs)
-            ∙ ap (λ ps. columns_to c.line start (c.column + 1) ++ ps) kept
-            ∙ after-range c.line start c.column rest low)
-        by (Some b) e true back (inr k) cell text = absurd (let f = k.0 in cc)
-        by (Some b) e true back (inl k) cell text =
-            let kept = next (point_at d.line (d.column + 1)) (c.column + 2) (omega (arith, cell.column)) text in
-            let rest : List (ℕ × ℕ) = kept_of (count_before r cs) cs in
-            let column : d.column + 1 ≡ c.column + 2 = omega (arith, cell.column) in
-            let sign : holds at_sign d.byte ≡ true = rw e (sym k.1) in
-            let none : second_points true d ≡ [] = rw (sign, e) refl in
-            rw none
-            (cut-points r c.line start (c.column + 1) (cut_tokens ends r 0 (c.column + 2) cs)
-            ∙ ap (λ ps. columns_to c.line start (c.column + 1) ++ ps)
-            (kept
-            ∙ ap (λ ps. ps ++ rest)
-            (ap (columns_to d.line (c.column + 2)) column ∙ columns-nothing d.line (c.column + 2)))
-            ∙ after-range c.line start c.column rest low)
-        by (Some b) e false false k cell text = simple b e cell text
-        by (Some b) e false true k cell text = simple b e cell text
+        by : (b : Bool) → (b && not (b && true)) ≡ false
+        by true = refl
+        by false = refl
 
     pub cut-keeps : (at : Point) (start : ℕ) (text : List Cell)
-        → start ≤ at.column → IsTextAt width count at text → CutKeeps at start text
-    cut-keeps at start [] h is = stop at start [] h is
-    cut-keeps at start (c ∷ []) h is = by (unit_at r (c ∷ [])) refl (λ p s k t. cut-keeps p s [] k t)
+        → start ≤ at.column → IsTextAt width count at text
+        → Keeps at start (cut_tokens ends r 0 start text) (count_before r text) text
+    cut-keeps =
+        cut-by width count r cut ends Keeps stop
+        (λ at start c cs ts n h is byte alone kept.
+        rw (one-points c cs n byte alone, ← is.line, ← is.column)
+        (no-points (holds at_sign c.byte) c.line ts ∙ kept
+        ∙ after-range c.line start c.column (kept_of n cs) (omega (arith, h, is.column))))
+        (λ at start c d cs ts n h is cell byte second sign same kept.
+        let column : d.column + 1 ≡ c.column + 2 = omega (arith, cell.column) in
+        let none : second_points true d ≡ [] = second-sign (d ∷ []) d.byte second same in
+        rw (two-points c d cs n true byte sign same, none, ← is.line, ← is.column)
+        (cut-points r c.line start (c.column + 1) ts
+        ∙ ap (λ ps. columns_to c.line start (c.column + 1) ++ ps)
+        (kept ∙ ap (λ ps. ps ++ kept_of n cs)
+        (ap (columns_to d.line (c.column + 2)) column ∙ columns-nothing d.line (c.column + 2)))
+        ∙ after-range c.line start c.column (kept_of n cs) (omega (arith, h, is.column))))
+        (λ at start c d cs ts n h is cell byte second other same kept.
+        let low : start ≤ c.column = omega (arith, h, is.column) in
+        rw (two-points c d cs n false byte other same, ← is.line, ← is.column)
+        (kept ∙ after-range d.line start d.column (kept_of n cs) (omega (arith, low, cell.column))
+        ∙ rw (kept-byte false d second refl, cell.line, cell.column)
+        (after-range c.line start c.column ((c.line, c.column + 1) ∷ kept_of n cs) low)))
+        (λ at start c d cs ts n h is cell byte none other kept.
+        let gone : second_points false d ≡ [] = rw none refl in
+        rw (two-points c d cs n false byte other (rw none refl), gone, ← is.line, ← is.column)
+        (cut-points r c.line start (c.column + 1) (token.QuoteBreak ∷ ts)
+        ∙ ap (λ ps. columns_to c.line start (c.column + 1) ++ ps) kept
+        ∙ after-range c.line start c.column (kept_of n cs) (omega (arith, h, is.column))))
       where
-        by : (u : Unit-of) → unit_at r (c ∷ []) ≡ u
-            → ((p : Point) (s : ℕ) → s ≤ p.column → IsTextAt width count p [] → CutKeeps p s [])
-            → CutKeeps at start (c ∷ [])
-        by unit.Stop e next = rw e (stop at start (c ∷ []) h is)
-        by unit.One e next = one-keeps at start c [] h is e next
-        by unit.Two e next =
-            let goes = after-byte c (goes-byte r stops c.byte None unit.Two e (λ k. cc)) in
-            let end : IsTextAt width count (point_at c.line (c.column + 1)) [] =
-            subst (λ p. IsTextAt width count p []) goes is.1 in
-            absurd (omega (arith, end))
-    cut-keeps at start (c ∷ d ∷ cs) h is =
-        by (unit_at r (c ∷ d ∷ cs)) refl (λ p s k t. cut-keeps p s (d ∷ cs) k t) (λ p s k t. cut-keeps p s cs k t)
-      where
-        by : (u : Unit-of) → unit_at r (c ∷ d ∷ cs) ≡ u
-            → ((p : Point) (s : ℕ) → s ≤ p.column → IsTextAt width count p (d ∷ cs) → CutKeeps p s (d ∷ cs))
-            → ((p : Point) (s : ℕ) → s ≤ p.column → IsTextAt width count p cs → CutKeeps p s cs)
-            → CutKeeps at start (c ∷ d ∷ cs)
-        by unit.Stop e one two = rw e (stop at start (c ∷ d ∷ cs) h is)
-        by unit.One e one two = one-keeps at start c (d ∷ cs) h is e one
-        by unit.Two e one two = two-keeps at start c d cs h is e two
+        no-points : (b : Bool) (line : ℕ) (ts : List Token)
+            → token_points (fault_if b fault.StringAt line ++ ts) ≡ token_points ts
+        no-points true line ts = refl
+        no-points false line ts = refl
+
+        second-sign : (cells : List Cell) (b : Option ℕ) → IsByte b → holds at_sign b ≡ true
+            → points_by (cond (is_line_end b) LineEnd (cond (holds at_sign b) SecondAtSign Kept)) cells ≡ []
+        second-sign cells None byte same = absurd byte
+        second-sign cells (Some b) byte same = rw same refl
 
   -- quoted texts
 
@@ -368,19 +215,17 @@ module _ (width : ℕ → ℕ) (count : ℕ) where
           ap (λ ps. ps ++ []) (kept-byte h c (byte refl) (and_right h (holds at_sign c.byte) (sign refl)))
           ∙ sym (ap (λ ps. ps ++ []) (byte-point c (byte refl)))
 
-  quoted-keeps : (r : Region) → ((n : Option ℕ) → unit_of r None n ≡ unit.Stop) → PairsAtSigns r → LeavesNoAtSign r
-      → ((b : Option ℕ) → unit_of r b None ≡ unit.Two → holds backslash b ≡ true) → (close : ℕ)
-      → ((b : Option ℕ) → holds close b ≡ true → holds at_sign b ≡ false)
+  pub quoted-keeps : (r : Region) → IsCut r → (close : ℕ) → (close == at_sign) ≡ false
       → (s : LexerState) (at : Point) (c : Cell) (cs : List Cell)
       → IsTextAt width count at (c ∷ cs) → IsByte c.byte → holds at_sign c.byte ≡ false
       → token_points (quoted_text r close s (c ∷ cs)).tokens
       ≡ text_points false (take (1 + (quoted_text r close s (c ∷ cs)).more) (c ∷ cs))
-  quoted-keeps r stops pairs leaves takes close other s at c cs is byte sign =
+  quoted-keeps r cut close other s at c cs is byte sign =
       let front : Point = point_at c.line (c.column + 1) in
       let text = subst (λ p. IsTextAt width count p cs) (after-byte c byte) is.1 in
       let n : ℕ = count_before r cs in
       let last : ℕ = one_if (holds close (byte_at 0 (drop n cs))) in
-      let kept = cut-keeps r stops pairs leaves takes (quote_end r close s.last_line)
+      let kept = cut-keeps r cut (quote_end r close s.last_line)
       (close-points close) (quote-stop r close s.last_line) front c.column cs (omega arith) text in
       let e : 1 + (n + last) ≡ suc (n + last) = omega arith in
       let one : columns_to c.line c.column (c.column + 1) ≡ (c.line, c.column) ∷ [] =
@@ -390,7 +235,7 @@ module _ (width : ℕ → ℕ) (count : ℕ) where
       ≡ text_points false (take n cs) ++ close-points close (drop n cs) =
       ap (text_points false) (take-add n last cs)
       ∙ points-before false (take n cs) (take last (drop n cs))
-      (close-points close (drop n cs)) (close-kept close (drop n cs) other) in
+      (close-points close (drop n cs)) (close-kept close (drop n cs) (λ b. other-byte close at_sign b other)) in
       kept
       ∙ ap (λ ps. ps ++ (text_points false (take n cs) ++ close-points close (drop n cs))) one
       ∙ ap (λ ps. (c.line, c.column) ∷ ps) (sym all)
@@ -406,21 +251,14 @@ module _ (width : ℕ → ℕ) (count : ℕ) where
   verbatim-stop at start (c ∷ cs) h is =
       rw (← is.0.line, ← is.0.column)
       (cut-points region.Verbatim c.line start c.column (fault_if (is_line_end c.byte) fault.VerbatimEnd c.line)
-      ∙ ap (λ ps. columns_to c.line start c.column ++ ps) (by (is_line_end c.byte)))
-    where
-      by : (b : Bool) → token_points (fault_if b fault.VerbatimEnd c.line) ≡ []
-      by true = refl
-      by false = refl
+      ∙ ap (λ ps. columns_to c.line start c.column ++ ps)
+      (fault-points (is_line_end c.byte) fault.VerbatimEnd c.line))
 
   empty-points : (text : List Cell)
       → token_points (token.Span span_kind.Verbatim (span_at 0 text) ∷ empty_end text) ≡ []
   empty-points [] = refl
   empty-points (c ∷ cs) =
-      let none : c.column + 0 - c.column ≡ 0 = omega arith in rw none (by (is_line_end c.byte))
-    where
-      by : (b : Bool) → token_points (fault_if b fault.VerbatimEnd c.line) ≡ []
-      by true = refl
-      by false = refl
+      let none : c.column + 0 - c.column ≡ 0 = omega arith in rw none (fault-points (is_line_end c.byte) fault.VerbatimEnd c.line)
 
   pub verbatim-keeps : (at : Point) (text : List Cell) → IsTextAt width count at text
       → token_points (verbatim_tokens text) ≡ text_points false (take (count_before region.Verbatim text) text)
@@ -430,8 +268,8 @@ module _ (width : ℕ → ℕ) (count : ℕ) where
         | inl none ↦ rw (none.0, none.1) (empty-points (c ∷ cs))
         | inr some ↦
             let text : List Cell = c ∷ cs in
-            let kept = cut-keeps region.Verbatim (λ n. refl) verbatim-pairs verbatim-leaves
-            verbatim-takes verbatim_end (λ t. []) verbatim-stop at at.column text (omega arith) is in
+            let kept = cut-keeps region.Verbatim verbatim-cut verbatim_end (λ t. [])
+            verbatim-stop at at.column text (omega arith) is in
             rw some.0
             (ap (λ k. token_points (cut_tokens verbatim_end region.Verbatim 0 k text)) is.0.column
             ∙ kept
@@ -439,38 +277,3 @@ module _ (width : ℕ → ℕ) (count : ℕ) where
             (columns-nothing at.line at.column)
             ∙ append-nil (text_points false (take (count_before region.Verbatim text) text)))
       ]
-
-  -- the three kinds of quoted texts
-
-  close-sign : (close : ℕ) → (nat_eq close at_sign ≡ false) → (b : Option ℕ)
-      → holds close b ≡ true → holds at_sign b ≡ false
-  close-sign close other None h = refl
-  close-sign close other (Some b) h =
-      elim (eqb_tells b close) [
-        | inl same ↦ ap (λ x. holds at_sign (Some x)) same.1 ∙ other
-        | inr unlike ↦ let none : false ≡ true = sym unlike.0 ∙ h in cc
-      ]
-
-  pub double_quoted-keeps : (s : LexerState) (at : Point) (c : Cell) (cs : List Cell)
-      → IsTextAt width count at (c ∷ cs) → IsByte c.byte → holds at_sign c.byte ≡ false
-      → token_points (quoted_text region.DoubleQuote double_quote s (c ∷ cs)).tokens
-      ≡ text_points false (take (1 + (quoted_text region.DoubleQuote double_quote s (c ∷ cs)).more) (c ∷ cs))
-  double_quoted-keeps =
-      quoted-keeps region.DoubleQuote (λ n. refl) (quoted-pairs double_quote)
-      (quoted-leaves double_quote) (quoted-takes double_quote) double_quote (close-sign double_quote refl)
-
-  pub apostrophe-keeps : (s : LexerState) (at : Point) (c : Cell) (cs : List Cell)
-      → IsTextAt width count at (c ∷ cs) → IsByte c.byte → holds at_sign c.byte ≡ false
-      → token_points (quoted_text region.Apostrophe apostrophe s (c ∷ cs)).tokens
-      ≡ text_points false (take (1 + (quoted_text region.Apostrophe apostrophe s (c ∷ cs)).more) (c ∷ cs))
-  apostrophe-keeps =
-      quoted-keeps region.Apostrophe (λ n. refl) (quoted-pairs apostrophe)
-      (quoted-leaves apostrophe) (quoted-takes apostrophe) apostrophe (close-sign apostrophe refl)
-
-  pub header_name-keeps : (s : LexerState) (at : Point) (c : Cell) (cs : List Cell)
-      → IsTextAt width count at (c ∷ cs) → IsByte c.byte → holds at_sign c.byte ≡ false
-      → token_points (quoted_text region.HeaderName greater_sign s (c ∷ cs)).tokens
-      ≡ text_points false (take (1 + (quoted_text region.HeaderName greater_sign s (c ∷ cs)).more) (c ∷ cs))
-  header_name-keeps =
-      quoted-keeps region.HeaderName (λ n. refl) include-pairs include-leaves
-      include-takes greater_sign (close-sign greater_sign refl)

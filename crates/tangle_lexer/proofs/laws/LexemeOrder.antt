@@ -1,48 +1,45 @@
 -- The tokens of a source lie in its text.
-use Rattle.std.proofs.Common.{◌≡◌, ℕ, zero, suc, ◌+◌, ◌-◌, ◌≤◌, Bool, true, false, List, [], ◌∷◌, drop, flat_map}
-use Rattle.std.proofs.Common.{Option, Some, None, inl, inr, refl, ap, sym, ◌∙◌, arith, subst, append-nil, cond, ◌||◌}
+use Rattle.std.proofs.Common.{◌≡◌, ℕ, zero, suc, ◌+◌, ◌-◌, ◌≤◌, Bool, true, false, List, [], ◌∷◌, flat_map}
+use Rattle.std.proofs.Common.{Option, Some, None, inl, inr, refl, ap, sym, ◌∙◌, arith, subst, append-nil, ◌||◌}
 use Rattle.std.specs.Prelude.{is_some}
 use Rattle.tangle_faults.specs.declared.faults.FaultKind.TheVariants as fault
 use Rattle.tangle_lexer.specs.declared.tokens.Token.{Token}
-use Rattle.tangle_lexer.specs.declared.modes.Mode.{Mode}
 use Rattle.tangle_lexer.specs.declared.modes.Mode.TheVariants as mode
 use Rattle.tangle_lexer.specs.declared.modes.LexerState.{LexerState}
-use Rattle.tangle_lexer.specs.declared.lexeme_kinds.ControlCode.{ControlCode}
 use Rattle.tangle_lexer.specs.declared.lexeme_kinds.ControlCode.TheVariants as code
 use Rattle.tangle_lexer.specs.declared.lexeme_kinds.LexemeKind.{LexemeKind}
 use Rattle.tangle_lexer.specs.declared.lexeme_kinds.LexemeKind.TheVariants as lexeme_kind
 use Rattle.tangle_text.specs.declared.regions.Region.TheVariants as region
-use Rattle.tangle_lines.specs.Bytes.{at_sign, double_quote}
-use Rattle.tangle_text.specs.Bytes.{apostrophe, greater_sign, holds}
-use Rattle.tangle_text.specs.Text.{Cell, byte_at}
+use Rattle.tangle_lines.specs.Bytes.{double_quote}
+use Rattle.tangle_text.specs.Bytes.{asterisk, slash, apostrophe, greater_sign, holds_white, is_line_end}
+use Rattle.tangle_text.specs.Text.{Cell}
 use Rattle.tangle_text.specs.Regions.{count_before}
-use Rattle.tangle_lexer.specs.Lexemes.{Lexeme, lexeme_of, in_mode}
-use Rattle.tangle_lexer.specs.Comments.{block_comment, line_comment, control_text, starts_section}
-use Rattle.tangle_lexer.specs.Quoted.{quoted_text, verbatim_text}
-use Rattle.tangle_lexer.specs.declared.constants.AsciiConstant.{AsciiConstant}
-use Rattle.tangle_lexer.specs.Constants.{constant_at, constant_lexeme, ascii_constant}
+use Rattle.tangle_lexer.specs.Lexemes.{Lexeme, in_mode}
 use Rattle.tangle_lexer.specs.Names.{use_of_name, definition_count, definition_or_mention, name_in_documentation}
 use Rattle.tangle_lexer.specs.Simple.{is_c_text}
-use Rattle.tangle_lexer.specs.Steps.{code_at, kind_at, word, white_space, code_fault, section_start, prose}
-use Rattle.tangle_lexer.specs.Steps.{limbo_lexeme, documentation_code, documentation_lexeme, c_code, c_lexeme}
-use Rattle.tangle_lexer.specs.Steps.{macro_code, macro_lexeme, lexeme_in, lexeme, lexemes}
+use Rattle.tangle_lexer.specs.Steps.{code_fault, c_lexeme, lexeme, lexemes}
+use Rattle.tangle_lexer.proofs.lemmas.LexemeCases.{OpensLexeme, IsPlainKind, lexeme-by}
+use Rattle.tangle_lexer.proofs.lemmas.PlainLexemes.{kind-plain}
 use Rattle.tangle_lexer.proofs.lemmas.StepLemmas.{lexemes-drop}
-use Rattle.tangle_lexer.proofs.laws.Points.{Point, point_at, PrecedesOnLine, after_by, after_cell, after_cells}
+use Rattle.tangle_lexer.proofs.laws.Points.{Point, point_at, PrecedesOnLine, IsByte, after_by, after_cell, after_cells}
 use Rattle.tangle_lexer.proofs.laws.Points.{HoldsBytes, IsTextAt, precedes-after_cells}
-use Rattle.tangle_lexer.proofs.laws.TokenOrder.{AreInOrder, jumped, in_order-append}
-use Rattle.tangle_lexer.proofs.laws.RegionOrder.{two-bytes, after_cells-more, bytes-precede}
-use Rattle.tangle_lexer.proofs.laws.WhiteOrder.{white-in_order, block_comment-in_order, control_text-in_order}
-use Rattle.tangle_lexer.proofs.laws.WhiteOrder.{line_comment-in_order, code_fault-in_order, white_space-in_order}
-use Rattle.tangle_lexer.proofs.laws.WhiteOrder.{span-in_order, word-in_order}
-use Rattle.tangle_lexer.proofs.laws.QuotedOrder.{double_quoted-in_order, apostrophe-in_order, header_name-in_order}
-use Rattle.tangle_lexer.proofs.laws.QuotedOrder.{verbatim_text-in_order}
-use Rattle.tangle_lexer.proofs.laws.ConstantOrder.{ascii_constant-in_order}
+use Rattle.tangle_lexer.proofs.laws.TokenOrder.{AreInOrder, jumped, goes-refl, in_order-append}
+use Rattle.tangle_lexer.proofs.laws.RegionOrder.{some-byte, are_bytes-hold, code-bytes, more-bytes, after_cells-more}
+use Rattle.tangle_lexer.proofs.laws.RegionOrder.{bytes-precede}
+use Rattle.tangle_lexer.proofs.laws.WhiteOrder.{white-bytes, block_comment-in_order, control_text-in_order}
+use Rattle.tangle_lexer.proofs.laws.WhiteOrder.{line_comment-in_order, span-in_order, word-in_order}
+use Rattle.tangle_lexer.proofs.laws.CutTexts.{double_quote-cut, apostrophe-cut, header_name-cut}
+use Rattle.tangle_lexer.proofs.laws.QuotedOrder.{quoted-in_order, verbatim_text-in_order}
+use Rattle.tangle_lexer.proofs.laws.ConstantCells.{ascii_constant-in_order}
 use Rattle.tangle_lexer.proofs.laws.NameOrder.{LexemeIsInOrder, use_of_name-in_order, name-in_order, jumped-precedes}
-use Rattle.tangle_lexer.proofs.laws.KindCells.{IsLineEnd, CodeCells, Cells, code-cells, kind-cells}
 
-line-goes : (c : Cell) (b : Option ℕ) → IsLineEnd b → PrecedesOnLine (point_at (c.line + 1) 0) (after_by b c)
+line-goes : (c : Cell) (b : Option ℕ) → is_line_end b ≡ true → PrecedesOnLine (point_at (c.line + 1) 0) (after_by b c)
 line-goes c None h = (refl, omega arith)
-line-goes c (Some b) h = absurd h
+line-goes c (Some b) h = cc
+
+white-byte : (b : Option ℕ) → holds_white b ≡ true → IsByte b
+white-byte None h = cc
+white-byte (Some b) h = tt
 
 module _ (width : ℕ → ℕ) (count : ℕ) where
   -- the tokens of a lexeme lie between its first cell and the text after it, and last_line does not change
@@ -57,22 +54,6 @@ module _ (width : ℕ → ℕ) (count : ℕ) where
   stays-inside s at text here within m last ordered =
       let flag : true ≡ is_c_text here.after.mode = sym (ap is_c_text m ∙ within) in
       record { last = last; ordered = rw (within, ← flag) ordered }
-
-  goes-inside : (s : LexerState) (at : Point) (text : List Cell) (here : Lexeme)
-      → is_c_text s.mode ≡ true → here.after.mode ≡ s.mode → here.after.last_line ≡ s.last_line
-      → AreInOrder width count true at here.tokens true (after_cells at (1 + here.more) text) → Law s at text here
-  goes-inside s at text here within m last ordered = stays-inside s at text here within m last (inl ordered)
-
-  -- a section start, in any mode
-  section-law : (s : LexerState) (at : Point) (text : List Cell)
-      → IsTextAt width count at text → Law s at text (section_start s)
-  section-law s at text is = record { last = refl; ordered = inl (precedes-after_cells width count at 1 text is) }
-
-  -- cells that are skipped outside C text and macros
-  skip-law : (s : LexerState) (at : Point) (text : List Cell) (n : ℕ)
-      → is_c_text s.mode ≡ false → IsTextAt width count at text → Law s at text (lexeme_of [] n s)
-  skip-law s at text n out is =
-      record { last = refl; ordered = inl (rw out (precedes-after_cells width count at (1 + n) text is)) }
 
   -- a head that is two bytes long
   head-goes : (at : Point) (c : Cell) (cs : List Cell) → IsTextAt width count at (c ∷ cs) → HoldsBytes 2 (c ∷ cs)
@@ -107,161 +88,78 @@ module _ (width : ℕ → ℕ) (count : ℕ) where
       by None = refl
       by (Some k) = refl
 
-  constant-after : (s : LexerState) (text : List Cell)
-      → ((ascii_constant s text).after.mode ≡ s.mode) × ((ascii_constant s text).after.last_line ≡ s.last_line)
-  constant-after s text = by (constant_at (drop 2 text))
-    where
-      by : (k : Option AsciiConstant)
-          → ((constant_lexeme k s text).after.mode ≡ s.mode)
-          × ((constant_lexeme k s text).after.last_line ≡ s.last_line)
-      by None = (refl, refl)
-      by (Some k) = (refl, refl)
-
   -- C text and macros
-  c_code-law : (kind : ControlCode) (s : LexerState) (at : Point) (c : Cell) (cs : List Cell)
-      → is_c_text s.mode ≡ true → s.last_line ≡ count - 1 → IsTextAt width count at (c ∷ cs)
-      → CodeCells kind c.byte (byte_at 0 cs) → Law s at (c ∷ cs) (c_code kind s (c ∷ cs))
-  c_code-law code.SectionStart s at c cs within last is h = section-law s at (c ∷ cs) is
-  c_code-law code.DoubleAt s at c cs within last is h =
-      goes-inside s at (c ∷ cs) (c_code code.DoubleAt s (c ∷ cs)) within refl refl
-      (span-in_order width count at 1 2 c cs is (h.0, tt) (two-bytes (c ∷ cs) h.0 h.1) (omega arith))
-  c_code-law code.Macro s at c cs within last is h =
-      goes-inside s at (c ∷ cs) (code_fault fault.CodeInC s (c ∷ cs)) within refl refl
-      (code_fault-in_order width count fault.CodeInC s at (c ∷ cs) is (two-bytes (c ∷ cs) h.0 h.1))
-  c_code-law code.Format s at c cs within last is h =
-      goes-inside s at (c ∷ cs) (code_fault fault.CodeInC s (c ∷ cs)) within refl refl
-      (code_fault-in_order width count fault.CodeInC s at (c ∷ cs) is (two-bytes (c ∷ cs) h.0 h.1))
-  c_code-law code.UnnamedPart s at c cs within last is h =
-      goes-inside s at (c ∷ cs) (code_fault fault.CodeInC s (c ∷ cs)) within refl refl
-      (code_fault-in_order width count fault.CodeInC s at (c ∷ cs) is (two-bytes (c ∷ cs) h.0 h.1))
-  c_code-law code.Name s at c cs within last is h =
-      stays-inside s at (c ∷ cs) (use_of_name s (c ∷ cs)) within
-      refl refl (use_of_name-in_order width count s at c cs last is)
-  c_code-law code.ControlText s at c cs within last is h =
-      goes-inside s at (c ∷ cs) (control_text s (c ∷ cs)) within refl refl
-      (control_text-in_order width count s at (c ∷ cs) is (two-bytes (c ∷ cs) h.0 h.1))
-  c_code-law code.Verbatim s at c cs within last is h =
-      goes-inside s at (c ∷ cs) (verbatim_text s (c ∷ cs)) within refl refl
-      (verbatim_text-in_order width count s at c cs is (two-bytes (c ∷ cs) h.0 h.1))
-  c_code-law code.Join s at c cs within last is h =
-      goes-inside s at (c ∷ cs) (c_code code.Join s (c ∷ cs)) within refl refl
-      (bytes-precede width count at 2 (c ∷ cs) is (two-bytes (c ∷ cs) h.0 h.1))
-  c_code-law code.AllMacros s at c cs within last is h =
-      goes-inside s at (c ∷ cs) (c_code code.AllMacros s (c ∷ cs)) within refl refl
-      (is.0.line, bytes-precede width count at 2 (c ∷ cs) is (two-bytes (c ∷ cs) h.0 h.1))
-  c_code-law code.AsciiConstant s at c cs within last is h =
-      goes-inside s at (c ∷ cs) (ascii_constant s (c ∷ cs)) within
-      (constant-after s (c ∷ cs)).0 (constant-after s (c ∷ cs)).1
-      (ascii_constant-in_order width count s at c cs is (two-bytes (c ∷ cs) h.0 h.1))
-  c_code-law code.Other s at c cs within last is h =
-      goes-inside s at (c ∷ cs) (c_code code.Other s (c ∷ cs)) within refl refl
-      (bytes-precede width count at 2 (c ∷ cs) is (two-bytes (c ∷ cs) h.0 h.1))
-
-  c-law : (kind : LexemeKind) (s : LexerState) (at : Point) (c : Cell) (cs : List Cell)
-      → is_c_text s.mode ≡ true → s.last_line ≡ count - 1 → IsTextAt width count at (c ∷ cs)
-      → Cells kind c.byte (byte_at 0 cs) → Law s at (c ∷ cs) (c_lexeme kind s (c ∷ cs))
-  c-law (lexeme_kind.Control kind) s at c cs within last is h = c_code-law kind s at c cs within last is h
-  c-law lexeme_kind.BlockComment s at c cs within last is h =
-      goes-inside s at (c ∷ cs) (block_comment s (c ∷ cs)) within refl refl
-      (block_comment-in_order width count s at (c ∷ cs) is (two-bytes (c ∷ cs) h.0 h.1))
-  c-law lexeme_kind.LineComment s at c cs within last is h =
-      goes-inside s at (c ∷ cs) (line_comment s (c ∷ cs)) within refl refl
-      (line_comment-in_order width count s at (c ∷ cs) is (two-bytes (c ∷ cs) h.0 h.1))
-  c-law lexeme_kind.DoubleQuote s at c cs within last is h =
-      goes-inside s at (c ∷ cs) (quoted_text region.DoubleQuote double_quote s (c ∷ cs))
-      within refl refl (double_quoted-in_order width count s at c cs is h)
-  c-law lexeme_kind.Apostrophe s at c cs within last is h =
-      goes-inside s at (c ∷ cs) (quoted_text region.Apostrophe apostrophe s (c ∷ cs))
-      within refl refl (apostrophe-in_order width count s at c cs is h)
-  c-law lexeme_kind.HeaderName s at c cs within last is h =
-      goes-inside s at (c ∷ cs) (quoted_text region.HeaderName greater_sign s (c ∷ cs))
-      within refl refl (header_name-in_order width count s at c cs is h)
-  c-law lexeme_kind.LineEnd s at c cs within last is h =
-      goes-inside s at (c ∷ cs) (c_lexeme lexeme_kind.LineEnd s (c ∷ cs))
-      within refl refl (is.0.line, line-goes c c.byte h)
-  c-law lexeme_kind.White s at c cs within last is h =
-      goes-inside s at (c ∷ cs) (white_space s (c ∷ cs)) within refl
-      refl (white_space-in_order width count s at (c ∷ cs) is (h, tt))
-  c-law lexeme_kind.Word s at c cs within last is h =
-      goes-inside s at (c ∷ cs) (word s (c ∷ cs)) within refl refl (word-in_order width count s at c cs is h)
-  c-law lexeme_kind.Other s at c cs within last is h =
-      goes-inside s at (c ∷ cs) (c_lexeme lexeme_kind.Other s (c ∷ cs)) within refl
-      refl (span-in_order width count at 1 1 c cs is (h, tt) (h, tt) (omega arith))
-
-  -- the control codes of documentation, also those that end a macro
-  code-law : (kind : ControlCode) (s : LexerState) (at : Point) (c : Cell) (cs : List Cell)
-      → is_c_text s.mode ≡ false → IsTextAt width count at (c ∷ cs)
-      → CodeCells kind c.byte (byte_at 0 cs) → Law s at (c ∷ cs) (documentation_code kind s (c ∷ cs))
-  code-law code.SectionStart s at c cs out is h = section-law s at (c ∷ cs) is
-  code-law code.Macro s at c cs out is h =
-      record { last = refl; ordered = inl (head-goes at c cs is (two-bytes (c ∷ cs) h.0 h.1)) }
-  code-law code.UnnamedPart s at c cs out is h =
-      record { last = refl; ordered = inl (head-goes at c cs is (two-bytes (c ∷ cs) h.0 h.1)) }
-  code-law code.Name s at c cs out is h =
-      record { last = name-last s (c ∷ cs); ordered = inl (name-law (is_c_text s.mode) s at c cs out is) }
-  code-law _ s at c cs out is h = skip-law s at (c ∷ cs) 1 out is
-
-  macro_code-law : (kind : ControlCode) (s : LexerState) (at : Point) (c : Cell) (cs : List Cell)
-      → is_c_text s.mode ≡ true → s.last_line ≡ count - 1 → IsTextAt width count at (c ∷ cs)
-      → CodeCells kind c.byte (byte_at 0 cs) → Law s at (c ∷ cs) (macro_code kind s (c ∷ cs))
-  macro_code-law code.Macro s at c cs within last is h =
-      record { last = refl; ordered = inl (head-goes at c cs is (two-bytes (c ∷ cs) h.0 h.1)) }
-  macro_code-law code.UnnamedPart s at c cs within last is h =
-      record { last = refl; ordered = inl (head-goes at c cs is (two-bytes (c ∷ cs) h.0 h.1)) }
-  macro_code-law code.Name s at c cs within last is h =
-      record {
-        last = name-last (in_mode mode.Documentation s) (c ∷ cs);
-        ordered = inl (name-law (is_c_text s.mode) (in_mode mode.Documentation s) at c cs refl is);
-      }
-  macro_code-law code.Format s at c cs within last is h =
-      record { last = refl; ordered = inl (precedes-after_cells width count at 2 (c ∷ cs) is) }
-  macro_code-law code.AllMacros s at c cs within last is h =
-      goes-inside s at (c ∷ cs) (macro_code code.AllMacros s (c ∷ cs)) within refl refl
-      (white-in_order width count at 2 (c ∷ cs) true fault.MisplacedH c.line is (two-bytes (c ∷ cs) h.0 h.1))
-  macro_code-law kind s at c cs within last is h = c_code-law kind s at c cs within last is h
-
-  macro-law : (kind : LexemeKind) (s : LexerState) (at : Point) (c : Cell) (cs : List Cell)
-      → is_c_text s.mode ≡ true → s.last_line ≡ count - 1 → IsTextAt width count at (c ∷ cs)
-      → Cells kind c.byte (byte_at 0 cs) → Law s at (c ∷ cs) (macro_lexeme kind s (c ∷ cs))
-  macro-law (lexeme_kind.Control kind) s at c cs within last is h = macro_code-law kind s at c cs within last is h
-  macro-law kind s at c cs within last is h = c-law kind s at c cs within last is h
-
-  documentation-law : (s : LexerState) (at : Point) (c : Cell) (cs : List Cell)
-      → is_c_text s.mode ≡ false → IsTextAt width count at (c ∷ cs)
-      → Law s at (c ∷ cs) (documentation_lexeme s (c ∷ cs))
-  documentation-law s at c cs out is = by (holds at_sign c.byte) (coded c.byte)
-    where
-      coded : (b : Option ℕ) → holds at_sign b ≡ true → CodeCells (code_at (byte_at 0 cs)) b (byte_at 0 cs)
-      coded None h = cc
-      coded (Some b) h = code-cells b (byte_at 0 cs)
-
-      by : (b : Bool) → (b ≡ true → CodeCells (code_at (byte_at 0 cs)) c.byte (byte_at 0 cs))
-          → Law s at (c ∷ cs) (cond b (documentation_code (code_at (byte_at 0 cs)) s (c ∷ cs)) (prose s (c ∷ cs)))
-      by true h = code-law (code_at (byte_at 0 cs)) s at c cs out is (h refl)
-      by false h = skip-law s at (c ∷ cs) (count_before region.Prose cs) out is
-
-  limbo-law : (s : LexerState) (at : Point) (c : Cell) (cs : List Cell)
-      → is_c_text s.mode ≡ false → IsTextAt width count at (c ∷ cs) → Law s at (c ∷ cs) (limbo_lexeme s (c ∷ cs))
-  limbo-law s at c cs out is = by (starts_section (c ∷ cs)) (holds at_sign c.byte)
-    where
-      by : (start sign : Bool)
-          → Law s at (c ∷ cs) (cond start (section_start s) (cond sign (lexeme_of [] 1 s) (prose s (c ∷ cs))))
-      by true sign = section-law s at (c ∷ cs) is
-      by false true = skip-law s at (c ∷ cs) 1 out is
-      by false false = skip-law s at (c ∷ cs) (count_before region.Prose cs) out is
+  kind-in_order : (kind : LexemeKind) (s : LexerState) (at : Point) (c : Cell) (cs : List Cell)
+      → IsPlainKind kind → OpensLexeme kind (c ∷ cs) → IsTextAt width count at (c ∷ cs)
+      → AreInOrder width count true at (c_lexeme kind s (c ∷ cs)).tokens
+      true (after_cells at (1 + (c_lexeme kind s (c ∷ cs)).more) (c ∷ cs))
+  kind-in_order (lexeme_kind.Control code.SectionStart) s at c cs plain o is = absurd plain
+  kind-in_order (lexeme_kind.Control code.Name) s at c cs plain o is = absurd plain
+  kind-in_order (lexeme_kind.Control code.DoubleAt) s at c cs plain o is =
+      let two = code-bytes code.DoubleAt (c ∷ cs) (λ e. cc) o in
+      span-in_order width count at 1 2 c cs is (two.0, tt) two (omega arith)
+  kind-in_order (lexeme_kind.Control code.ControlText) s at c cs plain o is =
+      control_text-in_order width count s at (c ∷ cs) is (code-bytes code.ControlText (c ∷ cs) (λ e. cc) o)
+  kind-in_order (lexeme_kind.Control code.Verbatim) s at c cs plain o is =
+      verbatim_text-in_order width count s at c cs is (code-bytes code.Verbatim (c ∷ cs) (λ e. cc) o)
+  kind-in_order (lexeme_kind.Control code.AllMacros) s at c cs plain o is = (
+    is.0.line,
+    bytes-precede width count at 2 (c ∷ cs) is (code-bytes code.AllMacros (c ∷ cs) (λ e. cc) o),
+  )
+  kind-in_order (lexeme_kind.Control code.AsciiConstant) s at c cs plain o is =
+      ascii_constant-in_order width count s at c cs is (code-bytes code.AsciiConstant (c ∷ cs) (λ e. cc) o)
+  -- one or two tokens without a position, and two bytes
+  kind-in_order (lexeme_kind.Control kind) s at c cs plain o is =
+      bytes-precede width count at 2 (c ∷ cs) is (code-bytes kind (c ∷ cs) (λ e. cc) o)
+  kind-in_order lexeme_kind.BlockComment s at c cs plain o is =
+      block_comment-in_order width count s at (c ∷ cs) is (are_bytes-hold slash asterisk (c ∷ cs) o)
+  kind-in_order lexeme_kind.LineComment s at c cs plain o is =
+      line_comment-in_order width count s at (c ∷ cs) is (are_bytes-hold slash slash (c ∷ cs) o)
+  kind-in_order lexeme_kind.DoubleQuote s at c cs plain o is =
+      quoted-in_order width count region.DoubleQuote double_quote-cut double_quote s at c cs is (some-byte c.byte o.0)
+  kind-in_order lexeme_kind.Apostrophe s at c cs plain o is =
+      quoted-in_order width count region.Apostrophe apostrophe-cut apostrophe s at c cs is (some-byte c.byte o.0)
+  kind-in_order lexeme_kind.HeaderName s at c cs plain o is =
+      quoted-in_order width count region.HeaderName header_name-cut greater_sign s at c cs is (some-byte c.byte o.0)
+  kind-in_order lexeme_kind.LineEnd s at c cs plain o is = (is.0.line, line-goes c c.byte o)
+  kind-in_order lexeme_kind.White s at c cs plain o is =
+      let n : ℕ = count_before region.White cs in
+      bytes-precede width count at (1 + n) (c ∷ cs) is
+      (more-bytes 1 n (c ∷ cs) (white-byte c.byte o, tt) (white-bytes cs))
+  kind-in_order lexeme_kind.Word s at c cs plain o is = word-in_order width count s at c cs is (some-byte c.byte o.0)
+  kind-in_order lexeme_kind.Other s at c cs plain o is =
+      let one : HoldsBytes 1 (c ∷ cs) = (some-byte c.byte o.0, tt) in
+      span-in_order width count at 1 1 c cs is one one (omega arith)
 
   lexeme-law : (s : LexerState) (at : Point) (c : Cell) (cs : List Cell)
       → s.last_line ≡ count - 1 → IsTextAt width count at (c ∷ cs) → Law s at (c ∷ cs) (lexeme s (c ∷ cs))
-  unfolding lexeme
-  lexeme-law s at c cs last is = by s.mode refl
-    where
-      by : (m : Mode) → s.mode ≡ m → Law s at (c ∷ cs) (lexeme_in m s (c ∷ cs))
-      by mode.Limbo e = limbo-law s at c cs (ap is_c_text e) is
-      by mode.Documentation e = documentation-law s at c cs (ap is_c_text e) is
-      by mode.CPart e = c-law (kind_at s.include (c ∷ cs)) s at c cs
-          (ap is_c_text e) last is (kind-cells s.include c.byte (byte_at 0 cs))
-      by mode.Macro e = macro-law (kind_at s.include (c ∷ cs)) s at c cs
-          (ap is_c_text e) last is (kind-cells s.include c.byte (byte_at 0 cs))
+  lexeme-law s at c cs last is =
+      let text : List Cell = c ∷ cs in
+      lexeme-by (Law s at text) s text (record {
+        section = record { last = refl; ordered = inl (precedes-after_cells width count at 1 text is) };
+        macro = λ o.
+            record { last = refl; ordered = inl (head-goes at c cs is (code-bytes code.Macro text (λ e. cc) o)) };
+        part = λ o.
+            record { last = refl; ordered = inl (head-goes at c cs is (code-bytes code.UnnamedPart text (λ e. cc) o)) };
+        used = λ m o.
+            stays-inside s at text (use_of_name s text) (ap is_c_text m) refl refl
+            (use_of_name-in_order width count s at c cs last is);
+        name = λ m.
+            record { last = name-last s text; ordered = inl (name-law (is_c_text s.mode) s at c cs (ap is_c_text m) is) };
+        ending = λ m.
+            let t : LexerState = in_mode mode.Documentation s in
+            record { last = name-last t text; ordered = inl (name-law (is_c_text s.mode) t at c cs refl is) };
+        skip = λ out n.
+            record { last = refl; ordered = inl (rw out (precedes-after_cells width count at (1 + n) text is)) };
+        format = λ m. record { last = refl; ordered = inl (precedes-after_cells width count at 2 text is) };
+        misplaced = λ m o.
+            stays-inside s at text (code_fault fault.MisplacedH s text) (ap is_c_text m) refl refl
+            (inl (bytes-precede width count at 2 text is (code-bytes code.AllMacros text (λ e. cc) o)));
+        inside = λ within kind p o.
+            let plain = kind-plain kind s text p in
+            stays-inside s at text (c_lexeme kind s text) within plain.mode plain.last
+            (inl (kind-in_order kind s at c cs p o is));
+      })
 
   -- all lexemes of a text
 
@@ -271,17 +169,13 @@ module _ (width : ℕ → ℕ) (count : ℕ) where
     pub to : Point
     pub ordered : AreInOrder width count from at ts stays to
 
-  in_order-nothing : (b : Bool) (at : Point) → AreInOrder width count b at [] b at
-  in_order-nothing true at = (refl, omega arith)
-  in_order-nothing false at = (omega arith, λ e. omega arith)
-
   pub lexemes-in_order : (k : ℕ) (s : LexerState) (text : List Cell) (at : Point)
       → s.last_line ≡ count - 1 → IsTextAt width count at text
       → AreSomewhere (is_c_text s.mode) (after_cells at k text) (flat_map (λ l. l.tokens) (lexemes k s text))
   lexemes-in_order k s [] at last is = record {
     stays = is_c_text s.mode;
     to = after_cells at k [];
-    ordered = in_order-nothing (is_c_text s.mode) (after_cells at k []);
+    ordered = goes-refl width count (is_c_text s.mode) (after_cells at k []);
   }
   lexemes-in_order (suc k) s (c ∷ cs) at last is = lexemes-in_order k s cs (after_cell c) last is.1
   lexemes-in_order zero s (c ∷ cs) at last is =

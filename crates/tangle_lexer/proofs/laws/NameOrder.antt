@@ -21,9 +21,9 @@ use Rattle.tangle_lexer.specs.Names.{count_through, equals_count, has_single_equ
 use Rattle.tangle_lexer.specs.Names.{definition_or_mention, name_in_documentation}
 use Rattle.tangle_lexer.proofs.laws.Points.{Point, Precedes, PrecedesOnLine, IsByte, after_cells, HoldsBytes, IsTextAt}
 use Rattle.tangle_lexer.proofs.laws.Points.{text-after_cells, precedes-after_cells, precedes-trans, after-byte}
-use Rattle.tangle_lexer.proofs.laws.TokenOrder.{AreInOrder, jumped}
+use Rattle.tangle_lexer.proofs.laws.TokenOrder.{GoesOn, AreInOrder, jumped}
 use Rattle.tangle_lexer.proofs.laws.RegionOrder.{after_cells-nothing, after_cells-add, holds-byte, are_bytes-hold}
-use Rattle.tangle_lexer.proofs.laws.RegionOrder.{faults-in_order, end-precedes}
+use Rattle.tangle_lexer.proofs.laws.RegionOrder.{fault-before, faults-in_order, end-precedes}
 use Rattle.tangle_text.proofs.AheadLemmas.{byte_at-drop}
 
 -- the position at the line of a later point is not after that point
@@ -88,17 +88,11 @@ module _ (width : ℕ → ℕ) (count : ℕ) where
       ∙ after_cells-add (after_cells at 2 text) n (two_if (is_ended text)) (drop 2 text)
 
   -- the faults of a use
-  use-faults : (a b : Bool) (last line : ℕ) (at to : Point) → PrecedesOnLine at to
-      → AreInOrder width count true at (fault_if a fault.NameEnd last ++ fault_if b fault.NameEquals line) true to
-  use-faults true b last line at to h = faults-in_order width count b fault.NameEquals line at to h
-  use-faults false b last line at to h = faults-in_order width count b fault.NameEquals line at to h
-
-  use-faults-end : (a b : Bool) (last line : ℕ) (at to : Point) → Precedes at to
-      → AreInOrder width count true at (fault_if a fault.NameEnd last ++ fault_if b fault.NameEquals line) false to
-  use-faults-end true true last line at to h = h
-  use-faults-end true false last line at to h = h
-  use-faults-end false true last line at to h = h
-  use-faults-end false false last line at to h = h
+  use-faults : (stays a b : Bool) (last line : ℕ) (at to : Point) → GoesOn true stays at to
+      → AreInOrder width count true at (fault_if a fault.NameEnd last ++ fault_if b fault.NameEquals line) stays to
+  use-faults stays a b last line at to h =
+      fault-before width count true stays a fault.NameEnd last at to (fault_if b fault.NameEquals line)
+      (faults-in_order width count true stays b fault.NameEquals line at to h)
 
   -- a use whose name ends where this text begins
   use-in_order : (s : LexerState) (at p : Point) (text : List Cell) (ended b : Bool) (line : ℕ)
@@ -121,7 +115,7 @@ module _ (width : ℕ → ℕ) (count : ℕ) where
         (
           omega (arith, last, real),
           rw (after_cells-nothing p (two_if ended))
-              (use-faults-end (not ended) b s.last_line line (jumped at s.last_line) p to),
+              (use-faults false (not ended) b s.last_line line (jumped at s.last_line) p to),
         ),
       )
   use-in_order s at p (c ∷ cs) ended b line last real is h end =
@@ -135,7 +129,7 @@ module _ (width : ℕ → ℕ) (count : ℕ) where
       true (after_cells p (two_if ended) (c ∷ cs)))
       (sym is.0.line) (
         h.0,
-        use-faults (not ended) b p.line line (jumped at p.line) (after_cells p (two_if ended) (c ∷ cs)) to,
+        use-faults true (not ended) b p.line line (jumped at p.line) (after_cells p (two_if ended) (c ∷ cs)) to,
       ))
 
   pub use_of_name-in_order : (s : LexerState) (at : Point) (c : Cell) (cs : List Cell)
@@ -165,10 +159,8 @@ module _ (width : ℕ → ℕ) (count : ℕ) where
 
   mention-in_order : (from b : Bool) (kind : FaultKind) (line : ℕ) (at to : Point)
       → Precedes at to → AreInOrder width count from at (fault_if b kind line) false to
-  mention-in_order true true kind line at to h = h
-  mention-in_order true false kind line at to h = h
-  mention-in_order false true kind line at to h = h
-  mention-in_order false false kind line at to h = h
+  mention-in_order true b kind line at to h = faults-in_order width count true false b kind line at to h
+  mention-in_order false b kind line at to h = faults-in_order width count false false b kind line at to h
 
   -- a C part that begins after the byte at the front
   part-in_order : (last : ℕ) (at p : Point) (text : List Cell)

@@ -1,23 +1,28 @@
 -- The position after a region, and the order of the line ends in it.
 use Rattle.std.proofs.Common.{◌≡◌, ℕ, zero, suc, ◌+◌, Bool, true, false, List, [], ◌∷◌, ◌++◌, drop, Option, Some, None}
-use Rattle.std.proofs.Common.{refl, ap, sym, ◌∙◌, arith, subst, zero-add, cond}
-use Rattle.std.proofs.lemmas.Bool.{and_parts}
+use Rattle.std.proofs.Common.{refl, ap, sym, ◌∙◌, arith, subst, zero-add, cond, ◌==◌}
+use Rattle.std.proofs.lemmas.Bool.{and_parts, eqb-true}
 use Rattle.tangle_faults.specs.declared.faults.FaultKind.{FaultKind}
 use Rattle.tangle_lexer.specs.declared.tokens.Token.{Token}
 use Rattle.tangle_lexer.specs.declared.tokens.Token.TheVariants as token
 use Rattle.tangle_text.specs.declared.regions.Region.{Region}
 use Rattle.tangle_text.specs.declared.regions.Unit.{Unit as Unit-of}
 use Rattle.tangle_text.specs.declared.regions.Unit.TheVariants as unit
+use Rattle.tangle_lines.specs.Bytes.{at_sign}
 use Rattle.tangle_text.specs.Bytes.{holds, are_bytes, is_line_end}
 use Rattle.tangle_text.specs.Text.{Cell, byte_at}
-use Rattle.tangle_text.specs.Regions.{unit_of, unit_at, more_by, count_before, unless_stop}
-use Rattle.tangle_lexer.proofs.lemmas.LexemeLemmas.{line_end_of, line_ends-are}
-use Rattle.tangle_text.proofs.UnitLemmas.{from_units, count_by, counted, count-is}
+use Rattle.tangle_text.specs.Regions.{unit_of, count_before}
+use Rattle.tangle_lexer.proofs.lemmas.LexemeLemmas.{line_ends-go, line_ends-stop}
 use Rattle.tangle_lexer.specs.Lexemes.{fault_if, line_end_by}
+use Rattle.tangle_lexer.specs.declared.lexeme_kinds.ControlCode.{ControlCode}
+use Rattle.tangle_lexer.specs.declared.lexeme_kinds.ControlCode.TheVariants as code
+use Rattle.tangle_lexer.specs.Segments.{OpensWith}
+use Rattle.tangle_lexer.specs.Steps.{code_at}
 use Rattle.tangle_lexer.specs.Comments.{line_ends, two_if}
 use Rattle.tangle_lexer.proofs.laws.Points.{Point, point_at, PrecedesOnLine, IsByte, after_by, after_cell, after_cells}
 use Rattle.tangle_lexer.proofs.laws.Points.{HoldsBytes, IsCellAt, IsTextAt, after-byte, after_cells-bytes}
-use Rattle.tangle_lexer.proofs.laws.TokenOrder.{AreInOrder, in_order-after}
+use Rattle.tangle_lexer.proofs.laws.TokenOrder.{GoesOn, AreInOrder, in_order-after}
+use Rattle.tangle_lexer.proofs.laws.RegionUnits.{units-by}
 
 -- the position after a number of cells
 
@@ -40,9 +45,18 @@ after_cells-add at (suc m) n (c ∷ cs) =
 
 -- cells that are bytes
 
+-- a byte that equals one byte does not equal another
+pub other-byte : (x y : ℕ) (b : Option ℕ) → (x == y) ≡ false → holds x b ≡ true → holds y b ≡ false
+other-byte x y None other h = refl
+other-byte x y (Some b) other h = rw (eqb-true b x h) other
+
 pub holds-byte : (expected : ℕ) (b : Option ℕ) → holds expected b ≡ true → IsByte b
 holds-byte expected None h = cc
 holds-byte expected (Some b) h = tt
+
+pub some-byte : (b : Option ℕ) → is_line_end b ≡ false → IsByte b
+some-byte None h = cc
+some-byte (Some b) h = tt
 
 pub two-bytes : (text : List Cell) → IsByte (byte_at 0 text) → IsByte (byte_at 1 text) → HoldsBytes 2 text
 two-bytes [] h k = absurd h
@@ -55,6 +69,15 @@ pub are_bytes-hold : (first second : ℕ) (text : List Cell)
 are_bytes-hold first second text h =
     let k = and_parts (holds first (byte_at 0 text)) (holds second (byte_at 1 text)) h in
     two-bytes text (holds-byte first (byte_at 0 text) k.0) (holds-byte second (byte_at 1 text) k.1)
+
+-- the two bytes of a control code that begins no section
+pub code-bytes : (kind : ControlCode) (text : List Cell)
+    → (kind ≡ code.SectionStart → ⊥) → OpensWith kind text → HoldsBytes 2 text
+code-bytes kind text other o = two-bytes text (holds-byte at_sign (byte_at 0 text) o.0) (second (byte_at 1 text) o.1)
+  where
+    second : (b : Option ℕ) → code_at b ≡ kind → IsByte b
+    second None e = absurd (other (sym e))
+    second (Some b) e = tt
 
 pub more-bytes : (m n : ℕ) (text : List Cell) → HoldsBytes m text → HoldsBytes n (drop m text) → HoldsBytes (m + n) text
 more-bytes zero n text h k = rw (zero-add n) k
@@ -70,41 +93,26 @@ goes-byte r stops None n u e go = absurd (go (sym e ∙ stops n))
 goes-byte r stops (Some b) n u e go = tt
 
 -- a region that ends at each line end is on one line
-counted-bytes : (r : Region)
-    → ((n : Option ℕ) → unit_of r None n ≡ unit.Stop) → ((b n : Option ℕ) → unit_of r b n ≡ unit.Two → IsByte n)
-    → (text : List Cell) → HoldsBytes (counted r 0 text) text
-counted-bytes r stops stays [] = tt
-counted-bytes r stops stays (c ∷ []) = by (unit_at r (c ∷ [])) refl
-  where
-    by : (u : Unit-of) → unit_at r (c ∷ []) ≡ u → HoldsBytes (count_by u (counted r (more_by u) [])) (c ∷ [])
-    by unit.Stop e = tt
-    by unit.One e = (goes-byte r stops c.byte None unit.One e (λ k. cc), tt)
-    by unit.Two e = absurd (stays c.byte None e)
-counted-bytes r stops stays (c ∷ d ∷ cs) =
-    by (unit_at r (c ∷ d ∷ cs)) refl (counted-bytes r stops stays (d ∷ cs)) (counted-bytes r stops stays cs)
-  where
-    by : (u : Unit-of)
-        → unit_at r (c ∷ d ∷ cs) ≡ u → HoldsBytes (counted r 0 (d ∷ cs)) (d ∷ cs) → HoldsBytes (counted r 0 cs) cs
-        → HoldsBytes (count_by u (counted r (more_by u) (d ∷ cs))) (c ∷ d ∷ cs)
-    by unit.Stop e one two = tt
-    by unit.One e one two =
-        more-bytes 1 (counted r 0 (d ∷ cs)) (c ∷ d ∷ cs) (goes-byte r stops c.byte d.byte unit.One e (λ k. cc), tt) one
-    by unit.Two e one two =
-        more-bytes 1 (1 + counted r 0 cs) (c ∷ d ∷ cs) (goes-byte r stops c.byte d.byte unit.Two e (λ k. cc), tt)
-        (more-bytes 1 (counted r 0 cs) (d ∷ cs) (stays c.byte d.byte e, tt) two)
-
 pub region-bytes : (r : Region)
     → ((n : Option ℕ) → unit_of r None n ≡ unit.Stop) → ((b n : Option ℕ) → unit_of r b n ≡ unit.Two → IsByte n)
     → (text : List Cell) → HoldsBytes (count_before r text) text
-region-bytes r stops stays text =
-    subst (λ n. HoldsBytes n text) (sym (count-is r text)) (counted-bytes r stops stays text)
+region-bytes r stops stays =
+    units-by r HoldsBytes (λ text e. tt) tt
+    (λ n c cs e bytes. (goes-byte r stops c.byte (byte_at 0 cs) unit.One e (λ k. cc), bytes))
+    (λ n c d cs e bytes. (goes-byte r stops c.byte d.byte unit.Two e (λ k. cc), (stays c.byte d.byte e, bytes)))
+    (λ c e. absurd (stays c.byte None e))
 
 module _ (width : ℕ → ℕ) (count : ℕ) where
   -- a fault changes no position
-  pub faults-in_order : (b : Bool) (kind : FaultKind) (line : ℕ) (at to : Point)
-      → PrecedesOnLine at to → AreInOrder width count true at (fault_if b kind line) true to
-  faults-in_order true kind line at to h = h
-  faults-in_order false kind line at to h = h
+  pub fault-before : (from stays b : Bool) (kind : FaultKind) (line : ℕ) (at to : Point) (ts : List Token)
+      → AreInOrder width count from at ts stays to → AreInOrder width count from at (fault_if b kind line ++ ts) stays to
+  fault-before from stays true kind line at to ts ordered = ordered
+  fault-before from stays false kind line at to ts ordered = ordered
+
+  pub faults-in_order : (from stays b : Bool) (kind : FaultKind) (line : ℕ) (at to : Point)
+      → GoesOn from stays at to → AreInOrder width count from at (fault_if b kind line) stays to
+  faults-in_order from stays true kind line at to h = h
+  faults-in_order from stays false kind line at to h = h
 
   -- the position after bytes is on the same line
   pub bytes-precede : (at : Point) (n : ℕ) (text : List Cell)
@@ -133,52 +141,24 @@ module _ (width : ℕ → ℕ) (count : ℕ) where
       by (Some b) goes ordered =
           in_order-after width count true true at (point_at c.line (c.column + 1)) ts true to (goes tt) ordered
 
-  counted-in_order : (r : Region) → ((b n : Option ℕ) → unit_of r b n ≡ unit.Two → IsByte n)
-      → (at : Point) (text : List Cell) → IsTextAt width count at text
-      → AreInOrder width count true at (from_units line_end_of r 0 text) true (after_cells at (counted r 0 text) text)
-  counted-in_order r stays at [] is = (refl, omega arith)
-  counted-in_order r stays at (c ∷ []) is = by (unit_at r (c ∷ [])) refl
-    where
-      by : (u : Unit-of) → unit_at r (c ∷ []) ≡ u
-          → AreInOrder width count true at
-          (unless_stop u (line_end_of u c None ++ from_units line_end_of r (more_by u) []))
-          true (after_cells at (count_by u (counted r (more_by u) [])) (c ∷ []))
-      by unit.Stop e = (refl, omega arith)
-      by unit.One e = cell-in_order at c [] (after_cell c) is.0 (refl, omega arith)
-      by unit.Two e = absurd (stays c.byte None e)
-  counted-in_order r stays at (c ∷ d ∷ cs) is =
-      by (unit_at r (c ∷ d ∷ cs)) refl (counted-in_order r stays (after_cell c) (d ∷ cs) is.1)
-      (counted-in_order r stays (after_cell d) cs is.1.1)
-    where
-      by : (u : Unit-of) → unit_at r (c ∷ d ∷ cs) ≡ u
-          → AreInOrder width count true (after_cell c) (from_units line_end_of r 0 (d ∷ cs))
-          true (after_cells (after_cell c) (counted r 0 (d ∷ cs)) (d ∷ cs))
-          → AreInOrder width count true (after_cell d) (from_units line_end_of r 0 cs)
-          true (after_cells (after_cell d) (counted r 0 cs) cs)
-          → AreInOrder width count true at
-          (unless_stop u (line_end_of u c d.byte ++ from_units line_end_of r (more_by u) (d ∷ cs)))
-          true (after_cells at (count_by u (counted r (more_by u) (d ∷ cs))) (c ∷ d ∷ cs))
-      by unit.Stop e one two = (refl, omega arith)
-      by unit.One e one two =
-          rw (after_cells-more at c (d ∷ cs) (counted r 0 (d ∷ cs)))
-          (cell-in_order at c (from_units line_end_of r 0 (d ∷ cs))
-          (after_cells (after_cell c) (counted r 0 (d ∷ cs)) (d ∷ cs)) is.0 one)
-      by unit.Two e one two =
-          rw (
-            after_cells-more at c (d ∷ cs) (1 + counted r 0 cs),
-            after_cells-more (after_cell c) d cs (counted r 0 cs),
-          )
-          (cell-in_order at c (from_units line_end_of r 0 cs) (after_cells (after_cell d) (counted r 0 cs) cs) is.0
-          (in_order-after width count true true (after_cell c) (after_cell d)
-          (from_units line_end_of r 0 cs) true (after_cells (after_cell d) (counted r 0 cs) cs)
-          (byte-goes (after_cell c) d is.1.0 (stays c.byte d.byte e)) two))
-
   -- The line ends of a region lie in it, in order, if none is the second cell of a unit.
   pub line_ends-in_order : (r : Region) → ((b n : Option ℕ) → unit_of r b n ≡ unit.Two → IsByte n)
-      → (at : Point) (text : List Cell) → IsTextAt width count at text
+      → (text : List Cell) (at : Point) → IsTextAt width count at text
       → AreInOrder width count true at (line_ends r text) true (after_cells at (count_before r text) text)
-  line_ends-in_order r stays at text is =
-      subst (λ ts. AreInOrder width count true at ts true (after_cells at (count_before r text) text))
-      (sym (line_ends-are r text))
-      (subst (λ n. AreInOrder width count true at (from_units line_end_of r 0 text) true (after_cells at n text))
-      (sym (count-is r text)) (counted-in_order r stays at text is))
+  line_ends-in_order r stays =
+      units-by r Ordered (λ text e at is. rw (line_ends-stop r text e) (refl, omega arith))
+      (λ at is. (refl, omega arith))
+      (λ n c cs e next at is. rw (line_ends-go r 0 (c ∷ cs) unit.One (omega arith) e (λ k. cc))
+      (cell-in_order at c (line_ends r cs) (after_cells (after_cell c) n cs) is.0 (next (after_cell c) is.1)))
+      (λ n c d cs e next at is.
+      let to : Point = after_cells (after_cell d) n cs in
+      rw (line_ends-go r 0 (c ∷ d ∷ cs) unit.Two (omega arith) e (λ k. cc))
+      (cell-in_order at c (line_ends r cs) to is.0
+      (in_order-after width count true true (after_cell c) (after_cell d) (line_ends r cs) true to
+      (byte-goes (after_cell c) d is.1.0 (stays c.byte d.byte e)) (next (after_cell d) is.1.1))))
+      (λ c e. absurd (stays c.byte None e))
+    where
+      Ordered : ℕ → List Cell → Type 0
+      Ordered n text =
+          (at : Point) → IsTextAt width count at text
+          → AreInOrder width count true at (line_ends r text) true (after_cells at n text)

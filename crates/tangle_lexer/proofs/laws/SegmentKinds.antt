@@ -5,15 +5,12 @@ use Rattle.std.proofs.Common.{cond, ◌==◌, if◌then◌else◌, ◌-◌, subs
 use Rattle.std.proofs.Math.Seq.{take-add}
 use Rattle.std.proofs.lemmas.Grind.{flat_map-append}
 use Rattle.std.proofs.lemmas.List.{take-append-drop, drop-drop, length-take}
-use Rattle.std.proofs.lemmas.Bool.Decides.{eqb_tells}
 use Rattle.std.specs.List.{AllByRecursion}
-use Rattle.std.proofs.lemmas.Bool.{and_parts}
-use Rattle.tangle_lines.specs.Bytes.{at_sign, double_quote, is_white}
+use Rattle.std.proofs.lemmas.Bool.{and_parts, eqb-true, cond_both}
+use Rattle.tangle_lines.specs.Bytes.{at_sign, is_white}
 use Rattle.tangle_lexer.specs.declared.modes.Mode.{Mode}
 use Rattle.tangle_lexer.specs.declared.modes.Mode.TheVariants as mode
 use Rattle.tangle_lexer.specs.declared.modes.LexerState.{LexerState}
-use Rattle.tangle_lexer.specs.declared.modes.IncludeState.{IncludeState}
-use Rattle.tangle_lexer.specs.declared.modes.IncludeState.TheVariants as include
 use Rattle.tangle_lexer.specs.declared.lexeme_kinds.ControlCode.{ControlCode}
 use Rattle.tangle_lexer.specs.declared.lexeme_kinds.ControlCode.TheVariants as code
 use Rattle.tangle_lexer.specs.declared.lexeme_kinds.LexemeKind.{LexemeKind}
@@ -22,31 +19,29 @@ use Rattle.tangle_text.specs.declared.regions.Region.TheVariants as region
 use Rattle.tangle_lexer.specs.declared.constants.AsciiConstant.{AsciiConstant}
 use Rattle.tangle_text.specs.declared.regions.Unit.TheVariants as unit
 use Rattle.tangle_text.specs.Bytes.{asterisk, slash, less_sign, left_parenthesis, equals_sign, apostrophe, backslash}
-use Rattle.tangle_text.specs.Bytes.{greater_sign, holds, is_line_end, holds_white, is_word_byte, are_bytes, is_between}
+use Rattle.tangle_text.specs.Bytes.{greater_sign, holds, is_line_end, holds_white, are_bytes, is_between}
 use Rattle.tangle_text.specs.Bytes.{lower, is_white_or_line_end, is_section_start}
 use Rattle.tangle_text.specs.Text.{Cell, byte_at}
-use Rattle.tangle_text.specs.Regions.{count_before, unit_by, unit_of, unit_at, more_by}
-use Rattle.tangle_text.proofs.UnitLemmas.{count_by, counted, count-is}
+use Rattle.tangle_text.specs.Regions.{count_before, unit_by, unit_of}
 use Rattle.tangle_lexer.specs.Lexemes.{Lexeme}
 use Rattle.tangle_lexer.specs.Comments.{has_end_code, two_if, ends_comment, block_comment, line_comment, control_text}
 use Rattle.tangle_lexer.specs.Constants.{constant_at, constant_lexeme, ascii_constant}
 use Rattle.tangle_lexer.specs.Names.{name_count, is_ended, name_more}
-use Rattle.tangle_lexer.specs.Steps.{code_at, less_kind, byte_kind, kind_by, kind_at, c_code, c_lexeme, lexeme_in}
+use Rattle.tangle_lexer.specs.Steps.{code_at, kind_at, c_code, c_lexeme, lexeme_in}
 use Rattle.tangle_lexer.specs.Steps.{lexeme}
 use Rattle.tangle_lexer.specs.Segments.{Segment, segment, ShowsKind, OpensWith, text_segments, verbatim_segments}
 use Rattle.tangle_lexer.specs.Segments.{code_segments, c_segments, segments_in, segments, HasNoSection, IsBlockComment}
 use Rattle.tangle_lexer.specs.Segments.{IsLineComment, IsControlText, IsSectionName, IsAsciiConstant}
 use Rattle.tangle_lexer.specs.Segments.SegmentKind.{Kept, SecondAtSign, LineEnd, WhiteSpace, ControlBytes}
 use Rattle.tangle_text.proofs.AheadLemmas.{byte_at-drop}
-use Rattle.tangle_text.specs.declared.regions.Unit.{Unit as Unit-of}
 use Rattle.tangle_lexer.proofs.laws.Points.{IsByte, HoldsBytes}
-use Rattle.tangle_lexer.proofs.laws.RegionOrder.{holds-byte, more-bytes, two-bytes}
-use Rattle.tangle_lexer.proofs.laws.WhiteOrder.{word-bytes, line_comment-bytes}
+use Rattle.tangle_lexer.proofs.laws.RegionOrder.{holds-byte, some-byte, are_bytes-hold, code-bytes, more-bytes}
+use Rattle.tangle_lexer.proofs.laws.RegionUnits.{units-by}
+use Rattle.tangle_lexer.proofs.laws.WhiteOrder.{never-two, word-bytes, line_comment-bytes}
 use Rattle.tangle_lexer.proofs.laws.CodesInside.{control_text-codes, name-codes, block_comment-codes}
 use Rattle.tangle_lexer.proofs.laws.CodesInside.{line_comment-codes, codes-opened}
-use Rattle.tangle_lexer.proofs.laws.ConstantOrder.{ascii_constant-bytes}
-use Rattle.tangle_lexer.proofs.laws.ConstantQuotes.{ascii_constant-quotes}
-use Rattle.tangle_lexer.proofs.laws.KindCells.{CodeCells, Cells, if-holds, kind-cells}
+use Rattle.tangle_lexer.proofs.laws.ConstantCells.{ascii_constant-bytes, ascii_constant-quotes}
+use Rattle.tangle_lexer.proofs.lemmas.LexemeCases.{OpensLexeme, kind-opens}
 
 -- the segments of a text are side by side and fill it
 
@@ -79,20 +74,15 @@ verbatim-fills text =
     by true cells = append-nil (take 2 cells)
     by false cells = refl
 
-code-fills : (kind : ControlCode) (s : LexerState) (text : List Cell)
-    → cells_of (code_segments kind (1 + (c_code kind s text).more) text) ≡ take (1 + (c_code kind s text).more) text
-code-fills code.DoubleAt s text =
-    ap (λ xs. take 1 text ++ xs) (append-nil (take 1 (drop 1 text))) ∙ sym (take-add 1 1 text)
-code-fills code.Verbatim s text = verbatim-fills text
-code-fills kind s text = append-nil (take (1 + (c_code kind s text).more) text)
-
-c-fills : (kind : LexemeKind) (s : LexerState) (text : List Cell)
+kind-fills : (kind : LexemeKind) (s : LexerState) (text : List Cell)
     → cells_of (c_segments kind (1 + (c_lexeme kind s text).more) text) ≡ take (1 + (c_lexeme kind s text).more) text
-c-fills (lexeme_kind.Control kind) s text = code-fills kind s text
-c-fills lexeme_kind.DoubleQuote s text = text-fills false _
-c-fills lexeme_kind.Apostrophe s text = text-fills false _
-c-fills lexeme_kind.HeaderName s text = text-fills false _
-c-fills kind s text = append-nil (take (1 + (c_lexeme kind s text).more) text)
+kind-fills (lexeme_kind.Control code.DoubleAt) s text =
+    ap (λ xs. take 1 text ++ xs) (append-nil (take 1 (drop 1 text))) ∙ sym (take-add 1 1 text)
+kind-fills (lexeme_kind.Control code.Verbatim) s text = verbatim-fills text
+kind-fills lexeme_kind.DoubleQuote s text = text-fills false _
+kind-fills lexeme_kind.Apostrophe s text = text-fills false _
+kind-fills lexeme_kind.HeaderName s text = text-fills false _
+kind-fills kind s text = append-nil (take (1 + (c_lexeme kind s text).more) text)
 
 lexeme-fills : (s : LexerState) (text : List Cell)
     → cells_of (segments_in s.mode s (1 + (lexeme s text).more) text) ≡ take (1 + (lexeme s text).more) text
@@ -101,10 +91,8 @@ lexeme-fills s text = by s.mode
   where
     by : (m : Mode)
         → cells_of (segments_in m s (1 + (lexeme_in m s text).more) text) ≡ take (1 + (lexeme_in m s text).more) text
-    by mode.Limbo = append-nil (take (1 + (lexeme_in mode.Limbo s text).more) text)
-    by mode.Documentation = append-nil (take (1 + (lexeme_in mode.Documentation s text).more) text)
-    by mode.CPart = c-fills (kind_at s.include text) s text
-    by mode.Macro = append-nil (take (1 + (lexeme_in mode.Macro s text).more) text)
+    by mode.CPart = kind-fills (kind_at s.include text) s text
+    by m = append-nil (take (1 + (lexeme_in m s text).more) text)
 
 pub segments-fill : (k : ℕ) (s : LexerState) (text : List Cell) → cells_of (segments k s text) ≡ drop k text
 segments-fill zero s [] = refl
@@ -128,35 +116,6 @@ shows-append : (xs ys : List Segment) → AllShow xs → AllShow ys → AllShow 
 shows-append [] ys h k = k
 shows-append (x ∷ xs) ys h k = (h.0, shows-append xs ys h.1 k)
 
--- the first two cells of a lexeme, by its kind
-
-abbrev Opens : LexemeKind → Option ℕ → Option ℕ → Type 0
-Opens (lexeme_kind.Control code) b next = (holds at_sign b ≡ true) × (code_at next ≡ code)
-Opens lexeme_kind.BlockComment b next = are_bytes slash asterisk b next ≡ true
-Opens lexeme_kind.LineComment b next = are_bytes slash slash b next ≡ true
-Opens lexeme_kind.LineEnd b next = is_line_end b ≡ true
-Opens lexeme_kind.White b next = holds_white b ≡ true
-Opens _ b next = Unit {0}
-
-less-opens : (inc : IncludeState) (b next : Option ℕ) → Opens (less_kind inc) b next
-less-opens include.AtStart b next = tt
-less-opens include.AfterNumberSign b next = tt
-less-opens include.AfterInclude b next = tt
-less-opens include.Elsewhere b next = tt
-
-kind-opens : (inc : IncludeState) (b next : Option ℕ) → Opens (kind_by inc b next) b next
-kind-opens inc None next = refl
-kind-opens inc (Some b) next =
-    let P : LexemeKind → Type 0 = λ k. Opens k (Some b) next in
-    if-holds P (b == at_sign) (lexeme_kind.Control (code_at next)) (byte_kind inc b next) (λ e. (e, refl))
-    (if-holds P (b == slash && holds asterisk next) lexeme_kind.BlockComment _ (λ e. e)
-    (if-holds P (b == slash && holds slash next) lexeme_kind.LineComment _ (λ e. e)
-    (if-holds P (b == double_quote) lexeme_kind.DoubleQuote _ (λ e. tt)
-    (if-holds P (b == apostrophe) lexeme_kind.Apostrophe _ (λ e. tt)
-    (if-holds P (b == less_sign) (less_kind inc) _ (λ e. less-opens inc (Some b) next)
-    (if-holds P (is_white b) lexeme_kind.White _ (λ e. e)
-    (if-holds P (is_word_byte b) lexeme_kind.Word lexeme_kind.Other (λ e. tt) tt)))))))
-
 -- @@ has an @ as its second byte
 second-sign : (next : Option ℕ) → code_at next ≡ code.DoubleAt → holds at_sign next ≡ true
 second-sign None e = cc
@@ -164,27 +123,24 @@ second-sign (Some n) e =
     let m : ℕ = lower n in
     let P : ControlCode → Type 0 = λ k. k ≡ code.DoubleAt → (m == at_sign) ≡ true in
     small (is_between 65 90 n) refl
-    (if-holds P (is_white m || m == asterisk) code.SectionStart _ (λ h k. cc)
-    (if-holds P (m == at_sign) code.DoubleAt _ (λ h k. h)
-    (if-holds P (m == 100) code.Macro _ (λ h k. cc)
-    (if-holds P (m == 102 || m == 115) code.Format _ (λ h k. cc)
-    (if-holds P (m == 99 || m == 112) code.UnnamedPart _ (λ h k. cc)
-    (if-holds P (m == less_sign || m == left_parenthesis) code.Name _ (λ h k. cc)
-    (if-holds P (m == 94 || m == 46 || m == 58 || m == 116 || m == 113) code.ControlText _ (λ h k. cc)
-    (if-holds P (m == equals_sign) code.Verbatim _ (λ h k. cc)
-    (if-holds P (m == 38) code.Join _ (λ h k. cc)
-    (if-holds P (m == 104) code.AllMacros _ (λ h k. cc)
-    (if-holds P (m == apostrophe) code.AsciiConstant code.Other (λ h k. cc) (λ k. cc))))))))))) e)
+    (cond_both (is_white m || m == asterisk) code.SectionStart _ P (λ h k. cc) (λ h.
+    cond_both (m == at_sign) code.DoubleAt _ P (λ h k. h) (λ h.
+    cond_both (m == 100) code.Macro _ P (λ h k. cc) (λ h.
+    cond_both (m == 102 || m == 115) code.Format _ P (λ h k. cc) (λ h.
+    cond_both (m == 99 || m == 112) code.UnnamedPart _ P (λ h k. cc) (λ h.
+    cond_both (m == less_sign || m == left_parenthesis) code.Name _ P (λ h k. cc) (λ h.
+    cond_both (m == 94 || m == 46 || m == 58 || m == 116 || m == 113) code.ControlText _ P (λ h k. cc) (λ h.
+    cond_both (m == equals_sign) code.Verbatim _ P (λ h k. cc) (λ h.
+    cond_both (m == 38) code.Join _ P (λ h k. cc) (λ h.
+    cond_both (m == 104) code.AllMacros _ P (λ h k. cc) (λ h.
+    cond_both (m == apostrophe) code.AsciiConstant code.Other P (λ h k. cc) (λ h k. cc))))))))))) e)
   where
     small : (b : Bool) → is_between 65 90 n ≡ b → ((if b then n + 32 else n) == at_sign) ≡ true → (n == at_sign) ≡ true
     small false e h = h
     small true e h =
-        elim (eqb_tells (n + 32) at_sign) [
-          | inl same ↦
-              let there : n ≡ 32 = omega (arith, same.1) in
-              let no_capital : false ≡ true = ap (λ k. is_between 65 90 k) (sym there) ∙ e in cc
-          | inr unlike ↦ let none : false ≡ true = sym unlike.0 ∙ h in cc
-        ]
+        let sum : n + 32 ≡ 64 = eqb-true (n + 32) at_sign h in
+        let there : n ≡ 32 = omega (arith, sum) in
+        let no_capital : false ≡ true = ap (λ k. is_between 65 90 k) (sym there) ∙ e in cc
 
 -- the first cells of a text are the same after the cells from the n-th on are dropped
 
@@ -217,13 +173,13 @@ bytes-shows (suc n) (c ∷ cs) h = (by c.byte h.0, bytes-shows n cs h.1)
 
 -- comments
 
-comment-goes : (b n : Option ℕ) (u : Unit-of)
-    → unit_of region.BlockComment b n ≡ u → (u ≡ unit.Stop → ⊥) → are_bytes asterisk slash b n ≡ false
-comment-goes b n u e go = by (are_bytes asterisk slash b n) (is_section_start b n) (holds at_sign b) u e go
+comment-goes : (b n : Option ℕ)
+    → (unit_of region.BlockComment b n ≡ unit.Stop → ⊥) → are_bytes asterisk slash b n ≡ false
+comment-goes b n go = by (are_bytes asterisk slash b n) (is_section_start b n) (holds at_sign b) go
   where
-    by : (x y s : Bool) (u : Unit-of) → unit_by (x || y) s ≡ u → (u ≡ unit.Stop → ⊥) → x ≡ false
-    by true y s u e go = absurd (go (sym e))
-    by false y s u e go = refl
+    by : (x y s : Bool) → (unit_by (x || y) s ≡ unit.Stop → ⊥) → x ≡ false
+    by true y s go = absurd (go refl)
+    by false y s go = refl
 
 -- the second byte of a control code in a comment is not the * of the */ that ends the comment
 comment-second : (b n : Option ℕ) → unit_of region.BlockComment b n ≡ unit.Two → holds asterisk n ≡ false
@@ -236,35 +192,24 @@ comment-second b n e = by (are_bytes asterisk slash b n) (holds at_sign b) (is_w
     by false true false true e = cc
     by false false blank true e = cc
 
-counted-open : (k : ℕ) (text : List Cell) → k < counted region.BlockComment 0 text → ends_comment (drop k text) ≡ false
-counted-open k [] h = absurd (omega (arith, h))
-counted-open k (c ∷ []) h = by (unit_at region.BlockComment (c ∷ [])) refl k h
-  where
-    by : (u : Unit-of) → unit_at region.BlockComment (c ∷ []) ≡ u → (k : ℕ)
-        → k < count_by u (counted region.BlockComment (more_by u) []) → ends_comment (drop k (c ∷ [])) ≡ false
-    by unit.Stop e k h = absurd (omega (arith, h))
-    by unit.One e zero h = comment-goes c.byte None unit.One e (λ q. cc)
-    by unit.Two e zero h = comment-goes c.byte None unit.Two e (λ q. cc)
-    by unit.One e (suc k) h = absurd (omega (arith, h))
-    by unit.Two e (suc k) h = absurd (omega (arith, h))
-counted-open k (c ∷ d ∷ cs) h = by (unit_at region.BlockComment (c ∷ d ∷ cs))
-    refl k h (λ j l. counted-open j (d ∷ cs) l) (λ j l. counted-open j cs l)
-  where
-    by : (u : Unit-of) → unit_at region.BlockComment (c ∷ d ∷ cs) ≡ u → (k : ℕ)
-        → k < count_by u (counted region.BlockComment (more_by u) (d ∷ cs))
-        → ((j : ℕ) → j < counted region.BlockComment 0 (d ∷ cs) → ends_comment (drop j (d ∷ cs)) ≡ false)
-        → ((j : ℕ) → j < counted region.BlockComment 0 cs → ends_comment (drop j cs) ≡ false)
-        → ends_comment (drop k (c ∷ d ∷ cs)) ≡ false
-    by unit.Stop e k h one two = absurd (omega (arith, h))
-    by unit.One e zero h one two = comment-goes c.byte d.byte unit.One e (λ q. cc)
-    by unit.One e (suc k) h one two = one k (omega (arith, h))
-    by unit.Two e zero h one two = comment-goes c.byte d.byte unit.Two e (λ q. cc)
-    by unit.Two e (suc zero) h one two = rw (comment-second c.byte d.byte e) refl
-    by unit.Two e (suc (suc k)) h one two = two k (omega (arith, h))
+-- no */ begins at the first `n` cells
+abbrev IsOpen : ℕ → List Cell → Type 0
+IsOpen n text = (k : ℕ) → k < n → ends_comment (drop k text) ≡ false
 
-comment-open : (k : ℕ) (text : List Cell)
-    → k < count_before region.BlockComment text → ends_comment (drop k text) ≡ false
-comment-open k text h = counted-open k text (subst (λ n. k < n) (count-is region.BlockComment text) h)
+cell-open : (n : ℕ) (c : Cell) (cs : List Cell)
+    → ends_comment (c ∷ cs) ≡ false → IsOpen n cs → IsOpen (suc n) (c ∷ cs)
+cell-open n c cs here next zero h = here
+cell-open n c cs here next (suc k) h = next k (omega (arith, h))
+
+-- no */ begins in a comment before its end
+comment-open : (text : List Cell) → IsOpen (count_before region.BlockComment text) text
+comment-open =
+    units-by region.BlockComment IsOpen (λ text e k h. absurd (omega (arith, h))) (λ k h. absurd (omega (arith, h)))
+    (λ n c cs e next. cell-open n c cs (comment-goes c.byte (byte_at 0 cs) (λ q. cc)) next)
+    (λ n c d cs e next.
+    cell-open (suc n) c (d ∷ cs) (comment-goes c.byte d.byte (λ q. cc))
+    (cell-open n d cs (rw (comment-second c.byte d.byte e) refl) next))
+    (λ c e. cell-open 0 c [] (comment-goes c.byte None (λ q. cc)) (λ k h. absurd (omega (arith, h))))
 
 two_if-few : (b : Bool) → two_if b ≤ 2
 two_if-few true = omega arith
@@ -292,43 +237,36 @@ block_comment-shows s text o =
           (cells-there k text
           ∙ ap (λ j. ends_comment (drop j text)) sum
           ∙ ap ends_comment (sym (drop-drop (k - 2) 2 text))
-          ∙ comment-open (k - 2) (drop 2 text) (omega (arith, h, l, long, few))),
+          ∙ comment-open (drop 2 text) (k - 2) (omega (arith, h, l, long, few))),
       codes-opened _ inside (two_if closed) text (block_comment-codes (drop 2 text)),
     )
 
 line_comment-shows : (s : LexerState) (text : List Cell)
-    → HoldsBytes 2 text → are_bytes slash slash (byte_at 0 text) (byte_at 1 text) ≡ true
+    → are_bytes slash slash (byte_at 0 text) (byte_at 1 text) ≡ true
     → IsLineComment (take (1 + (line_comment s text).more) text)
-line_comment-shows s text h o =
+line_comment-shows s text o =
     let inside : ℕ = count_before region.LineComment (drop 2 text) in
     let n : ℕ = 1 + (1 + inside) in
     let sum : 2 + inside ≡ n = omega arith in
     let all : 1 + (1 + inside + 0) ≡ n = omega arith in (
       rw (byte-take 0 n text (omega arith), byte-take 1 n text (omega arith)) o,
       bytes-shows n text
-          (subst (λ k. HoldsBytes k text) sum (more-bytes 2 inside text h (line_comment-bytes (drop 2 text)))),
+          (subst (λ k. HoldsBytes k text) sum (more-bytes 2 inside text (are_bytes-hold slash slash text o) (line_comment-bytes (drop 2 text)))),
       subst (λ k. HasNoSection (drop 2 (take k text))) all
           (codes-opened _ inside 0 text (line_comment-codes (drop 2 text))),
     )
 
 -- white space and texts
 
-counted-white : (text : List Cell) → ShowsKind WhiteSpace (take (counted region.White 0 text) text)
-counted-white [] = tt
-counted-white (c ∷ cs) = by (holds_white c.byte) refl (counted-white cs)
-  where
-    by : (b : Bool) → holds_white c.byte ≡ b → ShowsKind WhiteSpace (take (counted region.White 0 cs) cs)
-        → ShowsKind WhiteSpace (take (counted region.White 0 (c ∷ cs)) (c ∷ cs))
-    by false e rest = let none : counted region.White 0 (c ∷ cs) ≡ 0 = rw e refl in rw none tt
-    by true e rest =
-        let n : ℕ = counted region.White 0 cs in
-        let one : counted region.White 0 (c ∷ cs) ≡ 1 + n = rw e refl in
-        let more : 1 + n ≡ suc n = omega arith in
-        rw (one, more) (e, rest)
-
 white-shows : (text : List Cell) → ShowsKind WhiteSpace (take (count_before region.White text) text)
-white-shows text =
-    subst (λ n. ShowsKind WhiteSpace (take n text)) (sym (count-is region.White text)) (counted-white text)
+white-shows =
+    units-by region.White (λ n text. ShowsKind WhiteSpace (take n text)) (λ text e. tt) tt
+    (λ n c cs e rest. (by (holds_white c.byte) e, rest))
+    (λ n c d cs e rest. absurd (never-two _ e)) (λ c e. absurd (never-two _ e))
+  where
+    by : (b : Bool) → unit_by (not b) false ≡ unit.One → b ≡ true
+    by true e = refl
+    by false e = cc
 
 text-shows : (after_at_sign : Bool) (cells : List Cell) → AllShow (text_segments after_at_sign cells)
 text-shows after_at_sign [] = tt
@@ -385,14 +323,13 @@ constant-long None s text = omega arith
 constant-long (Some k) s text = omega arith
 
 constant-shows : (s : LexerState) (c : Cell) (cs : List Cell)
-    → IsByte c.byte × IsByte (byte_at 0 cs) → OpensWith code.AsciiConstant (c ∷ cs)
-    → IsAsciiConstant (take (1 + (ascii_constant s (c ∷ cs)).more) (c ∷ cs))
-constant-shows s c cs h o =
+    → OpensWith code.AsciiConstant (c ∷ cs) → IsAsciiConstant (take (1 + (ascii_constant s (c ∷ cs)).more) (c ∷ cs))
+constant-shows s c cs o =
     let n : ℕ = 1 + (ascii_constant s (c ∷ cs)).more in
     let long = length-take n (c ∷ cs) in
     let two : 1 < n = constant-long (constant_at (drop 1 cs)) s (c ∷ cs) in (
       opens-taken code.AsciiConstant n (c ∷ cs) two o,
-      bytes-shows n (c ∷ cs) (ascii_constant-bytes s c cs (two-bytes (c ∷ cs) h.0 h.1)),
+      bytes-shows n (c ∷ cs) (ascii_constant-bytes s (c ∷ cs) (code-bytes code.AsciiConstant (c ∷ cs) (λ e. cc) o)),
       λ k first last quote.
           let here : holds apostrophe (byte_at k (c ∷ cs)) ≡ true =
           ap (holds apostrophe) (sym (byte-take k n (c ∷ cs) (omega (arith, last, long)))) ∙ quote in
@@ -411,40 +348,29 @@ signs-shows c cs o =
     by [] h = cc
     by (d ∷ ds) h = (refl, h)
 
-code-shows : (kind : ControlCode) (s : LexerState) (c : Cell) (cs : List Cell)
-    → CodeCells kind c.byte (byte_at 0 cs) → OpensWith kind (c ∷ cs)
-    → AllShow (code_segments kind (1 + (c_code kind s (c ∷ cs)).more) (c ∷ cs))
-code-shows code.DoubleAt s c cs h o = signs-shows c cs o
-code-shows code.Verbatim s c cs h o = verbatim-shows (c ∷ cs) o.0
-code-shows code.ControlText s c cs h o = (control_text-shows s (c ∷ cs) o, tt)
-code-shows code.Name s c cs h o = (name-shows s (c ∷ cs) o, tt)
-code-shows code.AsciiConstant s c cs h o = (constant-shows s c cs h o, tt)
-code-shows kind s c cs h o =
-    (code-taken (1 + (c_code kind s (c ∷ cs)).more) (c ∷ cs) (omega arith) (omega arith) o.0, tt)
-
 kind-shows : (kind : LexemeKind) (s : LexerState) (c : Cell) (cs : List Cell)
-    → Cells kind c.byte (byte_at 0 cs) → Opens kind c.byte (byte_at 0 cs)
-    → AllShow (c_segments kind (1 + (c_lexeme kind s (c ∷ cs)).more) (c ∷ cs))
-kind-shows (lexeme_kind.Control kind) s c cs h o = code-shows kind s c cs h o
-kind-shows lexeme_kind.BlockComment s c cs h o = (inl (block_comment-shows s (c ∷ cs) o), tt)
-kind-shows lexeme_kind.LineComment s c cs h o = (inr (line_comment-shows s (c ∷ cs) (two-bytes (c ∷ cs) h.0 h.1) o), tt)
-kind-shows lexeme_kind.DoubleQuote s c cs h o =
-    text-shows false (take (1 + (c_lexeme lexeme_kind.DoubleQuote s (c ∷ cs)).more) (c ∷ cs))
-kind-shows lexeme_kind.Apostrophe s c cs h o =
-    text-shows false (take (1 + (c_lexeme lexeme_kind.Apostrophe s (c ∷ cs)).more) (c ∷ cs))
-kind-shows lexeme_kind.HeaderName s c cs h o =
-    text-shows false (take (1 + (c_lexeme lexeme_kind.HeaderName s (c ∷ cs)).more) (c ∷ cs))
-kind-shows lexeme_kind.LineEnd s c cs h o = ((o, tt), tt)
-kind-shows lexeme_kind.White s c cs h o =
+    → OpensLexeme kind (c ∷ cs) → AllShow (c_segments kind (1 + (c_lexeme kind s (c ∷ cs)).more) (c ∷ cs))
+kind-shows (lexeme_kind.Control code.DoubleAt) s c cs o = signs-shows c cs o
+kind-shows (lexeme_kind.Control code.Verbatim) s c cs o = verbatim-shows (c ∷ cs) o.0
+kind-shows (lexeme_kind.Control code.ControlText) s c cs o = (control_text-shows s (c ∷ cs) o, tt)
+kind-shows (lexeme_kind.Control code.Name) s c cs o = (name-shows s (c ∷ cs) o, tt)
+kind-shows (lexeme_kind.Control code.AsciiConstant) s c cs o = (constant-shows s c cs o, tt)
+kind-shows (lexeme_kind.Control kind) s c cs o =
+    (code-taken (1 + (c_code kind s (c ∷ cs)).more) (c ∷ cs) (omega arith) (omega arith) o.0, tt)
+kind-shows lexeme_kind.BlockComment s c cs o = (inl (block_comment-shows s (c ∷ cs) o), tt)
+kind-shows lexeme_kind.LineComment s c cs o = (inr (line_comment-shows s (c ∷ cs) o), tt)
+kind-shows lexeme_kind.LineEnd s c cs o = ((o, tt), tt)
+kind-shows lexeme_kind.White s c cs o =
     let n : ℕ = count_before region.White cs in
     let more : 1 + n ≡ suc n = omega arith in
     (rw more (o, white-shows cs), tt)
-kind-shows lexeme_kind.Word s c cs h o = (
+kind-shows lexeme_kind.Word s c cs o = (
   bytes-shows (1 + count_before region.Word cs) (c ∷ cs)
-      (more-bytes 1 (count_before region.Word cs) (c ∷ cs) (h, tt) (word-bytes cs)),
+      (more-bytes 1 (count_before region.Word cs) (c ∷ cs) (some-byte c.byte o.0, tt) (word-bytes cs)),
   tt,
 )
-kind-shows lexeme_kind.Other s c cs h o = (bytes-shows 1 (c ∷ cs) (h, tt), tt)
+kind-shows lexeme_kind.Other s c cs o = (bytes-shows 1 (c ∷ cs) (some-byte c.byte o.0, tt), tt)
+kind-shows kind s c cs o = text-shows false (take (1 + (c_lexeme kind s (c ∷ cs)).more) (c ∷ cs))
 
 lexeme-shows : (s : LexerState) (c : Cell) (cs : List Cell)
     → AllShow (segments_in s.mode s (1 + (lexeme s (c ∷ cs)).more) (c ∷ cs))
@@ -452,12 +378,9 @@ unfolding lexeme
 lexeme-shows s c cs = by s.mode
   where
     by : (m : Mode) → AllShow (segments_in m s (1 + (lexeme_in m s (c ∷ cs)).more) (c ∷ cs))
-    by mode.Limbo = (tt, tt)
-    by mode.Documentation = (tt, tt)
     by mode.CPart =
-        kind-shows (kind_at s.include (c ∷ cs)) s c cs
-        (kind-cells s.include c.byte (byte_at 0 cs)) (kind-opens s.include c.byte (byte_at 0 cs))
-    by mode.Macro = (tt, tt)
+        kind-shows (kind_at s.include (c ∷ cs)) s c cs (kind-opens s.include c.byte (byte_at 0 cs))
+    by _ = (tt, tt)
 
 pub segments-shows : (k : ℕ) (s : LexerState) (text : List Cell) → AllShow (segments k s text)
 segments-shows zero s [] = tt

@@ -7,6 +7,8 @@ use Rattle.tangle_lexer.specs.declared.tokens.Token.{Token}
 use Rattle.tangle_lexer.specs.declared.tokens.Token.TheVariants as token
 use Rattle.tangle_text.specs.declared.regions.Region.{Region}
 use Rattle.tangle_text.specs.Text.{Cell}
+use Rattle.tangle_faults.specs.declared.faults.FaultKind.{FaultKind}
+use Rattle.tangle_lexer.specs.Lexemes.{fault_if}
 use Rattle.tangle_lexer.specs.Quoted.{range_token, cut_range}
 use Rattle.tangle_lexer.specs.Segments.{columns_from, span_points, cell_point, byte_points}
 use Rattle.tangle_lexer.proofs.laws.Points.{Point, IsByte, after_cell, HoldsBytes, IsTextAt, after-byte}
@@ -57,6 +59,10 @@ points-append (token.Span kind s ∷ ts) us =
     ap (λ ps. span_points s ++ ps) (points-append ts us)
     ∙ sym (append_assoc (span_points s) (token_points ts) (token_points us))
 points-append (_ ∷ ts) us = points-append ts us
+
+pub fault-points : (b : Bool) (kind : FaultKind) (line : ℕ) → token_points (fault_if b kind line) ≡ []
+fault-points true kind line = refl
+fault-points false kind line = refl
 
 -- the points of a range are its columns, also if the range is empty
 pub cut-points : (r : Region) (line start end : ℕ) (ts : List Token)

@@ -1,6 +1,6 @@
 -- The tokens of a text are in the order of the text.
 use Rattle.std.proofs.Common.{◌≡◌, ℕ, ◌+◌, ◌<◌, ◌≤◌, Bool, true, false, List, [], ◌∷◌, ◌++◌, inl, inr, refl, sym, ◌∙◌}
-use Rattle.std.proofs.Common.{arith, subst, if◌then◌else◌, ◌==◌}
+use Rattle.std.proofs.Common.{arith, if◌then◌else◌, ◌==◌}
 use Rattle.std.proofs.lemmas.Bool.Decides.{eqb_tells}
 use Rattle.tangle_text.specs.declared.spans.Span.{Span}
 use Rattle.tangle_lexer.specs.declared.tokens.Token.{Token}
@@ -37,30 +37,26 @@ pub record IsFrom (width : ℕ → ℕ) (count : ℕ) (at : Point) (s : Span) : 
   pub end : s.end ≤ width at.line
 
 module _ (width : ℕ → ℕ) (count : ℕ) where
-  -- The tokens lie between two positions, in this order; the flags say which of the positions are inside. Inside, only
-  -- a line end and a name, which may end on a later line, lead to another line.
+  -- A token at a position, and `rest`, which says of the tokens after it whether their position is inside, and which it
+  -- is. Inside, only a line end and a name, which may end on a later line, lead to another line.
+  abbrev Follows : (Bool → Point → Type 0) → Bool → Point → Token → Type 0
+  Follows rest from at token.Section = rest false at
+  Follows rest from at (token.MacroStart line) = (at.line ≤ line) × rest true (jumped at line)
+  Follows rest from at (token.UnnamedPart line) = (at.line ≤ line) × rest true (jumped at line)
+  Follows rest from at (token.NamedPart line occurrence) = (at.line ≤ line) × rest true (jumped at line)
+  Follows rest from at (token.Span kind s) = Inside from (IsFrom width count at s × rest true (span_end s))
+  Follows rest from at (token.AsciiConstant value line) =
+      Inside from ((line ≡ at.line) × ((at.line < count) × rest true at))
+  Follows rest from at (token.LineEnd line) = Inside from ((line ≡ at.line) × rest true (point_at (line + 1) 0))
+  Follows rest from at token.QuoteBreak = Inside from (rest true (point_at (at.line + 1) 0))
+  Follows rest from at (token.UseOf line occurrence) = Inside from ((at.line ≤ line) × rest true (jumped at line))
+  Follows rest from at (token.AllMacros line) = Inside from ((line ≡ at.line) × rest true at)
+  Follows rest from at _ = rest from at
+
+  -- The tokens lie between two positions, in this order; the flags say which of the positions are inside.
   abbrev pub AreInOrder : Bool → Point → List Token → Bool → Point → Type 0
   AreInOrder from at [] stays to = GoesOn from stays at to
-  AreInOrder from at (token.Section ∷ ts) stays to = AreInOrder false at ts stays to
-  AreInOrder from at (token.MacroStart line ∷ ts) stays to =
-      (at.line ≤ line) × AreInOrder true (jumped at line) ts stays to
-  AreInOrder from at (token.UnnamedPart line ∷ ts) stays to =
-      (at.line ≤ line) × AreInOrder true (jumped at line) ts stays to
-  AreInOrder from at (token.NamedPart line occurrence ∷ ts) stays to =
-      (at.line ≤ line) × AreInOrder true (jumped at line) ts stays to
-  AreInOrder from at (token.Span kind s ∷ ts) stays to =
-      Inside from (IsFrom width count at s × AreInOrder true (span_end s) ts stays to)
-  AreInOrder from at (token.AsciiConstant value line ∷ ts) stays to =
-      Inside from ((line ≡ at.line) × ((at.line < count) × AreInOrder true at ts stays to))
-  AreInOrder from at (token.LineEnd line ∷ ts) stays to =
-      Inside from ((line ≡ at.line) × AreInOrder true (point_at (line + 1) 0) ts stays to)
-  AreInOrder from at (token.QuoteBreak ∷ ts) stays to =
-      Inside from (AreInOrder true (point_at (at.line + 1) 0) ts stays to)
-  AreInOrder from at (token.UseOf line occurrence ∷ ts) stays to =
-      Inside from ((at.line ≤ line) × AreInOrder true (jumped at line) ts stays to)
-  AreInOrder from at (token.AllMacros line ∷ ts) stays to =
-      Inside from ((line ≡ at.line) × AreInOrder true at ts stays to)
-  AreInOrder from at (_ ∷ ts) stays to = AreInOrder from at ts stays to
+  AreInOrder from at (t ∷ ts) stays to = Follows (λ inside p. AreInOrder inside p ts stays to) from at t
 
   inside-after : (from to : Bool) (a at : Point) (A B : Type 0)
       → GoesOn from to a at → Inside to A → (PrecedesOnLine a at → A → B) → Inside from B
@@ -110,79 +106,59 @@ module _ (width : ℕ → ℕ) (count : ℕ) where
     end = rw near.0 is.end;
   }
 
+  pub goes-refl : (from : Bool) (at : Point) → GoesOn from from at at
+  goes-refl true at = (refl, omega arith)
+  goes-refl false at = (omega arith, λ e. omega arith)
+
+  -- what follows a token at a position follows it at an earlier position, where `next` gives this for the tokens after it
+  module _ (P Q : Bool → Point → Type 0)
+      (next : (from mid : Bool) (a at : Point) → GoesOn from mid a at → P mid at → Q from a) where
+    jump-moves : (a at : Point) (line : ℕ) → Precedes a at
+        → (at.line ≤ line) × P true (jumped at line) → (a.line ≤ line) × Q true (jumped a line)
+    jump-moves a at line near h =
+        (omega (arith, near.0, h.0), next true true (jumped a line) (jumped at line) (jump-goes a at line near h.0) h.1)
+
+    follows-moves : (from mid : Bool) (a at : Point) (t : Token)
+        → GoesOn from mid a at → Follows P mid at t → Follows Q from a t
+    follows-moves from mid a at token.Section near h = next false false a at (goes-precedes from mid a at near) h
+    follows-moves from mid a at (token.MacroStart line) near h =
+        jump-moves a at line (goes-precedes from mid a at near) h
+    follows-moves from mid a at (token.UnnamedPart line) near h =
+        jump-moves a at line (goes-precedes from mid a at near) h
+    follows-moves from mid a at (token.NamedPart line occurrence) near h =
+        jump-moves a at line (goes-precedes from mid a at near) h
+    follows-moves from mid a at (token.Span kind s) near h =
+        inside-after from mid a at _ _ near h
+        (λ n l. (is-from a at s n l.0, next true true (span_end s) (span_end s) (goes-refl true (span_end s)) l.1))
+    follows-moves from mid a at (token.AsciiConstant value line) near h =
+        inside-after from mid a at _ _ near h
+        (λ n l. (l.0 ∙ sym n.0, (omega (arith, n.0, l.1.0), next true true a at n l.1.1)))
+    follows-moves from mid a at (token.LineEnd line) near h =
+        let p : Point = point_at (line + 1) 0 in
+        inside-after from mid a at _ _ near h (λ n l. (l.0 ∙ sym n.0, next true true p p (goes-refl true p) l.1))
+    follows-moves from mid a at token.QuoteBreak near h =
+        inside-after from mid a at _ _ near h
+        (λ n l. next true true (point_at (a.line + 1) 0) (point_at (at.line + 1) 0) (omega (arith, n.0), omega arith) l)
+    follows-moves from mid a at (token.UseOf line occurrence) near h =
+        inside-after from mid a at _ _ near h (λ n l. jump-moves a at line (goes-precedes true true a at n) l)
+    follows-moves from mid a at (token.AllMacros line) near h =
+        inside-after from mid a at _ _ near h (λ n l. (l.0 ∙ sym n.0, next true true a at n l.1))
+    follows-moves from mid a at _ near h = next from mid a at near h
+
   -- tokens in order from a position on are in order from an earlier position on too
   pub in_order-after : (from mid : Bool) (a at : Point) (ts : List Token) (stays : Bool) (to : Point)
       → GoesOn from mid a at → AreInOrder mid at ts stays to → AreInOrder from a ts stays to
   in_order-after from mid a at [] stays to near ordered = goes-trans from mid stays a at to near ordered
-  in_order-after from mid a at (token.Section ∷ ts) stays to near ordered =
-      in_order-after false false a at ts stays to (goes-precedes from mid a at near) ordered
-  in_order-after from mid a at (token.MacroStart line ∷ ts) stays to near ordered =
-      let p = goes-precedes from mid a at near in (
-        omega (arith, p.0, ordered.0),
-        in_order-after true true (jumped a line) (jumped at line)
-            ts stays to (jump-goes a at line p ordered.0) ordered.1,
-      )
-  in_order-after from mid a at (token.UnnamedPart line ∷ ts) stays to near ordered =
-      let p = goes-precedes from mid a at near in (
-        omega (arith, p.0, ordered.0),
-        in_order-after true true (jumped a line) (jumped at line)
-            ts stays to (jump-goes a at line p ordered.0) ordered.1,
-      )
-  in_order-after from mid a at (token.NamedPart line occurrence ∷ ts) stays to near ordered =
-      let p = goes-precedes from mid a at near in (
-        omega (arith, p.0, ordered.0),
-        in_order-after true true (jumped a line) (jumped at line)
-            ts stays to (jump-goes a at line p ordered.0) ordered.1,
-      )
-  in_order-after from mid a at (token.Span kind s ∷ ts) stays to near ordered =
-      inside-after from mid a at _ _ near ordered (λ n l. (is-from a at s n l.0, l.1))
-  in_order-after from mid a at (token.AsciiConstant value line ∷ ts) stays to near ordered =
-      inside-after from mid a at _ _ near ordered
-      (λ n l. (l.0 ∙ sym n.0, (omega (arith, n.0, l.1.0), in_order-after true true a at ts stays to n l.1.1)))
-  in_order-after from mid a at (token.LineEnd line ∷ ts) stays to near ordered =
-      inside-after from mid a at _ _ near ordered (λ n l. (l.0 ∙ sym n.0, l.1))
-  in_order-after from mid a at (token.QuoteBreak ∷ ts) stays to near ordered =
-      inside-after from mid a at _ _ near ordered
-      (λ n l. subst (λ x. AreInOrder true (point_at (x + 1) 0) ts stays to) (sym n.0) l)
-  in_order-after from mid a at (token.UseOf line occurrence ∷ ts) stays to near ordered =
-      inside-after from mid a at _ _ near ordered (λ n l. (
-        omega (arith, n.0, l.0),
-        in_order-after true true (jumped a line) (jumped at line) ts stays to
-            (jump-goes a at line (goes-precedes true true a at n) l.0) l.1,
-      ))
-  in_order-after from mid a at (token.AllMacros line ∷ ts) stays to near ordered =
-      inside-after from mid a at _ _ near ordered
-      (λ n l. (l.0 ∙ sym n.0, in_order-after true true a at ts stays to n l.1))
-  in_order-after from mid a at (_ ∷ ts) stays to near ordered = in_order-after from mid a at ts stays to near ordered
-
-  inside-map : (from : Bool) (A B : Type 0) → Inside from A → (A → B) → Inside from B
-  inside-map true A B x f = f x
-  inside-map false A B x f = absurd x
+  in_order-after from mid a at (t ∷ ts) stays to near ordered =
+      let Rest : Bool → Point → Type 0 = λ inside p. AreInOrder inside p ts stays to in
+      follows-moves Rest Rest (λ f g x y n h. in_order-after f g x y ts stays to n h) from mid a at t near ordered
 
   -- two lists of tokens in order, one after the other
   pub in_order-append : (from : Bool) (at : Point) (ts : List Token)
       (mid : Bool) (p : Point) (us : List Token) (stays : Bool) (to : Point)
       → AreInOrder from at ts mid p → AreInOrder mid p us stays to → AreInOrder from at (ts ++ us) stays to
   in_order-append from at [] mid p us stays to ordered rest = in_order-after from mid at p us stays to ordered rest
-  in_order-append from at (token.Section ∷ ts) mid p us stays to ordered rest =
-      in_order-append false at ts mid p us stays to ordered rest
-  in_order-append from at (token.MacroStart line ∷ ts) mid p us stays to ordered rest =
-      (ordered.0, in_order-append true (jumped at line) ts mid p us stays to ordered.1 rest)
-  in_order-append from at (token.UnnamedPart line ∷ ts) mid p us stays to ordered rest =
-      (ordered.0, in_order-append true (jumped at line) ts mid p us stays to ordered.1 rest)
-  in_order-append from at (token.NamedPart line occurrence ∷ ts) mid p us stays to ordered rest =
-      (ordered.0, in_order-append true (jumped at line) ts mid p us stays to ordered.1 rest)
-  in_order-append from at (token.Span kind s ∷ ts) mid p us stays to ordered rest =
-      inside-map from _ _ ordered (λ l. (l.0, in_order-append true (span_end s) ts mid p us stays to l.1 rest))
-  in_order-append from at (token.AsciiConstant value line ∷ ts) mid p us stays to ordered rest =
-      inside-map from _ _ ordered (λ l. (l.0, (l.1.0, in_order-append true at ts mid p us stays to l.1.1 rest)))
-  in_order-append from at (token.LineEnd line ∷ ts) mid p us stays to ordered rest = inside-map from _
-      _ ordered (λ l. (l.0, in_order-append true (point_at (line + 1) 0) ts mid p us stays to l.1 rest))
-  in_order-append from at (token.QuoteBreak ∷ ts) mid p us stays to ordered rest =
-      inside-map from _ _ ordered (λ l. in_order-append true (point_at (at.line + 1) 0) ts mid p us stays to l rest)
-  in_order-append from at (token.UseOf line occurrence ∷ ts) mid p us stays to ordered rest =
-      inside-map from _ _ ordered (λ l. (l.0, in_order-append true (jumped at line) ts mid p us stays to l.1 rest))
-  in_order-append from at (token.AllMacros line ∷ ts) mid p us stays to ordered rest =
-      inside-map from _ _ ordered (λ l. (l.0, in_order-append true at ts mid p us stays to l.1 rest))
-  in_order-append from at (_ ∷ ts) mid p us stays to ordered rest =
-      in_order-append from at ts mid p us stays to ordered rest
+  in_order-append from at (t ∷ ts) mid p us stays to ordered rest =
+      follows-moves (λ inside q. AreInOrder inside q ts mid p) (λ inside q. AreInOrder inside q (ts ++ us) stays to)
+      (λ f g x y n h. in_order-append f x ts mid p us stays to (in_order-after f g x y ts mid p n h) rest)
+      from from at at t (goes-refl from at) ordered

@@ -16,7 +16,7 @@ use Rattle.tangle_lexer.specs.Lexemes.{fault_if}
 use Rattle.tangle_lexer.specs.Comments.{line_ends, ends_comment, has_end_code, two_if, block_comment, line_comment}
 use Rattle.tangle_lexer.specs.Comments.{control_text}
 use Rattle.tangle_lexer.specs.Constants.{bad_constant}
-use Rattle.tangle_lexer.specs.Steps.{word, white_space, code_fault}
+use Rattle.tangle_lexer.specs.Steps.{word}
 use Rattle.tangle_lexer.proofs.laws.Points.{Point, point_at, PrecedesOnLine, IsByte, after_cells, HoldsBytes, IsTextAt}
 use Rattle.tangle_lexer.proofs.laws.Points.{text-after_cells, text-within, after_cells-bytes}
 use Rattle.tangle_lexer.proofs.laws.TokenOrder.{AreInOrder, IsFrom, in_order-append}
@@ -109,8 +109,8 @@ module _ (width : ℕ → ℕ) (count : ℕ) where
       let is3 = text-after_cells width count front inside rest is2 in
       let opened : AreInOrder width count true at (token.White ∷ []) true front =
       bytes-precede width count at 2 text is front-bytes in
-      let lines = line_ends-in_order width count r stays front rest is2 in
-      let faults = faults-in_order width count is_fault kind line back to
+      let lines = line_ends-in_order width count r stays rest front is2 in
+      let faults = faults-in_order width count true true is_fault kind line back to
       (end-precedes width count closed back (drop inside rest) is3 end) in
       let all = in_order-append width count true at (token.White ∷ []) true
       front (line_ends r rest ++ fault_if is_fault kind line) true to opened
@@ -146,7 +146,7 @@ module _ (width : ℕ → ℕ) (count : ℕ) where
       → IsTextAt width count at text → HoldsBytes n text
       → AreInOrder width count true at (token.White ∷ fault_if b kind line) true (after_cells at n text)
   white-in_order at n text b kind line is h =
-      faults-in_order width count b kind line at (after_cells at n text) (bytes-precede width count at n text is h)
+      faults-in_order width count true true b kind line at (after_cells at n text) (bytes-precede width count at n text is h)
 
   pub line_comment-in_order : (s : LexerState) (at : Point) (text : List Cell)
       → IsTextAt width count at text → HoldsBytes 2 text
@@ -165,20 +165,6 @@ module _ (width : ℕ → ℕ) (count : ℕ) where
   bad_constant-in_order s at text is h =
       white-in_order at (1 + (bad_constant s text).more) text true fault.AsciiBad
       (front_line s.last_line text) is (bad_constant-bytes s text h)
-
-  pub code_fault-in_order : (kind : FaultKind) (s : LexerState) (at : Point) (text : List Cell)
-      → IsTextAt width count at text → HoldsBytes 2 text
-      → AreInOrder width count true at (code_fault kind s text).tokens
-      true (after_cells at (1 + (code_fault kind s text).more) text)
-  code_fault-in_order kind s at text is h = white-in_order at 2 text true kind (front_line s.last_line text) is h
-
-  pub white_space-in_order : (s : LexerState) (at : Point) (text : List Cell)
-      → IsTextAt width count at text → HoldsBytes 1 text
-      → AreInOrder width count true at (white_space s text).tokens
-      true (after_cells at (1 + (white_space s text).more) text)
-  white_space-in_order s at text is h =
-      let n : ℕ = count_before region.White (drop 1 text) in
-      bytes-precede width count at (1 + n) text is (more-bytes 1 n text h (white-bytes (drop 1 text)))
 
   -- the first `n` bytes of a line are a range of it, and the text after `m` bytes or more is not before its end
   pub span-in_order : (at : Point) (n m : ℕ) (c : Cell) (cs : List Cell)

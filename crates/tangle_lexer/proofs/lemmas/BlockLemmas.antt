@@ -1,9 +1,9 @@
 -- The tokens of a block: those before its head, in which runs stand for the tokens that they consist of.
 use Rattle.std.proofs.Common.{◌≡◌, ◌<◌, ℕ, ◌+◌, Bool, true, false, ◌||◌, List, [], ◌∷◌, ◌++◌, length, drop, inl, inr}
-use Rattle.std.proofs.Common.{refl, ap, sym, subst, ◌∙◌, append_assoc, drop-drop}
+use Rattle.std.proofs.Common.{refl, ap, sym, subst, ◌∙◌, append_assoc, drop-drop, arith, length-append}
 use Rattle.std.specs.List.{list_any, All}
 use Rattle.std.proofs.lemmas.List.Elements.{All-append, All-cons, All-nil}
-use Rattle.std.proofs.lemmas.Bool.{or_parts}
+use Rattle.std.proofs.lemmas.Bool.{or_parts, true≢false}
 use Rattle.std.proofs.lemmas.Grind.{flat_map-append}
 use Rattle.tangle_lines.specs.Reading.{SourceLine}
 use Rattle.tangle_text.specs.Text.{Cell, IsRestOf, texts_of}
@@ -16,22 +16,16 @@ use Rattle.tangle_lexer.specs.Reads.{IsRead, ReadsOn}
 use Rattle.tangle_lexer.specs.Runs.{is_run, unfolded, unfolded_token, IsRunIn}
 use Rattle.tangle_lexer.specs.Steps.{lexeme, tokens_from, occurrences_from}
 use Rattle.tangle_lexer.proofs.lemmas.HeadLemmas.{is_special, BeginsIn, IsPlain, lexeme-alone}
-use Rattle.tangle_lexer.proofs.lemmas.PlainTokens.{HasNone, none-append}
+use Rattle.tangle_lexer.proofs.lemmas.PlainTokens.{HasNone, none-append, none-by}
 use Rattle.tangle_lexer.proofs.lemmas.StepLemmas.{tokens_from-step}
 
 -- tokens that are no runs
 
 pub no-head : (ts : List Token) → HasNone is_special ts → HasNone is_head ts
-no-head [] h = refl
-no-head (t ∷ ts) h =
-    let both = or_parts (is_special t) (list_any is_special ts) h in
-    let parts = or_parts (is_head t) (is_run t) both.0 in rw (parts.0, no-head ts both.1) refl
+no-head = none-by is_special is_head (λ t h. (or_parts (is_head t) (is_run t) h).0)
 
 pub no-run : (ts : List Token) → HasNone is_special ts → HasNone is_run ts
-no-run [] h = refl
-no-run (t ∷ ts) h =
-    let both = or_parts (is_special t) (list_any is_special ts) h in
-    let parts = or_parts (is_head t) (is_run t) both.0 in rw (parts.1, no-run ts both.1) refl
+no-run = none-by is_special is_run (λ t h. (or_parts (is_head t) (is_run t) h).1)
 
 pub head-no-run : (t : Token) → is_head t ≡ true → is_run t ≡ false
 head-no-run (token.Run s) h = cc
@@ -133,32 +127,15 @@ reads-trans lines ts us vs s t u x y z first more = record {
 
 -- the tokens before a head that was removed
 
-init-from : Token → List Token → List Token
-init-from t [] = []
-init-from t (u ∷ ts) = t ∷ init-from u ts
-
-init : List Token → List Token
-init [] = []
-init (t ∷ ts) = init-from t ts
-
-init-from-snoc : (t : Token) (ts : List Token) (a : Token) → init-from t (ts ++ a ∷ []) ≡ t ∷ ts
-unfolding init-from
-init-from-snoc t [] a = refl
-init-from-snoc t (u ∷ ts) a = ap (λ xs. t ∷ xs) (init-from-snoc u ts a)
-
-init-snoc : (ts : List Token) (a : Token) → init (ts ++ a ∷ []) ≡ ts
-unfolding init init-from
-init-snoc [] a = refl
-init-snoc (t ∷ ts) a = init-from-snoc t ts a
-
-last-from : Token → List Token → Token
-last-from t [] = t
-last-from t (u ∷ ts) = last-from u ts
-
-last-snoc : (t : Token) (ts : List Token) (a : Token) → last-from t (ts ++ a ∷ []) ≡ a
-unfolding last-from
-last-snoc t [] a = refl
-last-snoc t (u ∷ ts) a = last-snoc u ts a
+same-parts : (xs ys : List Token) (x y : Token) → xs ++ x ∷ [] ≡ ys ++ y ∷ [] → (xs ≡ ys) × (x ≡ y)
+same-parts [] [] x y e = (refl, cc)
+same-parts [] (b ∷ ys) x y e = absurd (omega (arith, ap length e, length-append ys (y ∷ [])))
+same-parts (a ∷ xs) [] x y e = absurd (omega (arith, ap length e, length-append xs (x ∷ [])))
+same-parts (a ∷ xs) (b ∷ ys) x y e =
+    let rest : xs ++ x ∷ [] ≡ ys ++ y ∷ [] = cc in
+    let both = same-parts xs ys x y rest in
+    let first : a ≡ b = cc in
+    (rw (first, both.0) refl, both.1)
 
 no_head-snoc : (ts : List Token) (head : Token) → is_head head ≡ true → HasNone is_head (ts ++ head ∷ []) → ⊥
 no_head-snoc [] head h j = cc
@@ -188,12 +165,11 @@ taken old new kept s after text rest head none read popped =
           ∙ none-append is_head old here.tokens none (no-head here.tokens plain.0)))
       | inr found ↦
           let e : kept ++ head ∷ [] ≡ old ++ found.0 ∷ [] = sym j ∙ (h ∙ ap (λ xs. old ++ xs) found.1) in
-          let last : head ≡ found.0 =
-          sym (last-snoc head kept head) ∙ (ap (last-from head) e ∙ last-snoc head old found.0) in
+          let both = same-parts kept old head found.0 e in
           record {
-            same = sym (init-snoc kept head) ∙ (ap init e ∙ init-snoc old found.0);
-            tokens = found.1 ∙ ap (λ t. t ∷ []) (sym last);
-            begins = subst (λ t. BeginsIn t here.after.mode) (sym last) found.3;
+            same = both.0;
+            tokens = found.1 ∙ ap (λ t. t ∷ []) (sym both.1);
+            begins = subst (λ t. BeginsIn t here.after.mode) (sym both.1) found.3;
           }
     ]
 
@@ -207,11 +183,8 @@ not-taken old new s after text rest read none =
       | inl plain ↦ plain
       | inr found ↦
           let never : true ≡ false =
-          sym found.2 ∙ none old found.0 (read.tokens ∙ ap (λ xs. old ++ xs) found.1) in absurd (true-false never)
+          sym found.2 ∙ none old found.0 (read.tokens ∙ ap (λ xs. old ++ xs) found.1) in absurd (true≢false never)
     ]
-  where
-    true-false : true ≡ false → ⊥
-    true-false h = cc
 
 pub taken-tokens : (texts : List (List ℕ)) (old new kept : List Token) (s after : LexerState) (text rest : List Cell)
     (head : Token) → 0 < length text → IsRead old new text rest after (lexeme s text)

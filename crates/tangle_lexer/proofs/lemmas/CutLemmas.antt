@@ -1,7 +1,7 @@
 -- Texts that are cut, unit by unit.
-use Rattle.std.proofs.Common.{◌≡◌, ◌<◌, ◌+◌, ℕ, Bool, true, false, nat_eq, inl, inr, List, [], ◌∷◌, ◌++◌, length, drop}
+use Rattle.std.proofs.Common.{◌≡◌, ◌<◌, ◌+◌, ℕ, Bool, true, false, nat_eq, List, [], ◌∷◌, ◌++◌, length, drop}
 use Rattle.std.proofs.Common.{drop-drop, refl, ap, sym, ◌∙◌, arith}
-use Rattle.std.proofs.lemmas.Bool.Decides.{eqb_tells}
+use Rattle.std.proofs.lemmas.Bool.{ne_eqb, eqb-true}
 use Rattle.tangle_text.specs.declared.regions.Region.{Region}
 use Rattle.tangle_text.specs.declared.regions.Unit.{Unit as Unit-of}
 use Rattle.tangle_text.specs.declared.regions.Unit.TheVariants as unit
@@ -42,13 +42,9 @@ at_once-stop r (c ∷ cs) h = ap (λ n. nat_eq n 0) (count-is r (c ∷ cs)) ∙ 
     none : nat_eq (counted r 0 (c ∷ cs)) 0 ≡ true
     none = rw h refl
 
-neq_false : (a b : ℕ) → (a ≡ b → ⊥) → nat_eq a b ≡ false
-neq_false a b h = elim (eqb_tells a b) [ inl same ↦ absurd (h same.1) | inr other ↦ other.0 ]
-
 count_by-go : (u : Unit-of) (n : ℕ) → (u ≡ unit.Stop → ⊥) → nat_eq (count_by u n) 0 ≡ false
 count_by-go unit.Stop n go = absurd (go refl)
-count_by-go unit.One n go = neq_false (1 + n) 0 (λ h. omega (arith, h))
-count_by-go unit.Two n go = neq_false (1 + n) 0 (λ h. omega (arith, h))
+count_by-go _ n go = ne_eqb (1 + n) 0 (λ h. omega (arith, h))
 
 pub at_once-go : (r : Region) (text : List Cell) (u : Unit-of)
     → 0 < length text → unit_at r text ≡ u → (u ≡ unit.Stop → ⊥) → ends_at_once r text ≡ false
@@ -58,10 +54,7 @@ at_once-go r (c ∷ cs) u inside h go =
 
 pub at_once-end : (r : Region) (text : List Cell) → ends_at_once r text ≡ true → text ≡ region_end r text
 unfolding region_end
-at_once-end r text h = let none : count_before r text ≡ 0 = zero-is (count_before r text) h in rw none refl
-  where
-    zero-is : (n : ℕ) → nat_eq n 0 ≡ true → n ≡ 0
-    zero-is n h = grind (arith, h)
+at_once-end r text h = let none : count_before r text ≡ 0 = eqb-true (count_before r text) 0 h in rw none refl
 
 -- the text after a region and the byte that may end it
 pub drop-end : (r : Region) (text : List Cell) (b : List Cell → Bool)

@@ -1,21 +1,18 @@
 -- The tokens of the units of a region.
-use Rattle.std.proofs.Common.{◌≡◌, ◌<◌, ℕ, List, [], ◌∷◌, ◌++◌, Bool, true, false, not, append_assoc, append-nil}
+use Rattle.std.proofs.Common.{◌≡◌, ◌<◌, ℕ, List, [], ◌∷◌, ◌++◌}
 use Rattle.std.proofs.Common.{length, drop, Option, refl, ap, sym, ◌∙◌, arith}
-use Rattle.tangle_faults.specs.declared.faults.FaultKind.{FaultKind}
-use Rattle.tangle_lexer.specs.declared.tokens.Token.TheVariants as token
-use Rattle.tangle_lexer.proofs.lemmas.OpenedRegions.{drop-two, mid-is}
 use Rattle.tangle_text.specs.declared.regions.Region.{Region}
 use Rattle.tangle_text.specs.declared.regions.Unit.{Unit as Unit-of}
 use Rattle.tangle_text.specs.declared.regions.Unit.TheVariants as unit
 use Rattle.tangle_lexer.specs.declared.modes.IncludeState.{IncludeState}
 use Rattle.tangle_lexer.specs.declared.modes.IncludeState.TheVariants as include
 use Rattle.tangle_lexer.specs.declared.tokens.Token.{Token}
-use Rattle.tangle_text.specs.Text.{Cell, byte_at, front_line, front_cell}
-use Rattle.tangle_text.specs.Regions.{unit_at, more_by, region_end, count_before}
+use Rattle.tangle_text.specs.Text.{Cell, byte_at, front_cell}
+use Rattle.tangle_text.specs.Regions.{unit_at, more_by}
 use Rattle.tangle_text.specs.NameBytes.{name_bytes}
 use Rattle.tangle_text.proofs.UnitLemmas.{from_units, units-give, name_bytes_of, name_bytes-are}
 use Rattle.tangle_text.specs.declared.regions.Region.TheVariants as region
-use Rattle.tangle_lexer.specs.Lexemes.{include_over, fault_if, line_end_by}
+use Rattle.tangle_lexer.specs.Lexemes.{include_over, line_end_by}
 use Rattle.tangle_lexer.specs.Comments.{unit_line_end, line_ends}
 
 -- a unit that does not end the region adds the items that `f` gives for it
@@ -78,30 +75,3 @@ pub include_over-append : (ts us : List Token) (inc : IncludeState)
     → include_over (ts ++ us) inc ≡ include_over us (include_over ts inc)
 include_over-append [] us inc = refl
 include_over-append (t ∷ ts) us inc = sym (include_over-start us)
-
--- the tokens of a comment or a control text that is closed
-pub comment-closed : (ends : List Cell → Bool) (r : Region) (kind : FaultKind)
-    (last : ℕ) (text after mid : List Cell) (old first new : List Token)
-    → first ≡ old ++ token.White ∷ [] → after ≡ drop 1 (drop 1 text)
-    → mid ≡ region_end r after → new ≡ first ++ line_ends r after → ends mid ≡ true
-    → new ≡ old ++ (token.White ∷ (line_ends r (drop 2 text)
-    ++ fault_if (not (ends (drop (count_before r (drop 2 text)) (drop 2 text))))
-    kind (front_line last (drop (count_before r (drop 2 text)) (drop 2 text)))))
-comment-closed ends r kind last text after mid old first new h1 h2 h3 h4 closed =
-    let is = mid-is r text mid (h3 ∙ ap (region_end r) h2) in
-    rw (h4, h1, h2, drop-two text, ← is, closed, append-nil, append_assoc) refl
-
--- the tokens of a comment or a control text that is not closed
-pub comment-open : (ends : List Cell → Bool) (r : Region) (kind : FaultKind)
-    (last : ℕ) (text after mid : List Cell) (old first second new : List Token)
-    → first ≡ old ++ token.White ∷ [] → after ≡ drop 1 (drop 1 text)
-    → mid ≡ region_end r after → second ≡ first ++ line_ends r after → ends mid ≡ false
-    → (line : ℕ) → line ≡ front_line last mid → new ≡ second ++ token.Fault kind line ∷ [] →
-    new ≡ old ++ (token.White ∷ (line_ends r (drop 2 text)
-    ++ fault_if (not (ends (drop (count_before r (drop 2 text)) (drop 2 text))))
-    kind (front_line last (drop (count_before r (drop 2 text)) (drop 2 text)))))
-comment-open ends r kind last text after mid old first second new h1 h2 h3 h4 isnt line on h5 =
-    let is = mid-is r text mid (h3 ∙ ap (region_end r) h2) in
-    rw (h5, on, h4, h1, h2, drop-two text, ← is, isnt)
-    (append_assoc (old ++ token.White ∷ []) (line_ends r (drop 2 text)) (token.Fault kind (front_line last mid) ∷ [])
-    ∙ append_assoc old (token.White ∷ []) (line_ends r (drop 2 text) ++ token.Fault kind (front_line last mid) ∷ []))

@@ -1,28 +1,20 @@
 -- Occurrences are numbered one after another, so their numbers in tokens are below their count.
-use Rattle.std.proofs.Common.{◌≡◌, ◌≤◌, ◌<◌, ℕ, zero, suc, ◌+◌, Bool, true, false, ◌||◌, List, [], ◌∷◌, ◌++◌, length}
-use Rattle.std.proofs.Common.{flat_map, refl, ap, arith, if◌then◌else◌, Option, None, Some, option_to_list}
+use Rattle.std.proofs.Common.{◌≡◌, ◌≤◌, ◌<◌, ℕ, zero, suc, ◌+◌, false, ◌||◌, List, [], ◌∷◌, ◌++◌, length}
+use Rattle.std.proofs.Common.{flat_map, refl, ap, arith, Option, None, Some, option_to_list}
 use Rattle.std.proofs.Common.{length-append}
 use Rattle.std.specs.List.{list_any, AllByRecursion}
 use Rattle.tangle_faults.specs.declared.faults.FaultKind.TheVariants as fault
 use Rattle.tangle_lexer.specs.declared.tokens.Token.{Token}
 use Rattle.tangle_lexer.specs.declared.tokens.Token.TheVariants as token
-use Rattle.tangle_lexer.specs.declared.modes.Mode.{Mode}
 use Rattle.tangle_lexer.specs.declared.modes.Mode.TheVariants as mode
 use Rattle.tangle_lexer.specs.declared.modes.LexerState.{LexerState}
-use Rattle.tangle_lexer.specs.declared.lexeme_kinds.ControlCode.{ControlCode}
-use Rattle.tangle_lexer.specs.declared.lexeme_kinds.ControlCode.TheVariants as code
-use Rattle.tangle_lexer.specs.declared.lexeme_kinds.LexemeKind.{LexemeKind}
-use Rattle.tangle_lexer.specs.declared.lexeme_kinds.LexemeKind.TheVariants as lexeme_kind
-use Rattle.tangle_lines.specs.Bytes.{at_sign}
-use Rattle.tangle_text.specs.Bytes.{holds}
-use Rattle.tangle_text.specs.Text.{Cell, byte_at}
-use Rattle.tangle_lexer.specs.Lexemes.{Lexeme, lexeme_of, in_mode}
-use Rattle.tangle_lexer.specs.Comments.{starts_section}
+use Rattle.tangle_text.specs.Text.{Cell}
+use Rattle.tangle_lexer.specs.Lexemes.{Lexeme, in_mode}
 use Rattle.tangle_lexer.specs.Names.{definition_or_mention, definition_count}
-use Rattle.tangle_lexer.specs.Steps.{documentation_code, c_code, c_lexeme, macro_code, macro_lexeme, lexeme_in, lexeme}
-use Rattle.tangle_lexer.specs.Steps.{lexemes, tokens_from, occurrences_from, kind_at, code_at, prose}
+use Rattle.tangle_lexer.specs.Steps.{lexeme, lexemes, tokens_from, occurrences_from}
 use Rattle.tangle_lexer.proofs.lemmas.PlainTokens.{ArePlain, is_not_plain, seen, fault_if-plain}
-use Rattle.tangle_lexer.proofs.lemmas.PlainLexemes.{IsPlainLexeme, use-plain, code-plain, kind-plain}
+use Rattle.tangle_lexer.proofs.lemmas.PlainLexemes.{IsPlainLexeme, use-plain, fault-plain, kind-plain}
+use Rattle.tangle_lexer.proofs.lemmas.LexemeCases.{lexeme-by}
 
 -- a token has no number of an occurrence, or one below `count`
 abbrev pub IsBelow : ℕ → Token → Type 0
@@ -74,61 +66,28 @@ head-keeps s l h none same is below = record {
   below = rw is (below, tt);
 }
 
-if-keeps : (b : Bool) (s : LexerState) (x y : Lexeme) → Keeps s x → Keeps s y → Keeps s (if b then x else y)
-if-keeps true s x y h k = h
-if-keeps false s x y h k = k
-
 name-keeps : (count : Option ℕ) (s : LexerState) (text : List Cell) → Keeps s (definition_or_mention count s text)
 name-keeps None s text =
     record { count = refl; below = plain-below (s.occurrences + 1) _ (fault_if-plain _ fault.NameEnd _).none }
 name-keeps (Some count) s text = record { count = refl; below = (omega arith, tt) }
 
-documentation-keeps : (kind : ControlCode) (s : LexerState) (text : List Cell)
-    → Keeps s (documentation_code kind s text)
-documentation-keeps code.SectionStart s text = head-keeps s _ token.Section refl refl refl tt
-documentation-keeps code.Macro s text = head-keeps s _ _ refl refl refl tt
-documentation-keeps code.UnnamedPart s text = head-keeps s _ _ refl refl refl tt
-documentation-keeps code.Name s text = name-keeps (definition_count text) s text
-documentation-keeps _ s text = plain-keeps s _ refl refl (seen _ refl)
-
-code-keeps : (kind : ControlCode) (s : LexerState) (text : List Cell) → Keeps s (c_code kind s text)
-code-keeps code.SectionStart s text = head-keeps s _ token.Section refl refl refl tt
-code-keeps code.Name s text =
-    record { count = refl; below = (omega arith, plain-below (s.occurrences + 1) _ (use-plain s text).none) }
-code-keeps kind s text = lexeme-plain s _ (code-plain kind s text (λ e. cc) (λ e. cc))
-
-c-keeps : (kind : LexemeKind) (s : LexerState) (text : List Cell) → Keeps s (c_lexeme kind s text)
-c-keeps (lexeme_kind.Control code) s text = code-keeps code s text
-c-keeps kind s text = lexeme-plain s _ (kind-plain kind s text (λ h. h))
-
-macro_code-keeps : (kind : ControlCode) (s : LexerState) (text : List Cell) → Keeps s (macro_code kind s text)
-macro_code-keeps code.Macro s text = documentation-keeps code.Macro s text
-macro_code-keeps code.UnnamedPart s text = documentation-keeps code.UnnamedPart s text
-macro_code-keeps code.Name s text =
-    let there = documentation-keeps code.Name (in_mode mode.Documentation s) text in
-    record { count = there.count; below = there.below }
-macro_code-keeps code.Format s text = plain-keeps s _ refl refl (seen _ refl)
-macro_code-keeps code.AllMacros s text = plain-keeps s _ refl refl (seen _ refl)
-macro_code-keeps kind s text = code-keeps kind s text
-
-macro-keeps : (kind : LexemeKind) (s : LexerState) (text : List Cell) → Keeps s (macro_lexeme kind s text)
-macro-keeps (lexeme_kind.Control code) s text = macro_code-keeps code s text
-macro-keeps kind s text = c-keeps kind s text
-
-mode-keeps : (m : Mode) (s : LexerState) (text : List Cell) → Keeps s (lexeme_in m s text)
-mode-keeps mode.Limbo s text =
-    if-keeps (starts_section text) s _ _ (head-keeps s _ token.Section refl refl refl tt)
-    (if-keeps (holds at_sign (byte_at 0 text)) s (lexeme_of [] 1 s) (prose s text)
-    (plain-keeps s _ refl refl (seen _ refl)) (plain-keeps s _ refl refl (seen _ refl)))
-mode-keeps mode.Documentation s text =
-    if-keeps (holds at_sign (byte_at 0 text)) s _ _
-    (documentation-keeps (code_at (byte_at 1 text)) s text) (plain-keeps s _ refl refl (seen _ refl))
-mode-keeps mode.CPart s text = c-keeps (kind_at s.include text) s text
-mode-keeps mode.Macro s text = macro-keeps (kind_at s.include text) s text
-
 pub lexeme-keeps : (s : LexerState) (text : List Cell) → Keeps s (lexeme s text)
-unfolding lexeme
-lexeme-keeps s text = mode-keeps s.mode s text
+lexeme-keeps s text =
+    lexeme-by (Keeps s) s text (record {
+      section = head-keeps s _ token.Section refl refl refl tt;
+      macro = λ o. head-keeps s _ _ refl refl refl tt;
+      part = λ o. head-keeps s _ _ refl refl refl tt;
+      used = λ m o.
+          record { count = refl; below = (omega arith, plain-below (s.occurrences + 1) _ (use-plain s text).none) };
+      name = λ m. name-keeps (definition_count text) s text;
+      ending = λ m.
+          let there = name-keeps (definition_count text) (in_mode mode.Documentation s) text in
+          record { count = there.count; below = there.below };
+      skip = λ out n. plain-keeps s _ refl refl (seen _ refl);
+      format = λ m. plain-keeps s _ refl refl (seen _ refl);
+      misplaced = λ m o. lexeme-plain s _ (fault-plain fault.MisplacedH s text);
+      inside = λ within kind p o. lexeme-plain s _ (kind-plain kind s text p);
+    })
 
 -- all lexemes of a text
 

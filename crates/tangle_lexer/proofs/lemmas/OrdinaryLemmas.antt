@@ -1,5 +1,6 @@
 -- Ordinary bytes of a region are units of one cell without tokens.
 use Rattle.std.proofs.Common.{◌≡◌, ℕ, zero, suc, true, false, List, [], ◌∷◌, Option, Some, None, drop, refl, sym, ◌∙◌}
+use Rattle.std.proofs.Common.{◌++◌, ap, arith}
 use Rattle.std.proofs.lemmas.Bool.{false≢true, not-true}
 use Rattle.tangle_text.specs.declared.regions.Region.{Region}
 use Rattle.tangle_lexer.specs.declared.tokens.Token.{Token}
@@ -7,8 +8,8 @@ use Rattle.tangle_lines.specs.Bytes.{at_sign}
 use Rattle.tangle_text.specs.Bytes.{holds}
 use Rattle.tangle_text.specs.Text.{Cell, byte_at}
 use Rattle.tangle_text.specs.Regions.{holds_ordinary, AreOrdinary, skips_ordinary}
-use Rattle.tangle_lexer.proofs.lemmas.LexemeLemmas.{line_end_of, line_ends-are}
-use Rattle.tangle_text.proofs.UnitLemmas.{from_units}
+use Rattle.tangle_lexer.proofs.lemmas.LexemeLemmas.{line_ends-go}
+use Rattle.tangle_text.specs.declared.regions.Unit.TheVariants as unit
 use Rattle.tangle_lexer.specs.Lexemes.{line_end_by}
 use Rattle.tangle_lexer.specs.Comments.{line_ends}
 use Rattle.tangle_lexer.specs.Quoted.{cut_tokens}
@@ -27,10 +28,9 @@ pub line_ends-ordinary : (r : Region) → skips_ordinary r ≡ true → (n : ℕ
 line_ends-ordinary r is zero text h = refl
 line_ends-ordinary r is (suc n) [] h = refl
 line_ends-ordinary r is (suc n) (c ∷ cs) h =
-    line_ends-ordinary r is n cs h.1 ∙ sym (line_ends-are r (c ∷ cs) ∙ passed ∙ sym (line_ends-are r cs))
-  where
-    passed : from_units line_end_of r 0 (c ∷ cs) ≡ from_units line_end_of r 0 cs
-    passed = rw (cell-one r c.byte (byte_at 0 cs) is h.0, no_line_end c.byte c.line h.0) refl
+    line_ends-ordinary r is n cs h.1
+    ∙ sym (line_ends-go r 0 (c ∷ cs) unit.One (omega arith) (cell-one r c.byte (byte_at 0 cs) is h.0) (λ e. cc)
+    ∙ ap (λ ts. ts ++ line_ends r cs) (no_line_end c.byte c.line h.0))
 
 pub cut-ordinary : (ends : ℕ → List Cell → List Token) (r : Region)
     → skips_ordinary r ≡ true → (n start : ℕ) (text : List Cell) → AreOrdinary n text

@@ -1,11 +1,11 @@
--- Lexemes whose tokens are plain, and which leave the mode and the count of occurrences unchanged.
+-- Lexemes whose tokens are plain, and which leave the mode, the count of occurrences and the last line unchanged.
 use Rattle.std.proofs.Common.{◌≡◌, ℕ, List, [], ◌++◌, drop, refl, Option, None, Some}
+use Rattle.tangle_faults.specs.declared.faults.FaultKind.{FaultKind}
 use Rattle.tangle_faults.specs.declared.faults.FaultKind.TheVariants as fault
 use Rattle.tangle_text.specs.declared.regions.Region.{Region}
 use Rattle.tangle_text.specs.declared.regions.Region.TheVariants as region
 use Rattle.tangle_text.specs.Text.{Cell, front_column, front_line}
 use Rattle.tangle_lexer.specs.declared.constants.AsciiConstant.{AsciiConstant}
-use Rattle.tangle_lexer.specs.declared.lexeme_kinds.ControlCode.{ControlCode}
 use Rattle.tangle_lexer.specs.declared.lexeme_kinds.ControlCode.TheVariants as code
 use Rattle.tangle_lexer.specs.declared.lexeme_kinds.LexemeKind.{LexemeKind}
 use Rattle.tangle_lexer.specs.declared.lexeme_kinds.LexemeKind.TheVariants as lexeme_kind
@@ -14,7 +14,8 @@ use Rattle.tangle_lexer.specs.Constants.{constant_at, constant_lexeme}
 use Rattle.tangle_lexer.specs.Lexemes.{Lexeme, fault_if}
 use Rattle.tangle_lexer.specs.Names.{name_faults, has_single_equals, after_name}
 use Rattle.tangle_lexer.specs.Quoted.{quote_end, quoted_text}
-use Rattle.tangle_lexer.specs.Steps.{c_code, c_lexeme}
+use Rattle.tangle_lexer.specs.Steps.{code_fault, c_lexeme}
+use Rattle.tangle_lexer.proofs.lemmas.LexemeCases.{IsPlainKind}
 use Rattle.tangle_lexer.proofs.lemmas.PlainTokens.{ArePlain, seen, plain-append, fault_if-plain, white-plain}
 use Rattle.tangle_lexer.proofs.lemmas.PlainTokens.{line_ends-plain, verbatim_tokens-plain, cut_tokens-plain}
 use Rattle.tangle_lexer.proofs.lemmas.PlainTokens.{quote_end-plain}
@@ -24,10 +25,13 @@ pub record IsPlainLexeme (s : LexerState) (here : Lexeme) : Type 0 where
   pub mode : here.after.mode ≡ s.mode
   pub none : here.occurrence ≡ None
   pub count : here.after.occurrences ≡ s.occurrences
+  pub last : here.after.last_line ≡ s.last_line
 
 plain : (s : LexerState) (here : Lexeme) → ArePlain here.tokens → here.after.mode ≡ s.mode
-    → here.occurrence ≡ None → here.after.occurrences ≡ s.occurrences → IsPlainLexeme s here
-plain s here tokens mode none count = record { tokens = tokens; mode = mode; none = none; count = count }
+    → here.occurrence ≡ None → here.after.occurrences ≡ s.occurrences → here.after.last_line ≡ s.last_line
+    → IsPlainLexeme s here
+plain s here tokens mode none count last =
+    record { tokens = tokens; mode = mode; none = none; count = count; last = last }
 
 -- the faults of a name that is used
 pub use-plain : (s : LexerState) (text : List Cell) → ArePlain (name_faults s.last_line text
@@ -37,40 +41,35 @@ use-plain s text = plain-append _ _ (fault_if-plain _ fault.NameEnd _)
 
 constant-plain : (constant : Option AsciiConstant) (s : LexerState) (text : List Cell)
     → IsPlainLexeme s (constant_lexeme constant s text)
-constant-plain None s text = plain s _ (seen _ refl) refl refl refl
-constant-plain (Some constant) s text = plain s _ (seen _ refl) refl refl refl
-
-pub code-plain : (kind : ControlCode) (s : LexerState) (text : List Cell)
-    → (kind ≡ code.SectionStart → ⊥) → (kind ≡ code.Name → ⊥) → IsPlainLexeme s (c_code kind s text)
-code-plain code.SectionStart s text h k = absurd (h refl)
-code-plain code.Name s text h k = absurd (k refl)
-code-plain code.ControlText s text h k = plain s _
-    (white-plain _ _ (line_ends-plain region.ControlText (drop 2 text)) (fault_if-plain _ fault.ControlText _))
-    refl refl refl
-code-plain code.Verbatim s text h k = plain s _ (verbatim_tokens-plain (drop 2 text)) refl refl refl
-code-plain code.AsciiConstant s text h k = constant-plain (constant_at (drop 2 text)) s text
-code-plain _ s text h k = plain s _ (seen _ refl) refl refl refl
+constant-plain None s text = plain s _ (seen _ refl) refl refl refl refl
+constant-plain (Some constant) s text = plain s _ (seen _ refl) refl refl refl refl
 
 quoted-plain : (r : Region) (close : ℕ) (s : LexerState) (text : List Cell)
     → IsPlainLexeme s (quoted_text r close s text)
 quoted-plain r close s text =
     plain s _
     (cut_tokens-plain (quote_end r close s.last_line) r 0 (front_column text) (drop 1 text)
-    (quote_end-plain r close s.last_line)) refl refl refl
+    (quote_end-plain r close s.last_line)) refl refl refl refl
 
-abbrev IsCode : LexemeKind → Type 0
-IsCode (lexeme_kind.Control code) = Unit {0}
-IsCode _ = ⊥
+pub fault-plain : (kind : FaultKind) (s : LexerState) (text : List Cell) → IsPlainLexeme s (code_fault kind s text)
+fault-plain kind s text = plain s _ (seen _ refl) refl refl refl refl
 
 pub kind-plain : (kind : LexemeKind) (s : LexerState) (text : List Cell)
-    → (IsCode kind → ⊥) → IsPlainLexeme s (c_lexeme kind s text)
-kind-plain (lexeme_kind.Control code) s text h = absurd (h tt)
+    → IsPlainKind kind → IsPlainLexeme s (c_lexeme kind s text)
+kind-plain (lexeme_kind.Control code.SectionStart) s text h = absurd h
+kind-plain (lexeme_kind.Control code.Name) s text h = absurd h
+kind-plain (lexeme_kind.Control code.ControlText) s text h = plain s _
+    (white-plain _ _ (line_ends-plain region.ControlText (drop 2 text)) (fault_if-plain _ fault.ControlText _))
+    refl refl refl refl
+kind-plain (lexeme_kind.Control code.Verbatim) s text h =
+    plain s _ (verbatim_tokens-plain (drop 2 text)) refl refl refl refl
+kind-plain (lexeme_kind.Control code.AsciiConstant) s text h = constant-plain (constant_at (drop 2 text)) s text
 kind-plain lexeme_kind.BlockComment s text h = plain s _
     (white-plain _ _ (line_ends-plain region.BlockComment (drop 2 text)) (fault_if-plain _ fault.CommentEnd _))
-    refl refl refl
+    refl refl refl refl
 kind-plain lexeme_kind.LineComment s text h =
-    plain s _ (white-plain [] _ (seen [] refl) (fault_if-plain _ fault.CommentEnd _)) refl refl refl
+    plain s _ (white-plain [] _ (seen [] refl) (fault_if-plain _ fault.CommentEnd _)) refl refl refl refl
 kind-plain lexeme_kind.DoubleQuote s text h = quoted-plain region.DoubleQuote _ s text
 kind-plain lexeme_kind.Apostrophe s text h = quoted-plain region.Apostrophe _ s text
 kind-plain lexeme_kind.HeaderName s text h = quoted-plain region.HeaderName _ s text
-kind-plain _ s text h = plain s _ (seen _ refl) refl refl refl
+kind-plain _ s text h = plain s _ (seen _ refl) refl refl refl refl

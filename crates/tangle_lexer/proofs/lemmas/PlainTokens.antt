@@ -1,6 +1,7 @@
 -- Tokens that are neither heads nor uses nor runs.
-use Rattle.std.proofs.Common.{◌≡◌, ℕ, zero, suc, ◌+◌, Bool, true, false, ◌&&◌, nat_lt, List, [], ◌∷◌, ◌++◌, refl, sym}
-use Rattle.std.proofs.Common.{subst, if◌then◌else◌, Option}
+use Rattle.std.proofs.Common.{◌≡◌, ℕ, zero, suc, ◌+◌, Bool, true, false, ◌&&◌, nat_lt, List, [], ◌∷◌, ◌++◌, refl, Option}
+use Rattle.std.proofs.Common.{flat_map}
+use Rattle.std.proofs.lemmas.Bool.{cond_both, or_parts}
 use Rattle.std.specs.List.{list_any}
 use Rattle.std.proofs.lemmas.List.Folds.{list_any-append}
 use Rattle.tangle_faults.specs.declared.faults.FaultKind.{FaultKind}
@@ -15,11 +16,9 @@ use Rattle.tangle_lines.specs.Bytes.{at_sign}
 use Rattle.tangle_text.specs.Bytes.{holds, backslash, is_line_end}
 use Rattle.tangle_faults.specs.declared.faults.FaultKind.TheVariants as fault
 use Rattle.tangle_text.specs.Text.{Cell, byte_at, front_column}
-use Rattle.tangle_text.specs.Regions.{unit_at, more_by, unless_stop}
-use Rattle.tangle_lexer.proofs.lemmas.LexemeLemmas.{line_end_of, line_ends-are}
-use Rattle.tangle_text.proofs.UnitLemmas.{from_units}
+use Rattle.tangle_text.specs.Regions.{unit_at, more_by, units}
 use Rattle.tangle_lexer.specs.Lexemes.{fault_if}
-use Rattle.tangle_lexer.specs.Comments.{line_ends}
+use Rattle.tangle_lexer.specs.Comments.{unit_line_end, line_ends}
 use Rattle.tangle_lexer.specs.Quoted.{range_token, cut_range, unit_tokens, next_start, at_stop, cut_tokens, quote_end}
 use Rattle.tangle_lexer.specs.Quoted.{verbatim_end, verbatim_tokens, empty_end, ends_at_once}
 use Rattle.tangle_lexer.specs.Heads.{is_head}
@@ -31,6 +30,14 @@ HasNone test ts = list_any test ts ≡ false
 pub none-append : (test : Token → Bool) (ts us : List Token)
     → HasNone test ts → HasNone test us → HasNone test (ts ++ us)
 none-append test ts us h j = rw (list_any-append test ts us, h) j
+
+-- tokens pass no test that is weaker at each token
+pub none-by : (p q : Token → Bool) → ((t : Token) → p t ≡ false → q t ≡ false)
+    → (ts : List Token) → HasNone p ts → HasNone q ts
+none-by p q weaker [] h = refl
+none-by p q weaker (t ∷ ts) h =
+    let both = or_parts (p t) (list_any p ts) h in
+    rw (weaker t both.0, none-by p q weaker ts both.1) refl
 
 -- a token that is a head, a use or a run
 abbrev pub is_not_plain : Token → Bool
@@ -48,32 +55,23 @@ seen ts h = record { none = h }
 pub plain-append : (xs ys : List Token) → ArePlain xs → ArePlain ys → ArePlain (xs ++ ys)
 plain-append xs ys h k = seen (xs ++ ys) (none-append is_not_plain xs ys h.none k.none)
 
-plain-if : (b : Bool) (xs ys : List Token)
-    → ArePlain xs → ArePlain ys → ArePlain (if b then xs else ys)
-plain-if true xs ys h k = h
-plain-if false xs ys h k = k
-
 pub fault_if-plain : (b : Bool) (kind : FaultKind) (line : ℕ) → ArePlain (fault_if b kind line)
 fault_if-plain true kind line = seen _ refl
 fault_if-plain false kind line = seen _ refl
 
 -- line ends
 
-stop-plain : (u : Unit-of) (ts : List Token) → ArePlain ts → ArePlain (unless_stop u ts)
-stop-plain unit.Stop ts h = seen [] refl
-stop-plain _ ts h = h
-
-units-plain : (r : Region) (k : ℕ) (text : List Cell) → ArePlain (from_units line_end_of r k text)
-units-plain r zero [] = seen [] refl
-units-plain r (suc k) [] = seen [] refl
-units-plain r (suc k) (c ∷ cs) = units-plain r k cs
-units-plain r zero (c ∷ cs) =
-    stop-plain (unit_at r (c ∷ cs)) _
-    (plain-append _ _ (plain-if (is_line_end c.byte) (token.LineEnd c.line ∷ []) [] (seen _ refl) (seen _ refl))
-    (units-plain r (more_by (unit_at r (c ∷ cs))) cs))
+none-flat : (test : Token → Bool) (f : List Cell → List Token)
+    → ((u : List Cell) → HasNone test (f u)) → (us : List (List Cell)) → HasNone test (flat_map f us)
+none-flat test f h [] = refl
+none-flat test f h (u ∷ us) = none-append test (f u) (flat_map f us) (h u) (none-flat test f h us)
 
 pub line_ends-plain : (r : Region) (text : List Cell) → ArePlain (line_ends r text)
-line_ends-plain r text = subst ArePlain (sym (line_ends-are r text)) (units-plain r 0 text)
+line_ends-plain r text = seen _ (none-flat is_not_plain unit_line_end one (units r text))
+  where
+    one : (u : List Cell) → HasNone is_not_plain (unit_line_end u)
+    one [] = refl
+    one (c ∷ cs) = cond_both (is_line_end c.byte) _ [] (HasNone is_not_plain) (λ e. refl) (λ e. refl)
 
 pub white-plain : (ends faults : List Token)
     → ArePlain ends → ArePlain faults → ArePlain (token.White ∷ ends ++ faults)
@@ -87,14 +85,15 @@ range-plain _ s = seen _ refl
 
 cut_range-plain : (r : Region) (line start end : ℕ) → ArePlain (cut_range r line start end)
 cut_range-plain r line start end =
-    plain-if (nat_lt start end) _ [] (range-plain r (record { line = line; start = start; end = end })) (seen [] refl)
+    cond_both (nat_lt start end) _ [] ArePlain
+    (λ e. range-plain r (record { line = line; start = start; end = end })) (λ e. seen [] refl)
 
 unit_tokens-plain : (r : Region) (u : Unit-of) (start : ℕ) (c : Cell) (next : Option ℕ)
     → ArePlain (unit_tokens r u start c next)
 unit_tokens-plain r unit.Two start c next =
-    plain-if (holds at_sign c.byte) _ _ (cut_range-plain r c.line start (c.column + 1))
-    (plain-if (holds backslash c.byte && is_line_end next) _ _
-    (plain-append _ _ (cut_range-plain r c.line start (c.column + 1)) (seen _ refl)) (seen [] refl))
+    cond_both (holds at_sign c.byte) _ _ ArePlain (λ e. cut_range-plain r c.line start (c.column + 1))
+    (λ e. cond_both (holds backslash c.byte && is_line_end next) _ _ ArePlain
+    (λ k. plain-append _ _ (cut_range-plain r c.line start (c.column + 1)) (seen _ refl)) (λ k. seen [] refl))
 unit_tokens-plain r _ start c next = fault_if-plain (holds at_sign c.byte) fault.StringAt c.line
 
 at_stop-plain : (u : Unit-of) (ending others : List Token)
@@ -118,8 +117,8 @@ pub quote_end-plain : (r : Region) (close last start : ℕ) (text : List Cell)
     → ArePlain (quote_end r close last start text)
 quote_end-plain r close last start [] = seen _ refl
 quote_end-plain r close last start (c ∷ cs) =
-    plain-if (holds close c.byte) _ _ (cut_range-plain r c.line start (c.column + 1))
-    (plain-append _ _ (cut_range-plain r c.line start c.column) (seen _ refl))
+    cond_both (holds close c.byte) _ _ ArePlain (λ e. cut_range-plain r c.line start (c.column + 1))
+    (λ e. plain-append _ _ (cut_range-plain r c.line start c.column) (seen _ refl))
 
 verbatim_end-plain : (start : ℕ) (text : List Cell) → ArePlain (verbatim_end start text)
 verbatim_end-plain start [] = seen [] refl
@@ -133,5 +132,5 @@ empty_end-plain (c ∷ cs) = fault_if-plain (is_line_end c.byte) fault.VerbatimE
 
 pub verbatim_tokens-plain : (text : List Cell) → ArePlain (verbatim_tokens text)
 verbatim_tokens-plain text =
-    plain-if (ends_at_once region.Verbatim text) _ _ (seen _ (empty_end-plain text).none)
-    (cut_tokens-plain verbatim_end region.Verbatim 0 (front_column text) text verbatim_end-plain)
+    cond_both (ends_at_once region.Verbatim text) _ _ ArePlain (λ e. seen _ (empty_end-plain text).none)
+    (λ e. cut_tokens-plain verbatim_end region.Verbatim 0 (front_column text) text verbatim_end-plain)

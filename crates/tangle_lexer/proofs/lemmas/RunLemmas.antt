@@ -30,8 +30,7 @@ use Rattle.tangle_lexer.specs.Simple.{is_apart_from_include}
 use Rattle.tangle_lexer.specs.Steps.{include_after_word, include_after_sign, c_lexeme, lexeme, tokens_from}
 use Rattle.tangle_lexer.specs.Steps.{occurrences_from}
 use Rattle.tangle_lexer.proofs.lemmas.BlockLemmas.{unfolded-append, rest-drop}
-use Rattle.tangle_lexer.proofs.lemmas.RunTokens.{in_part, Reads, front-byte, run-reads, BeginsRun, plain-begins}
-use Rattle.tangle_lexer.proofs.lemmas.RunTokens.{run-single}
+use Rattle.tangle_lexer.proofs.lemmas.RunTokens.{in_part, Reads, front-byte, run-goes, BeginsRun, plain-begins}
 use Rattle.tangle_lexer.proofs.lemmas.SimpleLemmas.{lexeme-simple}
 use Rattle.tangle_lexer.proofs.lemmas.StepLemmas.{tokens_from-step, occurrences_from-step}
 
@@ -151,8 +150,8 @@ line-run lines occurrences last line column rest real inside begins =
     let span_is : span_at (run_count text) text ≡ span
     = ap (λ k. span_at k text) count ∙ span-line line column n bytes rest in
     let parts : run_parts texts span ≡ parts_of line column (chunks (take n bytes)) = parts-are texts line column n in
-    let read : Reads here text (map part_token (parts_of line column (chunks (take n bytes)))) (drop n text)
-    = run-reads occurrences last line rest column bytes in
+    let goes = run-goes occurrences last line rest column bytes in
+    let read : Reads here text (map part_token (parts_of line column (chunks (take n bytes)))) (drop n text) = goes.0 in
     record {
       some = omega (arith, count, some-size bytes begins);
       tokens = read.tokens
@@ -167,7 +166,7 @@ line-run lines occurrences last line column rest real inside begins =
           start = omega arith;
           end = omega (arith, run_size-fits bytes, length-drop column (get_or texts line []), inside);
         };
-        spaces = ap (has_single_spaces true) parts ∙ run-single line column bytes true (λ e. begins);
+        spaces = ap (has_single_spaces true) parts ∙ goes.1 true (λ e. begins);
       });
     }
 
@@ -175,17 +174,13 @@ line-run lines occurrences last line column rest real inside begins =
 
 word-apart : (inc : IncludeState) (b : Option ℕ) (is_include : Bool)
     → is_apart_from_include inc b ≡ true → include_after_word is_include inc ≡ include.Elsewhere
-word-apart include.AtStart b is_include h = refl
 word-apart include.AfterNumberSign b is_include h = cc
-word-apart include.AfterInclude b is_include h = refl
-word-apart include.Elsewhere b is_include h = refl
+word-apart _ b is_include h = refl
 
 sign-apart : (inc : IncludeState) (b : Option ℕ)
     → is_apart_from_include inc b ≡ true → include_after_sign b inc ≡ include.Elsewhere
 sign-apart include.AtStart b h = rw (not-true _ h) refl
-sign-apart include.AfterNumberSign b h = refl
-sign-apart include.AfterInclude b h = refl
-sign-apart include.Elsewhere b h = refl
+sign-apart _ b h = refl
 
 kind-apart : (p : SimpleLexeme) (s : LexerState) (text : List Cell)
     → is_word_or_sign p ≡ true → is_apart_from_include s.include (byte_at 0 text) ≡ true
@@ -222,10 +217,8 @@ occurrences-apart s t text inside same =
     ∙ sym (occurrences_from-step t text inside))
 
 c_part-is : (m : Mode) → is_c_part m ≡ true → m ≡ mode.CPart
-c_part-is mode.Limbo h = cc
-c_part-is mode.Documentation h = cc
 c_part-is mode.CPart h = refl
-c_part-is mode.Macro h = cc
+c_part-is _ h = cc
 
 -- a run that may begin at a simple lexeme is read from there on
 pub run-read : (lines : List SourceLine) (s : LexerState) (text : List Cell) (p : SimpleLexeme)

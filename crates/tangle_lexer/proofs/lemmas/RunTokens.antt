@@ -2,7 +2,7 @@
 use Rattle.std.proofs.Common.{◌≡◌, ◌<◌, ℕ, zero, suc, ◌+◌, Bool, true, false, ◌==◌, ◌&&◌, ◌||◌, not, List, [], ◌∷◌}
 use Rattle.std.proofs.Common.{◌++◌, length, take, drop, map, Option, Some, None, ◌⊎◌, slice_get, inl, inr, refl, ap}
 use Rattle.std.proofs.Common.{sym, ◌∙◌, subst, arith, option_to_list}
-use Rattle.std.proofs.lemmas.Bool.{or_cases, or_parts, and_parts, not-true}
+use Rattle.std.proofs.lemmas.Bool.{or_cases, or_parts, and_parts, not-true, false≢true}
 use Rattle.std.proofs.lemmas.Bool.Decides.{eqb_tells}
 use Rattle.tangle_lines.specs.Bytes.{at_sign, double_quote, is_white}
 use Rattle.tangle_files.specs.Bytes.{space}
@@ -26,8 +26,8 @@ use Rattle.tangle_lexer.specs.declared.tokens.Token.{Token}
 use Rattle.tangle_lexer.specs.declared.tokens.Token.TheVariants as token
 use Rattle.tangle_lexer.specs.Lexemes.{Lexeme}
 use Rattle.tangle_lexer.specs.Runs.{part_token}
-use Rattle.tangle_lexer.specs.Steps.{kind_by, kind_at, lexeme, lexeme_in, c_lexeme, tokens_from, occurrences_from}
-use Rattle.tangle_lexer.proofs.lemmas.StepLemmas.{tokens_from-step, occurrences_from-step}
+use Rattle.tangle_lexer.specs.Steps.{kind_by, kind_at, lexeme, c_lexeme, tokens_from, occurrences_from}
+use Rattle.tangle_lexer.proofs.lemmas.StepLemmas.{lexeme-here, tokens_from-step, occurrences_from-step}
 
 -- bytes of a run
 
@@ -53,7 +53,7 @@ kind_of b next = kind_by include.Elsewhere (Some b) next
 -- a byte of a run is a word byte, a sign, or a space before a plain byte
 abbrev IsRunByte : ℕ → Option ℕ → Type 0
 IsRunByte b next =
-    ((kind_of b next ≡ lexeme_kind.Word) × (is_word_byte b ≡ true) × ((b == space) ≡ false))
+    (is_word_byte b ≡ true)
     ⊎ (((kind_of b next ≡ lexeme_kind.Other) × (is_word_byte b ≡ false) × ((b == space) ≡ false))
     ⊎ ((b ≡ space) × (holds_plain next ≡ true)))
 
@@ -93,7 +93,7 @@ plain-byte b next h = by (is_word_byte b) refl (b == less_sign) refl
     open plain-tests b h use {white, quote, apostrophe, slash, at_sign, space}
 
     by : (w : Bool) → is_word_byte b ≡ w → (l : Bool) → (b == less_sign) ≡ l → IsRunByte b next
-    by true w l k = inl (word-kind b next w, w, space)
+    by true w l k = inl w
     by false w true k = inr (inl (rw (at_sign, slash, quote, apostrophe, k) refl, w, space))
     by false w false k = inr (inl (rw (at_sign, slash, quote, apostrophe, k, white, w) refl, w, space))
 
@@ -136,13 +136,12 @@ front-take (suc n) c bs h = h
 
 -- the bytes of a run, one by one
 
-run-taken : (b : ℕ) (bs : List ℕ) → is_in_run b (slice_get bs 0) ≡ true
-    → take (run_size (b ∷ bs)) (b ∷ bs) ≡ b ∷ take (run_size bs) bs
-run-taken b bs h = rw (h, one-more (run_size bs)) refl
+run-grows : (b : ℕ) (bs : List ℕ) → is_in_run b (slice_get bs 0) ≡ true → run_size (b ∷ bs) ≡ suc (run_size bs)
+run-grows b bs h = rw h (one-more (run_size bs))
 
 word-taken : (b : ℕ) (bs : List ℕ) → is_word_byte b ≡ true
     → take (run_size (b ∷ bs)) (b ∷ bs) ≡ b ∷ take (run_size bs) bs
-word-taken b bs word = run-taken b bs (rw (word-plain b word) refl)
+word-taken b bs word = ap (λ n. take n (b ∷ bs)) (run-grows b bs (rw (word-plain b word) refl))
 
 -- regions that end at once
 
@@ -166,11 +165,6 @@ abbrev pub in_part : ℕ → ℕ → LexerState
 in_part occurrences last =
     record { occurrences = occurrences; last_line = last; mode = mode.CPart; include = include.Elsewhere }
 
-lexeme-here : (s : LexerState) (text : List Cell) (kind : LexemeKind)
-    → s.mode ≡ mode.CPart → kind_at s.include text ≡ kind → lexeme s text ≡ c_lexeme kind s text
-unfolding lexeme
-lexeme-here s text kind m h = ap (λ x. lexeme_in x s text) m ∙ ap (λ x. c_lexeme x s text) h
-
 -- these tokens are read from a text on, and no occurrences, up to the front of `rest`
 pub record Reads (s : LexerState) (text : List Cell) (ts : List Token) (rest : List Cell) : Type 0 where
   pub tokens : tokens_from s text ≡ ts ++ tokens_from s rest
@@ -192,10 +186,10 @@ lexeme-reads s text here inside is none after =
           ∙ ap (λ t. occurrences_from t rest) after));
     }
 
-reads-cons : (s : LexerState) (text : List Cell) (t : Token) (mid : List Cell) (ts : List Token) (rest : List Cell)
-    → Reads s text (t ∷ []) mid → Reads s mid ts rest → Reads s text (t ∷ ts) rest
-reads-cons s text t mid ts rest first more = record {
-  tokens = first.tokens ∙ ap (λ us. t ∷ us) more.tokens;
+reads-cons : (s : LexerState) (text mid rest : List Cell) (t : Token) (ts us : List Token)
+    → us ≡ t ∷ ts → Reads s text (t ∷ []) mid → Reads s mid ts rest → Reads s text us rest
+reads-cons s text mid rest t ts us is first more = record {
+  tokens = first.tokens ∙ (ap (λ vs. t ∷ vs) more.tokens ∙ ap (λ vs. vs ++ tokens_from s rest) (sym is));
   occurrences = first.occurrences ∙ more.occurrences;
 }
 
@@ -206,179 +200,6 @@ end_of _ = 0
 more_of : List Token → List Token
 more_of [] = []
 more_of (t ∷ ts) = ts
-
-module _ (occurrences last line : ℕ) (rest : List Cell) where
-  abbrev here : LexerState
-  here = in_part occurrences last
-
-  -- the text of the line from a column on, where these are its bytes
-  abbrev at : ℕ → List ℕ → List Cell
-  at column bs = line_text line column bs ++ rest
-
-  abbrev tokens_of : ℕ → List ℕ → List Token
-  tokens_of column bs = map part_token (parts_of line column (chunks bs))
-
-  kind-at : (column b : ℕ) (bs : List ℕ) → kind_at include.Elsewhere (at column (b ∷ bs)) ≡ kind_of b (slice_get bs 0)
-  kind-at column b bs = ap (kind_of b) (front-byte line (column + 1) bs rest)
-
-  inside : (column b : ℕ) (bs : List ℕ) → 0 < length (at column (b ∷ bs))
-  inside column b bs = omega arith
-
-  -- a word is read
-  word-reads : (column b : ℕ) (bs : List ℕ) → kind_of b (slice_get bs 0) ≡ lexeme_kind.Word →
-      Reads here (at column (b ∷ bs))
-      (token.Span span_kind.Word (span_at (1 + count_before region.Word (at (column + 1) bs)) (at column (b ∷ bs)))
-      ∷ [])
-      (drop (count_before region.Word (at (column + 1) bs)) (at (column + 1) bs))
-  word-reads column b bs kind =
-      let text = at column (b ∷ bs) in
-      lexeme-reads here text (c_lexeme lexeme_kind.Word here text) (inside column b bs)
-      (lexeme-here here text lexeme_kind.Word refl (kind-at column b bs ∙ kind)) refl refl
-
-  sign-continues : (column b : ℕ) (bs xs : List ℕ) (after : List Cell)
-      → kind_of b (slice_get bs 0) ≡ lexeme_kind.Other → is_word_byte b ≡ false → (b == space) ≡ false
-      → Reads here (at (column + 1) bs) (tokens_of (column + 1) xs) after
-      → Reads here (at column (b ∷ bs)) (tokens_of column (b ∷ xs)) after
-  sign-continues column b bs xs after kind no_word no_space more =
-      let text = at column (b ∷ bs) in
-      let sign : Token = token.Span span_kind.Sign (record { line = line; start = column; end = column + 1 }) in
-      let first : Reads here text (sign ∷ []) (at (column + 1) bs)
-      = lexeme-reads here text (c_lexeme lexeme_kind.Other here text) (inside column b bs)
-      (lexeme-here here text lexeme_kind.Other refl (kind-at column b bs ∙ kind)) refl refl in
-      let parts : tokens_of column (b ∷ xs) ≡ sign ∷ tokens_of (column + 1) xs
-      = rw (alone-chunk b (chunks xs) no_word, no_space, no_word) refl in
-      subst (λ ts. Reads here text ts after) (sym parts)
-      (reads-cons here text sign (at (column + 1) bs) (tokens_of (column + 1) xs) after first more)
-
-  space-continues : (column : ℕ) (bs xs : List ℕ) (after : List Cell) → holds_plain (slice_get bs 0) ≡ true
-      → Reads here (at (column + 1) bs) (tokens_of (column + 1) xs) after
-      → Reads here (at column (space ∷ bs)) (tokens_of column (space ∷ xs)) after
-  space-continues column bs xs after plain more =
-      let text = at column (space ∷ bs) in
-      let next = at (column + 1) bs in
-      let none : count_before region.White next ≡ 0
-      = white-stop next (ap holds_plain (front-byte line (column + 1) bs rest) ∙ plain) in
-      let first : Reads here text (token.White ∷ []) (drop (count_before region.White next) next)
-      = lexeme-reads here text (c_lexeme lexeme_kind.White here text) (inside column space bs)
-      (lexeme-here here text lexeme_kind.White refl (kind-at column space bs)) refl refl in
-      let parts : tokens_of column (space ∷ xs) ≡ token.White ∷ tokens_of (column + 1) xs
-      = rw (alone-chunk space (chunks xs) refl) refl in
-      subst (λ ts. Reads here text ts after) (sym parts)
-      (reads-cons here text token.White next (tokens_of (column + 1) xs) after
-      (subst (λ n. Reads here text (token.White ∷ []) (drop n next)) none first) more)
-
-  word-continues : (column b : ℕ) (bs xs : List ℕ) (after : List Cell)
-      → kind_of b (slice_get bs 0) ≡ lexeme_kind.Word → is_word_byte b ≡ true
-      → holds_word_byte (slice_get bs 0) ≡ false → holds_word_byte (slice_get xs 0) ≡ false
-      → Reads here (at (column + 1) bs) (tokens_of (column + 1) xs) after
-      → Reads here (at column (b ∷ bs)) (tokens_of column (b ∷ xs)) after
-  word-continues column b bs xs after kind word other first_other more =
-      let text = at column (b ∷ bs) in
-      let next = at (column + 1) bs in
-      let none : count_before region.Word next ≡ 0
-      = word-stop next (ap holds_word_byte (front-byte line (column + 1) bs rest) ∙ other) in
-      let this : Token = token.Span span_kind.Word (record { line = line; start = column; end = column + 1 }) in
-      let first : Reads here text (this ∷ []) next
-      = subst (λ n. Reads here text (token.Span span_kind.Word (span_at (1 + n) text) ∷ []) (drop n next)) none
-      (word-reads column b bs kind) in
-      let parts : tokens_of column (b ∷ xs) ≡ this ∷ tokens_of (column + 1) xs
-      = rw (alone-before b xs word first_other, part-word line column b [] word) refl in
-      subst (λ ts. Reads here text ts after) (sym parts)
-      (reads-cons here text this next (tokens_of (column + 1) xs) after first more)
-
-  -- a word byte before another belongs to the word of that
-  word-joins : (column b c : ℕ) (bs xs : List ℕ) (after : List Cell)
-      → is_word_byte b ≡ true → is_word_byte c ≡ true
-      → Reads here (at (column + 1) (c ∷ bs)) (tokens_of (column + 1) (c ∷ xs)) after
-      → Reads here (at column (b ∷ c ∷ bs)) (tokens_of column (b ∷ c ∷ xs)) after
-  unfolding end_of more_of
-  word-joins column b c bs xs after word next_word more =
-      let text = at column (b ∷ c ∷ bs) in
-      let next = at (column + 1) (c ∷ bs) in
-      let past = at (column + 1 + 1) bs in
-      let n : ℕ = count_before region.Word past in
-      let counts : count_before region.Word next ≡ 1 + n
-      = count-one region.Word (record { line = line; column = column + 1; byte = Some c }) past (rw next_word refl) in
-      let first = word-reads column b (c ∷ bs) (word-kind b (Some c) word) in
-      let second = word-reads (column + 1) c bs (word-kind c (slice_get bs 0) next_word) in
-      let chunk = front-chunk c xs in
-      let zs : List ℕ = chunk.0 in
-      let others = map part_token (parts_of line (column + 1 + length (c ∷ zs)) chunk.1) in
-      let next_parts : tokens_of (column + 1) (c ∷ xs)
-      ≡ token.Span span_kind.Word
-      (record { line = line; start = column + 1; end = column + 1 + length (c ∷ zs) }) ∷ others
-      = rw (chunk.2, part-word line (column + 1) c zs next_word) refl in
-      let both = sym second.tokens ∙ (more.tokens ∙ ap (λ ts. ts ++ tokens_from here after) next_parts) in
-      let ends : column + 1 + (1 + n) ≡ column + 1 + length (c ∷ zs) = ap end_of both in
-      let rests : tokens_from here (drop n past) ≡ others ++ tokens_from here after = ap more_of both in
-      let this : Token = token.Span span_kind.Word
-      (record { line = line; start = column; end = column + length (b ∷ c ∷ zs) }) in
-      let column_is : column + length (b ∷ c ∷ zs) ≡ column + 1 + length (c ∷ zs) = omega arith in
-      let parts : tokens_of column (b ∷ c ∷ xs) ≡ this ∷ others
-      = rw (chunk.2, word, next_word, part-word line column b (c ∷ zs) word)
-      (ap (λ k. this ∷ map part_token (parts_of line k chunk.1)) column_is) in
-      let size_is : 1 + count_before region.Word next ≡ length (b ∷ c ∷ zs) = omega (arith, counts, ends) in
-      let past_is : drop (count_before region.Word next) next ≡ drop n past
-      = ap (λ k. drop k next) (counts ∙ one-more n) in
-      record {
-        tokens =
-            first.tokens
-            ∙ (ap (λ k. token.Span span_kind.Word (record { line = line; start = column; end = column + k })
-            ∷ tokens_from here (drop (count_before region.Word next) next)) size_is
-            ∙ (ap (λ t. this ∷ tokens_from here t) past_is ∙ (ap (λ ts. this ∷ ts) rests
-            ∙ ap (λ ts. ts ++ tokens_from here after) (sym parts))));
-        occurrences =
-            first.occurrences
-            ∙ (ap (occurrences_from here) past_is ∙ (sym second.occurrences ∙ more.occurrences));
-      }
-
-  -- a word byte of a run
-  word-reads-on : (column b : ℕ) (bs : List ℕ) → is_word_byte b ≡ true
-      → Reads here (at (column + 1) bs) (tokens_of (column + 1) (take (run_size bs) bs))
-      (drop (run_size bs) (at (column + 1) bs))
-      → Reads here (at column (b ∷ bs)) (tokens_of column (b ∷ take (run_size bs) bs))
-      (drop (run_size bs) (at (column + 1) bs))
-  word-reads-on column b [] word more =
-      word-continues column b [] [] (at (column + 1) []) (word-kind b None word) word refl refl more
-  word-reads-on column b (c ∷ bs) word more = by (is_word_byte c) refl
-    where
-      after : List Cell
-      after = drop (run_size (c ∷ bs)) (at (column + 1) (c ∷ bs))
-
-      by : (w : Bool) → is_word_byte c ≡ w
-          → Reads here (at column (b ∷ c ∷ bs)) (tokens_of column (b ∷ take (run_size (c ∷ bs)) (c ∷ bs))) after
-      by true next_word =
-          let xs = word-taken c bs next_word in
-          subst (λ ys. Reads here (at column (b ∷ c ∷ bs)) (tokens_of column (b ∷ ys)) after) (sym xs)
-          (word-joins column b c bs (take (run_size bs) bs) after word next_word
-          (subst (λ ys. Reads here (at (column + 1) (c ∷ bs)) (tokens_of (column + 1) ys) after) xs more))
-      by false other =
-          word-continues column b (c ∷ bs) (take (run_size (c ∷ bs)) (c ∷ bs)) after
-          (word-kind b (Some c) word) word other (front-take (run_size (c ∷ bs)) c bs other) more
-
-  -- the run at the front is read
-  pub run-reads : (column : ℕ) (bs : List ℕ)
-      → Reads here (at column bs) (tokens_of column (take (run_size bs) bs)) (drop (run_size bs) (at column bs))
-  run-reads column [] = record { tokens = refl; occurrences = refl }
-  run-reads column (b ∷ bs) = by (is_in_run b (slice_get bs 0)) refl (run-reads (column + 1) bs)
-    where
-      by : (r : Bool) → is_in_run b (slice_get bs 0) ≡ r
-          → Reads here (at (column + 1) bs) (tokens_of (column + 1) (take (run_size bs) bs))
-          (drop (run_size bs) (at (column + 1) bs))
-          → Reads here (at column (b ∷ bs)) (tokens_of column (take (run_size (b ∷ bs)) (b ∷ bs)))
-          (drop (run_size (b ∷ bs)) (at column (b ∷ bs)))
-      by false h more = rw h (record { tokens = refl; occurrences = refl })
-      by true h more = rw (h, one-more (run_size bs)) (elim (run-byte b (slice_get bs 0) h) [
-        | inl word ↦ word-reads-on column b bs word.1 more
-        | inr other ↦
-            elim other [
-              | inl sign ↦ sign-continues column b bs (take (run_size bs) bs) _ sign.0 sign.1 sign.2 more
-              | inr spaces ↦
-                  subst (λ x. Reads here (at column (x ∷ bs)) (tokens_of column (x ∷ take (run_size bs) bs))
-                  (drop (run_size bs) (at (column + 1) bs))) (sym spaces.0)
-                  (space-continues column bs (take (run_size bs) bs) _ spaces.1 more)
-            ]
-      ])
 
 -- single spaces
 
@@ -397,71 +218,187 @@ pub plain-begins : (bs : List ℕ) → holds_plain (slice_get bs 0) ≡ true →
 plain-begins [] h = cc
 plain-begins (b ∷ bs) h = (rw h refl, (plain-tests b h).space)
 
-sign-single : (line column b : ℕ) (bs xs : List ℕ) → is_word_byte b ≡ false → (b == space) ≡ false
-    → HasSingle line (column + 1) bs xs → HasSingle line column (b ∷ bs) (b ∷ xs)
-sign-single line column b bs xs no_word no_space more before h =
-    rw (alone-chunk b (chunks xs) no_word, no_space, no_word) (more false (λ e. cc))
-
-space-single : (line column : ℕ) (bs xs : List ℕ) → holds_plain (slice_get bs 0) ≡ true
-    → HasSingle line (column + 1) bs xs → HasSingle line column (space ∷ bs) (space ∷ xs)
-space-single line column bs xs plain more true h = let never = (h refl).1 in cc
-space-single line column bs xs plain more false h =
-    rw (alone-chunk space (chunks xs) refl) (more true (λ e. plain-begins bs plain))
-
-word-single : (line column b : ℕ) (bs xs : List ℕ) → is_word_byte b ≡ true
-    → holds_word_byte (slice_get xs 0) ≡ false
-    → HasSingle line (column + 1) bs xs → HasSingle line column (b ∷ bs) (b ∷ xs)
-word-single line column b bs xs word other more before h =
-    rw (alone-before b xs word other, part-word line column b [] word) (more false (λ e. cc))
-
-joined-single : (line column b c : ℕ) (bs xs : List ℕ) → is_word_byte b ≡ true → is_word_byte c ≡ true
-    → HasSingle line (column + 1) (c ∷ bs) (c ∷ xs) → HasSingle line column (b ∷ c ∷ bs) (b ∷ c ∷ xs)
-joined-single line column b c bs xs word next_word more before h =
-    let chunk = front-chunk c xs in
-    let column_is : column + length (b ∷ c ∷ chunk.0) ≡ column + 1 + length (c ∷ chunk.0) = omega arith in
-    let others : has_single_spaces false (parts_of line (column + 1 + length (c ∷ chunk.0)) chunk.1) ≡ true
-    = rw (chunk.2, part-word line (column + 1) c chunk.0 next_word) at (more false (λ e. cc)) in
-    rw (chunk.2, word, next_word, part-word line column b (c ∷ chunk.0) word, column_is) others
-
-word-goes-single : (line column b : ℕ) (bs : List ℕ) → is_word_byte b ≡ true
-    → HasSingle line (column + 1) bs (take (run_size bs) bs)
-    → HasSingle line column (b ∷ bs) (b ∷ take (run_size bs) bs)
-word-goes-single line column b [] word more = word-single line column b [] [] word refl more
-word-goes-single line column b (c ∷ bs) word more = by (is_word_byte c) refl
-  where
-    by : (w : Bool) → is_word_byte c ≡ w
-        → HasSingle line column (b ∷ c ∷ bs) (b ∷ take (run_size (c ∷ bs)) (c ∷ bs))
-    by true next_word =
-        let xs = word-taken c bs next_word in
-        subst (λ ys. HasSingle line column (b ∷ c ∷ bs) (b ∷ ys)) (sym xs)
-        (joined-single line column b c bs (take (run_size bs) bs) word next_word
-        (subst (HasSingle line (column + 1) (c ∷ bs)) xs more))
-    by false other =
-        word-single line column b (c ∷ bs) (take (run_size (c ∷ bs)) (c ∷ bs)) word
-        (front-take (run_size (c ∷ bs)) c bs other) more
-
 nothing-single : (line column : ℕ) (bs : List ℕ) → (BeginsRun bs → ⊥) → HasSingle line column bs []
 nothing-single line column bs not true h = absurd (not (h refl))
 nothing-single line column bs not false h = refl
 
-pub run-single : (line column : ℕ) (bs : List ℕ) → HasSingle line column bs (take (run_size bs) bs)
-run-single line column [] = nothing-single line column [] (λ h. h)
-run-single line column (b ∷ bs) = by (is_in_run b (slice_get bs 0)) refl (run-single line (column + 1) bs)
-  where
-    by : (r : Bool) → is_in_run b (slice_get bs 0) ≡ r → HasSingle line (column + 1) bs (take (run_size bs) bs)
-        → HasSingle line column (b ∷ bs) (take (run_size (b ∷ bs)) (b ∷ bs))
-    by true h more =
-        subst (HasSingle line column (b ∷ bs)) (sym (run-taken b bs h)) (elim (run-byte b (slice_get bs 0) h) [
-          | inl word ↦ word-goes-single line column b bs word.1 more
-          | inr other ↦
-              elim other [
-                | inl sign ↦ sign-single line column b bs (take (run_size bs) bs) sign.1 sign.2 more
-                | inr spaces ↦
-                    subst (λ x. HasSingle line column (x ∷ bs) (x ∷ take (run_size bs) bs)) (sym spaces.0)
-                    (space-single line column bs (take (run_size bs) bs) spaces.1 more)
-              ]
-        ])
-    by false h more =
-        let none : take (run_size (b ∷ bs)) (b ∷ bs) ≡ [] = rw h refl in
-        subst (HasSingle line column (b ∷ bs)) (sym none) (nothing-single line column (b ∷ bs)
-        (λ begins. let never : false ≡ true = sym h ∙ begins.0 in cc))
+module _ (occurrences last line : ℕ) (rest : List Cell) where
+  abbrev here : LexerState
+  here = in_part occurrences last
+
+  -- the text of the line from a column on, where these are its bytes
+  abbrev at : ℕ → List ℕ → List Cell
+  at column bs = line_text line column bs ++ rest
+
+  abbrev tokens_of : ℕ → List ℕ → List Token
+  tokens_of column bs = map part_token (parts_of line column (chunks bs))
+
+  -- these bytes of a run are read, and their parts have single spaces
+  abbrev Goes : ℕ → List ℕ → List ℕ → List Cell → Type 0
+  Goes column bs xs after = Reads here (at column bs) (tokens_of column xs) after × HasSingle line column bs xs
+
+  kind-at : (column b : ℕ) (bs : List ℕ) → kind_at include.Elsewhere (at column (b ∷ bs)) ≡ kind_of b (slice_get bs 0)
+  kind-at column b bs = ap (kind_of b) (front-byte line (column + 1) bs rest)
+
+  inside : (column b : ℕ) (bs : List ℕ) → 0 < length (at column (b ∷ bs))
+  inside column b bs = omega arith
+
+  -- a word is read
+  word-reads : (column b : ℕ) (bs : List ℕ) → is_word_byte b ≡ true →
+      Reads here (at column (b ∷ bs))
+      (token.Span span_kind.Word (span_at (1 + count_before region.Word (at (column + 1) bs)) (at column (b ∷ bs)))
+      ∷ [])
+      (drop (count_before region.Word (at (column + 1) bs)) (at (column + 1) bs))
+  word-reads column b bs word =
+      let text = at column (b ∷ bs) in
+      lexeme-reads here text (c_lexeme lexeme_kind.Word here text) (inside column b bs)
+      (lexeme-here here text lexeme_kind.Word refl (kind-at column b bs ∙ word-kind b (slice_get bs 0) word)) refl refl
+
+  sign-continues : (column b : ℕ) (bs xs : List ℕ) (after : List Cell)
+      → kind_of b (slice_get bs 0) ≡ lexeme_kind.Other → is_word_byte b ≡ false → (b == space) ≡ false
+      → Goes (column + 1) bs xs after → Goes column (b ∷ bs) (b ∷ xs) after
+  sign-continues column b bs xs after kind no_word no_space more =
+      let text = at column (b ∷ bs) in
+      let sign : Token = token.Span span_kind.Sign (record { line = line; start = column; end = column + 1 }) in
+      let first : Reads here text (sign ∷ []) (at (column + 1) bs)
+      = lexeme-reads here text (c_lexeme lexeme_kind.Other here text) (inside column b bs)
+      (lexeme-here here text lexeme_kind.Other refl (kind-at column b bs ∙ kind)) refl refl in (
+        reads-cons here text (at (column + 1) bs) after sign (tokens_of (column + 1) xs) (tokens_of column (b ∷ xs))
+            (rw (alone-chunk b (chunks xs) no_word, no_space, no_word) refl) first more.0,
+        λ before h. rw (alone-chunk b (chunks xs) no_word, no_space, no_word) (more.1 false (λ e. cc)),
+      )
+
+  space-continues : (column : ℕ) (bs xs : List ℕ) (after : List Cell) → holds_plain (slice_get bs 0) ≡ true
+      → Goes (column + 1) bs xs after → Goes column (space ∷ bs) (space ∷ xs) after
+  space-continues column bs xs after plain more =
+      let text = at column (space ∷ bs) in
+      let next = at (column + 1) bs in
+      let none : count_before region.White next ≡ 0
+      = white-stop next (ap holds_plain (front-byte line (column + 1) bs rest) ∙ plain) in
+      let first : Reads here text (token.White ∷ []) (drop (count_before region.White next) next)
+      = lexeme-reads here text (c_lexeme lexeme_kind.White here text) (inside column space bs)
+      (lexeme-here here text lexeme_kind.White refl (kind-at column space bs)) refl refl in (
+        reads-cons here text next after token.White (tokens_of (column + 1) xs) (tokens_of column (space ∷ xs))
+            (rw (alone-chunk space (chunks xs) refl) refl)
+            (subst (λ n. Reads here text (token.White ∷ []) (drop n next)) none first) more.0,
+        single,
+      )
+    where
+      single : HasSingle line column (space ∷ bs) (space ∷ xs)
+      single true h = let never = (h refl).1 in cc
+      single false h = rw (alone-chunk space (chunks xs) refl) (more.1 true (λ e. plain-begins bs plain))
+
+  word-continues : (column b : ℕ) (bs xs : List ℕ) (after : List Cell) → is_word_byte b ≡ true
+      → holds_word_byte (slice_get bs 0) ≡ false → holds_word_byte (slice_get xs 0) ≡ false
+      → Goes (column + 1) bs xs after → Goes column (b ∷ bs) (b ∷ xs) after
+  word-continues column b bs xs after word other first_other more =
+      let text = at column (b ∷ bs) in
+      let next = at (column + 1) bs in
+      let none : count_before region.Word next ≡ 0
+      = word-stop next (ap holds_word_byte (front-byte line (column + 1) bs rest) ∙ other) in
+      let this : Token = token.Span span_kind.Word (record { line = line; start = column; end = column + 1 }) in
+      let first : Reads here text (this ∷ []) next
+      = subst (λ n. Reads here text (token.Span span_kind.Word (span_at (1 + n) text) ∷ []) (drop n next)) none
+      (word-reads column b bs word) in (
+        reads-cons here text next after this (tokens_of (column + 1) xs) (tokens_of column (b ∷ xs))
+            (rw (alone-before b xs word first_other, part-word line column b [] word) refl) first more.0,
+        λ before h. rw (alone-before b xs word first_other, part-word line column b [] word) (more.1 false (λ e. cc)),
+      )
+
+  -- a word byte before another belongs to the word of that
+  word-joins : (column b c : ℕ) (bs xs : List ℕ) (after : List Cell)
+      → is_word_byte b ≡ true → is_word_byte c ≡ true
+      → Goes (column + 1) (c ∷ bs) (c ∷ xs) after → Goes column (b ∷ c ∷ bs) (b ∷ c ∷ xs) after
+  unfolding end_of more_of
+  word-joins column b c bs xs after word next_word more =
+      let text = at column (b ∷ c ∷ bs) in
+      let next = at (column + 1) (c ∷ bs) in
+      let past = at (column + 1 + 1) bs in
+      let n : ℕ = count_before region.Word past in
+      let counts : count_before region.Word next ≡ 1 + n
+      = count-one region.Word (record { line = line; column = column + 1; byte = Some c }) past (rw next_word refl) in
+      let first = word-reads column b (c ∷ bs) word in
+      let second = word-reads (column + 1) c bs next_word in
+      let chunk = front-chunk c xs in
+      let zs : List ℕ = chunk.0 in
+      let others = map part_token (parts_of line (column + 1 + length (c ∷ zs)) chunk.1) in
+      let next_parts : tokens_of (column + 1) (c ∷ xs)
+      ≡ token.Span span_kind.Word
+      (record { line = line; start = column + 1; end = column + 1 + length (c ∷ zs) }) ∷ others
+      = rw (chunk.2, part-word line (column + 1) c zs next_word) refl in
+      let both = sym second.tokens ∙ (more.0.tokens ∙ ap (λ ts. ts ++ tokens_from here after) next_parts) in
+      let ends : column + 1 + (1 + n) ≡ column + 1 + length (c ∷ zs) = ap end_of both in
+      let rests : tokens_from here (drop n past) ≡ others ++ tokens_from here after = ap more_of both in
+      let this : Token = token.Span span_kind.Word
+      (record { line = line; start = column; end = column + length (b ∷ c ∷ zs) }) in
+      let column_is : column + length (b ∷ c ∷ zs) ≡ column + 1 + length (c ∷ zs) = omega arith in
+      let parts : tokens_of column (b ∷ c ∷ xs) ≡ this ∷ others
+      = rw (chunk.2, word, next_word, part-word line column b (c ∷ zs) word)
+      (ap (λ k. this ∷ map part_token (parts_of line k chunk.1)) column_is) in
+      let size_is : 1 + count_before region.Word next ≡ length (b ∷ c ∷ zs) = omega (arith, counts, ends) in
+      let past_is : drop (count_before region.Word next) next ≡ drop n past
+      = ap (λ k. drop k next) (counts ∙ one-more n) in
+      let single : has_single_spaces false (parts_of line (column + 1 + length (c ∷ zs)) chunk.1) ≡ true
+      = rw (chunk.2, part-word line (column + 1) c zs next_word) at (more.1 false (λ e. cc)) in (
+        record {
+          tokens =
+              first.tokens
+              ∙ (ap (λ k. token.Span span_kind.Word (record { line = line; start = column; end = column + k })
+              ∷ tokens_from here (drop (count_before region.Word next) next)) size_is
+              ∙ (ap (λ t. this ∷ tokens_from here t) past_is ∙ (ap (λ ts. this ∷ ts) rests
+              ∙ ap (λ ts. ts ++ tokens_from here after) (sym parts))));
+          occurrences =
+              first.occurrences
+              ∙ (ap (occurrences_from here) past_is ∙ (sym second.occurrences ∙ more.0.occurrences));
+        },
+        λ before h. rw (chunk.2, word, next_word, part-word line column b (c ∷ zs) word, column_is) single,
+      )
+
+  -- a word byte of a run
+  word-goes : (column b : ℕ) (bs : List ℕ) → is_word_byte b ≡ true
+      → Goes (column + 1) bs (take (run_size bs) bs) (drop (run_size bs) (at (column + 1) bs))
+      → Goes column (b ∷ bs) (b ∷ take (run_size bs) bs) (drop (run_size bs) (at (column + 1) bs))
+  word-goes column b [] word more = word-continues column b [] [] (at (column + 1) []) word refl refl more
+  word-goes column b (c ∷ bs) word more = by (is_word_byte c) refl
+    where
+      after : List Cell
+      after = drop (run_size (c ∷ bs)) (at (column + 1) (c ∷ bs))
+
+      by : (w : Bool) → is_word_byte c ≡ w → Goes column (b ∷ c ∷ bs) (b ∷ take (run_size (c ∷ bs)) (c ∷ bs)) after
+      by true next_word =
+          let xs = word-taken c bs next_word in
+          subst (λ ys. Goes column (b ∷ c ∷ bs) (b ∷ ys) after) (sym xs)
+          (word-joins column b c bs (take (run_size bs) bs) after word next_word
+          (subst (λ ys. Goes (column + 1) (c ∷ bs) ys after) xs more))
+      by false other =
+          word-continues column b (c ∷ bs) (take (run_size (c ∷ bs)) (c ∷ bs)) after
+          word other (front-take (run_size (c ∷ bs)) c bs other) more
+
+  -- the run at the front is read
+  pub run-goes : (column : ℕ) (bs : List ℕ) → Goes column bs (take (run_size bs) bs) (drop (run_size bs) (at column bs))
+  run-goes column [] = (record { tokens = refl; occurrences = refl }, nothing-single line column [] (λ h. h))
+  run-goes column (b ∷ bs) = by (is_in_run b (slice_get bs 0)) refl (run-goes (column + 1) bs)
+    where
+      first : ℕ → Type 0
+      first n = Goes column (b ∷ bs) (take n (b ∷ bs)) (drop n (at column (b ∷ bs)))
+
+      by : (r : Bool) → is_in_run b (slice_get bs 0) ≡ r
+          → Goes (column + 1) bs (take (run_size bs) bs) (drop (run_size bs) (at (column + 1) bs))
+          → first (run_size (b ∷ bs))
+      by false h more =
+          let none : run_size (b ∷ bs) ≡ 0 = rw h refl in
+          let never = λ (begins : BeginsRun (b ∷ bs)). let no : false ≡ true = sym h ∙ begins.0 in false≢true no in
+          subst first (sym none)
+          (record { tokens = refl; occurrences = refl }, nothing-single line column (b ∷ bs) never)
+      by true h more =
+          subst first (sym (run-grows b bs h)) (elim (run-byte b (slice_get bs 0) h) [
+            | inl word ↦ word-goes column b bs word more
+            | inr other ↦
+                elim other [
+                  | inl sign ↦ sign-continues column b bs (take (run_size bs) bs) _ sign.0 sign.1 sign.2 more
+                  | inr spaces ↦
+                      subst (λ x. Goes column (x ∷ bs) (x ∷ take (run_size bs) bs)
+                      (drop (run_size bs) (at (column + 1) bs))) (sym spaces.0)
+                      (space-continues column bs (take (run_size bs) bs) _ spaces.1 more)
+                ]
+          ])

@@ -34,12 +34,9 @@ lexeme-simple s text p here h = go s.mode h
     alike simple.White = refl
     alike _ = refl
 
-    not-true : false ≡ true → ⊥
-    not-true h = cc
-
     go : (m : Mode) → is_c_text m ≡ true → lexeme_in m s text ≡ c_lexeme (simple_kind p) s text
-    go mode.Limbo h = absurd (not-true h)
-    go mode.Documentation h = absurd (not-true h)
+    go mode.Limbo h = cc
+    go mode.Documentation h = cc
     go mode.CPart h = ap (λ k. c_lexeme k s text) (here.lexeme_kind s.include)
     go mode.Macro h = ap (λ k. macro_lexeme k s text) (here.lexeme_kind s.include) ∙ alike p
 

@@ -3,14 +3,22 @@ use Rattle.std.proofs.Common.{◌≡◌, ◌<◌, ◌+◌, ℕ, zero, suc, List,
 use Rattle.std.proofs.Common.{Some, None, option_to_list, refl, ap, ◌∙◌, arith, append_assoc, length-drop}
 use Rattle.std.proofs.lemmas.List.{length_push}
 use Rattle.tangle_lines.specs.Reading.{SourceLine}
+use Rattle.tangle_lexer.specs.declared.modes.Mode.TheVariants as mode
 use Rattle.tangle_lexer.specs.declared.modes.LexerState.{LexerState}
+use Rattle.tangle_lexer.specs.declared.lexeme_kinds.LexemeKind.{LexemeKind}
 use Rattle.tangle_lexer.specs.declared.tokens.Token.{Token}
 use Rattle.tangle_text.specs.Text.{Cell}
 use Rattle.tangle_lexer.specs.Lexemes.{Lexeme, OccurrenceOnLine}
-use Rattle.tangle_lexer.specs.Steps.{lexeme, lexemes, tokens_from, occurrences_from}
+use Rattle.tangle_lexer.specs.Steps.{kind_at, c_lexeme, lexeme_in, lexeme, lexemes, tokens_from, occurrences_from}
 use Rattle.tangle_lexer.specs.Occurrences.{OccurrenceRead, occurrence_of}
 use Rattle.tangle_lexer.specs.Reads.{IsRead, AddsOccurrence}
 use Rattle.tangle_lexer.proofs.lemmas.OccurrencesCounted.{lexeme-keeps}
+
+-- a lexeme of a C part is that of its kind
+pub lexeme-here : (s : LexerState) (text : List Cell) (kind : LexemeKind)
+    → s.mode ≡ mode.CPart → kind_at s.include text ≡ kind → lexeme s text ≡ c_lexeme kind s text
+unfolding lexeme
+lexeme-here s text kind m h = ap (λ x. lexeme_in x s text) m ∙ ap (λ x. c_lexeme x s text) h
 
 pub lexemes-drop : (k : ℕ) (s : LexerState) (text : List Cell) → lexemes k s text ≡ lexemes 0 s (drop k text)
 lexemes-drop zero s text = refl

@@ -2,6 +2,7 @@
 use Rattle.std.proofs.Common.{◌≡◌, ℕ, Bool, true, false, ◌&&◌, not, if◌then◌else◌, List, [], ◌∷◌, ◌++◌, flat_map}
 use Rattle.std.proofs.Common.{append_assoc}
 use Rattle.std.proofs.Common.{Option, Some, None, is_some, inl, inr, ◌⊎◌, refl, ap, ◌∙◌, subst}
+use Rattle.std.proofs.Math.Bool.{and-false}
 use Rattle.tangle_files.specs.Bytes.{space, line_feed}
 use Rattle.tangle_text.specs.Bytes.{backslash}
 use Rattle.tangle_lexer.specs.declared.tokens.Token.{Token}
@@ -9,9 +10,10 @@ use Rattle.tangle_lexer.specs.declared.tokens.Token.TheVariants as token
 use Rattle.tangle_lexer.specs.declared.tokens.SpanKind.TheVariants as span_kind
 use Rattle.tangle_scan.specs.Rules.{next_item, has_blank_at_line_end, is_name_part, macro_blanks, unmarked_items}
 use Rattle.tangle_scan.specs.MacroBytes.{without_end, macro_item_bytes, macro_bytes}
-use Rattle.tangle_scan.specs.Passes.{is_front_gap}
+use Rattle.tangle_scan.specs.Rules.{is_front_gap}
 use Rattle.tangle_scan.specs.Apart.{read_after, is_gap_read, needs_white, after_backslash, written_tokens}
 use Rattle.tangle_scan.specs.Apart.{token_bytes, AreReadApart, EndsMacro, IsVerbatim, IsMacroReadApart}
+use Rattle.tangle_scan.proofs.lemmas.RuleLemmas.{macro_blanks-item}
 use Rattle.tangle_scan.proofs.laws.MacroEnds.{items_from, end-items, EndsInItem, ends-before, written-ends}
 use Rattle.tangle_scan.proofs.laws.ApartReading.{IsSkipped, IsWhite, backslash-skipped, space-white, white-append}
 use Rattle.tangle_scan.proofs.laws.ApartReading.{skipped-append}
@@ -39,13 +41,8 @@ module _ (texts : List (List ℕ)) where
   item-text : (e : Token) (es : List Token) → is_front_gap e ≡ false
       → flat_map (macro_item_bytes texts) (unmarked_items (e ∷ es))
       ≡ bytes_of e ++ flat_map (macro_item_bytes texts) (unmarked_items es)
-  item-text token.White es item = cc
-  item-text (token.LineEnd line) es item = cc
   item-text (token.Span span_kind.Word s) es item = refl
-  item-text (token.Span span_kind.Sign s) es item = refl
-  item-text (token.Span span_kind.Quoted s) es item = refl
-  item-text (token.Span span_kind.Verbatim s) es item = refl
-  item-text _ es item = refl
+  item-text _ es item = cc
 
   -- the bytes of an item, and of a blank before it
   text-item : (in_name : Bool) (before : Option Token) (white : Bool) (e : Token) (es : List Token)
@@ -53,12 +50,11 @@ module _ (texts : List (List ℕ)) where
       → text_from in_name before white (e ∷ es)
       ≡ blank_bytes (is_some before && white)
       ++ (bytes_of e ++ text_from (in_name && not white && is_name_part e) (Some e) false es)
-  text-item in_name before white token.White es item = cc
-  text-item in_name before white (token.LineEnd line) es item = cc
   text-item in_name before white e es item =
       let rest = macro_blanks texts (in_name && not white && is_name_part e) (Some e) false es in
-      text-blank (is_some before && white) (e ∷ rest)
-      ∙ ap (λ bs. blank_bytes (is_some before && white) ++ bs) (item-text e rest item)
+      rw (macro_blanks-item texts in_name before white e es item)
+      (text-blank (is_some before && white) (e ∷ rest)
+      ∙ ap (λ bs. blank_bytes (is_some before && white) ++ bs) (item-text e rest item))
 
   -- The items of the tokens that follow are read apart, and the line feed at the end of the macro is read.
 
@@ -161,10 +157,6 @@ module _ (texts : List (List ℕ)) where
       none None h = refl
       none (Some b) h = h
 
-  no-name : (in_name : Bool) (e : Token) → (in_name && not true && is_name_part e) ≡ false
-  no-name true e = refl
-  no-name false e = refl
-
   reads-after_line_ends : (e : Token) (es : List Token)
       → is_front_gap e ≡ false → next_item (e ∷ es) ≡ Some e → ReadsOnLine es
       → ReadsAfterLineEnds (e ∷ es)
@@ -174,7 +166,7 @@ module _ (texts : List (List ℕ)) where
       (gap ++ (text_from false None white (e ∷ es) ++ line_feed ∷ [])) item
       (rw (text-item false None white e es item, append_assoc, append_assoc) refl)
       (gap-after_line_ends in_name before gap e es first is)
-      (rw (no-name in_name e) (next false false (Some e) ends))
+      (rw (and-false in_name) (next false false (Some e) ends))
 
   -- one more line end after line ends
   reads-more_line_ends : (line : ℕ) (es : List Token)

@@ -7,21 +7,22 @@ use Rattle.std.proofs.lemmas.Bool.{and_parts}
 use Rattle.std.proofs.Math.Bool.{and-true}
 use Rattle.tangle_files.specs.Bytes.{space, line_feed}
 use Rattle.tangle_text.specs.Bytes.{backslash}
-use Rattle.tangle_faults.specs.declared.faults.Origin.{Origin}
+use Rattle.tangle_lines.specs.declared.origin.Origin.{Origin}
 use Rattle.tangle_lines.specs.Reading.{SourceLine, origin_at}
 use Rattle.tangle_lexer.specs.declared.tokens.Token.{Token}
 use Rattle.tangle_lexer.specs.declared.tokens.Token.TheVariants as token
 use Rattle.tangle_lexer.specs.declared.tokens.SpanKind.TheVariants as span_kind
 use Rattle.tangle_scan.specs.declared.items.Item.{Item}
 use Rattle.tangle_scan.specs.Rules.{texts_of, span_text, ends_in_backslash, is_continued}
-use Rattle.tangle_scan.specs.Rules.{blanks, next_line, part_tokens, part_items}
+use Rattle.tangle_scan.specs.Rules.{is_front_gap, blanks, next_line, part_tokens, part_items}
 use Rattle.tangle_scan.specs.LineTruth.{is_expected}
 use Rattle.tangle_scan.proofs.lemmas.ItemsByOrigin.{items_by_origin, part_items-by_origin}
-use Rattle.tangle_scan.specs.Passes.{is_front_gap, counted_after_token}
+use Rattle.tangle_scan.specs.Passes.{counted_after_token}
 use Rattle.tangle_scan.specs.Apart.{read_after, is_gap_read, ends_line, is_backslash, read_tokens, needs_white}
 use Rattle.tangle_scan.specs.Apart.{after_backslash}
 use Rattle.tangle_scan.specs.Apart.{token_bytes, AreReadApart, EndsPiece, piece_item_bytes, IsPieceReadApart}
-use Rattle.tangle_scan.proofs.laws.ApartReading.{IsSkipped, IsWhite, backslash-skipped, line_feed-skipped, space-white}
+use Rattle.tangle_scan.proofs.lemmas.RuleLemmas.{blanks-item}
+use Rattle.tangle_scan.proofs.laws.ApartReading.{IsSkipped, IsWhite, backslash-skipped, space-white}
 use Rattle.tangle_scan.proofs.laws.ApartReading.{line_feed-white}
 use Rattle.tangle_scan.proofs.laws.ApartReading.{white-append, skipped-append, skipped-white, read-nothing}
 use Rattle.tangle_scan.proofs.laws.ApartReading.{skipped-reads}
@@ -62,13 +63,8 @@ module _ (lines : List SourceLine) (used : ℕ → List ℕ) (mark : Origin → 
       flat_map item_bytes (items_by_origin lines before counted (e ∷ es))
       ≡ bytes_of e
       ++ (mark_after e ++ flat_map item_bytes (items_by_origin lines (Some e) (counted_after_token lines counted e) es))
-  item-text before counted token.White es item = cc
-  item-text before counted (token.LineEnd line) es item = cc
   item-text before counted (token.Span span_kind.Word s) es item = refl
-  item-text before counted (token.Span span_kind.Sign s) es item = refl
-  item-text before counted (token.Span span_kind.Quoted s) es item = refl
-  item-text before counted (token.Span span_kind.Verbatim s) es item = refl
-  item-text before counted _ es item = refl
+  item-text before counted _ es item = cc
 
   -- the bytes of an item, and of a blank before it
   text-item : (before : Option Token) (white : Bool) (counted : Origin) (e : Token) (es : List Token)
@@ -76,19 +72,11 @@ module _ (lines : List SourceLine) (used : ℕ → List ℕ) (mark : Origin → 
       → text_from before white counted (e ∷ es)
       ≡ blank_bytes (is_some before && white)
       ++ (bytes_of e ++ (mark_after e ++ text_from (Some e) false (counted_after_token lines counted e) es))
-  text-item before white counted token.White es item = cc
-  text-item before white counted (token.LineEnd line) es item = cc
   text-item before white counted e es item =
       let rest = blanks texts (Some e) false es in
-      text-blank before counted (is_some before && white) (e ∷ rest)
-      ∙ ap (λ bs. blank_bytes (is_some before && white) ++ bs) (item-text before counted e rest item)
-
-  -- the bytes at the end of a continued line
-  text-continued : (before : Option Token) (white : Bool) (counted : Origin) (line : ℕ) (es : List Token)
-      → is_continued texts before ≡ true
-      → text_from before white counted (token.LineEnd line ∷ es)
-      ≡ line_feed ∷ text_from (Some (token.LineEnd line)) false (next_line counted) es
-  text-continued before white counted line es continued = rw continued refl
+      rw (blanks-item texts before white e es item)
+      (text-blank before counted (is_some before && white) (e ∷ rest)
+      ∙ ap (λ bs. blank_bytes (is_some before && white) ++ bs) (item-text before counted e rest item))
 
   -- the bytes at the end of a line that is not continued: a line feed or a mark
   record AtLineEnd (before : Option Token) (white : Bool) (counted : Origin) (line : ℕ) (es : List Token) : Type 0 where
@@ -115,8 +103,7 @@ module _ (lines : List SourceLine) (used : ℕ → List ℕ) (mark : Origin → 
       read_tokens texts continued (e ∷ es)
       ≡ (if continues && is_backslash texts e then [] else e ∷ []) ++ read_tokens texts continues es
   read-item continued token.White es item = cc
-  read-item continued (token.LineEnd line) es item = cc
-  read-item continued _ es item = refl
+  read-item continued _ es item = cc
 
   -- The bytes since the last item. IsWhite and IsSkipped say what a C compiler reads of them; the flag says whether the
   -- last item ends in a backslash.
@@ -230,7 +217,7 @@ module _ (lines : List SourceLine) (used : ℕ → List ℕ) (mark : Origin → 
 
   continued-line_end : (line : ℕ) (es : List Token) → ReadsPlain es → ReadsContinued (token.LineEnd line ∷ es)
   continued-line_end line es next apart white last before counted gap is continued ends =
-      rw (text-continued before white counted line es continued)
+      rw continued
       (subst (AreRead apart last (read_tokens texts false es))
       (append_assoc gap (line_feed ∷ []) (text_from front false (next_line counted) es))
       (next apart false last front (next_line counted) (gap ++ line_feed ∷ []) (by is) refl))
@@ -276,8 +263,7 @@ module _ (lines : List SourceLine) (used : ℕ → List ℕ) (mark : Origin → 
 
   no-mark : (e : Token) → ends_in_backslash texts e ≡ true → mark_after e ≡ []
   no-mark (token.UseOf line occurrence) is = cc
-  no-mark (token.AllMacros line) is = cc
-  no-mark _ is = refl
+  no-mark _ is = cc
 
   backslash-bytes : (e : Token) → is_backslash texts e ≡ true → bytes_of e ≡ backslash ∷ []
   backslash-bytes (token.Span span_kind.Sign s) is = (bytes_eq-Decides (span_text texts s) (backslash ∷ [])).0 is
@@ -341,7 +327,7 @@ module _ (lines : List SourceLine) (used : ℕ → List ℕ) (mark : Origin → 
           kept (read_tokens texts true es)
           (rw (no-mark e ends.0)
           (next.continued false false (Some e) (Some e) counted_after []
-          (inr (subst (λ b. IsSkipped b (line_feed ∷ [])) (sym ends.0) line_feed-skipped, λ f. refl)) ends.0 ends.1))
+          (inr (subst (λ b. IsSkipped b (line_feed ∷ [])) (sym ends.0) (λ bytes. refl), λ f. refl)) ends.0 ends.1))
       by false both is_sign sign =
           kept (read_tokens texts false es)
           (next.plain false false (Some e) (Some e) counted_after (mark_after e) (gap-after e) both)

@@ -6,7 +6,7 @@ use Rattle.tangle_text.specs.Bytes.{backslash}
 use Rattle.tangle_lexer.specs.declared.tokens.Token.{Token}
 use Rattle.tangle_lexer.specs.declared.tokens.Token.TheVariants as token
 use Rattle.tangle_scan.specs.Rules.{is_name_part}
-use Rattle.tangle_scan.specs.Passes.{is_front_gap}
+use Rattle.tangle_scan.specs.Rules.{is_front_gap}
 use Rattle.tangle_scan.specs.Apart.{as_read, read_after, is_gap_read, needs_white, after_backslash, token_bytes}
 use Rattle.tangle_scan.specs.Apart.{AreReadApart}
 
@@ -32,9 +32,6 @@ IsWhite after gap = (bytes : List ℕ) → is_gap_read true (read_after after (g
 pub backslash-skipped : (after : Bool) → IsSkipped after (backslash ∷ line_feed ∷ [])
 backslash-skipped true bytes = refl
 backslash-skipped false bytes = refl
-
-pub line_feed-skipped : IsSkipped true (line_feed ∷ [])
-line_feed-skipped bytes = refl
 
 pub space-white : (after : Bool) (more : List ℕ) → IsWhite after (space ∷ more)
 space-white true more bytes = ap (is_gap_read true) (read-space (more ++ bytes))

@@ -3,72 +3,61 @@ use Rattle.std.proofs.Common.{◌≡◌, ℕ, ◌+◌, ◌<◌, Bool, true, fals
 use Rattle.std.proofs.Common.{None, is_some}
 use Rattle.std.proofs.Common.{List, [], ◌∷◌, ◌++◌, length, refl, ap, sym, ◌∙◌, arith, subst, append_assoc, append-nil}
 use Rattle.std.proofs.Common.{inl, inr}
-use Rattle.std.specs.List.{AllZip}
+use Rattle.std.specs.List.{AllZip, list_all}
+use Rattle.std.proofs.lemmas.List.Folds.{list_all-append}
 use Rattle.std.proofs.lemmas.Bool.Decides.{leb_tells}
-use Rattle.tangle_faults.specs.declared.faults.Origin.{Origin}
+use Rattle.tangle_lines.specs.declared.origin.Origin.{Origin}
 use Rattle.tangle_lexer.specs.declared.tokens.Token.{Token}
+use Rattle.tangle_lexer.specs.declared.tokens.SpanKind.{SpanKind}
 use Rattle.tangle_lexer.specs.declared.tokens.SpanKind.TheVariants as span_kind
+use Rattle.tangle_text.specs.declared.spans.Span.{Span}
 use Rattle.tangle_lexer.specs.declared.tokens.Token.TheVariants as token
 use Rattle.tangle_scan.specs.declared.items.Item.{Item}
 use Rattle.tangle_scan.specs.declared.items.Item.TheVariants as item
 use Rattle.tangle_lines.specs.Reading.{SourceLine, origin_at}
 use Rattle.tangle_scan.specs.Rules.{texts_of, without_faults, would_merge, with_spaces, is_gap, has_join, map_runs}
-use Rattle.tangle_scan.specs.Rules.{left_of_run, part_tokens}
+use Rattle.tangle_scan.specs.Rules.{left_of_run, part_tokens, span_item}
 use Rattle.tangle_scan.specs.Rules.{is_continued, at_line_front, blanks, next_line, same_origin, part_items}
 use Rattle.tangle_scan.specs.LineTruth.{is_expected, counted_after_line_end}
 use Rattle.tangle_scan.specs.LineTruth.{CountedItem, counted_items, has_line_end, left_or_join, locations}
 use Rattle.tangle_scan.specs.LineTruth.{part_locations, IsOwn, IsAtItsLine}
-use Rattle.tangle_scan.proofs.lemmas.Gaps.{AreGaps, gaps-append}
+use Rattle.tangle_scan.specs.Passes.{counted_after_token}
+use Rattle.tangle_scan.proofs.laws.TokenSteps.{line_past, Flows}
 use Rattle.tangle_scan.proofs.lemmas.ItemsByOrigin.{items_by_origin, part_items-by_origin, same_origin-either}
 
--- The tokens follow one another line by line, from this line on: each source item is on the line that the line ends
--- before it lead to, which is a line of the source.
-abbrev pub Flows : ℕ → ℕ → List Token → Type 0
-Flows count line [] = Unit {0}
-Flows count line (token.LineEnd at ∷ es) = (at ≡ line) × Flows count (line + 1) es
-Flows count line (token.QuoteBreak ∷ es) = Flows count (line + 1) es
-Flows count line (token.UseOf at occurrence ∷ es) = Flows count at es
-Flows count line (token.AllMacros at ∷ es) = (at ≡ line) × Flows count line es
-Flows count line (token.Span kind s ∷ es) = (s.line ≡ line) × ((line < count) × Flows count line es)
-Flows count line (token.AsciiConstant b at ∷ es) = (at ≡ line) × ((line < count) × Flows count line es)
-Flows count line (_ ∷ es) = Flows count line es
-
 -- leaving out faults, or adding the white space of rule 1, does not change the lines
-
-flows-first : (count : ℕ) (e : Token) (es fs : List Token) → ((line : ℕ) → Flows count line es → Flows count line fs)
-    → (line : ℕ) → Flows count line (e ∷ es) → Flows count line (e ∷ fs)
-flows-first count (token.LineEnd at) es fs h line f = (f.0, h (line + 1) f.1)
-flows-first count token.QuoteBreak es fs h line f = h (line + 1) f
-flows-first count (token.UseOf at occurrence) es fs h line f = h at f
-flows-first count (token.AllMacros at) es fs h line f = (f.0, h line f.1)
-flows-first count (token.Span kind s) es fs h line f = (f.0, (f.1.0, h line f.1.1))
-flows-first count (token.AsciiConstant b at) es fs h line f = (f.0, (f.1.0, h line f.1.1))
-flows-first count _ es fs h line f = h line f
 
 without_faults-flows : (count : ℕ) (es : List Token) (line : ℕ)
     → Flows count line es → Flows count line (without_faults es)
 without_faults-flows count [] line f = f
-without_faults-flows count (token.Fault kind at ∷ es) line f = without_faults-flows count es line f
-without_faults-flows count (e ∷ es) line f =
-    flows-first count e es (without_faults es) (without_faults-flows count es) line f
+without_faults-flows count (token.Fault kind at ∷ es) line f = without_faults-flows count es line f.1
+without_faults-flows count (e ∷ es) line f = (f.0, without_faults-flows count es (line_past line e) f.1)
 
 white-flows : (count : ℕ) (b : Bool) (line : ℕ) (es : List Token) → Flows count line es
     → Flows count line ((if b then token.White ∷ [] else []) ++ es)
-white-flows count true line es f = f
+white-flows count true line es f = (tt, f)
 white-flows count false line es f = f
 
 with_spaces-flows : (count : ℕ) (es : List Token) (line : ℕ) → Flows count line es → Flows count line (with_spaces es)
 with_spaces-flows count [] line f = f
 with_spaces-flows count (e ∷ []) line f = f
-with_spaces-flows count (e ∷ g ∷ es) line f =
-    flows-first count e (g ∷ es) ((if would_merge e g then token.White ∷ [] else []) ++ with_spaces (g ∷ es))
-    (λ l h. white-flows count (would_merge e g) l (with_spaces (g ∷ es)) (with_spaces-flows count (g ∷ es) l h)) line f
+with_spaces-flows count (e ∷ g ∷ es) line f = (
+  f.0,
+  white-flows count (would_merge e g) (line_past line e) (with_spaces (g ∷ es))
+      (with_spaces-flows count (g ∷ es) (line_past line e) f.1),
+)
+
+-- all tokens of a run are joins, white space and line ends
+abbrev AreGaps : List Token → Type 0
+AreGaps run = list_all is_gap run ≡ true
+
+gaps-push : (run : List Token) (e : Token) → AreGaps run → is_gap e ≡ true → AreGaps (run ++ e ∷ [])
+gaps-push run e gaps gap = rw (list_all-append is_gap run (e ∷ []), gaps, gap) refl
 
 -- the line after the line ends of a run
 abbrev line_after_tokens : ℕ → List Token → ℕ
 line_after_tokens line [] = line
-line_after_tokens line (token.LineEnd at ∷ es) = line_after_tokens (line + 1) es
-line_after_tokens line (_ ∷ es) = line_after_tokens line es
+line_after_tokens line (e ∷ es) = line_after_tokens (line_past line e) es
 
 line_after_tokens-same : (line : ℕ) (run : List Token)
     → AreGaps run → has_line_end run ≡ false → line_after_tokens line run ≡ line
@@ -76,15 +65,12 @@ line_after_tokens-same line [] g h = refl
 line_after_tokens-same line (token.Join ∷ run) g h = line_after_tokens-same line run g h
 line_after_tokens-same line (token.White ∷ run) g h = line_after_tokens-same line run g h
 line_after_tokens-same line (token.LineEnd at ∷ run) g h = cc
-line_after_tokens-same line (_ ∷ run) g h = absurd g
+line_after_tokens-same line (_ ∷ run) g h = cc
 
 flows-after : (count line : ℕ) (run es : List Token)
-    → AreGaps run → Flows count line (run ++ es) → Flows count (line_after_tokens line run) es
-flows-after count line [] es g f = f
-flows-after count line (token.Join ∷ run) es g f = flows-after count line run es g f
-flows-after count line (token.White ∷ run) es g f = flows-after count line run es g f
-flows-after count line (token.LineEnd at ∷ run) es g f = flows-after count (line + 1) run es g f.1
-flows-after count line (_ ∷ run) es g f = absurd g
+    → Flows count line (run ++ es) → Flows count (line_after_tokens line run) es
+flows-after count line [] es f = f
+flows-after count line (e ∷ run) es f = flows-after count (line_past line e) run es f.1
 
 -- after a line end that begins no stretch the counted origin is that of the next line, if there is one
 counted_after_line_end-next : (lines : List SourceLine) (continued : Bool) (counted : Origin) (line : ℕ)
@@ -106,6 +92,12 @@ counted_after_line_end-next lines continued counted line out inside =
     by true true h e = e
     by true false h e = cc
     by false same h e = e
+
+span-counted : (origin : Option Origin) (kind : SpanKind) (s : Span) (items : List Item)
+    → counted_items origin (span_item kind s ∷ items)
+    ≡ record { item = span_item kind s; origin = origin } ∷ counted_items origin items
+span-counted origin span_kind.Word s items = refl
+span-counted origin _ s items = refl
 
 module _ (lines : List SourceLine) where
   abbrev texts : List (List ℕ)
@@ -140,26 +132,12 @@ module _ (lines : List SourceLine) where
       seen-line_end before counted line es ∙ h (at_line_front texts before line) (counted_after before counted line)
       ∙ sym (seen-line_end before counted line fs)
   seen-first token.White es fs h before counted = h before counted
-  seen-first (token.UseOf line occurrence) es fs h before counted =
-      h (Some (token.UseOf line occurrence)) (origin_at lines line)
-  seen-first (token.AllMacros line) es fs h before counted = h (Some (token.AllMacros line)) (origin_at lines line)
-  seen-first token.QuoteBreak es fs h before counted = h (Some token.QuoteBreak) (next_line counted)
-  seen-first (token.Span span_kind.Word s) es fs h before counted =
-      ap (λ ps. record { item = item.Word s; origin = Some counted } ∷ ps)
-      (h (Some (token.Span span_kind.Word s)) counted)
-  seen-first (token.Span span_kind.Sign s) es fs h before counted =
-      ap (λ ps. record { item = item.Sign s; origin = Some counted } ∷ ps)
-      (h (Some (token.Span span_kind.Sign s)) counted)
-  seen-first (token.Span span_kind.Quoted s) es fs h before counted =
-      ap (λ ps. record { item = item.Quoted s; origin = Some counted } ∷ ps)
-      (h (Some (token.Span span_kind.Quoted s)) counted)
-  seen-first (token.Span span_kind.Verbatim s) es fs h before counted =
-      ap (λ ps. record { item = item.Verbatim s; origin = Some counted } ∷ ps)
-      (h (Some (token.Span span_kind.Verbatim s)) counted)
+  seen-first (token.Span kind s) es fs h before counted =
+      let rest = h (Some (token.Span kind s)) counted in simp span-counted cc
   seen-first (token.AsciiConstant b line) es fs h before counted =
       ap (λ ps. record { item = item.Code b; origin = Some counted } ∷ ps)
       (h (Some (token.AsciiConstant b line)) counted)
-  seen-first e es fs h before counted = h (Some e) counted
+  seen-first e es fs h before counted = h (Some e) (counted_after_token lines counted e)
 
   -- rule 3 does not change the counted origin of a source item
   blanks-seen : (left : Option Token) (white : Bool) (es : List Token) → AreSeenAlike (blanks texts left white es) es
@@ -205,32 +183,22 @@ module _ (lines : List SourceLine) where
   first-true token.White es fs gs gap next before counted stretch line here flows = cc
   first-true (token.LineEnd at) es fs gs gap next before counted stretch line here flows = cc
   first-true token.QuoteBreak es fs gs gap next before counted stretch line here flows =
-      next (Some token.QuoteBreak) (next_line counted) true (line + 1) (λ e. absurd cc) flows
+      next (Some token.QuoteBreak) (next_line counted) true (line + 1) (λ e. absurd cc) flows.1
   first-true (token.UseOf at occurrence) es fs gs gap next before counted stretch line here flows =
-      next (Some (token.UseOf at occurrence)) (origin_at lines at) false at (λ e i. refl) flows
+      next (Some (token.UseOf at occurrence)) (origin_at lines at) false at (λ e i. refl) flows.1
   first-true (token.AllMacros at) es fs gs gap next before counted stretch line here flows =
       next (Some (token.AllMacros at)) (origin_at lines at) false line (λ e i. ap (origin_at lines) flows.0) flows.1
-  first-true (token.Span span_kind.Word s) es fs gs gap next before counted stretch line here flows = (
-    own counted stretch line s.line (item.Word s) flows.0 here flows.1.0,
-    next (Some (token.Span span_kind.Word s)) counted stretch line here flows.1.1,
-  )
-  first-true (token.Span span_kind.Sign s) es fs gs gap next before counted stretch line here flows = (
-    own counted stretch line s.line (item.Sign s) flows.0 here flows.1.0,
-    next (Some (token.Span span_kind.Sign s)) counted stretch line here flows.1.1,
-  )
-  first-true (token.Span span_kind.Quoted s) es fs gs gap next before counted stretch line here flows = (
-    own counted stretch line s.line (item.Quoted s) flows.0 here flows.1.0,
-    next (Some (token.Span span_kind.Quoted s)) counted stretch line here flows.1.1,
-  )
-  first-true (token.Span span_kind.Verbatim s) es fs gs gap next before counted stretch line here flows = (
-    own counted stretch line s.line (item.Verbatim s) flows.0 here flows.1.0,
-    next (Some (token.Span span_kind.Verbatim s)) counted stretch line here flows.1.1,
-  )
+  first-true (token.Span kind s) es fs gs gap next before counted stretch line here flows =
+      rw span-counted (
+        own counted stretch line s.line (span_item kind s) flows.0.0 here flows.0.1,
+        next (Some (token.Span kind s)) counted stretch line here flows.1,
+      )
   first-true (token.AsciiConstant b at) es fs gs gap next before counted stretch line here flows = (
-    own counted stretch line at (item.Code b) flows.0 here flows.1.0,
-    next (Some (token.AsciiConstant b at)) counted stretch line here flows.1.1,
+    own counted stretch line at (item.Code b) flows.0.0 here flows.0.1,
+    next (Some (token.AsciiConstant b at)) counted stretch line here flows.1,
   )
-  first-true e es fs gs gap next before counted stretch line here flows = next (Some e) counted stretch line here flows
+  first-true e es fs gs gap next before counted stretch line here flows =
+      next (Some e) counted stretch (line_past line e) here flows.1
 
   -- a run that rule 2 does not remove, before other tokens
   kept-true : (run es fs gs : List Token)
@@ -239,7 +207,7 @@ module _ (lines : List SourceLine) where
       next before counted stretch line here flows
   kept-true (token.Join ∷ run) es fs gs gaps none next before counted stretch line here flows = cc
   kept-true (token.White ∷ run) es fs gs gaps none next before counted stretch line here flows =
-      kept-true run es fs gs gaps none next before counted stretch line here flows
+      kept-true run es fs gs gaps none next before counted stretch line here flows.1
   kept-true (token.LineEnd at ∷ run) es fs gs gaps none next before counted stretch line here flows =
       let continued : Bool = is_continued texts before in
       let begins : Bool = continued && not (is_expected lines counted at) in
@@ -250,7 +218,7 @@ module _ (lines : List SourceLine) where
       rw (seen-line_end before counted at (run ++ fs))
       (kept-true run es fs gs gaps none next (at_line_front texts before at)
       (counted_after before counted at) begins (line + 1) after flows.1)
-  kept-true (_ ∷ run) es fs gs gaps none next before counted stretch line here flows = absurd gaps
+  kept-true (_ ∷ run) es fs gs gaps none next before counted stretch line here flows = absurd cc
 
   -- what rule 2 leaves of a run, before other tokens
   run-true : (run es fs gs : List Token)
@@ -263,11 +231,11 @@ module _ (lines : List SourceLine) where
           (locations lines before counted stretch ((if j then (if b then token.Join ∷ [] else []) else run) ++ gs))
       by true joined true ends =
           next before counted true (line_after_tokens line run)
-          (λ e. absurd cc) (flows-after (length lines) line run es gaps flows)
+          (λ e. absurd cc) (flows-after (length lines) line run es flows)
       by true joined false ends =
           next before counted stretch (line_after_tokens line run)
           (subst (IsCounted counted stretch) (sym (line_after_tokens-same line run gaps ends)) here)
-          (flows-after (length lines) line run es gaps flows)
+          (flows-after (length lines) line run es flows)
       by false none b ends = kept-true run es fs gs gaps none next before counted stretch line here flows
 
   -- rule 2 for all tokens of a part
@@ -277,18 +245,18 @@ module _ (lines : List SourceLine) where
       rw (← append-nil (left_of_run run), ← append-nil (left_or_join run))
       (run-true run [] [] [] gaps (λ b c s l h f. tt) before counted stretch line here flows)
   map_runs-true run (token.Join ∷ es) gaps before counted stretch line here flows =
-      map_runs-true (run ++ token.Join ∷ []) es (gaps-append run token.Join gaps tt)
+      map_runs-true (run ++ token.Join ∷ []) es (gaps-push run token.Join gaps refl)
       before counted stretch line here (rw append_assoc flows)
   map_runs-true run (token.White ∷ es) gaps before counted stretch line here flows =
-      map_runs-true (run ++ token.White ∷ []) es (gaps-append run token.White gaps tt)
+      map_runs-true (run ++ token.White ∷ []) es (gaps-push run token.White gaps refl)
       before counted stretch line here (rw append_assoc flows)
   map_runs-true run (token.LineEnd at ∷ es) gaps before counted stretch line here flows =
       map_runs-true (run ++ token.LineEnd at ∷ []) es
-      (gaps-append run (token.LineEnd at) gaps tt) before counted stretch line here
+      (gaps-push run (token.LineEnd at) gaps refl) before counted stretch line here
       (rw append_assoc flows)
   map_runs-true run (e ∷ es) gaps before counted stretch line here flows =
       run-true run (e ∷ es) (e ∷ map_runs left_of_run [] es) (e ∷ map_runs left_or_join [] es) gaps
-      (first-true e es (map_runs left_of_run [] es) (map_runs left_or_join [] es) refl (map_runs-true [] es tt))
+      (first-true e es (map_runs left_of_run [] es) (map_runs left_or_join [] es) refl (map_runs-true [] es refl))
       before counted stretch line here flows
 
   -- the items of a part are at their own lines if its tokens follow line by line from the opening mark on
@@ -299,4 +267,4 @@ module _ (lines : List SourceLine) where
       let spaced : Flows (length lines) line (with_spaces clean) =
       with_spaces-flows (length lines) clean line (without_faults-flows (length lines) es line flows) in
       rw (part_items-by_origin lines line es, blanks-seen None false (part_tokens es) None (origin_at lines line))
-      (map_runs-true [] (with_spaces clean) tt None (origin_at lines line) false line (λ out inside. refl) spaced)
+      (map_runs-true [] (with_spaces clean) refl None (origin_at lines line) false line (λ out inside. refl) spaced)

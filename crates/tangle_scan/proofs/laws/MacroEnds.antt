@@ -4,12 +4,15 @@ use Rattle.std.proofs.Common.{◌∙◌}
 use Rattle.std.proofs.Common.{Option, Some, None, is_some}
 use Rattle.tangle_lexer.specs.declared.tokens.Token.{Token}
 use Rattle.tangle_lexer.specs.declared.tokens.Token.TheVariants as token
+use Rattle.tangle_lexer.specs.declared.tokens.SpanKind.{SpanKind}
 use Rattle.tangle_lexer.specs.declared.tokens.SpanKind.TheVariants as span_kind
+use Rattle.tangle_text.specs.declared.spans.Span.{Span}
 use Rattle.tangle_scan.specs.declared.items.Item.{Item}
 use Rattle.tangle_scan.specs.declared.items.Item.TheVariants as item
 use Rattle.tangle_scan.specs.Rules.{next_item, has_blank_at_line_end, is_name_part, macro_blanks, unmarked_items}
-use Rattle.tangle_scan.specs.Rules.{span_item}
+use Rattle.tangle_scan.specs.Rules.{span_item, token_items}
 use Rattle.tangle_scan.specs.MacroBytes.{without_end}
+use Rattle.tangle_scan.proofs.lemmas.MacroItemLemmas.{unmarked-blank}
 use Rattle.tangle_scan.specs.Apart.{is_dropped_token, with_written, written_tokens}
 
 module _ (texts : List (List ℕ)) where
@@ -24,11 +27,6 @@ module _ (texts : List (List ℕ)) where
 
   abbrev blank_if : Bool → List Item
   blank_if blank = if blank then item.Blank ∷ [] else []
-
-  blank-items : (blank : Bool) (es : List Token)
-      → unmarked_items (white_if blank ++ es) ≡ blank_if blank ++ unmarked_items es
-  blank-items true es = refl
-  blank-items false es = refl
 
   -- none of the items is written
   abbrev AreDropped : List Token → Type 0
@@ -73,12 +71,12 @@ module _ (texts : List (List ℕ)) where
   dropped-before (token.LineEnd line) es dropped h in_name before white =
       let blank : Bool = has_blank_at_line_end texts in_name before (next_item es) in
       let rest = macro_blanks texts false None false es in
-      rw (blank-items blank (token.LineEnd line ∷ rest))
+      rw (unmarked-blank blank (token.LineEnd line ∷ rest))
       (dropped-sign blank item.LineEnd (unmarked_items rest) refl (h false None false))
   dropped-before (token.Span span_kind.Sign s) es dropped h in_name before white =
       let e = token.Span span_kind.Sign s in
       let rest = macro_blanks texts (in_name && not white && false) (Some e) false es in
-      rw (blank-items (is_some before && white) (e ∷ rest))
+      rw (unmarked-blank (is_some before && white) (e ∷ rest))
       (dropped-sign (is_some before && white) (item.Sign s) (unmarked_items rest) (rw dropped refl)
       (h (in_name && not white && false) (Some e) false))
   dropped-before (token.Span kind s) es dropped h in_name before white = cc
@@ -86,7 +84,7 @@ module _ (texts : List (List ℕ)) where
   dropped-before token.QuoteBreak es dropped h in_name before white = cc
   dropped-before e es dropped h in_name before white =
       let rest = macro_blanks texts (in_name && not white && is_name_part e) (Some e) false es in
-      rw (blank-items (is_some before && white) (e ∷ rest))
+      rw (unmarked-blank (is_some before && white) (e ∷ rest))
       (dropped-blank (is_some before && white) (unmarked_items rest)
       (h (in_name && not white && is_name_part e) (Some e) false))
 
@@ -109,20 +107,18 @@ module _ (texts : List (List ℕ)) where
     is = rw (is (macro_blanks texts in_name (Some e) false es), h in_name (Some e) false) alone;
   }
 
+  written-alone : (kind : SpanKind) (s : Span)
+      → is_dropped_token texts (token.Span kind s) ≡ false
+      → without_end texts (span_item kind s ∷ []) ≡ span_item kind s ∷ []
+  written-alone span_kind.Sign s kept = rw kept refl
+  written-alone _ s kept = refl
+
   written-last : (e : Token) (es : List Token)
       → is_dropped_token texts e ≡ false → AreDropped es → AreWritten (e ∷ es) (e ∷ [])
-  written-last (token.Span span_kind.Word s) es kept h in_name before white =
-      written-at (token.Span span_kind.Word s) (item.Word s) es (λ fs. refl)
-      refl h (in_name && not white && true) (is_some before && white)
-  written-last (token.Span span_kind.Sign s) es kept h in_name before white =
-      written-at (token.Span span_kind.Sign s) (item.Sign s) es (λ fs. refl)
-      (rw kept refl) h (in_name && not white && false) (is_some before && white)
-  written-last (token.Span span_kind.Quoted s) es kept h in_name before white =
-      written-at (token.Span span_kind.Quoted s) (item.Quoted s) es (λ fs. refl)
-      refl h (in_name && not white && false) (is_some before && white)
-  written-last (token.Span span_kind.Verbatim s) es kept h in_name before white =
-      written-at (token.Span span_kind.Verbatim s) (item.Verbatim s) es
-      (λ fs. refl) refl h (in_name && not white && true) (is_some before && white)
+  written-last (token.Span kind s) es kept h in_name before white =
+      let e = token.Span kind s in
+      written-at e (span_item kind s) es (λ fs. refl) (written-alone kind s kept) h
+      (in_name && not white && is_name_part e) (is_some before && white)
   written-last (token.AsciiConstant value line) es kept h in_name before white =
       written-at (token.AsciiConstant value line) (item.Code value) es
       (λ fs. refl) refl h (in_name && not white && true) (is_some before && white)
@@ -136,28 +132,21 @@ module _ (texts : List (List ℕ)) where
   more-written p xs ys h =
       record { first = p; rest = h.first ∷ h.rest; some = ap (λ zs. p ∷ zs) h.some; is = rw h.is refl }
 
-  more-items : (front es fs : List Token) → IsWritten (unmarked_items es) (unmarked_items fs) →
-      IsWritten (unmarked_items (front ++ es)) (unmarked_items (front ++ fs))
-  more-items [] es fs h = h
-  more-items (token.LineEnd line ∷ front) es fs h =
-      more-written item.LineEnd (unmarked_items (front ++ es)) (unmarked_items (front ++ fs)) (more-items front es fs h)
-  more-items (token.QuoteBreak ∷ front) es fs h =
-      more-written item.QuoteBreak (unmarked_items (front ++ es))
-      (unmarked_items (front ++ fs)) (more-items front es fs h)
-  more-items (token.Span kind s ∷ front) es fs h =
-      more-written (span_item kind s) (unmarked_items (front ++ es))
-      (unmarked_items (front ++ fs)) (more-items front es fs h)
-  more-items (token.AsciiConstant value line ∷ front) es fs h =
-      more-written (item.Code value) (unmarked_items (front ++ es))
-      (unmarked_items (front ++ fs)) (more-items front es fs h)
-  more-items (token.White ∷ front) es fs h =
-      more-written item.Blank (unmarked_items (front ++ es)) (unmarked_items (front ++ fs)) (more-items front es fs h)
-  more-items (_ ∷ front) es fs h = more-items front es fs h
+  more-items : (ps xs ys : List Item) → IsWritten xs ys → IsWritten (ps ++ xs) (ps ++ ys)
+  more-items [] xs ys h = h
+  more-items (p ∷ ps) xs ys h = more-written p (ps ++ xs) (ps ++ ys) (more-items ps xs ys h)
+
+  more-token : (e : Token) (es fs : List Token) → IsWritten (unmarked_items es) (unmarked_items fs) →
+      IsWritten (unmarked_items (e ∷ es)) (unmarked_items (e ∷ fs))
+  more-token (token.UseOf line occurrence) es fs h = h
+  more-token (token.AllMacros line) es fs h = h
+  more-token e es fs h = more-items (token_items e) (unmarked_items es) (unmarked_items fs) h
 
   more-tokens : (blank : Bool) (e : Token) (es fs : List Token) → IsWritten (unmarked_items es) (unmarked_items fs) →
       IsWritten (unmarked_items (white_if blank ++ e ∷ es)) (unmarked_items (white_if blank ++ e ∷ fs))
-  more-tokens true e es fs h = more-items (token.White ∷ e ∷ []) es fs h
-  more-tokens false e es fs h = more-items (e ∷ []) es fs h
+  more-tokens true e es fs h =
+      more-written item.Blank (unmarked_items (e ∷ es)) (unmarked_items (e ∷ fs)) (more-token e es fs h)
+  more-tokens false e es fs h = more-token e es fs h
 
   -- a token before tokens of which some are written
   written-before : (e : Token) (es fs : List Token)
@@ -183,8 +172,7 @@ module _ (texts : List (List ℕ)) where
   next_item-kept : (e : Token) (es : List Token)
       → is_dropped_token texts e ≡ false → next_item (e ∷ es) ≡ next_item (e ∷ [])
   next_item-kept token.White es h = cc
-  next_item-kept (token.LineEnd line) es h = cc
-  next_item-kept _ es h = refl
+  next_item-kept _ es h = cc
 
   written : (es : List Token) → Written es
   written [] = NoToken refl (λ in_name before white. refl)

@@ -98,12 +98,9 @@ module _ (lines : List SourceLine) where
 
   -- the ranges of the lines are spans of their bytes
 
-  texts-length : length (texts_of lines) ≡ length lines
-  texts-length = length-map lines (λ l. l.bytes)
-
   is-span : (s : Span) → IsRange (width lines) (length lines) s → IsSpan (texts_of lines) s
   is-span s is = record {
-    line = omega (arith, is.0, texts-length);
+    line = omega (arith, is.0, length-map lines (λ l. l.bytes));
     start = is.1.0;
     end = subst (λ bytes. s.end ≤ length bytes) (sym (get_or-map (λ l. l.bytes) lines s.line no_line [] is.0)) is.1.1;
   }
@@ -121,23 +118,15 @@ module _ (lines : List SourceLine) where
       All-cons (IsInRange (texts_of lines)) (item.Verbatim s) items (is-span s h.0) (items-in-range items rest h.1.1)
   items-in-range (i ∷ items) rest h = All-cons (IsInRange (texts_of lines)) i items tt (items-in-range items rest h)
 
-  pieces-in-range : (ps : List PieceRead)
-      → AreOrdered (width lines) (length lines) (flat_map (λ p. item_spans p.items) ps)
-      → All (λ p. All (IsInRange (texts_of lines)) p.items) ps
-  pieces-in-range [] h = All-nil _
-  pieces-in-range (p ∷ ps) h =
-      let rest = flat_map (λ (q : PieceRead). item_spans q.items) ps in
-      All-cons (λ p. All (IsInRange (texts_of lines)) p.items) p ps
-      (items-in-range p.items rest h)
-      (pieces-in-range ps (ordered-suffix (width lines) (length lines) (item_spans p.items) rest h))
-
-  macros-in-range : (ms : List (List Item))
-      → AreOrdered (width lines) (length lines) (flat_map item_spans ms) → All (All (IsInRange (texts_of lines))) ms
-  macros-in-range [] h = All-nil _
-  macros-in-range (m ∷ ms) h =
-      All-cons (All (IsInRange (texts_of lines))) m ms
-      (items-in-range m (flat_map item_spans ms) h)
-      (macros-in-range ms (ordered-suffix (width lines) (length lines) (item_spans m) (flat_map item_spans ms) h))
+  -- the items of pieces, or of macros, are in range, if their spans are in order
+  all-in-range : {X : Type 0} (items_of : X → List Item) (xs : List X)
+      → AreOrdered (width lines) (length lines) (flat_map (λ x. item_spans (items_of x)) xs)
+      → All (λ x. All (IsInRange (texts_of lines)) (items_of x)) xs
+  all-in-range items_of [] h = All-nil _
+  all-in-range items_of (x ∷ xs) h =
+      let rest = flat_map (λ y. item_spans (items_of y)) xs in
+      All-cons (λ y. All (IsInRange (texts_of lines)) (items_of y)) x xs (items-in-range (items_of x) rest h)
+      (all-in-range items_of xs (ordered-suffix (width lines) (length lines) (item_spans (items_of x)) rest h))
 
   -- the source items of each piece are at their own lines
   abbrev AreAtTheirLines : List PieceRead → List (List Location) → Type 0
@@ -163,8 +152,8 @@ module _ (lines : List SourceLine) where
 -- each span of an item of a web is a range of a source line
 pub web-in-range : (source : SourceRead) → SpansAreInRange (web_of source)
 web-in-range source = record {
-  pieces = pieces-in-range source.lines _ (pieces-ordered source.lines);
-  macros = macros-in-range source.lines _ (macros-ordered source.lines);
+  pieces = all-in-range source.lines (λ p. p.items) _ (pieces-ordered source.lines);
+  macros = all-in-range source.lines (λ m. m) _ (macros-ordered source.lines);
 }
 
 -- the spans of a web are in the order of the source

@@ -2,17 +2,19 @@
 use Rattle.std.proofs.Common.{◌≡◌, ℕ, ◌+◌, nat_le, length, Bool, true, false, ◌&&◌, ◌||◌, if◌then◌else◌}
 use Rattle.std.proofs.Common.{Option, Some, None, is_some, List, [], ◌∷◌, ◌++◌, refl, ap, sym, ◌∙◌, inl, inr}
 use Rattle.std.proofs.lemmas.Bool.Decides.{eqb_tells}
-use Rattle.tangle_faults.specs.declared.faults.Origin.{Origin}
+use Rattle.tangle_lines.specs.declared.origin.Origin.{Origin}
 use Rattle.tangle_lexer.specs.declared.tokens.Token.{Token}
 use Rattle.tangle_lexer.specs.declared.tokens.Token.TheVariants as token
+use Rattle.tangle_lexer.specs.declared.tokens.SpanKind.{SpanKind}
 use Rattle.tangle_lexer.specs.declared.tokens.SpanKind.TheVariants as span_kind
+use Rattle.tangle_text.specs.declared.spans.Span.{Span}
 use Rattle.tangle_lines.specs.Reading.{SourceLine, origin_at}
 use Rattle.tangle_scan.specs.declared.items.Item.{Item}
 use Rattle.tangle_scan.specs.declared.items.Item.TheVariants as item
 use Rattle.tangle_scan.specs.Rules.{texts_of, is_continued, at_line_front, blanks, span_item, next_line, same_origin}
-use Rattle.tangle_scan.specs.Rules.{with_all_marks, with_needed_marks, part_tokens, part_items}
-use Rattle.tangle_scan.specs.LineTruth.{counted_after_line_end}
-use Rattle.tangle_scan.specs.Passes.{line_item, is_front_gap}
+use Rattle.tangle_scan.specs.Rules.{with_all_marks, with_needed_marks, is_front_gap, part_tokens, part_items}
+use Rattle.tangle_scan.specs.LineTruth.{is_expected, counted_after_line_end}
+use Rattle.tangle_scan.specs.Passes.{line_item, items_at, counted_after_token}
 
 -- the items of tokens that rule 3 made, by the token before them on the line and by the counted origin
 abbrev pub items_by_origin : List SourceLine → Option Token → Origin → List Token → List Item
@@ -23,19 +25,24 @@ items_by_origin lines before counted (token.LineEnd line ∷ es) =
     ∷ items_by_origin lines (at_line_front (texts_of lines) before line)
     (counted_after_line_end lines continued counted line) es
 items_by_origin lines before counted (token.White ∷ es) = item.Blank ∷ items_by_origin lines before counted es
-items_by_origin lines before counted (token.QuoteBreak ∷ es) =
-    item.QuoteBreak ∷ items_by_origin lines (Some token.QuoteBreak) (next_line counted) es
-items_by_origin lines before counted (token.Span kind s ∷ es) =
-    span_item kind s ∷ items_by_origin lines (Some (token.Span kind s)) counted es
-items_by_origin lines before counted (token.AsciiConstant value line ∷ es) =
-    item.Code value ∷ items_by_origin lines (Some (token.AsciiConstant value line)) counted es
-items_by_origin lines before counted (token.UseOf line occurrence ∷ es) =
-    item.UseOf occurrence ∷ item.LineMark (origin_at lines line)
-    ∷ items_by_origin lines (Some (token.UseOf line occurrence)) (origin_at lines line) es
-items_by_origin lines before counted (token.AllMacros line ∷ es) =
-    item.Defs ∷ item.LineMark (origin_at lines line)
-    ∷ items_by_origin lines (Some (token.AllMacros line)) (origin_at lines line) es
-items_by_origin lines before counted (e ∷ es) = items_by_origin lines (Some e) counted es
+items_by_origin lines before counted (e ∷ es) =
+    items_at lines e ++ items_by_origin lines (Some e) (counted_after_token lines counted e) es
+
+pub items_by_origin-item : (lines : List SourceLine) (before : Option Token) (counted : Origin) (e : Token)
+    (es : List Token) → is_front_gap e ≡ false
+    → items_by_origin lines before counted (e ∷ es)
+    ≡ items_at lines e ++ items_by_origin lines (Some e) (counted_after_token lines counted e) es
+items_by_origin-item lines before counted token.White es item = cc
+items_by_origin-item lines before counted _ es item = cc
+
+-- what is true of a line end and of each mark is true of the item for the end of a line
+pub by-line_item : (P : Item → Type 0) (lines : List SourceLine) (continued : Bool) (counted : Origin) (line : ℕ)
+    → P item.LineEnd → ((p : Origin) → P (item.LineMark p)) → P (line_item lines continued counted line)
+by-line_item P lines continued counted line end mark = by (continued || is_expected lines counted line)
+  where
+    by : (b : Bool) → P (if b then item.LineEnd else item.LineMark (origin_at lines (line + 1)))
+    by true = end
+    by false = mark (origin_at lines (line + 1))
 
 -- the choice between two origins that are the same makes no difference
 pub same_origin-either : (p q : Origin) → (if same_origin p q then q else p) ≡ p
@@ -63,17 +70,8 @@ module _ (lines : List SourceLine) where
       → with_needed_marks counted (item.LineEnd ∷ with_all_marks lines before es)
       ≡ item.LineEnd ∷ made before (next_line counted) es
   line_end-alone before counted [] = refl
-  line_end-alone before counted (token.White ∷ es) = refl
-  line_end-alone before counted (token.LineEnd line ∷ es) = refl
-  line_end-alone before counted (token.QuoteBreak ∷ es) = refl
   line_end-alone before counted (token.Span span_kind.Word s ∷ es) = refl
-  line_end-alone before counted (token.Span span_kind.Sign s ∷ es) = refl
-  line_end-alone before counted (token.Span span_kind.Quoted s ∷ es) = refl
-  line_end-alone before counted (token.Span span_kind.Verbatim s ∷ es) = refl
-  line_end-alone before counted (token.AsciiConstant value line ∷ es) = refl
-  line_end-alone before counted (token.UseOf line occurrence ∷ es) = refl
-  line_end-alone before counted (token.AllMacros line ∷ es) = refl
-  line_end-alone before counted (e ∷ es) = line_end-alone (Some e) counted es
+  line_end-alone before counted (e ∷ es) = cc (line_end-alone (Some e) counted es)
 
   made-line_end : (before : Option Token) (counted : Origin) (line : ℕ) (es : List Token) →
       let continued : Bool = is_continued texts before in
@@ -98,23 +96,21 @@ module _ (lines : List SourceLine) where
       by false true = line_end-alone (Some (token.LineEnd line)) counted es
       by false false = rw (same_origin-either next (next_line counted)) refl
 
+  span-needed : (counted : Origin) (kind : SpanKind) (s : Span) (items : List Item)
+      → with_needed_marks counted (span_item kind s ∷ items) ≡ span_item kind s ∷ with_needed_marks counted items
+  span-needed counted span_kind.Word s items = refl
+  span-needed counted _ s items = refl
+
   -- a token other than white space and a line end, before others
   made-token : (left before : Option Token) (counted : Origin) (e : Token) (es : List Token) → is_front_gap e ≡ false
       → ((after : Origin) → made (Some e) after es ≡ items_by_origin lines (Some e) after es)
       → made left counted (e ∷ es) ≡ items_by_origin lines before counted (e ∷ es)
   made-token left before counted token.White es gap h = cc
   made-token left before counted (token.LineEnd line) es gap h = cc
-  made-token left before counted token.QuoteBreak es gap h = ap (λ t. item.QuoteBreak ∷ t) (h (next_line counted))
-  made-token left before counted (token.Span span_kind.Word s) es gap h = ap (λ t. item.Word s ∷ t) (h counted)
-  made-token left before counted (token.Span span_kind.Sign s) es gap h = ap (λ t. item.Sign s ∷ t) (h counted)
-  made-token left before counted (token.Span span_kind.Quoted s) es gap h = ap (λ t. item.Quoted s ∷ t) (h counted)
-  made-token left before counted (token.Span span_kind.Verbatim s) es gap h = ap (λ t. item.Verbatim s ∷ t) (h counted)
-  made-token left before counted (token.AsciiConstant value line) es gap h = ap (λ t. item.Code value ∷ t) (h counted)
-  made-token left before counted (token.UseOf line occurrence) es gap h =
-      ap (λ t. item.UseOf occurrence ∷ item.LineMark (origin_at lines line) ∷ t) (h (origin_at lines line))
-  made-token left before counted (token.AllMacros line) es gap h =
-      ap (λ t. item.Defs ∷ item.LineMark (origin_at lines line) ∷ t) (h (origin_at lines line))
-  made-token left before counted e es gap h = h counted
+  made-token left before counted (token.Span kind s) es gap h =
+      span-needed counted kind s _ ∙ ap (λ t. span_item kind s ∷ t) (h counted)
+  made-token left before counted e es gap h =
+      ap (λ t. items_at lines e ++ t) (h (counted_after_token lines counted e))
 
   -- Rule 3 leaves no white space before a line end, so the token
   -- directly before a line end is the last one on the line.

@@ -1,18 +1,16 @@
 -- The items that the one pass adds for each token of a C part with rare tokens.
-use Rattle.std.proofs.Common.{◌≡◌, ◌≤◌, ℕ, Bool, true, false, ◌&&◌, if◌then◌else◌, Option, Some, is_some, refl, ap}
-use Rattle.std.proofs.Common.{List, [], ◌∷◌, ◌++◌, length, take, append_assoc, append-nil, sym, ◌∙◌, arith}
-use Rattle.std.proofs.Common.{zero, suc, ◌-◌, map, drop, get_or, slice_get}
+use Rattle.std.proofs.Common.{◌≡◌, ◌≤◌, ℕ, Bool, true, false, ◌&&◌, if◌then◌else◌, Option, Some, refl, ap}
+use Rattle.std.proofs.Common.{List, [], ◌∷◌, ◌++◌, length, take, append_assoc, sym, ◌∙◌, arith}
+use Rattle.std.proofs.Common.{map, drop, slice_get}
 use Rattle.std.proofs.lemmas.List.{take_all, take-append-le}
 use Rattle.std.proofs.Math.Bool.{and-false, or-true}
 use Rattle.tangle_lexer.specs.declared.tokens.Token.{Token}
 use Rattle.tangle_lexer.specs.declared.tokens.Token.TheVariants as token
 use Rattle.tangle_lexer.specs.declared.tokens.SpanKind.TheVariants as span_kind
-use Rattle.tangle_faults.specs.declared.faults.Origin.{Origin}
+use Rattle.tangle_lines.specs.declared.origin.Origin.{Origin}
 use Rattle.tangle_faults.specs.declared.faults.FaultKind.{FaultKind}
-use Rattle.tangle_lines.specs.Reading.{SourceLine, line_at}
-use Rattle.tangle_text.specs.declared.spans.Span.{Span}
+use Rattle.tangle_lines.specs.Reading.{SourceLine}
 use Rattle.tangle_text.specs.declared.runs.RunPart.{RunPart}
-use Rattle.tangle_text.specs.Runs.{chunks, parts_of, run_parts}
 use Rattle.tangle_lexer.specs.Runs.{part_token}
 use Rattle.tangle_scan.specs.declared.items.Item.{Item}
 use Rattle.tangle_scan.specs.declared.items.Item.TheVariants as item
@@ -20,14 +18,13 @@ use Rattle.tangle_scan.specs.declared.plain_parts.CountedOrigin.{CountedOrigin}
 use Rattle.tangle_scan.specs.declared.rare_parts.Last.{Last}
 use Rattle.tangle_scan.specs.declared.rare_parts.Last.TheVariants as last
 use Rattle.tangle_scan.specs.declared.rare_parts.RarePartState.{RarePartState}
-use Rattle.tangle_scan.specs.Rules.{texts_of, blanks}
+use Rattle.tangle_scan.specs.Rules.{texts_of}
 use Rattle.tangle_scan.specs.LineTruth.{counted_after_line_end}
 use Rattle.tangle_scan.specs.Passes.{origin_of, all_items, rare_items_ahead, takes_back}
 use Rattle.tangle_scan.specs.Passes.{line_item, items_at, counted_after_token}
 use Rattle.tangle_scan.specs.Passes.{joins_ahead, is_joined, needs_blank, last_after_white, last_after_line_end}
 use Rattle.tangle_scan.specs.Passes.{last_of, is_after_line_end, continues_after}
-use Rattle.tangle_scan.proofs.lemmas.ItemsByOrigin.{items_by_origin}
-use Rattle.tangle_scan.proofs.lemmas.PlainPartLemmas.{pushed-twice}
+use Rattle.tangle_scan.proofs.lemmas.PlainPartLemmas.{pushed-twice, all-made}
 
 -- a token other than white space, a line end, a join and a fault
 
@@ -47,23 +44,6 @@ solid token.Join white end join fault = absurd (join refl)
 solid (token.Fault kind line) white end join fault = absurd (fault kind line refl)
 solid _ white end join fault = refl
 
-pub items_by_origin-solid : (lines : List SourceLine)
-    (before : Option Token) (counted : Origin) (e : Token) (es : List Token)
-    → is_solid e ≡ true →
-    items_by_origin lines before counted (e ∷ es)
-    ≡ items_at lines e ++ items_by_origin lines (Some e) (counted_after_token lines counted e) es
-items_by_origin-solid lines before counted token.White es h = cc
-items_by_origin-solid lines before counted (token.LineEnd line) es h = cc
-items_by_origin-solid lines before counted _ es h = refl
-
-pub blanks-solid : (texts : List (List ℕ)) (before : Option Token) (white : Bool) (e : Token) (es : List Token)
-    → is_solid e ≡ true
-    → blanks texts before white (e ∷ es)
-    ≡ (if is_some before && white then token.White ∷ [] else []) ++ e ∷ blanks texts (Some e) false es
-blanks-solid texts before white token.White es h = cc
-blanks-solid texts before white (token.LineEnd line) es h = cc
-blanks-solid texts before white _ es h = refl
-
 -- all items, by what the state holds
 abbrev items_from : List SourceLine → List Item → ℕ → Origin → Last → Token → Origin → List Token → List Item
 items_from lines items many back at e counted es =
@@ -78,9 +58,6 @@ from-white : (lines : List SourceLine) (items : List Item) (many : ℕ)
     → items_from lines items many back (last_after_white at) e counted es
     ≡ items_from lines items many back at e counted (token.White ∷ es)
 from-white lines items many back last.Front e counted es = refl
-from-white lines items many back last.Joined e counted es = refl
-from-white lines items many back last.Continued e counted es = refl
-from-white lines items many back last.ContinuedWhite e counted es = refl
 from-white lines items many back _ e counted es = refl
 
 pub rare-white : (lines : List SourceLine) (items : List Item) (at : RarePartState) (es : List Token)
@@ -89,12 +66,6 @@ pub rare-white : (lines : List SourceLine) (items : List Item) (at : RarePartSta
 unfolding all_items
 rare-white lines items at es =
     from-white lines items at.start.items (origin_of at.start.counted) at.last at.item (origin_of at.counted) es
-
-pub rare-fault : (lines : List SourceLine) (items : List Item)
-    (at : RarePartState) (kind : FaultKind) (line : ℕ) (es : List Token)
-    → all_items lines items at es ≡ all_items lines items at (token.Fault kind line ∷ es)
-unfolding all_items
-rare-fault lines items at kind line es = refl
 
 -- the tokens of a run, part by part
 
@@ -119,43 +90,6 @@ pub rare-parts-end : (lines : List SourceLine) (items : List Item) (at : RarePar
     → (es : List Token) → all_items lines items at es ≡ left es
 rare-parts-end lines items at [] found left before is none es = before es
 rare-parts-end lines items at (p ∷ parts) found left before is none es = absurd (none p is)
-
-pub line-bytes : (lines : List SourceLine) (k : ℕ) → (line_at lines k).bytes ≡ get_or (texts_of lines) k []
-line-bytes [] k = refl
-line-bytes (l ∷ lines) zero = refl
-line-bytes (l ∷ lines) (suc k) = line-bytes lines k
-
-pub parts-begin : (lines : List SourceLine) (s : Span) (bytes : List ℕ) (parts : List RunPart)
-    → bytes ≡ (line_at lines s.line).bytes
-    → parts ≡ parts_of s.line s.start (chunks (take (s.end - s.start) (drop s.start bytes)))
-    → parts ≡ run_parts (texts_of lines) s
-unfolding run_parts
-parts-begin lines s bytes parts is are =
-    are
-    ∙ ap (λ t. parts_of s.line s.start (chunks (take (s.end - s.start) (drop s.start t))))
-    (is ∙ line-bytes lines s.line)
-
--- a join after line ends
-pub rare-join-back : (lines : List SourceLine) (items : List Item) (at : RarePartState) (es : List Token) →
-    is_after_line_end at.last ≡ true →
-    all_items lines (take at.start.items items) (record at { last = last.Joined; counted = at.start.counted }) es
-    ≡ all_items lines items at (token.Join ∷ es)
-unfolding all_items
-rare-join-back lines items at es h = rw h refl
-
--- a join that is not after line ends
-pub rare-join : (lines : List SourceLine) (items : List Item) (at : RarePartState) (es : List Token) →
-    is_after_line_end at.last ≡ false →
-    all_items lines items (record at { last = last.Joined }) es ≡ all_items lines items at (token.Join ∷ es)
-unfolding all_items
-rare-join lines items at es h = rw h refl
-
--- a line end after a join
-pub rare-line-joined : (lines : List SourceLine) (items : List Item) (at : RarePartState) (line : ℕ) (es : List Token) →
-    at.last ≡ last.Joined →
-    all_items lines items at es ≡ all_items lines items at (token.LineEnd line ∷ es)
-unfolding all_items
-rare-line-joined lines items at line es h = rw h refl
 
 after-end : (continued : Bool) → is_after_line_end (last_after_line_end continued) ≡ true
 after-end true = refl
@@ -211,21 +145,14 @@ rare-solid : (lines : List SourceLine) (at : Last) (before : Token) (counted : O
     ≡ (if needs_blank at e then item.Blank ∷ [] else [])
     ++ (items_at lines e ++ rare_items_ahead lines (last_of e) e (counted_after_token lines counted e) es)
 rare-solid lines at before counted token.White es h = cc
-rare-solid lines at before counted (token.LineEnd line) es h = cc
-rare-solid lines at before counted token.Join es h = cc
-rare-solid lines at before counted (token.Fault kind line) es h = cc
-rare-solid lines at before counted _ es h = refl
+rare-solid lines at before counted _ es h = cc
 
 no-join : (e : Token) (es : List Token) → is_solid e ≡ true → joins_ahead (e ∷ es) ≡ false
 no-join token.White es h = cc
-no-join (token.LineEnd line) es h = cc
-no-join token.Join es h = cc
-no-join (token.Fault kind line) es h = cc
-no-join _ es h = refl
+no-join _ es h = cc
 
 last-stays : (e : Token) (es : List Token) → takes_back (last_of e) es ≡ false
 last-stays (token.Span span_kind.Word s) es = refl
-last-stays (token.AsciiConstant value line) es = refl
 last-stays _ es = refl
 
 solid-stays : (at : Last) (e : Token) (es : List Token) → is_solid e ≡ true → takes_back at (e ∷ es) ≡ false
@@ -272,4 +199,4 @@ pub rare-end : (lines : List SourceLine) (at : RarePartState) (items left : List
     es ≡ [] → all_items lines items at es ≡ left → items ≡ left
 unfolding all_items
 rare-end lines at items left es none is =
-    sym (append-nil items) ∙ (sym (rw (none, and-false (is_after_line_end at.last)) refl) ∙ is)
+    all-made items left (all_items lines items at) es none (rw (and-false (is_after_line_end at.last)) refl) is

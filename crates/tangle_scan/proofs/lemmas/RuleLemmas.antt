@@ -1,25 +1,47 @@
 use Rattle.std.proofs.Common.{◌≡◌, ℕ, ◌≤◌, Bool, true, false, ◌||◌, List, [], ◌∷◌, ◌++◌, length, take, drop, refl, ap}
-use Rattle.std.proofs.Common.{sym, ◌∙◌, arith, append_assoc, append-nil, if◌then◌else◌}
+use Rattle.std.proofs.Common.{◌&&◌, not, Option, Some, is_some, sym, ◌∙◌, arith, append_assoc, append-nil, if◌then◌else◌}
 use Rattle.std.proofs.Math.Seq.{drop-length}
 use Rattle.std.proofs.lemmas.List.{take_all, take-append-le, drop-append-le, take-append-drop}
 use Rattle.tangle_lexer.specs.declared.tokens.Token.{Token}
 use Rattle.tangle_lexer.specs.declared.tokens.Token.TheVariants as token
-use Rattle.tangle_scan.specs.Rules.{without_joins, left_of_run, has_join, is_gap, is_join}
+use Rattle.tangle_scan.specs.Rules.{without_joins, left_of_run, has_join, is_gap, is_join, is_front_gap}
+use Rattle.tangle_scan.specs.Rules.{blanks, is_name_part, macro_blanks}
 use Rattle.tangle_scan.specs.Passes.{without_joins_from}
+
+-- a token other than white space and a line end, and rule 3 at such a token, in a C part and in a macro
+
+pub no-front_gap : (e : Token) → (e ≡ token.White → ⊥) → ((line : ℕ) → e ≡ token.LineEnd line → ⊥)
+    → is_front_gap e ≡ false
+no-front_gap token.White white end = absurd (white refl)
+no-front_gap (token.LineEnd line) white end = absurd (end line refl)
+no-front_gap _ white end = refl
+
+pub blanks-item : (texts : List (List ℕ)) (before : Option Token) (white : Bool) (e : Token) (es : List Token)
+    → is_front_gap e ≡ false
+    → blanks texts before white (e ∷ es)
+    ≡ (if is_some before && white then token.White ∷ [] else []) ++ e ∷ blanks texts (Some e) false es
+blanks-item texts before white token.White es item = cc
+blanks-item texts before white _ es item = cc
+
+pub macro_blanks-item : (texts : List (List ℕ)) (in_name : Bool) (before : Option Token) (white : Bool) (e : Token)
+    (es : List Token) → is_front_gap e ≡ false
+    → macro_blanks texts in_name before white (e ∷ es)
+    ≡ (if is_some before && white then token.White ∷ [] else [])
+    ++ e ∷ macro_blanks texts (in_name && not white && is_name_part e) (Some e) false es
+macro_blanks-item texts in_name before white token.White es item = cc
+macro_blanks-item texts in_name before white _ es item = cc
+
+-- rule 2 at a gap and at another token
 
 pub without_joins-gap : (run : List Token) (e : Token) (es : List Token)
     → is_gap e ≡ true → without_joins run (e ∷ es) ≡ without_joins (run ++ e ∷ []) es
 without_joins-gap run token.Join es h = refl
-without_joins-gap run token.White es h = refl
-without_joins-gap run (token.LineEnd line) es h = refl
 without_joins-gap run _ es h = cc
 
 pub without_joins-item : (run : List Token) (e : Token) (es : List Token)
     → is_gap e ≡ false → without_joins run (e ∷ es) ≡ left_of_run run ++ e ∷ without_joins [] es
 without_joins-item run token.Join es h = cc
-without_joins-item run token.White es h = cc
-without_joins-item run (token.LineEnd line) es h = cc
-without_joins-item run _ es h = refl
+without_joins-item run _ es h = cc
 
 pub has_join-push : (run : List Token) (e : Token) → has_join (run ++ e ∷ []) ≡ (has_join run || is_join e)
 has_join-push [] token.Join = refl

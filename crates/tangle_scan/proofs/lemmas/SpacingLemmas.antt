@@ -8,10 +8,10 @@ use Rattle.tangle_lexer.specs.declared.tokens.Token.TheVariants as token
 use Rattle.tangle_scan.specs.declared.spacing.Stage.{Stage}
 use Rattle.tangle_scan.specs.declared.spacing.Spacing.{Spacing}
 use Rattle.tangle_scan.specs.declared.spacing.Stage.TheVariants as stage
-use Rattle.tangle_scan.specs.Rules.{without_joins, has_join, without_faults, without_front_gaps, with_spaces}
+use Rattle.tangle_scan.specs.Rules.{is_gap, without_joins, has_join, without_faults, without_front_gaps, with_spaces}
 use Rattle.tangle_scan.specs.Rules.{with_name_space, with_space_after, may_follow_name, would_merge}
 use Rattle.tangle_scan.proofs.lemmas.RuleLemmas.{run-end, has_join-push}
-use Rattle.tangle_scan.specs.Passes.{without_joins_from, spacing_from, with_white_space, is_rare, after_front}
+use Rattle.tangle_scan.specs.Passes.{without_joins_from, spacing_from, with_white_space, is_rare}
 use Rattle.tangle_scan.specs.Passes.{is_name_spaced, is_skipped, without_skipped, stage_after, needs_space}
 
 -- rule 1, token by token
@@ -30,50 +30,31 @@ spaced-inside texts (e ∷ es) = sym (inside-spaced texts e es)
 -- a token that is skipped is removed
 pub without_skipped-gone : (at : Stage) (e : Token) (es : List Token)
     → is_skipped at e ≡ true → without_skipped at (e ∷ es) ≡ without_skipped at es
-without_skipped-gone stage.Front (token.Fault kind line) es h = refl
-without_skipped-gone _ (token.Fault kind line) es h = refl
 without_skipped-gone stage.Front token.White es h = refl
-without_skipped-gone stage.Front (token.LineEnd line) es h = refl
-without_skipped-gone stage.Front _ es h = cc
+without_skipped-gone _ (token.Fault kind line) es h = refl
 without_skipped-gone _ _ es h = cc
 
 -- a token that is not skipped is kept
 pub without_skipped-stays : (at : Stage) (e : Token) (es : List Token)
     → is_skipped at e ≡ false → without_skipped at (e ∷ es) ≡ e ∷ without_skipped (stage_after at e) es
-without_skipped-stays at (token.Fault kind line) es h = cc
 without_skipped-stays stage.Front token.White es h = cc
-without_skipped-stays stage.Front (token.LineEnd line) es h = cc
-without_skipped-stays stage.Front _ es h = refl
-without_skipped-stays stage.BeforeName _ es h = refl
-without_skipped-stays stage.AfterName _ es h = refl
-without_skipped-stays stage.Inside _ es h = refl
+without_skipped-stays _ (token.Fault kind line) es h = cc
+without_skipped-stays _ _ es h = cc
 
 -- after a line end or a join rule 1 adds white space in the same cases as after white space
 
-space-line : (texts : List (List ℕ)) (at : Stage) (line : ℕ) (e : Token)
-    → needs_space texts at (token.LineEnd line) e ≡ needs_space texts at token.White e
-space-line texts stage.AfterName line e = refl
-space-line texts _ line e = refl
+space-gap : (texts : List (List ℕ)) (at : Stage) (e f : Token) → is_gap e ≡ true
+    → needs_space texts at e f ≡ needs_space texts at token.White f
+space-gap texts stage.AfterName token.Join f h = refl
+space-gap texts _ token.Join f h = refl
+space-gap texts _ _ f h = cc
 
-space-join : (texts : List (List ℕ)) (at : Stage) (e : Token)
-    → needs_space texts at token.Join e ≡ needs_space texts at token.White e
-space-join texts stage.AfterName e = refl
-space-join texts _ e = refl
-
-pub after-line : (texts : List (List ℕ)) (at : Stage) (line : ℕ) (es : List Token) →
-    with_white_space texts at (token.LineEnd line) es
-    ≡ with_white_space texts at token.White es
-after-line texts at line [] = refl
-after-line texts at line (e ∷ es) =
-    ap (λ b. (if b then token.White ∷ [] else []) ++ e ∷ with_white_space texts (stage_after at e) e es)
-    (space-line texts at line e)
-
-pub after-join : (texts : List (List ℕ)) (at : Stage) (es : List Token) →
-    with_white_space texts at token.Join es ≡ with_white_space texts at token.White es
-after-join texts at [] = refl
-after-join texts at (e ∷ es) =
-    ap (λ b. (if b then token.White ∷ [] else []) ++ e ∷ with_white_space texts (stage_after at e) e es)
-    (space-join texts at e)
+pub after-gap : (texts : List (List ℕ)) (at : Stage) (e : Token) (es : List Token) → is_gap e ≡ true
+    → with_white_space texts at e es ≡ with_white_space texts at token.White es
+after-gap texts at e [] h = refl
+after-gap texts at e (f ∷ es) h =
+    ap (λ b. (if b then token.White ∷ [] else []) ++ f ∷ with_white_space texts (stage_after at f) f es)
+    (space-gap texts at e f h)
 
 -- the white space of rule 1 after the name of a macro
 after-name : (texts : List (List ℕ)) (e f : Token) (es : List Token) (touching following : Bool)
@@ -97,10 +78,11 @@ name-spaced : (texts : List (List ℕ)) (es : List Token)
 name-spaced texts [] = refl
 name-spaced texts (token.White ∷ es) = ap (λ t. token.White ∷ t) (name-spaced texts es)
 name-spaced texts (token.LineEnd line ∷ es) =
-    rw (after-line texts stage.Inside line es, after-line texts stage.BeforeName line es)
+    let end = token.LineEnd line in
+    rw (after-gap texts stage.Inside end es refl, after-gap texts stage.BeforeName end es refl)
     (ap (λ t. token.LineEnd line ∷ t) (name-spaced texts es))
 name-spaced texts (token.Join ∷ es) =
-    rw (after-join texts stage.Inside es, after-join texts stage.BeforeName es)
+    rw (after-gap texts stage.Inside token.Join es refl, after-gap texts stage.BeforeName token.Join es refl)
     (ap (λ t. token.Join ∷ t) (name-spaced texts es))
 name-spaced texts (e ∷ es) = name-after texts e es
 
@@ -144,10 +126,8 @@ unchanged-faults (token.Fault kind line ∷ es) h = cc
 unchanged-faults (e ∷ es) h = ap (λ t. e ∷ t) (unchanged-faults es (or_parts (is_rare e) (list_any is_rare es) h).1)
 
 unchanged-merge : (e f : Token) → is_rare e ≡ false → is_rare f ≡ false → would_merge e f ≡ false
-unchanged-merge (token.AsciiConstant value line) f h k = cc
 unchanged-merge (token.Span span_kind.Word s) (token.AsciiConstant value line) h k = cc
-unchanged-merge (token.Span span_kind.Word s) _ h k = refl
-unchanged-merge _ f h k = refl
+unchanged-merge _ _ h k = cc
 
 unchanged-spaces : (es : List Token) → list_any is_rare es ≡ false → with_spaces es ≡ es
 unchanged-spaces [] h = refl
@@ -177,13 +157,7 @@ unchanged-stays es h = sym (ap (λ t. without_joins [] (with_spaces t)) (unchang
 
 -- a macro without rare tokens, whose name needs no white space after it
 
-after-front : (es : List Token) → without_front_gaps es ≡ after_front es
-after-front [] = refl
-after-front (token.White ∷ es) = after-front es
-after-front (token.LineEnd line ∷ es) = after-front es
-after-front (e ∷ es) = refl
-
-after-rare : (es : List Token) → list_any is_rare es ≡ false → list_any is_rare (after_front es) ≡ false
+after-rare : (es : List Token) → list_any is_rare es ≡ false → list_any is_rare (without_front_gaps es) ≡ false
 after-rare [] h = refl
 after-rare (token.White ∷ es) h = after-rare es h
 after-rare (token.LineEnd line ∷ es) h = after-rare es h
@@ -195,8 +169,8 @@ name-stays texts e [] h = refl
 name-stays texts e (f ∷ es) h = rw h refl
 
 named-stays : (texts : List (List ℕ)) (es : List Token)
-    → list_any is_rare (after_front es) ≡ false → is_name_spaced texts (after_front es) ≡ true
-    → with_name_space texts (after_front es) ≡ after_front es
+    → list_any is_rare (without_front_gaps es) ≡ false → is_name_spaced texts (without_front_gaps es) ≡ true
+    → with_name_space texts (without_front_gaps es) ≡ without_front_gaps es
 named-stays texts [] h k = refl
 named-stays texts (token.White ∷ es) h k = named-stays texts es h k
 named-stays texts (token.LineEnd line ∷ es) h k = named-stays texts es h k
@@ -204,12 +178,12 @@ named-stays texts (token.Join ∷ es) h k = cc
 named-stays texts (e ∷ es) h k = name-stays texts e es k
 
 pub unchanged-macro : (texts : List (List ℕ)) (es : List Token)
-    → list_any is_rare es ≡ false → is_name_spaced texts (after_front es) ≡ true
-    → after_front es ≡ without_joins [] (with_name_space texts (with_spaces (without_front_gaps (without_faults es))))
+    → list_any is_rare es ≡ false → is_name_spaced texts (without_front_gaps es) ≡ true
+    → without_front_gaps es ≡ without_joins [] (with_name_space texts (with_spaces (without_front_gaps (without_faults es))))
 unchanged-macro texts es h k =
-    let rest = after_front es in
+    let rest = without_front_gaps es in
     let rare = after-rare es h in
-    let front = ap without_front_gaps (unchanged-faults es h) ∙ after-front es in
+    let front = ap without_front_gaps (unchanged-faults es h) in
     let spaced = ap with_spaces front ∙ unchanged-spaces rest rare in
     let named = ap (with_name_space texts) spaced ∙ named-stays texts es rare k in
     sym (ap (without_joins []) named ∙ unchanged-without_joins [] rest refl rare)

@@ -2,7 +2,7 @@
 use Rattle.std.proofs.Common.{◌≡◌, ◌∙◌, ◌<◌, ℕ, List, [], ◌∷◌, ◌++◌, map, length, get_or, refl, ap, sym}
 use Rattle.std.specs.List.{All}
 use Rattle.std.proofs.lemmas.List.{map-append, length-map, get_or-map}
-use Rattle.std.proofs.lemmas.List.Elements.{All-nil, All-cons, All-append}
+use Rattle.std.proofs.lemmas.List.Elements.{All-push}
 use Rattle.tangle_scan.specs.declared.items.Item.{Item}
 use Rattle.tangle_scan.specs.Web.{PieceRead}
 use Rattle.tangle_scan.specs.Entries.{StoredPiece, RunsAreInRange, IsEntryInRange, items_of, piece_read}
@@ -33,6 +33,4 @@ pub runs-added : (texts : List (List ℕ)) (before after : List StoredPiece) (pi
     → after ≡ before ++ piece ∷ [] → RunsAreInRange texts before → All (IsEntryInRange texts) piece.entries
     → RunsAreInRange texts after
 runs-added texts before after piece added kept here =
-    rw added (All-append (λ p. All (IsEntryInRange texts) p.entries) before (piece ∷ []) kept
-    (All-cons (λ p. All (IsEntryInRange texts) p.entries) piece [] here
-    (All-nil (λ p. All (IsEntryInRange texts) p.entries))))
+    rw added (All-push (λ p. All (IsEntryInRange texts) p.entries) before piece kept here)

@@ -13,6 +13,8 @@ use Rattle.tangle_text.specs.declared.runs.RunPart.TheVariants as part
 use Rattle.tangle_text.specs.Runs.{run_parts}
 use Rattle.tangle_lexer.specs.declared.tokens.Token.{Token}
 use Rattle.tangle_lexer.specs.declared.tokens.Token.TheVariants as token
+use Rattle.tangle_lexer.specs.declared.tokens.SpanKind.{SpanKind}
+use Rattle.tangle_lexer.specs.declared.tokens.SpanKind.TheVariants as span_kind
 use Rattle.tangle_lexer.specs.Heads.{is_head}
 use Rattle.tangle_lexer.specs.Runs.{part_token, unfolded_token, unfolded, is_run, HasNoRun}
 use Rattle.tangle_scan.specs.Passes.{is_rare}
@@ -20,65 +22,48 @@ use Rattle.tangle_scan.specs.Web.{is_all_macros, body}
 use Rattle.tangle_scan.specs.WebBuilder.{own_fault}
 use Rattle.tangle_scan.proofs.lemmas.WebBuilderLemmas.{body-whole}
 
--- a test that neither a run nor a part of one passes
+-- a test that neither a run nor a part of one passes: the parts are white space, words and signs
 
-any-parts : (test : Token → Bool) → ((x : RunPart) → test (part_token x) ≡ false) → (xs : List RunPart)
+any-parts : (test : Token → Bool) → test token.White ≡ false
+    → ((kind : SpanKind) (s : Span) → test (token.Span kind s) ≡ false) → (xs : List RunPart)
     → list_any test (map part_token xs) ≡ false
-any-parts test part [] = refl
-any-parts test part (x ∷ xs) = rw (part x) (any-parts test part xs)
+any-parts test white span [] = refl
+any-parts test white span (part.Word s ∷ xs) = rw (span span_kind.Word s) (any-parts test white span xs)
+any-parts test white span (part.Sign s ∷ xs) = rw (span span_kind.Sign s) (any-parts test white span xs)
+any-parts test white span (part.Space ∷ xs) = rw white (any-parts test white span xs)
 
-any-token : (test : Token → Bool) (texts : List (List ℕ)) → ((s : Span) → test (token.Run s) ≡ false)
-    → ((x : RunPart) → test (part_token x) ≡ false) → (t : Token)
-    → list_any test (unfolded_token texts t) ≡ test t
-any-token test texts run part (token.Run s) = any-parts test part (run_parts texts s) ∙ sym (run s)
-any-token test texts run part t = or-false (test t)
+any-token : (test : Token → Bool) (texts : List (List ℕ)) → test token.White ≡ false
+    → ((kind : SpanKind) (s : Span) → test (token.Span kind s) ≡ false) → ((s : Span) → test (token.Run s) ≡ false)
+    → (t : Token) → list_any test (unfolded_token texts t) ≡ test t
+any-token test texts white span run (token.Run s) = any-parts test white span (run_parts texts s) ∙ sym (run s)
+any-token test texts white span run t = or-false (test t)
 
-any-unfolded : (test : Token → Bool) (texts : List (List ℕ)) → ((s : Span) → test (token.Run s) ≡ false)
-    → ((x : RunPart) → test (part_token x) ≡ false) → (ts : List Token)
-    → list_any test (unfolded texts ts) ≡ list_any test ts
-any-unfolded test texts run part [] = refl
-any-unfolded test texts run part (t ∷ ts) =
-    rw (list_any-append, any-token test texts run part t, any-unfolded test texts run part ts) refl
-
-part-head : (x : RunPart) → is_head (part_token x) ≡ false
-part-head part.Space = refl
-part-head _ = refl
-
-pub head-unfolded : (texts : List (List ℕ)) (ts : List Token)
-    → list_any is_head (unfolded texts ts) ≡ list_any is_head ts
-head-unfolded texts ts = any-unfolded is_head texts (λ s. refl) part-head ts
-
-part-rare : (x : RunPart) → is_rare (part_token x) ≡ false
-part-rare part.Space = refl
-part-rare _ = refl
+any-unfolded : (test : Token → Bool) (texts : List (List ℕ)) → test token.White ≡ false
+    → ((kind : SpanKind) (s : Span) → test (token.Span kind s) ≡ false) → ((s : Span) → test (token.Run s) ≡ false)
+    → (ts : List Token) → list_any test (unfolded texts ts) ≡ list_any test ts
+any-unfolded test texts white span run [] = refl
+any-unfolded test texts white span run (t ∷ ts) =
+    rw (list_any-append, any-token test texts white span run t, any-unfolded test texts white span run ts) refl
 
 pub rare-unfolded : (texts : List (List ℕ)) (ts : List Token)
     → list_any is_rare (unfolded texts ts) ≡ list_any is_rare ts
-rare-unfolded texts ts = any-unfolded is_rare texts (λ s. refl) part-rare ts
-
-part-all_macros : (x : RunPart) → is_all_macros (part_token x) ≡ false
-part-all_macros part.Space = refl
-part-all_macros _ = refl
+rare-unfolded texts ts = any-unfolded is_rare texts refl (λ kind s. refl) (λ s. refl) ts
 
 pub all_macros-unfolded : (texts : List (List ℕ)) (ts : List Token)
     → list_any is_all_macros (unfolded texts ts) ≡ list_any is_all_macros ts
-all_macros-unfolded texts ts = any-unfolded is_all_macros texts (λ s. refl) part-all_macros ts
+all_macros-unfolded texts ts = any-unfolded is_all_macros texts refl (λ kind s. refl) (λ s. refl) ts
 
 -- no part of a run is a fault
-
-part-fault : (files : FileTable) (lines : List SourceLine) (x : RunPart) → own_fault files lines (part_token x) ≡ []
-part-fault files lines part.Space = refl
-part-fault files lines _ = refl
 
 parts-faults : (files : FileTable) (lines : List SourceLine) (xs : List RunPart)
     → flat_map (own_fault files lines) (map part_token xs) ≡ []
 parts-faults files lines [] = refl
-parts-faults files lines (x ∷ xs) = rw (part-fault files lines x) (parts-faults files lines xs)
+parts-faults files lines (part.Space ∷ xs) = parts-faults files lines xs
+parts-faults files lines (_ ∷ xs) = parts-faults files lines xs
 
 token-faults : (texts : List (List ℕ)) (files : FileTable) (lines : List SourceLine) (t : Token)
     → flat_map (own_fault files lines) (unfolded_token texts t) ≡ own_fault files lines t
 token-faults texts files lines (token.Run s) = parts-faults files lines (run_parts texts s)
-token-faults texts files lines (token.Fault kind line) = refl
 token-faults texts files lines t = refl
 
 pub faults-unfolded : (texts : List (List ℕ)) (files : FileTable) (lines : List SourceLine) (ts : List Token)
@@ -91,7 +76,7 @@ faults-unfolded texts files lines (t ∷ ts) =
 
 pub unfolded-no_head : (texts : List (List ℕ)) (ts : List Token) → list_any is_head ts ≡ false
     → list_any is_head (unfolded texts ts) ≡ false
-unfolded-no_head texts ts none = head-unfolded texts ts ∙ none
+unfolded-no_head texts ts none = any-unfolded is_head texts refl (λ kind s. refl) (λ s. refl) ts ∙ none
 
 pub unfolded-whole : (texts : List (List ℕ)) (ts : List Token) → list_any is_head ts ≡ false
     → body (unfolded texts ts) ≡ unfolded texts ts

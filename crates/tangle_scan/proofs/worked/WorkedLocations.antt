@@ -1,6 +1,6 @@
 -- Stretches and the counted origin, on small lists.
 use Rattle.std.proofs.Common.{◌≡◌, ℕ, Bool, true, false, List, [], ◌∷◌, None, Some, codes, refl}
-use Rattle.tangle_faults.specs.declared.faults.Origin.{Origin}
+use Rattle.tangle_lines.specs.declared.origin.Origin.{Origin}
 use Rattle.tangle_text.specs.declared.spans.Span.{Span}
 use Rattle.tangle_lines.specs.Reading.{SourceLine}
 use Rattle.tangle_scan.specs.declared.items.Item.TheVariants as item

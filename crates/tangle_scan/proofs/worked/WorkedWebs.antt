@@ -1,6 +1,6 @@
 -- Worked webs: the pieces, macros, occurrences and faults of each.
 use Rattle.std.specs.Prelude.{◌≡◌, ℕ, ◌+◌, List, [], ◌∷◌, ◌++◌, map, flat_map, refl, codes, take, ◌/◌, ◌%◌, ◌==◌}
-use Rattle.std.specs.Prelude.{if◌then◌else◌, true, false}
+use Rattle.std.specs.Prelude.{if◌then◌else◌, Bool, true, false}
 use Rattle.tangle_faults.specs.declared.faults.FaultKind.{FaultKind}
 use Rattle.tangle_faults.specs.declared.faults.FaultKind.TheVariants as fault
 use Rattle.tangle_faults.specs.Faults.{FaultRead, fault_at}
@@ -33,397 +33,236 @@ web texts = web_of (source texts)
 abbrev on : FaultKind → ℕ → FaultRead
 on kind n = fault_at kind (record { file = codes "a.w"; line = n })
 
--- lines of bytes, each with a line feed
-abbrev lines : List (List ℕ) → List ℕ
-lines ls = flat_map (λ l. l ++ 10 ∷ []) ls
-
 -- a number of one or two digits
 abbrev digits : ℕ → List ℕ
 digits n = (if n / 10 == 0 then [] else (48 + n / 10) ∷ []) ++ (48 + n % 10) ∷ []
 
 -- an item as bytes: a mark as # and its line, a use as the number of its occurrence, the macros as H
-abbrev shown : List (List ℕ) → Item → List ℕ
-shown texts (item.Word s) = span_text texts s
-shown texts (item.Sign s) = span_text texts s
-shown texts (item.Quoted s) = span_text texts s
-shown texts (item.Verbatim s) = span_text texts s
-shown texts item.QuoteBreak = 10 ∷ []
-shown texts item.LineEnd = 10 ∷ []
-shown texts item.Blank = 32 ∷ []
-shown texts (item.Code b) = digits b
-shown texts (item.LineMark p) = 10 ∷ 35 ∷ digits p.line ++ 10 ∷ []
-shown texts (item.UseOf n) = 60 ∷ digits n ++ 62 ∷ []
-shown texts item.Defs = 72 ∷ []
+abbrev item_shown : List (List ℕ) → Item → List ℕ
+item_shown texts (item.Word s) = span_text texts s
+item_shown texts (item.Sign s) = span_text texts s
+item_shown texts (item.Quoted s) = span_text texts s
+item_shown texts (item.Verbatim s) = span_text texts s
+item_shown texts item.QuoteBreak = 10 ∷ []
+item_shown texts item.LineEnd = 10 ∷ []
+item_shown texts item.Blank = 32 ∷ []
+item_shown texts (item.Code b) = digits b
+item_shown texts (item.LineMark p) = 10 ∷ 35 ∷ digits p.line ++ 10 ∷ []
+item_shown texts (item.UseOf n) = 60 ∷ digits n ++ 62 ∷ []
+item_shown texts item.Defs = 72 ∷ []
 
 -- the pieces, each with its section and the line of its opening mark
 abbrev shown_pieces : WebRead → List ℕ
 shown_pieces w =
-    flat_map (λ p. digits p.section ++ 58 ∷ digits p.origin.line ++ flat_map (shown w.texts) p.items ++ 10 ∷ [])
+    flat_map (λ p. digits p.section ++ 58 ∷ digits p.origin.line ++ flat_map (item_shown w.texts) p.items ++ 10 ∷ [])
     w.pieces
 
 abbrev shown_macros : WebRead → List ℕ
-shown_macros w = flat_map (λ m. flat_map (shown w.texts) m ++ 10 ∷ []) w.macros
+shown_macros w = flat_map (λ m. flat_map (item_shown w.texts) m ++ 10 ∷ []) w.macros
+
+-- what the examples show of a web: its pieces and macros as bytes, and the texts of its occurrences
+record Shown : Type 0 where
+  sections : ℕ
+  pieces : List ℕ
+  macros : List ℕ
+  names : List (List ℕ)
+  has_all_macros : Bool
+  faults : List FaultRead
+
+abbrev web_shown : WebRead → Shown
+web_shown w = record {
+  sections = w.sections;
+  pieces = shown_pieces w;
+  macros = shown_macros w;
+  names = map (λ o. o.text) w.occurrences;
+  has_all_macros = w.has_all_macros;
+  faults = w.faults;
+}
+
+abbrev shown : List (List ℕ) → Shown
+shown texts = web_shown (web texts)
+
+-- one section without pieces; an example says what else its web has
+abbrev plain : Shown
+plain = record { sections = 1; pieces = []; macros = []; names = []; has_all_macros = false; faults = [] }
 
 -- one C part
-abbrev one_part : List (List ℕ)
-one_part = codes "@ A." ∷ codes "@c" ∷ codes "int x;" ∷ []
-
-pub one_part_pieces : shown_pieces (web one_part) ≡ lines (codes "1:2" ∷ codes "int x;" ∷ codes "" ∷ [])
+pub one_part : shown (codes "@ A." ∷ codes "@c" ∷ codes "int x;" ∷ [])
+    ≡ record plain { pieces = codes "1:2\nint x;\n\n" }
 unfolding lexeme tokens_from occurrences_from
-one_part_pieces = refl
-
-pub one_part_macros : shown_macros (web one_part) ≡ lines ([])
-unfolding lexeme tokens_from occurrences_from
-one_part_macros = refl
-
-pub one_part_faults : (web one_part).faults ≡ []
-unfolding lexeme tokens_from occurrences_from
-one_part_faults = refl
-
-pub one_part_has_all_macros : (web one_part).has_all_macros ≡ false
-unfolding lexeme tokens_from occurrences_from
-one_part_has_all_macros = refl
-
-pub one_part_sections : (web one_part).sections ≡ 1
-unfolding lexeme tokens_from occurrences_from
-one_part_sections = refl
+one_part = refl
 
 -- a use of a name
-abbrev one_use : List (List ℕ)
-one_use = codes "@ A." ∷ codes "@c" ∷ codes "int x=@<v@>;" ∷ codes "@ @<v@>=" ∷ codes "1" ∷ []
-
-pub one_use_pieces : shown_pieces (web one_use)
-    ≡ lines
-    (codes "1:2" ∷ codes "int x=<0>" ∷ codes "#3" ∷ codes ";" ∷ codes "" ∷ codes "2:4" ∷ codes "1" ∷ codes "" ∷ [])
+pub one_use :
+    shown (codes "@ A." ∷ codes "@c" ∷ codes "int x=@<v@>;" ∷ codes "@ @<v@>=" ∷ codes "1" ∷ [])
+    ≡ record plain {
+      sections = 2;
+      pieces = codes "1:2\nint x=<0>\n#3\n;\n\n2:4\n1\n\n";
+      names = codes "v" ∷ codes "v" ∷ [];
+    }
 unfolding lexeme tokens_from occurrences_from
-one_use_pieces = refl
-
-pub one_use_macros : shown_macros (web one_use) ≡ lines ([])
-unfolding lexeme tokens_from occurrences_from
-one_use_macros = refl
-
-pub one_use_faults : (web one_use).faults ≡ []
-unfolding lexeme tokens_from occurrences_from
-one_use_faults = refl
-
-pub one_use_texts : map (λ o. o.text) (web one_use).occurrences ≡ codes "v" ∷ codes "v" ∷ []
-unfolding lexeme tokens_from occurrences_from
-one_use_texts = refl
-
-pub one_use_sections : (web one_use).sections ≡ 2
-unfolding lexeme tokens_from occurrences_from
-one_use_sections = refl
+one_use = refl
 
 -- an abbreviation that begins two names
 abbrev abbreviated : List (List ℕ)
 abbreviated =
-    codes "@ A." ∷ codes "@c" ∷ codes "@<Ini...@>" ∷ codes "@ @<Initialize@>="
-    ∷ codes "x=0;" ∷ codes "@ @<Init table@>=" ∷ []
+    codes "@ A." ∷ codes "@c" ∷ codes "@<Ini...@>" ∷ codes "@ @<Initialize@>=" ∷ codes "x=0;"
+    ∷ codes "@ @<Init table@>=" ∷ []
 
-pub abbreviated_pieces : shown_pieces (web abbreviated) ≡ lines (codes "1:2" ∷ codes "<0>" ∷ codes "#3"
-    ∷ codes "" ∷ codes "" ∷ codes "2:4" ∷ codes "x=0;" ∷ codes "" ∷ codes "3:6" ∷ codes "" ∷ [])
+pub abbreviated_web : shown abbreviated
+    ≡ record plain {
+      sections = 3;
+      pieces = codes "1:2\n<0>\n#3\n\n\n2:4\nx=0;\n\n3:6\n\n";
+      names = codes "Ini..." ∷ codes "Initialize" ∷ codes "Init table" ∷ [];
+    }
 unfolding lexeme tokens_from occurrences_from
-abbreviated_pieces = refl
-
-pub abbreviated_macros : shown_macros (web abbreviated) ≡ lines ([])
-unfolding lexeme tokens_from occurrences_from
-abbreviated_macros = refl
-
-pub abbreviated_faults : (web abbreviated).faults ≡ []
-unfolding lexeme tokens_from occurrences_from
-abbreviated_faults = refl
-
-pub abbreviated_texts : map (λ o. o.text) (web abbreviated).occurrences
-    ≡ codes "Ini..." ∷ codes "Initialize" ∷ codes "Init table" ∷ []
-unfolding lexeme tokens_from occurrences_from
-abbreviated_texts = refl
+abbreviated_web = refl
 
 -- the macros inside a C part
-abbrev macros_in_text : List (List ℕ)
-macros_in_text = codes "@ A." ∷ codes "@d N 10" ∷ codes "@c" ∷ codes "@h" ∷ codes "int x=N;" ∷ []
-
-pub macros_in_text_pieces : shown_pieces (web macros_in_text)
-    ≡ lines (codes "1:3" ∷ codes "H" ∷ codes "#4" ∷ codes "" ∷ codes "int x=N;" ∷ codes "" ∷ [])
+pub macros_in_text :
+    shown (codes "@ A." ∷ codes "@d N 10" ∷ codes "@c" ∷ codes "@h" ∷ codes "int x=N;" ∷ [])
+    ≡ record plain {
+      pieces = codes "1:3\nH\n#4\n\nint x=N;\n\n";
+      macros = codes "N 10\n\n";
+      has_all_macros = true;
+    }
 unfolding lexeme tokens_from occurrences_from
-macros_in_text_pieces = refl
-
-pub macros_in_text_macros : shown_macros (web macros_in_text) ≡ lines (codes "N 10" ∷ codes "" ∷ [])
-unfolding lexeme tokens_from occurrences_from
-macros_in_text_macros = refl
-
-pub macros_in_text_faults : (web macros_in_text).faults ≡ []
-unfolding lexeme tokens_from occurrences_from
-macros_in_text_faults = refl
-
-pub macros_in_text_has_all_macros : (web macros_in_text).has_all_macros ≡ true
-unfolding lexeme tokens_from occurrences_from
-macros_in_text_has_all_macros = refl
+macros_in_text = refl
 
 -- a join removes the line end beside it
-abbrev join_over_line : List (List ℕ)
-join_over_line = codes "@ A." ∷ codes "@c" ∷ codes "a@&" ∷ codes "b;" ∷ codes "c;" ∷ []
-
-pub join_over_line_pieces : shown_pieces (web join_over_line)
-    ≡ lines (codes "1:2" ∷ codes "ab;" ∷ codes "#5" ∷ codes "c;" ∷ codes "" ∷ [])
+pub join_over_line : shown (codes "@ A." ∷ codes "@c" ∷ codes "a@&" ∷ codes "b;" ∷ codes "c;" ∷ [])
+    ≡ record plain { pieces = codes "1:2\nab;\n#5\nc;\n\n" }
 unfolding lexeme tokens_from occurrences_from
-join_over_line_pieces = refl
-
-pub join_over_line_macros : shown_macros (web join_over_line) ≡ lines ([])
-unfolding lexeme tokens_from occurrences_from
-join_over_line_macros = refl
-
-pub join_over_line_faults : (web join_over_line).faults ≡ []
-unfolding lexeme tokens_from occurrences_from
-join_over_line_faults = refl
+join_over_line = refl
 
 -- a quoted text with a single @ that does not end
-abbrev quote_to_line_end : List (List ℕ)
-quote_to_line_end = codes "@ A." ∷ codes "@c" ∷ codes "s=\"a@b" ∷ codes "t;" ∷ []
-
-pub quote_to_line_end_pieces : shown_pieces (web quote_to_line_end)
-    ≡ lines (codes "1:2" ∷ codes "s=\"a@b" ∷ codes "t;" ∷ codes "" ∷ [])
+pub quote_to_line_end : shown (codes "@ A." ∷ codes "@c" ∷ codes "s=\"a@b" ∷ codes "t;" ∷ [])
+    ≡ record plain {
+      pieces = codes "1:2\ns=\"a@b\nt;\n\n";
+      faults = on fault.StringAt 3 ∷ on fault.StringEnd 3 ∷ [];
+    }
 unfolding lexeme tokens_from occurrences_from
-quote_to_line_end_pieces = refl
-
-pub quote_to_line_end_macros : shown_macros (web quote_to_line_end) ≡ lines ([])
-unfolding lexeme tokens_from occurrences_from
-quote_to_line_end_macros = refl
-
-pub quote_to_line_end_faults : (web quote_to_line_end).faults ≡ on fault.StringAt 3 ∷ on fault.StringEnd 3 ∷ []
-unfolding lexeme tokens_from occurrences_from
-quote_to_line_end_faults = refl
+quote_to_line_end = refl
 
 -- comments, a control code that is white space, a constant, control texts and a verbatim text
-abbrev kinds_of_tokens : List (List ℕ)
-kinds_of_tokens =
-    codes "@ A." ∷ codes "@c" ∷ codes "a /* b */ c // d"
-    ∷ codes "return@,x+@'A';@^idx@>" ∷ codes "\"q@@\"@=v@> @t\\TeX@>z" ∷ []
-
-pub kinds_of_tokens_pieces : shown_pieces (web kinds_of_tokens)
-    ≡ lines (codes "1:2" ∷ codes "a c" ∷ codes "return x+65;" ∷ codes "\"q@\"v z" ∷ codes "" ∷ [])
+pub kinds_of_tokens :
+    shown (codes "@ A." ∷ codes "@c" ∷ codes "a /* b */ c // d" ∷ codes "return@,x+@'A';@^idx@>"
+    ∷ codes "\"q@@\"@=v@> @t\\TeX@>z" ∷ [])
+    ≡ record plain { pieces = codes "1:2\na c\nreturn x+65;\n\"q@\"v z\n\n" }
 unfolding lexeme tokens_from occurrences_from
-kinds_of_tokens_pieces = refl
-
-pub kinds_of_tokens_macros : shown_macros (web kinds_of_tokens) ≡ lines ([])
-unfolding lexeme tokens_from occurrences_from
-kinds_of_tokens_macros = refl
-
-pub kinds_of_tokens_faults : (web kinds_of_tokens).faults ≡ []
-unfolding lexeme tokens_from occurrences_from
-kinds_of_tokens_faults = refl
+kinds_of_tokens = refl
 
 -- a macro over several lines, and one that is dropped
-abbrev macro_lines : List (List ℕ)
-macro_lines = codes "@ A." ∷ codes "@d F(x) x" ∷ codes "  +1" ∷ codes "" ∷ codes "@d 3" ∷ codes "@c" ∷ codes "y" ∷ []
-
-pub macro_lines_pieces : shown_pieces (web macro_lines) ≡ lines (codes "1:6" ∷ codes "y" ∷ codes "" ∷ [])
+pub macro_lines :
+    shown (codes "@ A." ∷ codes "@d F(x) x" ∷ codes "  +1" ∷ codes "" ∷ codes "@d 3" ∷ codes "@c"
+    ∷ codes "y" ∷ [])
+    ≡ record plain {
+      pieces = codes "1:6\ny\n\n";
+      macros = codes "F(x) x\n+1\n\n\n";
+      faults = on fault.MacroName 5 ∷ [];
+    }
 unfolding lexeme tokens_from occurrences_from
-macro_lines_pieces = refl
-
-pub macro_lines_macros : shown_macros (web macro_lines) ≡ lines (codes "F(x) x" ∷ codes "+1" ∷ codes "" ∷ codes "" ∷ [])
-unfolding lexeme tokens_from occurrences_from
-macro_lines_macros = refl
-
-pub macro_lines_faults : (web macro_lines).faults ≡ on fault.MacroName 5 ∷ []
-unfolding lexeme tokens_from occurrences_from
-macro_lines_faults = refl
+macro_lines = refl
 
 -- two uses that touch
-abbrev two_uses : List (List ℕ)
-two_uses = codes "@ A." ∷ codes "@c" ∷ codes "@<u@>@<u@>" ∷ []
-
-pub two_uses_pieces : shown_pieces (web two_uses)
-    ≡ lines (codes "1:2" ∷ codes "<0>" ∷ codes "#3" ∷ codes "<1>" ∷ codes "#3" ∷ codes "" ∷ codes "" ∷ [])
+pub two_uses : shown (codes "@ A." ∷ codes "@c" ∷ codes "@<u@>@<u@>" ∷ [])
+    ≡ record plain {
+      pieces = codes "1:2\n<0>\n#3\n<1>\n#3\n\n\n";
+      names = codes "u" ∷ codes "u" ∷ [];
+    }
 unfolding lexeme tokens_from occurrences_from
-two_uses_pieces = refl
-
-pub two_uses_macros : shown_macros (web two_uses) ≡ lines ([])
-unfolding lexeme tokens_from occurrences_from
-two_uses_macros = refl
-
-pub two_uses_faults : (web two_uses).faults ≡ []
-unfolding lexeme tokens_from occurrences_from
-two_uses_faults = refl
-
-pub two_uses_texts : map (λ o. o.text) (web two_uses).occurrences ≡ codes "u" ∷ codes "u" ∷ []
-unfolding lexeme tokens_from occurrences_from
-two_uses_texts = refl
+two_uses = refl
 
 -- faults of control codes, constants, control texts, verbatim texts and comments
-abbrev many_faults : List (List ℕ)
-many_faults =
-    codes "@ A." ∷ codes "@d M @h 1" ∷ codes "@c" ∷ codes "@d x @'ab' y"
-    ∷ codes "@^q@,z" ∷ codes "@=v" ∷ codes "/* w" ∷ codes "@ B." ∷ []
-
-pub many_faults_pieces : shown_pieces (web many_faults)
-    ≡ lines (codes "1:3" ∷ codes "x y" ∷ codes "z" ∷ codes "v" ∷ codes "" ∷ codes "" ∷ [])
+pub many_faults :
+    shown (codes "@ A." ∷ codes "@d M @h 1" ∷ codes "@c" ∷ codes "@d x @'ab' y" ∷ codes "@^q@,z"
+    ∷ codes "@=v" ∷ codes "/* w" ∷ codes "@ B." ∷ [])
+    ≡ record plain {
+      sections = 2;
+      pieces = codes "1:3\nx y\nz\nv\n\n\n";
+      macros = codes "M 1\n\n";
+      faults =
+          on fault.MisplacedH 2 ∷ on fault.CodeInC 4 ∷ on fault.AsciiBad 4 ∷ on fault.ControlText 5
+          ∷ on fault.VerbatimEnd 6 ∷ on fault.CommentEnd 8 ∷ [];
+    }
 unfolding lexeme tokens_from occurrences_from
-many_faults_pieces = refl
-
-pub many_faults_macros : shown_macros (web many_faults) ≡ lines (codes "M 1" ∷ codes "" ∷ [])
-unfolding lexeme tokens_from occurrences_from
-many_faults_macros = refl
-
-pub many_faults_faults : (web many_faults).faults
-    ≡ on fault.MisplacedH 2 ∷ on fault.CodeInC 4 ∷ on fault.AsciiBad 4
-    ∷ on fault.ControlText 5 ∷ on fault.VerbatimEnd 6 ∷ on fault.CommentEnd 8 ∷ []
-unfolding lexeme tokens_from occurrences_from
-many_faults_faults = refl
-
-pub many_faults_has_all_macros : (web many_faults).has_all_macros ≡ false
-unfolding lexeme tokens_from occurrences_from
-many_faults_has_all_macros = refl
+many_faults = refl
 
 -- a quoted text over a line end, and texts with @@
 abbrev cut_texts : List (List ℕ)
-cut_texts = codes "@ A." ∷ codes "@c" ∷ codes "s=\"a\\" ∷ codes "b\";@=u@@v@>" ∷ codes "#include <p@@q>" ∷ []
+cut_texts =
+    codes "@ A." ∷ codes "@c" ∷ codes "s=\"a\\" ∷ codes "b\";@=u@@v@>" ∷ codes "#include <p@@q>"
+    ∷ []
 
-pub cut_texts_pieces : shown_pieces (web cut_texts)
-    ≡ lines (codes "1:2" ∷ codes "s=\"a\\" ∷ codes "b\";u@v" ∷ codes "#include <p@q>" ∷ codes "" ∷ [])
+pub cut_texts_web : shown cut_texts
+    ≡ record plain { pieces = codes "1:2\ns=\"a\\\nb\";u@v\n#include <p@q>\n\n" }
 unfolding lexeme tokens_from occurrences_from
-cut_texts_pieces = refl
-
-pub cut_texts_macros : shown_macros (web cut_texts) ≡ lines ([])
-unfolding lexeme tokens_from occurrences_from
-cut_texts_macros = refl
-
-pub cut_texts_faults : (web cut_texts).faults ≡ []
-unfolding lexeme tokens_from occurrences_from
-cut_texts_faults = refl
+cut_texts_web = refl
 
 -- a mention, uses, and a name that does not end
-abbrev occurrences_and_faults : List (List ℕ)
-occurrences_and_faults =
-    codes "@ A @<In it@>." ∷ codes "@c" ∷ codes "@<  In   @>@<Zz...@>"
-    ∷ codes "@<b@>=" ∷ codes "@<q" ∷ codes "@ B." ∷ []
-
-pub occurrences_and_faults_pieces : shown_pieces (web occurrences_and_faults)
-    ≡ lines (codes "1:2" ∷ codes "<1>" ∷ codes "#3" ∷ codes "<2>" ∷ codes "#3" ∷ codes ""
-    ∷ codes "<3>" ∷ codes "#4" ∷ codes "=" ∷ codes "<4>" ∷ codes "#6" ∷ codes "" ∷ [])
+pub occurrences_and_faults :
+    shown (codes "@ A @<In it@>." ∷ codes "@c" ∷ codes "@<  In   @>@<Zz...@>" ∷ codes "@<b@>="
+    ∷ codes "@<q" ∷ codes "@ B." ∷ [])
+    ≡ record plain {
+      sections = 2;
+      pieces = codes "1:2\n<1>\n#3\n<2>\n#3\n\n<3>\n#4\n=\n<4>\n#6\n\n";
+      names = codes "In it" ∷ codes "In" ∷ codes "Zz..." ∷ codes "b" ∷ codes "q" ∷ [];
+      faults = on fault.NameEquals 4 ∷ on fault.NameEnd 6 ∷ [];
+    }
 unfolding lexeme tokens_from occurrences_from
-occurrences_and_faults_pieces = refl
-
-pub occurrences_and_faults_macros : shown_macros (web occurrences_and_faults) ≡ lines ([])
-unfolding lexeme tokens_from occurrences_from
-occurrences_and_faults_macros = refl
-
-pub occurrences_and_faults_faults : (web occurrences_and_faults).faults
-    ≡ on fault.NameEquals 4 ∷ on fault.NameEnd 6 ∷ []
-unfolding lexeme tokens_from occurrences_from
-occurrences_and_faults_faults = refl
-
-pub occurrences_and_faults_texts : map (λ o. o.text) (web occurrences_and_faults).occurrences
-    ≡ codes "In it" ∷ codes "In" ∷ codes "Zz..." ∷ codes "b" ∷ codes "q" ∷ []
-unfolding lexeme tokens_from occurrences_from
-occurrences_and_faults_texts = refl
+occurrences_and_faults = refl
 
 -- an empty verbatim text, and one that ends in @@
-abbrev empty_verbatim : List (List ℕ)
-empty_verbatim = codes "@ A." ∷ codes "@c" ∷ codes "a@=@>b@=x@@@>c" ∷ []
-
-pub empty_verbatim_pieces : shown_pieces (web empty_verbatim) ≡ lines (codes "1:2" ∷ codes "abx@c" ∷ codes "" ∷ [])
+pub empty_verbatim : shown (codes "@ A." ∷ codes "@c" ∷ codes "a@=@>b@=x@@@>c" ∷ [])
+    ≡ record plain { pieces = codes "1:2\nabx@c\n\n" }
 unfolding lexeme tokens_from occurrences_from
-empty_verbatim_pieces = refl
-
-pub empty_verbatim_macros : shown_macros (web empty_verbatim) ≡ lines ([])
-unfolding lexeme tokens_from occurrences_from
-empty_verbatim_macros = refl
-
-pub empty_verbatim_faults : (web empty_verbatim).faults ≡ []
-unfolding lexeme tokens_from occurrences_from
-empty_verbatim_faults = refl
+empty_verbatim = refl
 
 -- octal, escaped and doubled constants, and one that is too large
-abbrev constants : List (List ℕ)
-constants = codes "@ A." ∷ codes "@c" ∷ codes "@'\\101'@'\\n'@'@@'x@'\\400'" ∷ []
-
-pub constants_pieces : shown_pieces (web constants) ≡ lines (codes "1:2" ∷ codes "65 10 64 x" ∷ codes "" ∷ [])
+pub constants : shown (codes "@ A." ∷ codes "@c" ∷ codes "@'\\101'@'\\n'@'@@'x@'\\400'" ∷ [])
+    ≡ record plain {
+      pieces = codes "1:2\n65 10 64 x\n\n";
+      faults = on fault.AsciiBad 3 ∷ [];
+    }
 unfolding lexeme tokens_from occurrences_from
-constants_pieces = refl
-
-pub constants_macros : shown_macros (web constants) ≡ lines ([])
-unfolding lexeme tokens_from occurrences_from
-constants_macros = refl
-
-pub constants_faults : (web constants).faults ≡ on fault.AsciiBad 3 ∷ []
-unfolding lexeme tokens_from occurrences_from
-constants_faults = refl
+constants = refl
 
 -- #include with white space
-abbrev spaced_include : List (List ℕ)
-spaced_include = codes "@ A." ∷ codes "@c" ∷ codes " # include <a b@@c>" ∷ codes "x" ∷ []
-
-pub spaced_include_pieces : shown_pieces (web spaced_include)
-    ≡ lines (codes "1:2" ∷ codes "# include <a b@c>" ∷ codes "x" ∷ codes "" ∷ [])
+pub spaced_include :
+    shown (codes "@ A." ∷ codes "@c" ∷ codes " # include <a b@@c>" ∷ codes "x" ∷ [])
+    ≡ record plain { pieces = codes "1:2\n# include <a b@c>\nx\n\n" }
 unfolding lexeme tokens_from occurrences_from
-spaced_include_pieces = refl
-
-pub spaced_include_macros : shown_macros (web spaced_include) ≡ lines ([])
-unfolding lexeme tokens_from occurrences_from
-spaced_include_macros = refl
-
-pub spaced_include_faults : (web spaced_include).faults ≡ []
-unfolding lexeme tokens_from occurrences_from
-spaced_include_faults = refl
+spaced_include = refl
 
 -- a comment over several lines
-abbrev comment_over_lines : List (List ℕ)
-comment_over_lines = codes "@ A." ∷ codes "@c" ∷ codes "a /* x" ∷ codes "y */ b" ∷ []
-
-pub comment_over_lines_pieces : shown_pieces (web comment_over_lines)
-    ≡ lines (codes "1:2" ∷ codes "a" ∷ codes "b" ∷ codes "" ∷ [])
+pub comment_over_lines : shown (codes "@ A." ∷ codes "@c" ∷ codes "a /* x" ∷ codes "y */ b" ∷ [])
+    ≡ record plain { pieces = codes "1:2\na\nb\n\n" }
 unfolding lexeme tokens_from occurrences_from
-comment_over_lines_pieces = refl
-
-pub comment_over_lines_macros : shown_macros (web comment_over_lines) ≡ lines ([])
-unfolding lexeme tokens_from occurrences_from
-comment_over_lines_macros = refl
-
-pub comment_over_lines_faults : (web comment_over_lines).faults ≡ []
-unfolding lexeme tokens_from occurrences_from
-comment_over_lines_faults = refl
+comment_over_lines = refl
 
 -- white space after the name of a macro
-abbrev macro_names : List (List ℕ)
-macro_names = codes "@ A." ∷ codes "@d N@'a'" ∷ codes "@d M\"x\"" ∷ codes "@c" ∷ []
-
-pub macro_names_pieces : shown_pieces (web macro_names) ≡ lines (codes "1:4" ∷ codes "" ∷ [])
+pub macro_names : shown (codes "@ A." ∷ codes "@d N@'a'" ∷ codes "@d M\"x\"" ∷ codes "@c" ∷ [])
+    ≡ record plain {
+      pieces = codes "1:4\n\n";
+      macros = codes "N 97\n\nM \"x\"\n\n";
+    }
 unfolding lexeme tokens_from occurrences_from
-macro_names_pieces = refl
-
-pub macro_names_macros : shown_macros (web macro_names)
-    ≡ lines (codes "N 97" ∷ codes "" ∷ codes "M \"x\"" ∷ codes "" ∷ [])
-unfolding lexeme tokens_from occurrences_from
-macro_names_macros = refl
-
-pub macro_names_faults : (web macro_names).faults ≡ []
-unfolding lexeme tokens_from occurrences_from
-macro_names_faults = refl
+macro_names = refl
 
 -- a name over two lines, with control codes in it, and a head with + and ==
-abbrev name_over_lines : List (List ℕ)
-name_over_lines = codes "@ A." ∷ codes "@<a@@b@xc" ∷ codes " d @> + ==" ∷ codes "x@<a...@>y" ∷ []
-
-pub name_over_lines_pieces : shown_pieces (web name_over_lines)
-    ≡ lines (codes "1:3" ∷ codes "x<1>" ∷ codes "#4" ∷ codes "y" ∷ codes "" ∷ [])
+pub name_over_lines :
+    shown (codes "@ A." ∷ codes "@<a@@b@xc" ∷ codes " d @> + ==" ∷ codes "x@<a...@>y" ∷ [])
+    ≡ record plain {
+      pieces = codes "1:3\nx<1>\n#4\ny\n\n";
+      names = codes "a@b@xc d" ∷ codes "a..." ∷ [];
+    }
 unfolding lexeme tokens_from occurrences_from
-name_over_lines_pieces = refl
-
-pub name_over_lines_macros : shown_macros (web name_over_lines) ≡ lines ([])
-unfolding lexeme tokens_from occurrences_from
-name_over_lines_macros = refl
-
-pub name_over_lines_faults : (web name_over_lines).faults ≡ []
-unfolding lexeme tokens_from occurrences_from
-name_over_lines_faults = refl
-
-pub name_over_lines_texts : map (λ o. o.text) (web name_over_lines).occurrences ≡ codes "a@b@xc d" ∷ codes "a..." ∷ []
-unfolding lexeme tokens_from occurrences_from
-name_over_lines_texts = refl
+name_over_lines = refl
 
 -- bytes past 127, a zero byte, and a tab and a carriage return at a line's end
 abbrev other_bytes : List (List ℕ)
-other_bytes = codes "@ A." ∷ codes "@c" ∷ (99 ∷ 97 ∷ 102 ∷ 233 ∷ 0 ∷ 61 ∷ 49 ∷ 32 ∷ 9 ∷ 13 ∷ []) ∷ []
+other_bytes =
+    codes "@ A." ∷ codes "@c" ∷ (99 ∷ 97 ∷ 102 ∷ 233 ∷ 0 ∷ 61 ∷ 49 ∷ 32 ∷ 9 ∷ 13 ∷ []) ∷ []
 
 pub other_bytes_items : map (λ p. p.items) (web other_bytes).pieces
     ≡ (item.LineEnd ∷ item.Word (record { line = 2; start = 0; end = 4 })

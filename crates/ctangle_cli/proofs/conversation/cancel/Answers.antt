@@ -1,13 +1,8 @@
-use Rattle.std.proofs.Common.{[], codes, refl}
-use Rattle.ctangle_cli.proofs.RunLemmas.{TakesAll-none}
+use Rattle.std.proofs.Common.{codes, refl}
 use Rattle.ctangle_cli.proofs.conversation.cancel.Goals as goal
 
 pub returns-in-None : goal.returns-in-None
-returns-in-None g c = λ session.
-    let now = g.S.Sink.stream c.args.sink.now in
-    (codes "no BadCommand\n", rw c.in-None.is (refl, refl), c.say.ensures now [] (TakesAll-none now))
+returns-in-None g c = λ session. (codes "no BadCommand\n", rw c.in-None.is (refl, refl), c.say.ensures)
 
 pub returns-in-Some : goal.returns-in-Some
-returns-in-Some g c = λ session.
-    let now = g.S.Sink.stream c.args.sink.now in
-    (codes "ok\n", rw c.in-Some.is (refl, refl), c.say-in-Some.ensures now [] (TakesAll-none now))
+returns-in-Some g c = λ session. (codes "ok\n", rw c.in-Some.is (refl, refl), c.say-in-Some.ensures)

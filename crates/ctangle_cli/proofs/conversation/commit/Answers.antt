@@ -1,16 +1,11 @@
-use Rattle.std.proofs.Common.{[], sym, codes, refl}
+use Rattle.std.proofs.Common.{sym, codes, refl}
 use Rattle.ctangle_cli.specs.Conversation.{list_line}
 use Rattle.ctangle_cli.proofs.AnswerLemmas.{list_answered}
-use Rattle.ctangle_cli.proofs.RunLemmas.{TakesAll-none}
 use Rattle.ctangle_cli.proofs.conversation.commit.Goals as goal
 
 pub returns-in-None : goal.returns-in-None
 returns-in-None g c =
-    let now = g.S.Sink.stream c.args.sink.now in (
-      codes "no BadCommand\n",
-      rw (c.in-None.ensures.after, sym c.in-None.ensures.value) (refl, refl),
-      c.say.ensures now [] (TakesAll-none now),
-    )
+    (codes "no BadCommand\n", rw (c.in-None.ensures.after, sym c.in-None.ensures.value) (refl, refl), c.say.ensures)
 
 pub returns-in-Some : goal.returns-in-Some
 returns-in-Some g c =

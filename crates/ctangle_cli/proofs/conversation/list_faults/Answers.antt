@@ -1,11 +1,13 @@
-use Rattle.std.proofs.Common.{[]}
-use Rattle.ctangle_cli.proofs.RunLemmas.{TakesAll-none}
+use Rattle.std.proofs.lemmas.Result.{err_from_is_err_and}
+use Rattle.ctangle_cli.proofs.RunLemmas.{answer_then, cut_more}
 use Rattle.ctangle_cli.proofs.conversation.list_faults.Goals as goal
+
+pub returns-in_err-say : goal.returns-in_err-say
+returns-in_err-say g c =
+    let left = err_from_is_err_and c.from_residual.result c.from_residual.ensures.1 in
+    rw (left.1, ← c.format.ensures.text, ← c.as_bytes.ensures.value) (cut_more _ _ _ _ c.in_err-say.ensures)
 
 pub returns : goal.returns
 returns g c =
-    let now = g.S.Sink.stream c.args.sink.now in
-    let front = c.say-front.ensures now [] (TakesAll-none now) in
-    let counted = c.say-counted.ensures now _ front in
-    let line = c.say-line.ensures now _ counted in
-    rw (← c.format.ensures.text, ← c.as_bytes.ensures.value) (c.write_lines.ensures now _ line)
+    rw (← c.format.ensures.text, ← c.as_bytes.ensures.value)
+    (answer_then _ _ _ _ _ c.write_faults.result c.in_ok-say.ensures c.write_faults.ensures)

@@ -1,5 +1,7 @@
-use Rattle.digraph.proofs.OrderSoFarLemmas.{Passed}
+use Rattle.digraph.specs.OrderSoFar.{IsOrderSoFar, IsStuck, unflagged}
+use Rattle.digraph.proofs.PassLemmas.{Passed}
 use Rattle.digraph.proofs.ordering.add_each.Given as goal
 
 abbrev pub invariant-loop-n : goal.invariant-loop-n
-invariant-loop-n l = Passed l.uses l.initial.flags.items l.flags.items l.initial.order.items l.order.items l.any l.n
+invariant-loop-n l = Passed (IsOrderSoFar l.uses l.flags.items l.order.items) (IsStuck l.uses l.order.items)
+    (unflagged l.initial.flags.items) (unflagged l.flags.items) l.any l.n

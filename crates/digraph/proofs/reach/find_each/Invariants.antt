@@ -1,5 +1,8 @@
-use Rattle.digraph.proofs.FindingLemmas.{Passed}
+use Rattle.digraph.specs.Finding.{IsDecided, IsFinding}
+use Rattle.digraph.specs.OrderSoFar.{unflagged}
+use Rattle.digraph.proofs.PassLemmas.{Passed}
 use Rattle.digraph.proofs.reach.find_each.Given as goal
 
 abbrev pub invariant-loop-n : goal.invariant-loop-n
-invariant-loop-n l = Passed l.uses l.flags l.initial.found l.found l.any l.n
+invariant-loop-n l = Passed (IsFinding l.uses l.flags l.found) (IsDecided l.uses l.flags l.found)
+    (unflagged l.initial.found) (unflagged l.found) l.any l.n

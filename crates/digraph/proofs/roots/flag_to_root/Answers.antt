@@ -1,7 +1,8 @@
 use Rattle.std.proofs.Common.{ℕ, sym, subst}
 use Rattle.digraph.specs.Graph.{HasUse}
 use Rattle.digraph.specs.Reach.{Reaches, here}
-use Rattle.digraph.proofs.RootLemmas.{to_roots_set, root_is_reached}
+use Rattle.digraph.proofs.ReachLemmas.{only_set}
+use Rattle.digraph.proofs.RootLemmas.{root_is_reached}
 use Rattle.digraph.proofs.roots.flag_to_root.Goals as goal
 use Rattle.digraph.proofs.roots.flag_to_root.Goals.{then-root-n-via-then-root-n}
 use Rattle.digraph.proofs.roots.flag_to_root.Goals.{then-root-n-via-else-root-n+then-leads_to_root}
@@ -10,10 +11,10 @@ pub returns-then-root-n : goal.returns-then-root-n
 returns-then-root-n c =
     elim c.then-root-n.branch [
       | then-root-n-via-then-root-n w ↦
-          to_roots_set c.args.uses.now c.args.roots.now _ c.args.n c.requires.flags
+          only_set c.args.uses.now _ c.args.n c.requires.flags
           (subst (λ (r : ℕ). Reaches (HasUse c.args.uses.now) c.args.n r) (sym w.if-root-n.true) here)
       | then-root-n-via-else-root-n+then-leads_to_root w ↦
-          to_roots_set _ _ _ c.args.n c.requires.flags
+          only_set c.args.uses.now _ c.args.n c.requires.flags
           (root_is_reached _ _ _ c.args.n c.requires.flags
           (rw w.row.ensures at (w.leads_to_root.ensures w.if-leads_to_root.true)))
     ]

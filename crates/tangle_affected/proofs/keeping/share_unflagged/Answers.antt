@@ -30,8 +30,9 @@ keep_share-requires c =
         is,
         (
           (is.after.expandable node inside).0 (sym c.expandable.ensures ∙ c.if-expandable.true),
-          λ affected.
-              both_ways (flag_at c.args.flags.now node) unflagged (c.requires.flags shapes is node inside affected),
+          λ affected. both_ways (flag_at c.args.flags.now node) unflagged
+              ((c.requires.flags shapes is node (i, h, sym c.node-item.is)).1
+              (affected.cause, affected.reaches, affected.changed)),
         ),
       );
     }
@@ -54,8 +55,9 @@ loop-node-preserved c =
           c.loop-node.kept _ flag (c.loop-node.invariant shapes is)
           (w.in_ok-keep_share.ensures shapes is (
             (is.after.expandable node inside).0 flag,
-            λ affected. both_ways (flag_at c.args.flags.now node)
-                unflagged (c.requires.flags shapes is node inside affected),
+            λ affected. both_ways (flag_at c.args.flags.now node) unflagged
+                ((c.requires.flags shapes is node (i, h, sym c.node-item.is)).1
+                (affected.cause, affected.reaches, affected.changed)),
           )))
       | else-expandable w ↦ rw w.kept-is (λ shapes is. unflagged_same shapes.new new order
           ordered flagged i h node c.node-item.is c.loop-node.kept (λ e m. elim w.else-expandable.branch [

@@ -1,13 +1,13 @@
-use Rattle.std.proofs.Common.{append-nil}
-use Rattle.tangle_plans.specs.Meaning.{title_of}
-use Rattle.tangle_expansion.proofs.WriteLemmas.{writes_then, writes_same}
-use Rattle.tangle_expansion.proofs.WrittenLemmas.{written-bytes, mark_written, closing_written, macros_written}
+use Rattle.std.proofs.Common.{◌++◌, append-nil}
+use Rattle.std.specs.Prelude.{codes, decimal}
+use Rattle.tangle_expansion.proofs.WriteLemmas.{writes_then}
+use Rattle.tangle_expansion.proofs.WrittenLemmas.{written-bytes}
 use Rattle.tangle_expansion.proofs.writing.write_step.Goals as goal
 
 pub returns-in-Open : goal.returns-in-Open
 returns-in-Open g c =
-    rw (c.in-Open.is, append-nil, ← c.requires.ours, ← c.section_at.ensures, ← c.mark_origin_at.ensures)
-    (writes_then _ _ _ _ _ _ _ _ c.write_opening-opened.ensures c.write_mark.ensures)
+    rw (c.in-Open.is, append-nil, ← c.requires.ours, ← c.section_at-section.ensures, ← c.mark_origin_at.ensures)
+    (writes_then _ _ _ _ _ _ _ _ c.write_between-opened.ensures c.write_mark.ensures)
 
 pub returns-in-Bytes : goal.returns-in-Bytes
 returns-in-Bytes g c =
@@ -15,25 +15,22 @@ returns-in-Bytes g c =
 
 pub returns-in-Mark : goal.returns-in-Mark
 returns-in-Mark g c =
-    rw c.in-Mark.is
-    (writes_same _ _ _ _ _ _
-    (mark_written c.args.numbers.now (title_of c.args.body.now.name) c.args.pieces.now c.args.at.piece
-    _ c.mark_origin_at-in-Mark.result c.requires.ours c.mark_origin_at-in-Mark.ensures)
-    c.write_mark-in-Mark.ensures)
+    rw (c.in-Mark.is, append-nil, ← c.requires.ours, ← c.mark_origin_at-in-Mark.ensures) c.write_mark-in-Mark.ensures
 
 pub returns-in-AllMacros : goal.returns-in-AllMacros
 returns-in-AllMacros g c =
-    rw c.in-AllMacros.is
-    (writes_same _ _ _ _ _ _ (macros_written c.args.numbers.now c.macros.result.now c.macros.ensures.macros)
-    (writes_then _ _ _ _ _ _ _ _ c.write_after-opened.ensures c.write_after-in-AllMacros.ensures))
+    rw (c.in-AllMacros.is, append-nil c.args.text.now.numbers.now.macros, ← c.macros.ensures.macros)
+    (writes_then _ _ _ _ _ _ _ _ c.write_after-opened.ensures c.write_after-in-AllMacros.ensures)
 
 pub returns-in-Close : goal.returns-in-Close
 returns-in-Close g c =
-    rw c.in-Close.is
-    (writes_same _ _ _ _ _ _
-    (closing_written c.args.numbers.now (title_of c.args.body.now.name) c.args.pieces.now
-    c.args.at.piece c.section_at-in-Close.result c.requires.ours c.section_at-in-Close.ensures)
-    c.write_closing.ensures)
+    rw (
+      c.in-Close.is,
+      ← c.requires.ours,
+      ← c.section_at.ensures,
+      append-nil (decimal c.section_at.result ++ codes "*/"),
+    )
+    c.write_between.ensures
 
 pub returns-in-Space : goal.returns-in-Space
 returns-in-Space g c = rw c.in-Space.is c.write_after-in-Space.ensures

@@ -1,5 +1,4 @@
 use Rattle.std.proofs.Common.{◌∙◌, refl, sym, arith}
-use Rattle.tangle_plans.specs.Meaning.{title_of}
 use Rattle.tangle_expansion.proofs.WriteLemmas.{wrote_at_first, wrote_more, wrote_whole}
 use Rattle.tangle_expansion.proofs.PlanLemmas.{goes_on, stops_at_use, stops_at_end}
 use Rattle.tangle_expansion.proofs.writing.write_to_use.Goals as goal
@@ -7,55 +6,32 @@ use Rattle.tangle_expansion.proofs.writing.write_to_use.Goals as goal
 pub loop-at-init : goal.loop-at-init
 loop-at-init g c = record { wrote = wrote_at_first _ _ _; rest = refl }
 
-pub returns-then-is_use_step-clause-writes : goal.returns-then-is_use_step-clause-writes
-returns-then-is_use_step-clause-writes g c =
-    let at = c.loop-at.at in
-    let next = c.cursor_after.result in
-    let stop = stops_at_use c.args.numbers.now (title_of c.args.body.now.name)
-    c.args.body.now.bytes.items c.args.body.now.plan.items at.piece at.marks at.start at.step
-    c.index-step.result.now next.piece next.marks next.start next.step (omega arith)
-    c.index-step.ensures (sym c.is_use_step.ensures ∙ c.if-is_use_step.true)
-    c.cursor_after.ensures.step c.cursor_after.ensures.piece
-    c.cursor_after.ensures.marks c.cursor_after.ensures.start in
-    wrote_whole _ _ _ _ _ _ c.loop-at.invariant.wrote stop.left
-
-pub returns-then-is_use_step-clause-rest : goal.returns-then-is_use_step-clause-rest
-returns-then-is_use_step-clause-rest g c =
-    let at = c.loop-at.at in
-    let next = c.cursor_after.result in
-    let stop = stops_at_use c.args.numbers.now (title_of c.args.body.now.name)
-    c.args.body.now.bytes.items c.args.body.now.plan.items at.piece at.marks at.start at.step
-    c.index-step.result.now next.piece next.marks next.start next.step (omega arith)
-    c.index-step.ensures (sym c.is_use_step.ensures ∙ c.if-is_use_step.true)
-    c.cursor_after.ensures.step c.cursor_after.ensures.piece
-    c.cursor_after.ensures.marks c.cursor_after.ensures.start in
-    c.loop-at.invariant.rest ∙ stop.rest
+pub returns-then-is_use_step : goal.returns-then-is_use_step
+returns-then-is_use_step g c =
+    let text = c.args.text.now in
+    let stop = stops_at_use text.numbers.now text.body.now c.loop-at.at c.index-step.result.now c.cursor_after.result
+    (omega arith) c.index-step.ensures c.cursor_after.ensures (sym c.is_use_step.ensures ∙ c.if-is_use_step.true) in
+    record {
+      writes = wrote_whole _ _ _ _ _ _ c.loop-at.invariant.wrote stop.0;
+      rest = c.loop-at.invariant.rest ∙ stop.1;
+    }
 
 pub loop-at-preserved : goal.loop-at-preserved
 loop-at-preserved g c =
-    let at = c.loop-at.at in
-    let next = c.cursor_after-at.result in
-    let on = goes_on c.args.numbers.now (title_of c.args.body.now.name)
-    c.args.body.now.bytes.items c.args.body.now.plan.items at.piece at.marks at.start at.step
-    c.index-step.result.now next.piece next.marks next.start next.step (omega arith)
-    c.index-step.ensures (sym c.is_use_step.ensures ∙ c.if-is_use_step.false)
-    c.cursor_after-at.ensures.step c.cursor_after-at.ensures.piece
-    c.cursor_after-at.ensures.marks c.cursor_after-at.ensures.start in
+    let text = c.args.text.now in
+    let on = goes_on text.numbers.now text.body.now c.loop-at.at c.index-step.result.now c.cursor_after-at.result
+    (omega arith) c.index-step.ensures c.cursor_after-at.ensures
+    (sym c.is_use_step.ensures ∙ c.if-is_use_step.false) in
     record {
-      wrote = wrote_more _ _ _ _ _ _ _ _ _ _ c.loop-at.invariant.wrote on.left c.write_step-so_far.ensures;
-      rest = c.loop-at.invariant.rest ∙ on.rest;
+      wrote = wrote_more _ _ _ _ _ _ _ _ _ _ c.loop-at.invariant.wrote on.0 c.write_step-so_far.ensures;
+      rest = c.loop-at.invariant.rest ∙ on.1;
     }
 
-pub returns-clause-writes : goal.returns-clause-writes
-returns-clause-writes g c =
-    let at = c.loop-at.at in
-    let stop = stops_at_end c.args.numbers.now (title_of c.args.body.now.name) c.args.body.now.bytes.items
-    c.args.body.now.plan.items at.piece at.marks at.start at.step (omega arith) in
-    wrote_whole _ _ _ _ _ _ c.loop-at.invariant.wrote stop.left
-
-pub returns-clause-rest : goal.returns-clause-rest
-returns-clause-rest g c =
-    let at = c.loop-at.at in
-    let stop = stops_at_end c.args.numbers.now (title_of c.args.body.now.name) c.args.body.now.bytes.items
-    c.args.body.now.plan.items at.piece at.marks at.start at.step (omega arith) in
-    c.loop-at.invariant.rest ∙ stop.rest
+pub returns : goal.returns
+returns g c =
+    let text = c.args.text.now in
+    let stop = stops_at_end text.numbers.now text.body.now c.loop-at.at (omega arith) in
+    record {
+      writes = wrote_whole _ _ _ _ _ _ c.loop-at.invariant.wrote stop.0;
+      rest = c.loop-at.invariant.rest ∙ stop.1;
+    }

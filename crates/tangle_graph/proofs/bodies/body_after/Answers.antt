@@ -5,7 +5,6 @@ use Rattle.tangle_plans.specs.Comparing.{IsPlanned}
 use Rattle.tangle_plans.specs.ItemSlots.{pieces_at, pieces_slots}
 use Rattle.tangle_plans.specs.NodeBodies.{body_title}
 use Rattle.tangle_plans.specs.Nodes.{has_piece_in, title_at}
-use Rattle.tangle_graph.proofs.BodyLemmas.{body_made}
 use Rattle.tangle_graph.proofs.bodies.body_after.Goals as goal
 
 pub returns-then-has_items_of-clause-body : goal.returns-then-has_items_of-clause-body
@@ -23,16 +22,22 @@ returns-then-has_items_of-clause-body c =
     c.in-Some.is c.requires.title in
     let planned : IsPlanned has old =
     subst (λ o. IfSome o (λ body. IsPlanned has body.now.value)) c.in-Some.is c.requires.planned in
-    rw c.in_ok-body.ensures.cases
-    (body_made web table rows c.args.node old title
-    ((rw (row, c.deref.ensures) at found.plan yes has planned)
-    ∙ ap (λ t. pieces_slots web.texts table has t 0 (pieces_at web.pieces (row_at rows c.args.node))) title)
-    (rw (row, c.deref.ensures) at found.shape yes) (rw (row, c.deref.ensures) at (found.same.0 yes).uses)
-    (rw (row, c.deref.ensures) at found.plan_uses yes has planned))
+    rw c.in_ok-body.ensures.cases (record {
+      title = title;
+      plan = (rw (row, c.deref.ensures) at found.plan yes has planned)
+          ∙ ap (λ t. pieces_slots web.texts table has t 0 (pieces_at web.pieces (row_at rows c.args.node))) title;
+      shape = rw (row, c.deref.ensures) at found.shape yes;
+      uses = rw (row, c.deref.ensures) at (found.same.0 yes).uses;
+      plan_uses = rw (row, c.deref.ensures) at found.plan_uses yes has planned;
+    })
 
 pub returns-clause-body : goal.returns-clause-body
 returns-clause-body c =
     let made = c.in_ok-body-2.ensures in
-    rw c.in_ok-body-3.ensures.ok
-    (body_made c.args.web.now c.args.table.now c.args.pieces.now c.args.node c.in_ok-body-2.body
-    made.title made.plan made.shape made.uses made.plan_uses)
+    rw c.in_ok-body-3.ensures.ok (record {
+      title = made.title;
+      plan = made.plan;
+      shape = made.shape;
+      uses = made.uses;
+      plan_uses = made.plan_uses;
+    })

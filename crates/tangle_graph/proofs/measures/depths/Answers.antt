@@ -3,9 +3,10 @@ use Rattle.std.proofs.lemmas.List.{get_or_read}
 use Rattle.digraph.specs.Graph.{HasUse}
 use Rattle.tangle_expansion.specs.Limits.{levels, depth_of}
 use Rattle.tangle_expansion.proofs.SameShapes.{depth_by_uses}
+use Rattle.tangle_plans.specs.Flat.{depth}
 use Rattle.tangle_plans.specs.Nodes.{title_at}
 use Rattle.tangle_plans.specs.WebShapes.{shapes}
-use Rattle.tangle_graph.proofs.OrderLemmas.{measured_next, measured_all, left_out_deepest}
+use Rattle.tangle_graph.proofs.OrderLemmas.{deeper, left_out, measured_next, measured_all}
 use Rattle.tangle_graph.proofs.StepLemmas.{measured_capped, depth_step}
 use Rattle.tangle_graph.proofs.measures.depths.Goals as goal
 
@@ -48,6 +49,6 @@ returns-clause-depths c = λ n low.
     (λ none. omega (
       arith,
       most,
-      left_out_deepest c.args.uses.now (shapes web table) (title_at table.names) c.args.order.now
+      left_out depth deeper c.args.uses.now (shapes web table) (title_at table.names) c.args.order.now
           levels n c.requires.graph.titled c.requires.graph.range c.requires.order low none,
     ))

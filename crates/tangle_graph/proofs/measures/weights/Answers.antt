@@ -2,9 +2,10 @@ use Rattle.std.proofs.Common.{◌≡◌, ◌∙◌, ◌<◌, length, get_or, tak
 use Rattle.std.proofs.lemmas.List.{get_or_read}
 use Rattle.digraph.specs.Graph.{HasUse}
 use Rattle.tangle_expansion.specs.Limits.{weight_cap, weight_of}
+use Rattle.tangle_plans.specs.Flat.{weight}
 use Rattle.tangle_plans.specs.Nodes.{title_at}
 use Rattle.tangle_plans.specs.WebShapes.{shapes}
-use Rattle.tangle_graph.proofs.OrderLemmas.{measured_next, measured_all, left_out_heaviest}
+use Rattle.tangle_graph.proofs.OrderLemmas.{heavier, left_out, measured_next, measured_all}
 use Rattle.tangle_graph.proofs.StepLemmas.{measured_capped, weight_step}
 use Rattle.tangle_graph.proofs.BodyLemmas.{body_given, names_inside}
 use Rattle.tangle_graph.proofs.measures.weights.Goals as goal
@@ -23,7 +24,7 @@ weight_of_node-requires-clause-inside c =
     ) in
     let is = body_given c.args.web.now c.args.table.now c.args.pieces.now c.args.bodies.now c.number-n.result
     c.index-bodies-n.result c.requires.bodies low c.index-bodies-n.is in
-    let inside = names_inside c.args.web.now c.args.table.now _ c.index-bodies-n.result.value c.requires.inside is in
+    let inside = names_inside c.args.web.now c.args.table.now c.args.pieces.now c.number-n.result c.index-bodies-n.result.value c.requires.inside is in
     rw (c.deref-in-loop-node.ensures, c.deref.ensures.value)
     (λ k d h. omega (arith, inside k d h, c.loop-node.invariant.0, graph.uses_size))
 
@@ -64,6 +65,6 @@ returns-clause-weights c = λ n low.
     (omega (arith, low, c.loop-node.invariant.0))
     (λ none. omega (
       arith,
-      left_out_heaviest c.args.uses.now (shapes web table) (title_at table.names) c.args.order.now
+      left_out weight heavier c.args.uses.now (shapes web table) (title_at table.names) c.args.order.now
           weight_cap n c.requires.graph.titled c.requires.graph.range c.requires.order low none,
     ))

@@ -8,26 +8,18 @@ use Rattle.tangle_lexer.proofs.lemmas.OrdinaryLemmas.{line_ends-ordinary}
 use Rattle.tangle_text.proofs.OrdinaryBytes.{region_end-ordinary}
 use Rattle.tangle_lexer.proofs.comments.pass_line_ends.Goals as goal
 
-pub returns-in-Stop-clause-ahead : goal.returns-in-Stop-clause-ahead
-returns-in-Stop-clause-ahead c =
-    let here =
-    unit_at-front c.args.region c.loop-front.reader c.in-Some.front _ c.in-Some.ensures.front c.unit_of-unit.ensures in
-    sym (region_end-stop c.args.region c.loop-front.reader (here ∙ c.in-Stop.is)) ∙ c.loop-front.invariant.end
-
-pub returns-in-Stop-clause-tokens : goal.returns-in-Stop-clause-tokens
-returns-in-Stop-clause-tokens c =
-    let here =
-    unit_at-front c.args.region c.loop-front.reader c.in-Some.front _ c.in-Some.ensures.front c.unit_of-unit.ensures in
-    let none = line_ends-stop c.args.region c.loop-front.reader (here ∙ c.in-Stop.is) in
-    sym (append-nil c.loop-front.tokens.items)
-    ∙ (ap (λ ts. c.loop-front.tokens.items ++ ts) (sym none) ∙ c.loop-front.invariant.tokens)
-
-pub returns-in-Stop-clause-include : goal.returns-in-Stop-clause-include
-returns-in-Stop-clause-include c =
-    let here =
-    unit_at-front c.args.region c.loop-front.reader c.in-Some.front _ c.in-Some.ensures.front c.unit_of-unit.ensures in
-    let none = line_ends-stop c.args.region c.loop-front.reader (here ∙ c.in-Stop.is) in
-    sym (ap (λ ts. include_over ts c.loop-front.include) none) ∙ c.loop-front.invariant.include
+pub returns-in-Stop : goal.returns-in-Stop
+returns-in-Stop c =
+    let r = c.args.region in
+    let text = c.loop-front.reader in
+    let stop = unit_at-front r text c.in-Some.front _ c.in-Some.ensures.front c.unit_of-unit.ensures ∙ c.in-Stop.is in
+    let none = line_ends-stop r text stop in
+    record {
+      ahead = sym (region_end-stop r text stop) ∙ c.loop-front.invariant.end;
+      tokens = sym (append-nil c.loop-front.tokens.items)
+          ∙ (ap (λ ts. c.loop-front.tokens.items ++ ts) (sym none) ∙ c.loop-front.invariant.tokens);
+      include = sym (ap (λ ts. include_over ts c.loop-front.include) none) ∙ c.loop-front.invariant.include;
+    }
 
 pub loop-front-init : goal.loop-front-init
 loop-front-init c =

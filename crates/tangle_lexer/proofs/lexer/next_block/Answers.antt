@@ -13,57 +13,34 @@ use Rattle.tangle_lexer.proofs.lemmas.BlockLemmas.{taken, taken-tokens, not-take
 use Rattle.tangle_lexer.proofs.lemmas.BlockLemmas.{plain-tokens, plain-runs, plain-none, read-ours}
 use Rattle.tangle_lexer.proofs.lexer.next_block.Goals as goal
 
-pub returns-in-Some-pop_head-clause-tokens : goal.returns-in-Some-pop_head-clause-tokens
-returns-in-Some-pop_head-clause-tokens c =
-    let found = taken _ _ _ c.loop-front.state _ c.loop-front.reader _ c.in-Some-pop_head.head
-    c.loop-front.invariant.no_head c.in_ok-state.ensures.read c.in-Some-pop_head.ensures in
-    sym (taken-tokens (texts_of c.args.source.now.lines) _ _ _ c.loop-front.state _ c.loop-front.reader
-    _ c.in-Some-pop_head.head c.in-Some.ensures.front.inside c.in_ok-state.ensures.read
-    c.in-Some-pop_head.ensures found
-    ∙ c.loop-front.invariant.tokens)
-
-pub returns-in-Some-pop_head-clause-ours : goal.returns-in-Some-pop_head-clause-ours
-returns-in-Some-pop_head-clause-ours c =
-    read-ours c.args.source.now.lines _ _ c.loop-front.state _ c.loop-front.reader _
-    c.in_ok-state.ensures.read c.loop-front.invariant.ours
-
-pub returns-in-Some-pop_head-clause-runs : goal.returns-in-Some-pop_head-clause-runs
-returns-in-Some-pop_head-clause-runs c =
-    let found = taken _ _ _ c.loop-front.state _ c.loop-front.reader _ c.in-Some-pop_head.head
-    c.loop-front.invariant.no_head c.in_ok-state.ensures.read c.in-Some-pop_head.ensures in
-    subst (All (IsRunIn (texts_of c.args.source.now.lines))) (sym found.same) c.loop-front.invariant.runs
-
-pub returns-in-Some-pop_head-clause-no_run : goal.returns-in-Some-pop_head-clause-no_run
-returns-in-Some-pop_head-clause-no_run c =
-    let found = taken _ _ _ c.loop-front.state _ c.loop-front.reader _ c.in-Some-pop_head.head
-    c.loop-front.invariant.no_head c.in_ok-state.ensures.read c.in-Some-pop_head.ensures in
-    λ other. ap (list_any is_run) found.same ∙ c.loop-front.invariant.no_run other
-
-pub returns-in-Some-pop_head-clause-no_head : goal.returns-in-Some-pop_head-clause-no_head
-returns-in-Some-pop_head-clause-no_head c =
-    let found = taken _ _ _ c.loop-front.state _ c.loop-front.reader _ c.in-Some-pop_head.head
-    c.loop-front.invariant.no_head c.in_ok-state.ensures.read c.in-Some-pop_head.ensures in
-    ap (list_any is_head) found.same ∙ c.loop-front.invariant.no_head
-
-pub returns-in-Some-pop_head-clause-in_macro : goal.returns-in-Some-pop_head-clause-in_macro
-returns-in-Some-pop_head-clause-in_macro c =
-    let found = taken _ _ _ c.loop-front.state _ c.loop-front.reader _ c.in-Some-pop_head.head
-    c.loop-front.invariant.no_head c.in_ok-state.ensures.read c.in-Some-pop_head.ensures in
-    λ line is.
-    let same : c.in-Some-pop_head.head ≡ token.MacroStart line = cc in
-    ap (λ s. s.mode) c.in_ok-state.ensures.read.state
-    ∙ subst (λ t. BeginsIn t (lexeme c.loop-front.state c.loop-front.reader).after.mode) same found.begins
-
-pub returns-in-Some-pop_head-clause-occurrences : goal.returns-in-Some-pop_head-clause-occurrences
-returns-in-Some-pop_head-clause-occurrences c =
-    step-occurrences c.args.source.now.lines _ _ _ _ c.loop-front.state _ c.loop-front.reader _
-    c.in-Some.ensures.front.inside c.in_ok-state.ensures.read c.in_ok-state.ensures.occurrences
-    ∙ c.loop-front.invariant.occurrences
-
-pub returns-in-Some-pop_head-clause-count : goal.returns-in-Some-pop_head-clause-count
-returns-in-Some-pop_head-clause-count c =
-    step-count c.args.source.now.lines _ _ _ _ c.loop-front.state _ c.loop-front.reader _
-    c.in_ok-state.ensures.read c.in_ok-state.ensures.occurrences c.loop-front.invariant.count
+pub returns-in-Some-pop_head : goal.returns-in-Some-pop_head
+returns-in-Some-pop_head c =
+    let lines = c.args.source.now.lines in
+    let texts = texts_of lines in
+    let before = c.loop-front.invariant in
+    let s = c.loop-front.state in
+    let text = c.loop-front.reader in
+    let inside = c.in-Some.ensures.front.inside in
+    let read = c.in_ok-state.ensures.read in
+    let adds = c.in_ok-state.ensures.occurrences in
+    let head = c.in-Some-pop_head.head in
+    let popped = c.in-Some-pop_head.ensures in
+    let found = taken _ _ _ s _ text _ head before.no_head read popped in
+    record {
+      tokens = sym (taken-tokens texts _ _ _ s _ text _ head inside read popped found ∙ before.tokens);
+      ours = read-ours lines _ _ s _ text _ read before.ours;
+      runs = subst (All (IsRunIn texts)) (sym found.same) before.runs;
+      no_run = λ other. ap (list_any is_run) found.same ∙ before.no_run other;
+      no_head = ap (list_any is_head) found.same ∙ before.no_head;
+      head = popped.1;
+      in_macro = λ line is.
+          let same : head ≡ token.MacroStart line = cc in
+          ap (λ s. s.mode) read.state ∙ subst (λ t. BeginsIn t (lexeme s text).after.mode) same found.begins;
+      end = tt;
+      shorter = omega (arith, step-shorter _ _ s _ text _ inside read, before.shorter);
+      occurrences = step-occurrences lines _ _ _ _ s _ text _ inside read adds ∙ before.occurrences;
+      count = step-count lines _ _ _ _ s _ text _ read adds before.count;
+    }
 
 pub returns-clause-tokens : goal.returns-clause-tokens
 returns-clause-tokens c =

@@ -14,7 +14,7 @@ returns-clause-end_line c =
 
 pub returns-clause-is_ended : goal.returns-clause-is_ended
 returns-clause-is_ended c =
-    c.pass_end_code-is_ended.ensures.has_end_code
+    c.pass_end-is_ended.ensures.is_there
     ∙ ap has_end_code
     (name_end-is c.args.reader.now _ (c.in_ok-text.ensures.ahead ∙ ap (region_end region.Name) c.pass.ensures))
 
@@ -22,4 +22,4 @@ pub returns-clause-ahead : goal.returns-clause-ahead
 returns-clause-ahead c =
     after-is c.args.reader.now _ _
     (name_end-is c.args.reader.now _ (c.in_ok-text.ensures.ahead ∙ ap (region_end region.Name) c.pass.ensures))
-    c.pass_end_code-is_ended.ensures.ahead
+    c.pass_end-is_ended.ensures.ahead

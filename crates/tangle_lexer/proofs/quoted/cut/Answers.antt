@@ -7,18 +7,17 @@ use Rattle.tangle_lexer.proofs.lemmas.OrdinaryLemmas.{cut-ordinary}
 use Rattle.tangle_text.proofs.OrdinaryBytes.{region_end-ordinary}
 use Rattle.tangle_lexer.proofs.quoted.cut.Goals as goal
 
-pub returns-in-Stop-clause-ahead : goal.returns-in-Stop-clause-ahead
-returns-in-Stop-clause-ahead c =
-    let here =
-    unit_at-front c.args.region c.loop-front.reader c.in-Some.front _ c.in-Some.ensures.front c.unit_of-unit.ensures in
-    sym (region_end-stop c.args.region c.loop-front.reader (here ∙ c.in-Stop.is)) ∙ c.loop-front.invariant.end
-
-pub returns-in-Stop-clause-tokens : goal.returns-in-Stop-clause-tokens
-returns-in-Stop-clause-tokens c = λ ends.
-    let here =
-    unit_at-front c.args.region c.loop-front.reader c.in-Some.front _ c.in-Some.ensures.front c.unit_of-unit.ensures in
-    let stop = cut-stop ends c.args.region c.loop-front.start c.loop-front.reader (here ∙ c.in-Stop.is) in
-    ap (λ ts. c.loop-front.tokens.items ++ ts) (sym stop) ∙ c.loop-front.invariant.tokens ends
+pub returns-in-Stop : goal.returns-in-Stop
+returns-in-Stop c =
+    let r = c.args.region in
+    let text = c.loop-front.reader in
+    let stop = unit_at-front r text c.in-Some.front _ c.in-Some.ensures.front c.unit_of-unit.ensures ∙ c.in-Stop.is in
+    record {
+      ahead = sym (region_end-stop r text stop) ∙ c.loop-front.invariant.end;
+      tokens = λ ends.
+          ap (λ ts. c.loop-front.tokens.items ++ ts) (sym (cut-stop ends r c.loop-front.start text stop))
+          ∙ c.loop-front.invariant.tokens ends;
+    }
 
 pub loop-front-init : goal.loop-front-init
 loop-front-init c =

@@ -1,56 +1,34 @@
-use Rattle.std.proofs.Common.{◌∙◌, sym, true≢false}
+use Rattle.std.proofs.Common.{◌≡◌, ◌∙◌, ap, sym, true}
+use Rattle.std.specs.Prelude.{filter}
+use Rattle.tangle_plans.specs.Comparing.{HasItemsOf}
 use Rattle.tangle_plans.specs.ItemSlots.{pieces_at}
+use Rattle.tangle_plans.specs.Fronts.{Lists}
 use Rattle.tangle_plans.specs.NodeBodies.{body_title}
-use Rattle.tangle_plans.specs.Fronts.{Lists, lists_left}
-use Rattle.tangle_plans.proofs.ComparingLemmas.{body_made, has_other, has_passed, shape_had}
+use Rattle.tangle_plans.specs.UnfoldedTags.{unfolded_tags}
+use Rattle.tangle_plans.proofs.ComparingLemmas.{body_lists, has_items, items_had, shape_had}
 use Rattle.tangle_plans.proofs.NumberedShapes.{slots_same}
 use Rattle.tangle_plans.proofs.comparing.has_items_of.Goals as goal
 
-pub returns-then-pass_pieces-clause-same : goal.returns-then-pass_pieces-clause-same
-returns-then-pass_pieces-clause-same c =
-    let web = c.args.web.now in
+pub returns : goal.returns
+returns c =
+    let texts = c.args.web.now.texts in
+    let table = c.args.table.now in
+    let pieces = pieces_at c.args.web.now.pieces c.args.numbers.now in
     let old = c.args.old.now in
     let first : Lists = record { tags = c.new.result.tags; bytes = c.new.result.bytes; uses = c.deref-3.result.now } in
-    let made = body_made old first c.deref.result.now c.deref-2.result.now c.deref.ensures.value c.deref-2.ensures.value
-    c.new.ensures.tags c.new.ensures.bytes c.deref-3.ensures.value in
-    let has = has_passed web.texts c.args.table.now (pieces_at web.pieces c.args.numbers.now) old first
-    (lists_left c.pass_pieces.new.left) made (c.pass_pieces.ensures.passed c.if-pass_pieces.true) in
-    ((λ e. has.0 (c.is_nothing.ensures.0 e)), λ h. c.is_nothing.ensures.1 (has.1 h))
-
-pub returns-then-pass_pieces-clause-shape : goal.returns-then-pass_pieces-clause-shape
-returns-then-pass_pieces-clause-shape c = λ e.
-    let web = c.args.web.now in
-    let old = c.args.old.now in
-    let pieces = pieces_at web.pieces c.args.numbers.now in
-    let first : Lists = record { tags = c.new.result.tags; bytes = c.new.result.bytes; uses = c.deref-3.result.now } in
-    let made = body_made old first c.deref.result.now c.deref-2.result.now c.deref.ensures.value c.deref-2.ensures.value
-    c.new.ensures.tags c.new.ensures.bytes c.deref-3.ensures.value in
-    let has = has_passed web.texts c.args.table.now pieces old first
-    (lists_left c.pass_pieces.new.left) made (c.pass_pieces.ensures.passed c.if-pass_pieces.true) in
-    shape_had web.texts c.args.table.now pieces old (has.0 (c.is_nothing.ensures.0 e))
-
-pub returns-then-pass_pieces-clause-plan : goal.returns-then-pass_pieces-clause-plan
-returns-then-pass_pieces-clause-plan c = λ e has_piece planned.
-    let web = c.args.web.now in
-    let old = c.args.old.now in
-    let pieces = pieces_at web.pieces c.args.numbers.now in
-    let first : Lists = record { tags = c.new.result.tags; bytes = c.new.result.bytes; uses = c.deref-3.result.now } in
-    let made = body_made old first c.deref.result.now c.deref-2.result.now c.deref.ensures.value c.deref-2.ensures.value
-    c.new.ensures.tags c.new.ensures.bytes c.deref-3.ensures.value in
-    let has = has_passed web.texts c.args.table.now pieces old first
-    (lists_left c.pass_pieces.new.left) made (c.pass_pieces.ensures.passed c.if-pass_pieces.true) in
-    planned.plan
-    ∙ slots_same planned.texts web.texts planned.table c.args.table.now planned.pieces pieces old
-    planned.items (has.0 (c.is_nothing.ensures.0 e)) has_piece (body_title old) 0
-
-pub returns-else-pass_pieces-clause-same : goal.returns-else-pass_pieces-clause-same
-returns-else-pass_pieces-clause-same c =
-    let web = c.args.web.now in
-    let old = c.args.old.now in
-    let first : Lists = record { tags = c.new.result.tags; bytes = c.new.result.bytes; uses = c.deref-3.result.now } in
-    let made = body_made old first c.deref.result.now c.deref-2.result.now c.deref.ensures.value c.deref-2.ensures.value
-    c.new.ensures.tags c.new.ensures.bytes c.deref-3.ensures.value in (
-      (λ e. absurd (true≢false (sym e ∙ c.if-pass_pieces.false))),
-      λ h. absurd (has_other web.texts c.args.table.now (pieces_at web.pieces c.args.numbers.now) old first made
-          (c.pass_pieces.ensures.other c.if-pass_pieces.false) h),
-    )
+    let made : first ≡ body_lists old = λ i. record {
+      tags = (c.new.ensures.tags ∙ (λ j. unfolded_tags (c.deref.ensures.value j) (c.deref-2.ensures.value j))) i;
+      bytes = (c.new.ensures.bytes ∙ c.deref-2.ensures.value) i;
+      uses = c.deref-3.ensures.value i;
+    } in
+    let has : c.has_pieces.result ≡ true → HasItemsOf texts table pieces old = λ e.
+    has_items texts table pieces old (sym made ∙ c.has_pieces.ensures.0 e) in
+    record {
+      same = (has, λ h. c.has_pieces.ensures.1 (made ∙ items_had texts table pieces old h));
+      shape = λ e. shape_had texts table pieces old (has e);
+      plan = λ e has_piece planned. planned.plan
+          ∙ slots_same planned.texts texts planned.table table planned.pieces pieces old
+          planned.items (has e) has_piece (body_title old) 0;
+      plan_uses = λ e has_piece planned. planned.plan_uses
+          ∙ ap (filter has_piece) (sym planned.items.uses ∙ (has e).uses);
+    }

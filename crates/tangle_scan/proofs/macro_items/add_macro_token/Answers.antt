@@ -1,16 +1,15 @@
-use Rattle.std.proofs.Common.{◌≡◌, ℕ, ◌∷◌, ◌++◌, [], append_assoc, ap, sym, ◌∙◌, refl, option_to_list}
+use Rattle.std.proofs.Common.{◌∷◌, ◌++◌, [], append_assoc, ap, ◌∙◌, refl, option_to_list}
 use Rattle.tangle_lexer.specs.declared.tokens.Token.TheVariants as token
-use Rattle.tangle_scan.specs.Rules.{texts_of, span_item}
-use Rattle.tangle_scan.specs.Passes.{item_of}
+use Rattle.tangle_scan.specs.Rules.{texts_of}
+use Rattle.tangle_scan.specs.Passes.{unmarked_from}
 use Rattle.tangle_scan.proofs.lemmas.PlainPartLemmas.{pushed-twice}
-use Rattle.tangle_scan.proofs.lemmas.MacroItemLemmas.{unmarked-white, unmarked-line, unmarked-item}
+use Rattle.tangle_scan.proofs.lemmas.MacroItemLemmas.{unmarked-line, unmarked-item}
+use Rattle.tangle_scan.proofs.lemmas.RuleLemmas.{no-front_gap}
 use Rattle.tangle_scan.proofs.macro_items.add_macro_token.Goals as goal
 
 pub returns-in-White : goal.returns-in-White
-returns-in-White c =
-    rw c.in-White.is
-    (ap (λ t. c.args.items.now.items ++ t)
-    (unmarked-white (texts_of c.args.source.now.lines) c.args.at c.args.rest.now))
+unfolding unmarked_from
+returns-in-White c = rw c.in-White.is refl
 
 pub returns-in_ok-push_macro_line_end-in-LineEnd : goal.returns-in_ok-push_macro_line_end-in-LineEnd
 returns-in_ok-push_macro_line_end-in-LineEnd c =
@@ -26,21 +25,15 @@ returns-in_ok-push_macro_line_end-in-LineEnd c =
 
 pub returns-in_ok-push-in-Span : goal.returns-in_ok-push-in-Span
 returns-in_ok-push-in-Span c =
-    let e = c.args.token.now in
+    let e = token.Span c.in-Span.kind c.in-Span.span in
     let old = c.args.items.now.items in
-    let is = c.in-Span.is in
-    let white : e ≡ token.White → ⊥ =
-    λ h. (let k : token.Span c.in-Span.kind c.in-Span.span ≡ token.White = sym is ∙ h in cc) in
-    let end : (line : ℕ) → e ≡ token.LineEnd line → ⊥ =
-    λ line h. (let k : token.Span c.in-Span.kind c.in-Span.span ≡ token.LineEnd line = sym is ∙ h in cc) in
-    let item : span_item c.in-Span.kind c.in-Span.span ∷ [] ≡ option_to_list (item_of e) = rw is refl in
-    let pushed = ap (λ i. c.push_some.new.items.items ++ i ∷ []) c.span_item.ensures
-    ∙ ap (λ i. c.push_some.new.items.items ++ i) item in
+    let middle = c.push_some.new.items.items in
+    let pushed = c.in_ok-push-in-Span.ensures.items ∙ ap (λ i. middle ++ i ∷ []) c.span_item.ensures in
     let blank = c.in_ok-push_some-in-Span.ensures ∙ ap (λ i. old ++ i) c.blank.ensures in
-    rw c.after_item.ensures
-    (pushed-twice _ _ _ _ _ _ blank (c.in_ok-push-in-Span.ensures.items ∙ pushed)
+    rw (c.after_item.ensures, c.in-Span.is)
+    (pushed-twice _ _ _ _ _ _ blank pushed
     ∙ ap (λ t. old ++ t)
-    (unmarked-item (texts_of c.args.source.now.lines) c.args.at _ e c.args.rest.now white end refl refl refl))
+    (unmarked-item (texts_of c.args.source.now.lines) c.args.at _ e c.args.rest.now refl refl refl refl))
 
 pub returns-in_ok-push_some-in_default-2 : goal.returns-in_ok-push_some-in_default-2
 returns-in_ok-push_some-in_default-2 c =
@@ -52,4 +45,4 @@ returns-in_ok-push_some-in_default-2 c =
     (pushed-twice _ _ _ _ _ _ blank pushed
     ∙ ap (λ t. old ++ t)
     (unmarked-item (texts_of c.args.source.now.lines) c.args.at _ c.args.token.now c.args.rest.now
-    c.in_default.not-White c.in_default.not-LineEnd refl refl refl))
+    (no-front_gap c.args.token.now c.in_default.not-White c.in_default.not-LineEnd) refl refl refl))

@@ -1,17 +1,17 @@
-use Rattle.std.proofs.Common.{◌≡◌, ℕ, ◌&&◌, [], ◌∷◌, ◌++◌, ap, ◌∙◌, sym, refl, map, subst}
+use Rattle.std.proofs.Common.{◌&&◌, [], ◌∷◌, ◌++◌, ap, ◌∙◌, refl, map, subst}
 use Rattle.tangle_lexer.specs.declared.tokens.Token.TheVariants as token
 use Rattle.tangle_lexer.specs.Runs.{IsRunIn, IsRunOf}
-use Rattle.tangle_text.specs.declared.spans.Span.{Span}
 use Rattle.tangle_scan.specs.declared.items.Entry.TheVariants as entry
-use Rattle.tangle_scan.specs.Rules.{texts_of, span_item}
-use Rattle.tangle_scan.specs.Passes.{items_at, entries_continue, counted_after_token, origin_of}
-use Rattle.tangle_scan.proofs.lemmas.PlainPartLemmas.{plain-white, plain-line, plain-item, plain-run}
+use Rattle.tangle_scan.specs.Rules.{texts_of}
+use Rattle.tangle_scan.specs.Passes.{entries_continue, items_ahead}
+use Rattle.tangle_scan.proofs.lemmas.PlainPartLemmas.{plain-line, plain-item, plain-run}
 use Rattle.tangle_scan.proofs.lemmas.PlainPartLemmas.{marked-more, range-items, range-push}
+use Rattle.tangle_scan.proofs.lemmas.RuleLemmas.{no-front_gap}
 use Rattle.tangle_scan.proofs.plain_parts.add_token.Goals as goal
 
 pub returns-in-White-clause-items : goal.returns-in-White-clause-items
-returns-in-White-clause-items c = λ plain es.
-    plain-white c.args.source.now.lines c.args.entries.now.items c.args.at c.args.token.now es c.in-White.is
+unfolding items_ahead
+returns-in-White-clause-items c = λ plain es. rw c.in-White.is refl
 
 pub returns-in_ok-push-in-LineEnd-clause-items : goal.returns-in_ok-push-in-LineEnd-clause-items
 returns-in_ok-push-in-LineEnd-clause-items c = λ plain es.
@@ -45,26 +45,15 @@ returns-in_ok-push-in-Run-clause-runs c = λ old.
     (range-items texts c.args.entries.now.items _ _ c.in_ok-push_entry-in-Run.ensures old)
 
 pub returns-in_ok-push-in-Span-clause-items : goal.returns-in_ok-push-in-Span-clause-items
-returns-in_ok-push-in-Span-clause-items c = λ plain es.
-    let lines = c.args.source.now.lines in
-    let e = c.args.token.now in
-    let is = c.in-Span.is in
-    let made = token.Span c.in-Span.kind c.in-Span.span in
-    let white : e ≡ token.White → ⊥ = λ h. (let k : made ≡ token.White = sym is ∙ h in cc) in
-    let end : (line : ℕ) → e ≡ token.LineEnd line → ⊥ =
-    λ line h. (let k : made ≡ token.LineEnd line = sym is ∙ h in cc) in
-    let run : (s : Span) → e ≡ token.Run s → ⊥ = λ s h. (let k : made ≡ token.Run s = sym is ∙ h in cc) in
-    let item : map entry.Item (span_item c.in-Span.kind c.in-Span.span ∷ []) ≡ map entry.Item (items_at lines e) =
-    rw is refl in
-    let counted : origin_of c.args.at.counted ≡ counted_after_token lines (origin_of c.args.at.counted) e =
-    rw is refl in
+returns-in_ok-push-in-Span-clause-items c =
+    let e = token.Span c.in-Span.kind c.in-Span.span in
     let middle = c.push_entry-in-Span.new.entries.items in
-    let pushed = ap (λ i. middle ++ entry.Item i ∷ []) c.span_item.ensures ∙ ap (λ i. middle ++ i) item in
+    let pushed = c.in_ok-push-in-Span.ensures.items ∙ ap (λ i. middle ++ entry.Item i ∷ []) c.span_item.ensures in
     let blank = c.in_ok-push_entry-in-Span.ensures
     ∙ ap (λ i. c.args.entries.now.items ++ map entry.Item i) c.blank-in-Span.ensures in
-    rw c.part_state-in-Span.ensures
-    (plain-item lines c.args.entries.now.items middle _ c.args.at _ e es plain white end run
-    blank (c.in_ok-push-in-Span.ensures.items ∙ pushed) refl refl counted)
+    rw (c.part_state-in-Span.ensures, c.in-Span.is) (λ plain es.
+    plain-item c.args.source.now.lines c.args.entries.now.items middle _ c.args.at _ e es refl refl (λ s h. cc)
+    blank pushed refl refl refl)
 
 pub returns-in_ok-push-in-Span-clause-runs : goal.returns-in_ok-push-in-Span-clause-runs
 returns-in_ok-push-in-Span-clause-runs c = λ old.
@@ -81,7 +70,8 @@ returns-in_ok-counted-in_default-clause-items c = λ plain es.
     ∙ ap (λ i. c.args.entries.now.items ++ map entry.Item i) c.blank-in_default.ensures in
     rw c.part_state-in_default.ensures
     (plain-item c.args.source.now.lines c.args.entries.now.items _ _
-    c.args.at _ c.args.token.now es plain other.not-White other.not-LineEnd other.not-Run
+    c.args.at _ c.args.token.now es plain
+    (no-front_gap c.args.token.now other.not-White other.not-LineEnd) other.not-Run
     blank pushed.items refl refl pushed.counted)
 
 pub returns-in_ok-counted-in_default-clause-mark : goal.returns-in_ok-counted-in_default-clause-mark

@@ -1,6 +1,7 @@
-use Rattle.std.proofs.Common.{arith, ap, sym, ◌∙◌, ◌++◌, [], false, None}
+use Rattle.std.proofs.Common.{List, refl, arith, ap, sym, ◌∙◌, ◌++◌, [], false, None}
 use Rattle.std.proofs.lemmas.List.{drop_all}
 use Rattle.std.specs.List.{list_any}
+use Rattle.tangle_lexer.specs.declared.tokens.Token.{Token}
 use Rattle.tangle_lexer.specs.Runs.{unfolded}
 use Rattle.tangle_lines.specs.Reading.{origin_at}
 use Rattle.tangle_scan.specs.declared.plain_parts.PartState.{PartState}
@@ -8,7 +9,7 @@ use Rattle.tangle_scan.specs.Entries.{items_of}
 use Rattle.tangle_scan.specs.Rules.{texts_of, blanks}
 use Rattle.tangle_scan.specs.Passes.{is_rare, items_ahead}
 use Rattle.tangle_scan.proofs.lemmas.ItemsByOrigin.{items_by_origin, part_items-by_origin}
-use Rattle.tangle_scan.proofs.lemmas.PlainPartLemmas.{plain-end, plain-rules}
+use Rattle.tangle_scan.proofs.lemmas.PlainPartLemmas.{all-made, plain-rules}
 use Rattle.tangle_scan.proofs.lemmas.UnfoldedTokens.{rare-unfolded}
 use Rattle.tangle_scan.proofs.lemmas.SpacingLemmas.{unchanged-stays}
 use Rattle.tangle_scan.proofs.plain_parts.fill_plain_part.Goals as goal
@@ -23,7 +24,9 @@ returns-clause-items c = λ rare.
     let done = ap (unfolded texts) none in
     let plain = rare-unfolded texts c.args.tokens.now
     ∙ (sym c.loop-token.invariant.rare ∙ ap (list_any is_rare) none) in
-    plain-end lines c.loop-token.at _ _ _ done c.loop-token.invariant.rest
+    let entries = c.loop-token.entries.items in
+    let ahead = λ (es : List Token). items_of texts entries ++ items_ahead lines c.loop-token.at entries es in
+    all-made (items_of texts entries) _ ahead _ done refl c.loop-token.invariant.rest
     ∙ (ap (λ is. items_of texts is ++ items_ahead lines c.part_state-at.result is tokens) c.clear.ensures.items
     ∙ (ap (λ (s : PartState). items_ahead lines s [] tokens) c.part_state-at.ensures
     ∙ (plain-rules lines None false _ tokens

@@ -1,10 +1,11 @@
-use Rattle.std.proofs.Common.{rules, ◌≡◌, ◌∷◌, ◌++◌, [], length, ap, ◌∙◌}
-use Rattle.tangle_scan.proofs.lemmas.RarePartLemmas.{rare-line, rare-line-joined}
+use Rattle.std.proofs.Common.{rules, ◌≡◌, ◌∷◌, ◌++◌, [], length, refl, ap, ◌∙◌}
+use Rattle.tangle_scan.specs.Passes.{all_items}
+use Rattle.tangle_scan.proofs.lemmas.RarePartLemmas.{rare-line}
 use Rattle.tangle_scan.proofs.rare_parts.add_line_end.Goals as goal
 
 pub returns-in-Joined-clause-items : goal.returns-in-Joined-clause-items
-returns-in-Joined-clause-items c = λ es.
-    rare-line-joined c.args.source.now.lines c.args.items.now.items c.args.at _ es c.in-Joined.is
+unfolding all_items
+returns-in-Joined-clause-items c = λ es. rw c.in-Joined.is refl
 
 pub returns-clause-items : goal.returns-clause-items
 returns-clause-items c = λ es.

@@ -1,7 +1,8 @@
 use Rattle.std.proofs.Common.{◌++◌, ap, ◌∙◌, refl, subst}
 use Rattle.tangle_lexer.specs.Runs.{IsRunIn, IsRunOf}
 use Rattle.tangle_scan.specs.Rules.{texts_of}
-use Rattle.tangle_scan.proofs.lemmas.RarePartLemmas.{rare-white, rare-fault, rare-item, solid}
+use Rattle.tangle_scan.specs.Passes.{all_items}
+use Rattle.tangle_scan.proofs.lemmas.RarePartLemmas.{rare-white, rare-item, solid}
 use Rattle.tangle_scan.proofs.lemmas.RunItems.{unfolded-one}
 use Rattle.tangle_scan.proofs.rare_parts.add_rare_part_token.Goals as goal
 
@@ -17,9 +18,8 @@ returns-in-White-clause-items c = λ es.
     (rare-white c.args.source.now.lines c.args.items.now.items c.args.at es)
 
 pub returns-in-Fault-clause-items : goal.returns-in-Fault-clause-items
-returns-in-Fault-clause-items c = λ es.
-    rw c.in-Fault.is
-    (rare-fault c.args.source.now.lines c.args.items.now.items c.args.at c.in-Fault.field-0 c.in-Fault.field-1 es)
+unfolding all_items
+returns-in-Fault-clause-items c = λ es. rw c.in-Fault.is refl
 
 pub returns-in_ok-counted-in_default-clause-items : goal.returns-in_ok-counted-in_default-clause-items
 returns-in_ok-counted-in_default-clause-items c = λ es.

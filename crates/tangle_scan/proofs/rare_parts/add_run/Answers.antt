@@ -1,18 +1,16 @@
 use Rattle.std.proofs.Common.{◌++◌, map, ap, arith}
 use Rattle.tangle_lexer.specs.Runs.{part_token}
 use Rattle.tangle_scan.specs.Passes.{all_items}
-use Rattle.tangle_scan.proofs.lemmas.RarePartLemmas.{rare-part, rare-parts-end, parts-begin}
+use Rattle.tangle_scan.proofs.lemmas.RarePartLemmas.{rare-part, rare-parts-end}
 use Rattle.tangle_scan.proofs.rare_parts.add_run.Goals as goal
 
 pub loop-part-init : goal.loop-part-init
-loop-part-init c =
-    let lines = c.args.source.now.lines in
-    let parts = parts-begin lines c.args.span _ _ c.line.ensures.bytes c.new-parts.ensures in
-    record {
-      limit = omega arith;
-      start = c.requires.start;
-      rest = λ es. ap (λ ps. all_items lines c.args.items.now.items c.args.at (map part_token ps ++ es)) parts;
-    }
+loop-part-init c = record {
+  limit = omega arith;
+  start = c.requires.start;
+  rest = λ es. ap (λ ps. all_items c.args.source.now.lines c.args.items.now.items c.args.at (map part_token ps ++ es))
+      c.parts_of_run-parts.ensures;
+}
 
 pub loop-part-preserved : goal.loop-part-preserved
 loop-part-preserved c = record {

@@ -19,7 +19,7 @@ use Rattle.tangle_scan.proofs.lemmas.ScanLemmas.{block-shorter}
 use Rattle.tangle_scan.proofs.scanning.gather.Goals as goal
 
 pub next_block-requires-clause-ours : goal.next_block-requires-clause-ours
-next_block-requires-clause-ours c = (0, c.new-reader.ensures)
+next_block-requires-clause-ours c = (0, c.new-reader.ensures.text)
 
 other-mode : (m : Mode) → m ≡ mode.Macro → m ≡ mode.CPart → ⊥
 other-mode m macro part = cc
@@ -58,20 +58,20 @@ loop-next_head-init c =
       builder = ap (λ g. builder_with source g ahead) added ∙ (front
           ∙ (ap (λ s. builder_with source nothing (tokens_from s c.new-reader.result)) first
           ∙ ap (λ text. builder_with source nothing (tokens_from (first_state (length source.lines)) text))
-          c.new-reader.ensures));
+          c.new-reader.ensures.text));
       occurrences = read.occurrences ∙ (ap
           (λ ns. ns
           ++ map (occurrence_of source.lines) (occurrences_from c.first_state-first.result c.new-reader.result))
           c.new-2.ensures.items
           ∙ (ap (λ s. map (occurrence_of source.lines) (occurrences_from s c.new-reader.result)) first
           ∙ ap (λ text. map (occurrence_of source.lines) (occurrences_from (first_state (length source.lines)) text))
-          c.new-reader.ensures));
+          c.new-reader.ensures.text));
       limit = omega (
         arith,
         c.in_ok-add_front.ensures.sections,
         ap (λ g. g.sections) c.new-builder.ensures,
         block-shorter c.new-reader.result c.next_block.new.reader next.next_head read.shorter read.end,
-        ap length c.new-reader.ensures,
+        c.new-reader.ensures.short,
       );
     }
 

@@ -1,6 +1,6 @@
-use Rattle.std.proofs.Common.{◌≡◌, ◌≤◌, ◌+◌, ◌++◌, ℕ, [], true, length, map, option_to_list, Some}
+use Rattle.std.proofs.Common.{◌≡◌, ◌<◌, ◌^◌, ◌+◌, ◌++◌, ℕ, [], true, length, map, option_to_list, Some}
 use Rattle.std.specs.Option.{IfSome, IfNone}
-use Rattle.tangle_text.specs.Text.{text_from, IsRestOf}
+use Rattle.tangle_text.specs.Text.{IsRestOf}
 use Rattle.tangle_lexer.specs.declared.modes.Mode.TheVariants as mode
 use Rattle.tangle_lexer.specs.declared.tokens.Token.TheVariants as token
 use Rattle.tangle_lexer.specs.Steps.{tokens_from, occurrences_from, all_tokens, all_occurrences}
@@ -24,8 +24,7 @@ invariant-loop-next_head l = record {
       ≡ builder_with l.source nothing (all_tokens l.source.lines);
   occurrences : l.buffers.occurrences.items ++ map (occurrence_of l.source.lines) (occurrences_from l.state l.reader)
       ≡ map (occurrence_of l.source.lines) (all_occurrences l.source.lines);
-  limit : l.builder.sections + (length (option_to_list l.next_head) + length l.reader)
-      ≤ length (text_from 0 l.source.lines);
+  limit : l.builder.sections + (length (option_to_list l.next_head) + length l.reader) < 2 ^ 63;
 }
 
 abbrev pub decreases-loop-next_head : goal.decreases-loop-next_head

@@ -1,4 +1,4 @@
-use Rattle.std.proofs.Common.{arith, ◌∙◌}
+use Rattle.std.proofs.Common.{◌∙◌}
 use Rattle.tangle_lines.specs.Reading.{SourceRead}
 use Rattle.tangle_scan.specs.Web.{web_of}
 use Rattle.tangle_scan.specs.WellFormed.{IsWellFormed}
@@ -10,9 +10,6 @@ use Rattle.tangle_scan.proofs.scanning.scan.Goals as goal
 
 web-well-formed : (source : SourceRead) → IsWellFormed (web_of source)
 web-well-formed source = record { spans = web-in-range source; occurrences = occurrences-in-range source }
-
-pub gather-requires : goal.gather-requires
-gather-requires c = omega (arith, c.text_is_short.ensures)
 
 pub new-requires-clause-well_formed : goal.new-requires-clause-well_formed
 new-requires-clause-well_formed c =

@@ -1,7 +1,7 @@
 use Rattle.std.proofs.Common.{ap, ◌∙◌}
 use Rattle.tangle_scan.specs.Entries.{items_of}
 use Rattle.tangle_scan.specs.Rules.{texts_of}
-use Rattle.tangle_scan.proofs.lemmas.PlainPartLemmas.{items-of-items, all-items-in-range}
+use Rattle.tangle_scan.proofs.lemmas.PlainPartLemmas.{items-of-items, items-in-range}
 use Rattle.tangle_scan.proofs.web_builder.fill_part.Goals as goal
 
 pub returns-clause-items : goal.returns-clause-items
@@ -11,4 +11,4 @@ returns-clause-items c =
 
 pub returns-clause-runs : goal.returns-clause-runs
 returns-clause-runs c =
-    all-items-in-range (texts_of c.args.source.now.lines) _ _ c.in_ok-fill_part_with_rare.ensures
+    rw c.in_ok-fill_part_with_rare.ensures (items-in-range (texts_of c.args.source.now.lines) _)

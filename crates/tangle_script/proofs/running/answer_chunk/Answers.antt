@@ -12,8 +12,6 @@ returns-then-not-ends_a_line g c =
     (sym c.ends_a_line.ensures ∙ c.if-not-ends_a_line.true) in
     let all = waits_in c.args.searched (bytes c.args.buffer.now) c.requires.waits none in
     record {
-      answered = answered_nothing g.P.Project.answers _ _ all.0;
-      no_quit = ap has_quit all.0;
+      answered = (answered_nothing g.P.Project.answers _ _ all.0, ap has_quit all.0);
       pending = sym all.1;
-      breaks = tt;
     }

@@ -1,4 +1,4 @@
-use Rattle.tangle_script.proofs.ShortLemmas.{short_needs_no_memory}
+use Rattle.tangle_script.proofs.FailureLemmas.{short_needs_no_memory}
 use Rattle.tangle_script.proofs.running.short_commands_need_no_memory.Goals as goal
 
 pub returns : goal.returns

@@ -29,8 +29,8 @@ returns-in-Err-clause-refused c =
     let whole : refused_from at c.loop-at.copy c.args.roles.now (edit ∷ drop (at + 1) edits)
     ≡ list_refusal c.args.files.now c.args.roles.now edits =
     sym next ∙ c.loop-at.invariant.refused in
-    let by = numbered_refusal _ at (session_refusal c.loop-at.copy c.args.roles.now edit)
-    _ refusal c.in-Err.ensures.refused c.in-Err.ensures.only in
+    let by = numbered_refusal at (session_refusal c.loop-at.copy c.args.roles.now edit)
+    _ refusal c.in-Err.ensures.refused in
     subst (λ (r : ListRefusal). (list_refusal c.args.files.now c.args.roles.now edits ≡ Some r) ⊎ (r ≡ list_memory))
     (sym c.of_edit.ensures)
     (subst (λ (o : Option ListRefusal). (o ≡ Some (numbered at refusal)) ⊎ (numbered at refusal ≡ list_memory))

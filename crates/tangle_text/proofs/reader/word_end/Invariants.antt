@@ -1,22 +1,17 @@
-use Rattle.std.proofs.Common.{◌≡◌, ◌≤◌, ◌+◌, ◌-◌, drop, length}
+use Rattle.std.proofs.Common.{◌-◌, length}
+use Rattle.std.specs.List.{prefix_len}
 use Rattle.tangle_text.specs.Bytes.{is_word_byte}
-use Rattle.tangle_text.specs.Ahead.{run_length}
+use Rattle.tangle_text.proofs.RunLemmas.{HasComeTo}
 use Rattle.tangle_text.proofs.reader.word_end.Given as goal
 
 abbrev pub invariant-loop-end : goal.invariant-loop-end
-invariant-loop-end l = record {
-  end : l.end + run_length is_word_byte (drop l.end l.bytes) ≡ l.from + run_length is_word_byte (drop l.from l.bytes);
-  inside : l.end ≤ length l.bytes;
-}
+invariant-loop-end l = HasComeTo (prefix_len is_word_byte) l.bytes l.from l.end
 
 abbrev pub decreases-loop-end : goal.decreases-loop-end
 decreases-loop-end l = length l.bytes - l.end
 
 abbrev pub invariant-loop-end-2 : goal.invariant-loop-end-2
-invariant-loop-end-2 l = record {
-  end : l.end + run_length is_word_byte (drop l.end l.bytes) ≡ l.from + run_length is_word_byte (drop l.from l.bytes);
-  inside : l.end ≤ length l.bytes;
-}
+invariant-loop-end-2 l = HasComeTo (prefix_len is_word_byte) l.bytes l.from l.end
 
 abbrev pub decreases-loop-end-2 : goal.decreases-loop-end-2
 decreases-loop-end-2 l = length l.bytes - l.end

@@ -1,8 +1,7 @@
-use Rattle.std.proofs.Common.{◌++◌, ℕ, [], ap, codes, inl, refl}
+use Rattle.std.proofs.Common.{◌++◌, ℕ, ap, codes, inl, refl}
 use Rattle.std.specs.Prelude.{decimal}
 use Rattle.tangle_session.specs.Tangle.{output_at}
 use Rattle.ctangle_cli.specs.Conversation.{listed_faults, shown}
-use Rattle.ctangle_cli.proofs.RunLemmas.{TakesAll-none}
 use Rattle.ctangle_cli.proofs.conversation.SessionProjectProject.answer.Goals as goal
 
 pub returns-in-Begin : goal.returns-in-Begin
@@ -34,12 +33,8 @@ returns-in-Work g c =
     rw c.in-Work.is (said c.last_work.result, inl (ap said c.last_work.ensures, refl), c.write_work.ensures)
 
 pub returns-in-Quit : goal.returns-in-Quit
-returns-in-Quit g c =
-    let now = g.S.Sink.stream c.args.sink.now in
-    rw c.in-Quit.is (codes "ok\n", inl (refl, refl), c.say.ensures now [] (TakesAll-none now))
+returns-in-Quit g c = rw c.in-Quit.is (codes "ok\n", inl (refl, refl), c.say.ensures)
 
 pub returns-in-BadCommand : goal.returns-in-BadCommand
 returns-in-BadCommand g c =
-    let now = g.S.Sink.stream c.args.sink.now in
-    rw c.in-BadCommand.is
-    (codes "no BadCommand\n", inl (refl, refl), c.say-in-BadCommand.ensures now [] (TakesAll-none now))
+    rw c.in-BadCommand.is (codes "no BadCommand\n", inl (refl, refl), c.say-in-BadCommand.ensures)

@@ -1,5 +1,4 @@
-use Rattle.std.proofs.Common.{refl, arith, drop}
-use Rattle.tangle_plans.specs.Meaning.{title_of}
+use Rattle.std.proofs.Common.{refl, arith}
 use Rattle.tangle_expansion.proofs.WriteLemmas.{wrote_at_first, wrote_more, wrote_all}
 use Rattle.tangle_expansion.proofs.PlanLemmas.{written_with, written_without}
 use Rattle.tangle_expansion.proofs.expansion.Expansion.+write_text_after.Goals as goal
@@ -20,14 +19,9 @@ loop-used-init g t c =
 
 pub loop-used-preserved : goal.loop-used-preserved
 loop-used-preserved g t c =
-    let body = c.deref-body.result.now in
-    let at = c.loop-used.at in
-    let next = c.write_to_use-before.result.0 in
-    let left = written_with c.args.numbers.now (title_of body.name)
-    body.bytes.items at.piece at.marks at.start (drop at.step body.plan.items)
-    c.deref-used-items.result.now c.deref-used-items.result.now c.loop-used.used-index c.used-item.result
-    (record { piece = next.piece; marks = next.marks; start = next.start; plan = drop next.step body.plan.items })
-    refl c.loop-used-test.true c.used-item.is c.write_to_use-before.ensures.rest in
+    let left = written_with c.args.numbers.now c.deref-body.result.now c.loop-used.at c.deref-used-items.result.now
+    c.loop-used.used-index c.used-item.result c.write_to_use-before.result.0
+    c.loop-used-test.true c.used-item.is c.write_to_use-before.ensures.rest in
     wrote_more _ _ _ _ _ _ _ _ _ _
     (wrote_more _ _ _ _ _ _ _ _ _ _
     (wrote_more _ _ _ _ _ _ _ _ _ _ c.loop-used.invariant left c.write_to_use-before.ensures.writes)
@@ -36,9 +30,6 @@ loop-used-preserved g t c =
 
 pub returns-clause-writes : goal.returns-clause-writes
 returns-clause-writes g t c =
-    let body = c.deref-body.result.now in
-    let at = c.loop-used.at in
-    let left = written_without c.args.numbers.now (title_of body.name)
-    body.bytes.items at.piece at.marks at.start (drop at.step body.plan.items)
-    c.deref-used-items.result.now c.deref-used-items.result.now c.loop-used.used-index refl (omega arith) in
+    let left = written_without c.args.numbers.now c.deref-body.result.now c.loop-used.at
+    c.deref-used-items.result.now c.loop-used.used-index (omega arith) in
     wrote_all _ _ _ _ _ _ _ _ _ c.loop-used.invariant left c.write_to_use-all.ensures.writes

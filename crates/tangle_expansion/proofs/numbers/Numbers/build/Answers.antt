@@ -1,22 +1,12 @@
-use Rattle.std.proofs.Common.{◌≡◌, ◌∙◌, ◌∷◌, [], ℕ, List, ap, drop, map, refl}
+use Rattle.std.proofs.Common.{◌≡◌, ◌∙◌, ◌∷◌, [], ℕ, List, ap, drop, map}
 use Rattle.std.specs.Prelude.{slice_index_or}
 use Rattle.std.specs.List.{zip}
 use Rattle.tangle_names.specs.NameTable.{table_of}
 use Rattle.tangle_plans.specs.Shapes.{Named, Program}
 use Rattle.tangle_plans.specs.WebShapes.{pieces_of}
-use Rattle.tangle_expansion.specs.Numbers.{NumbersRead, numbers_of_piece}
+use Rattle.tangle_expansion.specs.Numbers.{numbers_of_piece}
 use Rattle.tangle_expansion.proofs.LookupLemmas.{zip_made}
 use Rattle.tangle_expansion.proofs.numbers.Numbers.build.Goals as goal
-
--- numbers with equal fields are equal
-same : (a b : NumbersRead) → a.file_names ≡ b.file_names → a.program ≡ b.program
-    → a.names ≡ b.names → a.macros ≡ b.macros → a.marks ≡ b.marks → a ≡ b
-same a b files program names macros marks =
-    ap (λ l. record a { file_names = l }) files
-    ∙ ap (λ l. record b { program = l; names = a.names; macros = a.macros; marks = a.marks }) program
-    ∙ ap (λ l. record b { names = l; macros = a.macros; marks = a.marks }) names
-    ∙ ap (λ l. record b { macros = l; marks = a.marks }) macros
-    ∙ ap (λ l. record b { marks = l }) marks
 
 pub returns : goal.returns
 returns c =
@@ -33,4 +23,4 @@ returns c =
     = ap (λ l. zip c.in_ok-names.names (drop 1 l)) rows
     ∙ ap (λ ns. zip ns (map of_each (map of_name table.names))) (c.in_ok-names.ensures ∙ c.requires.names)
     ∙ zip_made of_each of_name table.names in
-    c.new.ensures ∙ same _ _ c.in_ok-file_names.ensures.names program zipped c.in_ok-macros.ensures refl
+    c.new.ensures ∙ cc (c.in_ok-file_names.ensures.names, program, zipped, c.in_ok-macros.ensures)

@@ -3,8 +3,9 @@ use Rattle.digraph.specs.Nodes.{program}
 use Rattle.tangle_faults.specs.declared.faults.FaultKind.{FaultKind}
 use Rattle.tangle_faults.specs.declared.faults.FaultKind.TheVariants as kind
 use Rattle.tangle_faults.specs.Faults.{fault_unplaced}
-use Rattle.tangle_graph.specs.FaultSearches.{faults_of_kind, flag_of_node}
+use Rattle.tangle_graph.specs.FaultSearches.{faults_of_kind}
 use Rattle.tangle_graph.specs.Faults.{has_piece_of_node, is_too_large}
+use Rattle.tangle_graph.specs.Stores.{contains_itself_at, flag_at}
 use Rattle.tangle_graph.proofs.FaultLemmas.{joined, kinds_step, kinds_whole, unless}
 use Rattle.tangle_graph.proofs.faults.FaultSearch.faults.Goals as goal
 
@@ -21,13 +22,13 @@ returns c =
     let table = search.table.now in
     let is = c.requires in
     let is_large = c.is_too_large-is_large.ensures
-    ∙ ap (is_too_large web table (flag_of_node search.reaching_cycles.now)) c.program.ensures in
+    ∙ ap (is_too_large web table (flag_at search.store.now.reaching_cycles)) c.program.ensures in
     let has_piece = c.has_piece-has_piece.ensures ∙ ap (has_piece_of_node web table) c.program-2.ensures in
     let of_kind = faults_of_kind search in
     let kinds : List FaultKind = kind.Undefined ∷ kind.Unused ∷ kind.SelfContaining ∷ kind.TooLarge ∷ [] in
     record {
-      contains_itself = flag_of_node search.self_containing.now;
-      reaches_cycle = flag_of_node search.reaching_cycles.now;
+      contains_itself = contains_itself_at search.store.now;
+      reaches_cycle = flag_at search.store.now.reaching_cycles;
       self_containing = is.containing;
       reaching_cycles = is.reaching;
       list = joined c.add_unplaced-2.new.faults.items (of_kind kind.Undefined)

@@ -5,6 +5,7 @@ use Rattle.std.specs.Prelude.{Contains}
 use Rattle.std.proofs.lemmas.Result.{IfOk-weaker}
 use Rattle.digraph.specs.Graph.{row_at}
 use Rattle.digraph.specs.Nodes.{Node}
+use Rattle.digraph.proofs.ReachLemmas.{flagged_in}
 use Rattle.tangle_expansion.specs.Kept.{used_symbols}
 use Rattle.tangle_plans.specs.NodeBodies.{plan_slots, plan_uses}
 use Rattle.tangle_plans.specs.Slots.{filled}
@@ -12,7 +13,7 @@ use Rattle.tangle_plans.specs.declared.nodes.NodeBody.{NodeBody}
 use Rattle.tangle_graph.specs.Stores.{StoreRead, is_expandable_at}
 use Rattle.tangle_graph.specs.StoreView.{StoreInvariant, store_read}
 use Rattle.tangle_graph.specs.declared.store.Store.TheInside.{Inside}
-use Rattle.tangle_graph.proofs.ExpandLemmas.{expanded_right, flag_inside, part_read}
+use Rattle.tangle_graph.proofs.ExpandLemmas.{expanded_right, part_read}
 use Rattle.tangle_graph.proofs.store.Store.expand.Goals as goal
 
 module _ (inside : Inside) (store : StoreRead) (node : Node) (n : ℕ) (is : store_read inside ≡ store)
@@ -20,7 +21,7 @@ module _ (inside : Inside) (store : StoreRead) (node : Node) (n : ℕ) (is : sto
   low : n < length inside.bodies.items
   low = omega (
     arith,
-    flag_inside store.expandable node e,
+    flagged_in store.expandable node e,
     holds.sizes,
     ap (λ (s : StoreRead). length s.expandable) is,
   )

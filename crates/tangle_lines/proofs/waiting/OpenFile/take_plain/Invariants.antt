@@ -1,5 +1,6 @@
 use Rattle.std.proofs.Common.{◌≡◌, ◌+◌, ◌-◌, ◌≤◌, List, ◌++◌, length, drop}
-use Rattle.tangle_lines.specs.Reading.{WaitingLine, waiting_lines}
+use Rattle.std.specs.List.{All}
+use Rattle.tangle_lines.specs.Reading.{WaitingLine, waiting_lines, IsShort}
 use Rattle.tangle_lines.specs.Waiting.{PassesOn}
 use Rattle.tangle_lines.proofs.waiting.OpenFile.take_plain.Given as goal
 
@@ -8,6 +9,7 @@ invariant-loop-line l = record {
   low : l.read ≤ l.number;
   limit : l.number - l.read ≤ l.limit;
   count : length l.lines.items ≡ length l.fn.lines.items + (l.number - l.read);
+  short : All IsShort l.fn.lines.items → All IsShort l.lines.items;
   passed : (rest : List WaitingLine) →
       PassesOn l.changes l.fn.lines.items
       (waiting_lines l.self-inside.file l.self-inside.is_changed

@@ -1,7 +1,6 @@
-use Rattle.std.proofs.Common.{◌≡◌, ◌+◌, ◌-◌, ◌∷◌, ◌++◌, length, take, set, sym, ap, ◌∙◌, arith}
+use Rattle.std.proofs.Common.{◌≡◌, ◌+◌, ◌-◌, length, sym, refl, arith}
 use Rattle.std.proofs.lemmas.Bool.{eqb-false}
 use Rattle.std.proofs.lemmas.List.{take-set}
-use Rattle.tangle_lines.specs.Waiting.{stacked}
 use Rattle.tangle_lines.proofs.WaitingLemmas.{stacked-set, stacked-last}
 use Rattle.tangle_lines.proofs.waiting.Waiting.take.Goals as goal
 
@@ -11,10 +10,13 @@ returns-in-Some-clause-front c =
     let n = c.len-last.result - 1 in
     let len : length files.items ≡ n + 1 =
     omega (arith, files.ok.0, c.len-last.ensures, eqb-false _ 0 (sym c.loop-self-test.ensures)) in
-    sym c.loop-self.invariant
-    ∙ stacked-last files.items n c.index_mut-top.result.now len
-    ∙ ap (λ l. l ++ stacked (take n files.items)) (sym c.index_mut-top.ensures.value ∙ c.in-Some.ensures.front)
-    ∙ ap (λ l. c.in-Some.line ∷ l) (sym (stacked-set files.items n c.take.new.self len))
+    rw (
+      ← c.loop-self.invariant,
+      stacked-last files.items n c.index_mut-top.result.now len,
+      ← c.index_mut-top.ensures.value,
+      c.in-Some.ensures.front,
+      stacked-set files.items n c.take.new.self len,
+    ) refl
 
 pub loop-self-preserved : goal.loop-self-preserved
 loop-self-preserved c =
@@ -22,11 +24,13 @@ loop-self-preserved c =
     let n = c.len-last.result - 1 in
     let len : length files.items ≡ n + 1 =
     omega (arith, files.ok.0, c.len-last.ensures, eqb-false _ 0 (sym c.loop-self-test.ensures)) in
-    let top = stacked-last files.items n c.index_mut-top.result.now len
-    ∙ ap (λ l. l ++ stacked (take n files.items)) (sym c.index_mut-top.ensures.value ∙ c.in-None.ensures.none.0) in
     let same : c.loop-self.self-inside.files.len - 1 ≡ n = omega (arith, c.len-last.ensures) in
-    ap stacked
-    (c.pop.ensures.rest ∙ ap (λ m. take m (set files.items n c.take.new.self)) same
-    ∙ take-set files.items n c.take.new.self)
-    ∙ sym top
-    ∙ c.loop-self.invariant
+    rw (
+      ← c.loop-self.invariant,
+      stacked-last files.items n c.index_mut-top.result.now len,
+      ← c.index_mut-top.ensures.value,
+      c.in-None.ensures.none.0,
+      c.pop.ensures.rest,
+      same,
+      take-set,
+    ) refl

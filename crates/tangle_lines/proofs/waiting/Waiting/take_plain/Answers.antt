@@ -1,7 +1,6 @@
-use Rattle.std.proofs.Common.{◌≡◌, ◌+◌, ◌-◌, ◌++◌, length, take, sym, ap, ◌∙◌, arith}
+use Rattle.std.proofs.Common.{◌≡◌, ◌+◌, ◌-◌, length, take, sym, arith}
 use Rattle.std.proofs.lemmas.Bool.{eqb-false}
 use Rattle.tangle_lines.specs.Waiting.{stacked}
-use Rattle.tangle_lines.proofs.PassingLemmas.{passes-same}
 use Rattle.tangle_lines.proofs.WaitingLemmas.{stacked-set, stacked-last}
 use Rattle.tangle_lines.proofs.waiting.Waiting.take_plain.Goals as goal
 
@@ -11,10 +10,10 @@ returns-clause-passed c =
     let n = c.len-last.result - 1 in
     let len : length files.items ≡ n + 1 =
     omega (arith, files.ok.0, c.len-last.ensures, eqb-false _ 0 (sym c.if-is_empty.ensures)) in
-    let after = stacked (take n files.items) in
-    passes-same c.args.changes.now c.args.lines.now.items c.take_plain.new.lines.items _ _ _ _ _
-    (sym c.self.view_is
-    ∙ stacked-last files.items n c.index_mut-top.result.now len
-    ∙ ap (λ l. l ++ after) (sym c.index_mut-top.ensures.value))
-    (stacked-set files.items n c.take_plain.new.self len)
-    (c.in_ok-taken.ensures.passed after)
+    rw (
+      ← c.self.view_is,
+      stacked-last files.items n c.index_mut-top.result.now len,
+      ← c.index_mut-top.ensures.value,
+      stacked-set files.items n c.take_plain.new.self len,
+    )
+    (c.in_ok-taken.ensures.passed (stacked (take n files.items)))

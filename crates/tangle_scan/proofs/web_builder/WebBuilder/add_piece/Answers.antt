@@ -1,6 +1,6 @@
 use Rattle.std.proofs.Common.{◌≡◌, ◌||◌, ◌++◌, ◌∷◌, [], ◌∙◌, ap, sym}
 use Rattle.std.specs.List.{list_any}
-use Rattle.tangle_faults.specs.declared.faults.Origin.{Origin}
+use Rattle.tangle_lines.specs.declared.origin.Origin.{Origin}
 use Rattle.tangle_lines.specs.Reading.{origin_at}
 use Rattle.tangle_lexer.specs.Runs.{unfolded}
 use Rattle.tangle_scan.specs.Entries.{StoredPiece}

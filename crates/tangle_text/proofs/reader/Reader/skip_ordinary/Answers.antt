@@ -1,25 +1,27 @@
 use Rattle.std.proofs.Common.{◌≡◌, ◌+◌, ◌≤◌, Bool, true, false, List, ℕ, zero, drop, length, ap, ◌∙◌, refl, arith}
 use Rattle.std.proofs.Common.{length-drop}
+use Rattle.std.specs.List.{prefix_len}
+use Rattle.std.proofs.lemmas.List.Sums.{prefix_len-le-length}
 use Rattle.tangle_lines.specs.Reading.{SourceLine}
 use Rattle.tangle_text.specs.Text.{text_from}
 use Rattle.tangle_text.specs.Regions.{is_ordinary, AreOrdinary}
-use Rattle.tangle_text.specs.Ahead.{rest_of, run_length}
-use Rattle.tangle_text.proofs.RunLemmas.{rest_of-further, run-fits}
+use Rattle.tangle_text.specs.Ahead.{rest_of}
+use Rattle.tangle_text.proofs.RunLemmas.{rest_of-further}
 use Rattle.tangle_text.proofs.OrdinaryBytes.{run-ordinary}
 use Rattle.tangle_text.proofs.reader.Reader.skip_ordinary.Goals as goal
 
 -- at a position of a line, and after the last line
 skipped : (lines : List SourceLine) (bytes : List ℕ) (line column end : ℕ) (done : Bool)
-    → column ≤ length bytes → end ≡ column + run_length is_ordinary (drop column bytes)
+    → column ≤ length bytes → end ≡ column + prefix_len is_ordinary (drop column bytes)
     → (n : ℕ) × (rest_of lines bytes line end done ≡ drop n (rest_of lines bytes line column done))
     × AreOrdinary n (rest_of lines bytes line column done)
 skipped lines bytes line column end true h is = (zero, refl, tt)
 skipped lines bytes line column end false h is =
-    let n = run_length is_ordinary (drop column bytes) in (
+    let n = prefix_len is_ordinary (drop column bytes) in (
       n,
       ap (λ k. rest_of lines bytes line k false) is
           ∙ rest_of-further lines bytes line column n false
-          (omega (arith, h, run-fits is_ordinary (drop column bytes), length-drop column bytes)),
+          (omega (arith, h, prefix_len-le-length is_ordinary (drop column bytes), length-drop column bytes)),
       run-ordinary line column (drop column bytes) (text_from (line + 1) (drop (line + 1) lines)),
     )
 

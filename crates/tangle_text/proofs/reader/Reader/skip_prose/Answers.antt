@@ -1,7 +1,7 @@
-use Rattle.std.proofs.Common.{◌≡◌, ap, sym, ◌∙◌, refl}
+use Rattle.std.proofs.Common.{◌≡◌, refl}
 use Rattle.tangle_text.specs.declared.regions.Region.TheVariants as region
 use Rattle.tangle_text.specs.declared.regions.Unit.TheVariants as unit
-use Rattle.tangle_text.specs.Regions.{unit_at, region_end}
+use Rattle.tangle_text.specs.Regions.{unit_at}
 use Rattle.tangle_text.proofs.RegionLemmas.{region_end-nothing, region_end-stop, region_end-one}
 use Rattle.tangle_text.proofs.reader.Reader.skip_prose.Goals as goal
 
@@ -9,18 +9,14 @@ pub returns-then-holds : goal.returns-then-holds
 returns-then-holds c =
     let stop : unit_at region.Prose c.loop-front.self ≡ unit.Stop =
     rw (c.in-Some.ensures.front.byte, ← c.holds.ensures, c.if-holds.true) refl in
-    sym (region_end-stop region.Prose c.loop-front.self stop) ∙ c.loop-front.invariant
+    rw (← c.loop-front.invariant, region_end-stop region.Prose c.loop-front.self stop) refl
 
 pub loop-front-preserved : goal.loop-front-preserved
 loop-front-preserved c =
     let one : unit_at region.Prose c.loop-front.self ≡ unit.One =
     rw (c.in-Some.ensures.front.byte, ← c.holds.ensures, c.if-holds.false) refl in
-    c.skip_to_at_sign.ensures.same
-    ∙ (ap (region_end region.Prose) c.advance.ensures
-    ∙ (sym (region_end-one region.Prose c.loop-front.self one) ∙ c.loop-front.invariant))
+    rw (c.skip_to_at_sign.ensures.same, c.advance.ensures, ← region_end-one region.Prose c.loop-front.self one)
+    c.loop-front.invariant
 
 pub returns : goal.returns
-returns c =
-    c.in_default.ensures.end
-    ∙ (sym (region_end-nothing region.Prose)
-    ∙ (sym (ap (region_end region.Prose) c.in_default.ensures.end) ∙ c.loop-front.invariant))
+returns c = rw (← c.loop-front.invariant, c.in_default.ensures.end, region_end-nothing region.Prose) refl

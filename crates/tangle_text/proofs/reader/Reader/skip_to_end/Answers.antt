@@ -1,5 +1,4 @@
-use Rattle.std.proofs.Common.{ap, sym, ◌∙◌}
-use Rattle.tangle_text.specs.Regions.{region_end}
+use Rattle.std.proofs.Common.{◌∙◌, refl}
 use Rattle.tangle_text.proofs.RegionLemmas.{unit_at-front, region_end-nothing, region_end-stop, region_end-go}
 use Rattle.tangle_text.proofs.reader.Reader.skip_to_end.Goals as goal
 
@@ -7,19 +6,18 @@ pub returns-in-Stop : goal.returns-in-Stop
 returns-in-Stop c =
     let here =
     unit_at-front c.args.region c.loop-front.self c.in-Some.front _ c.in-Some.ensures.front c.unit_of-unit.ensures in
-    sym (region_end-stop c.args.region c.loop-front.self (here ∙ c.in-Stop.is)) ∙ c.loop-front.invariant
+    rw (← c.loop-front.invariant, region_end-stop c.args.region c.loop-front.self (here ∙ c.in-Stop.is)) refl
 
 pub loop-front-preserved : goal.loop-front-preserved
 loop-front-preserved c =
     let here =
     unit_at-front c.args.region c.loop-front.self c.in-Some.front _ c.in-Some.ensures.front c.unit_of-unit.ensures in
-    c.skip_inside.ensures.same
-    ∙ (ap (region_end c.args.region) c.pass.ensures
-    ∙ (sym (region_end-go c.args.region c.loop-front.self c.unit_of-unit.result here c.in_default-unit.not-Stop)
-    ∙ c.loop-front.invariant))
+    rw (
+      c.skip_inside.ensures.same,
+      c.pass.ensures,
+      ← region_end-go c.args.region c.loop-front.self c.unit_of-unit.result here c.in_default-unit.not-Stop,
+    )
+    c.loop-front.invariant
 
 pub returns : goal.returns
-returns c =
-    c.in_default.ensures.end
-    ∙ (sym (region_end-nothing c.args.region)
-    ∙ (sym (ap (region_end c.args.region) c.in_default.ensures.end) ∙ c.loop-front.invariant))
+returns c = rw (← c.loop-front.invariant, c.in_default.ensures.end, region_end-nothing c.args.region) refl

@@ -5,6 +5,6 @@ pub returns : goal.returns
 returns c =
     let r = c.self.inside in
     let end = c.at_sign_from-end in
-    bytes_begin r.source.now.lines r.bytes.now r.line r.column
-    end.result r.is_done c.args.self.now c.if-self.false c.self.view_is
-    end.ensures.low end.ensures.high end.ensures.before
+    rw (← c.self.view_is, c.if-self.false)
+    (bytes_begin r.source.now.lines r.bytes.now r.line r.column
+    end.result end.ensures.low end.ensures.high end.ensures.before)

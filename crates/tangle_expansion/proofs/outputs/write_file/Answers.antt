@@ -1,0 +1,34 @@
+use Rattle.std.proofs.Common.{append_assoc, append-nil, arith}
+use Rattle.std.specs.Prelude.{Ok}
+use Rattle.tangle_expansion.specs.Outputs.{node_symbols}
+use Rattle.tangle_expansion.proofs.WriteLemmas.{writes_then, written_whole}
+use Rattle.tangle_expansion.proofs.ShortLemmas.{front_fits, file_fits}
+use Rattle.tangle_expansion.proofs.outputs.write_file.Goals as goal
+
+pub returns-then-not-has_piece : goal.returns-then-not-has_piece
+returns-then-not-has_piece g c =
+    let output = c.args.output.now in
+    rw (← c.has_piece.ensures, c.if-not-has_piece.true, append-nil)
+    (written_whole _ _ _ _ (omega (arith, front_fits c.args.numbers.now c.macros.ensures.short output.has_macros))
+    (rw (c.front_of.ensures, c.macros.ensures.macros) at c.write_after-begun.ensures))
+
+pub returns : goal.returns
+returns g c =
+    let t = g.S.Sink.stream in
+    let output = c.args.output.now in
+    let front = rw c.macros.ensures.macros at c.front_of.ensures in
+    let fits = file_fits c.args.numbers.now c.macros.ensures.short output.has_macros
+    (node_symbols c.args.kept.now output.node) c.requires.light in
+    rw (
+      ← c.has_piece.ensures,
+      c.if-not-has_piece.false,
+      ← append_assoc,
+      ← front,
+      ← c.node.ensures,
+      ← c.kept_expansion-expansion.ensures,
+    )
+    (written_whole (t c.args.sink.now) (t c.write_after.new.sink) c.write_after.result _
+    (rw (← front, ← c.node.ensures, ← c.kept_expansion-expansion.ensures) at fits)
+    (writes_then (t c.args.sink.now) _ (t c.write_after.new.sink) (Ok 0) _ c.write_after.result _ _
+    (writes_then (t c.args.sink.now) _ _ (Ok 0) _ _ _ _ c.write_after-begun.ensures c.write_text_after-written.ensures.writes)
+    c.write_after.ensures))

@@ -1,0 +1,30 @@
+use Rattle.std.proofs.Common.{◌<◌, length, sym, subst, ap, arith}
+use Rattle.std.proofs.lemmas.List.{length-map}
+use Rattle.tangle_scan.specs.Entries.{piece_read}
+use Rattle.tangle_plans.specs.WebShapes.{ResolvesInside}
+use Rattle.tangle_plans.proofs.InsideLemmas.{table_inside}
+use Rattle.tangle_graph.proofs.StoredLemmas.{defined_inside, next_position}
+use Rattle.tangle_graph.proofs.pieces.node_at.Goals as goal
+
+pub node_of_piece-requires-clause-inside : goal.node_of_piece-requires-clause-inside
+node_of_piece-requires-clause-inside c = subst ResolvesInside (sym c.requires.table) (table_inside c.args.web.now)
+
+pub node_of_piece-requires-clause-occurrence : goal.node_of_piece-requires-clause-occurrence
+node_of_piece-requires-clause-occurrence c =
+    let web = c.args.web.now in
+    let stored = c.pieces-pieces.result.now in
+    let is = c.pieces-pieces.ensures.pieces in
+    let low : c.args.i < length stored =
+    omega (arith, c.requires.piece, ap length is, length-map stored (piece_read web.texts)) in
+    defined_inside web c.args.table.now stored c.args.i c.index-pieces-i.result is low c.index-pieces-i.is
+    c.requires.table c.pieces-pieces.ensures.well_formed c.occurrence.result c.occurrence.ensures
+
+pub returns-clause-next : goal.returns-clause-next
+returns-clause-next c =
+    let web = c.args.web.now in
+    let stored = c.pieces-pieces.result.now in
+    let is = c.pieces-pieces.ensures.pieces in
+    let low : c.args.i < length stored =
+    omega (arith, c.requires.piece, ap length is, length-map stored (piece_read web.texts)) in
+    next_position web c.args.table.now stored c.args.i c.index-pieces-i.result is low c.index-pieces-i.is
+    c.occurrence.result c.occurrence.ensures c.node_of_piece.result c.node_of_piece.ensures.node

@@ -1,0 +1,128 @@
+-- The cases of a lexeme, by the mode and by the first two cells.
+use Rattle.std.proofs.Common.{◌≡◌, ℕ, true, false, ◌&&◌, ◌==◌, Option, Some, None, List, [], refl, ap}
+use Rattle.std.proofs.lemmas.Bool.{cond_both}
+use Rattle.tangle_faults.specs.declared.faults.FaultKind.TheVariants as fault
+use Rattle.tangle_lines.specs.Bytes.{at_sign, double_quote, is_white}
+use Rattle.tangle_lexer.specs.declared.modes.Mode.{Mode}
+use Rattle.tangle_lexer.specs.declared.modes.Mode.TheVariants as mode
+use Rattle.tangle_lexer.specs.declared.modes.LexerState.{LexerState}
+use Rattle.tangle_lexer.specs.declared.modes.IncludeState.{IncludeState}
+use Rattle.tangle_lexer.specs.declared.modes.IncludeState.TheVariants as include
+use Rattle.tangle_lexer.specs.declared.lexeme_kinds.ControlCode.{ControlCode}
+use Rattle.tangle_lexer.specs.declared.lexeme_kinds.ControlCode.TheVariants as code
+use Rattle.tangle_lexer.specs.declared.lexeme_kinds.LexemeKind.{LexemeKind}
+use Rattle.tangle_lexer.specs.declared.lexeme_kinds.LexemeKind.TheVariants as lexeme_kind
+use Rattle.tangle_text.specs.Bytes.{asterisk, slash, less_sign, apostrophe, holds, holds_white, are_bytes, is_line_end}
+use Rattle.tangle_text.specs.Bytes.{is_word_byte}
+use Rattle.tangle_text.specs.Text.{Cell, byte_at}
+use Rattle.tangle_lexer.specs.Lexemes.{Lexeme, lexeme_of, in_mode}
+use Rattle.tangle_lexer.specs.Comments.{starts_section}
+use Rattle.tangle_lexer.specs.Names.{use_of_name, name_in_documentation}
+use Rattle.tangle_lexer.specs.Segments.{OpensWith}
+use Rattle.tangle_lexer.specs.Simple.{is_c_text}
+use Rattle.tangle_lexer.specs.Steps.{code_at, less_kind, kind_by, kind_at, section_start, code_fault, documentation_code}
+use Rattle.tangle_lexer.specs.Steps.{c_code, c_lexeme, macro_code, macro_lexeme, lexeme_in, lexeme}
+
+-- what the first two cells of a lexeme of this kind are
+abbrev pub Opens : LexemeKind → Option ℕ → Option ℕ → Type 0
+Opens (lexeme_kind.Control code) b next = (holds at_sign b ≡ true) × (code_at next ≡ code)
+Opens lexeme_kind.BlockComment b next = are_bytes slash asterisk b next ≡ true
+Opens lexeme_kind.LineComment b next = are_bytes slash slash b next ≡ true
+Opens lexeme_kind.LineEnd b next = is_line_end b ≡ true
+Opens lexeme_kind.White b next = holds_white b ≡ true
+Opens _ b next = (is_line_end b ≡ false) × (holds at_sign b ≡ false)
+
+-- a text begins with a lexeme of this kind
+abbrev pub OpensLexeme : LexemeKind → List Cell → Type 0
+OpensLexeme kind text = Opens kind (byte_at 0 text) (byte_at 1 text)
+
+pub kind-opens : (inc : IncludeState) (b next : Option ℕ) → Opens (kind_by inc b next) b next
+kind-opens inc None next = refl
+kind-opens inc (Some b) next =
+    let P : LexemeKind → Type 0 = λ k. Opens k (Some b) next in
+    cond_both (b == at_sign) (lexeme_kind.Control (code_at next)) _ P (λ e. (e, refl)) (λ other.
+    cond_both (b == slash && holds asterisk next) lexeme_kind.BlockComment _ P (λ e. e) (λ e.
+    cond_both (b == slash && holds slash next) lexeme_kind.LineComment _ P (λ e. e) (λ e.
+    cond_both (b == double_quote) lexeme_kind.DoubleQuote _ P (λ e. (refl, other)) (λ e.
+    cond_both (b == apostrophe) lexeme_kind.Apostrophe _ P (λ e. (refl, other)) (λ e.
+    cond_both (b == less_sign) (less_kind inc) _ P (λ e. less inc other) (λ e.
+    cond_both (is_white b) lexeme_kind.White _ P (λ e. e) (λ e.
+    cond_both (is_word_byte b) lexeme_kind.Word lexeme_kind.Other P (λ e. (refl, other)) (λ e. (refl, other)))))))))
+  where
+    less : (inc : IncludeState) → holds at_sign (Some b) ≡ false → Opens (less_kind inc) (Some b) next
+    less include.AfterInclude h = (refl, h)
+    less _ h = (refl, h)
+
+-- lexemes of C text that begin no section and are no use of a name
+abbrev pub IsPlainKind : LexemeKind → Type 0
+IsPlainKind (lexeme_kind.Control code.SectionStart) = ⊥
+IsPlainKind (lexeme_kind.Control code.Name) = ⊥
+IsPlainKind _ = Unit {0}
+
+-- `P` is true of the lexeme at the front of a text if it is true in each of these cases
+pub record LexemeCases (P : Lexeme → Type 0) (s : LexerState) (text : List Cell) : Type 0 where
+  pub section : P (section_start s)
+  -- heads, in documentation or at the end of a macro
+  pub macro : OpensWith code.Macro text → P (documentation_code code.Macro s text)
+  pub part : OpensWith code.UnnamedPart text → P (documentation_code code.UnnamedPart s text)
+  -- names
+  pub used : s.mode ≡ mode.CPart → OpensWith code.Name text → P (use_of_name s text)
+  pub name : s.mode ≡ mode.Documentation → P (name_in_documentation s text)
+  pub ending : s.mode ≡ mode.Macro → P (name_in_documentation (in_mode mode.Documentation s) text)
+  -- outside of C text
+  pub skip : is_c_text s.mode ≡ false → (n : ℕ) → P (lexeme_of [] n s)
+  -- @f and @s, which end a macro
+  pub format : s.mode ≡ mode.Macro → P (lexeme_of [] 1 (in_mode mode.Documentation s))
+  -- @h in a macro
+  pub misplaced : s.mode ≡ mode.Macro → OpensWith code.AllMacros text → P (code_fault fault.MisplacedH s text)
+  -- all other lexemes of C text
+  pub inside : is_c_text s.mode ≡ true
+      → (kind : LexemeKind) → IsPlainKind kind → OpensLexeme kind text → P (c_lexeme kind s text)
+
+module _ (P : Lexeme → Type 0) (s : LexerState) (text : List Cell) (by : LexemeCases P s text) where
+  code-by : (kind : ControlCode) → is_c_text s.mode ≡ true → (kind ≡ code.Name → s.mode ≡ mode.CPart)
+      → OpensWith kind text → P (c_code kind s text)
+  code-by code.SectionStart inside part o = by.section
+  code-by code.Name inside part o = by.used (part refl) o
+  code-by kind inside part o = by.inside inside (lexeme_kind.Control kind) tt o
+
+  c-by : (kind : LexemeKind) → s.mode ≡ mode.CPart → OpensLexeme kind text → P (c_lexeme kind s text)
+  c-by (lexeme_kind.Control kind) m o = code-by kind (ap is_c_text m) (λ e. m) o
+  c-by kind m o = by.inside (ap is_c_text m) kind tt o
+
+  macro_code-by : (kind : ControlCode) → s.mode ≡ mode.Macro → OpensWith kind text → P (macro_code kind s text)
+  macro_code-by code.Macro m o = by.macro o
+  macro_code-by code.UnnamedPart m o = by.part o
+  macro_code-by code.Name m o = by.ending m
+  macro_code-by code.Format m o = by.format m
+  macro_code-by code.AllMacros m o = by.misplaced m o
+  macro_code-by kind m o = code-by kind (ap is_c_text m) (λ e. cc) o
+
+  macro-by : (kind : LexemeKind) → s.mode ≡ mode.Macro → OpensLexeme kind text → P (macro_lexeme kind s text)
+  macro-by (lexeme_kind.Control kind) m o = macro_code-by kind m o
+  macro-by kind m o = by.inside (ap is_c_text m) kind tt o
+
+  documentation-by : (kind : ControlCode)
+      → s.mode ≡ mode.Documentation → OpensWith kind text → P (documentation_code kind s text)
+  documentation-by code.SectionStart m o = by.section
+  documentation-by code.Macro m o = by.macro o
+  documentation-by code.UnnamedPart m o = by.part o
+  documentation-by code.Name m o = by.name m
+  documentation-by _ m o = by.skip (ap is_c_text m) 1
+
+  mode-by : (m : Mode) → s.mode ≡ m → P (lexeme_in m s text)
+  mode-by mode.Limbo m =
+      cond_both (starts_section text) _ _ P (λ e. by.section)
+      (λ e. cond_both (holds at_sign (byte_at 0 text)) _ _ P
+      (λ e. by.skip (ap is_c_text m) 1) (λ e. by.skip (ap is_c_text m) _))
+  mode-by mode.Documentation m =
+      cond_both (holds at_sign (byte_at 0 text)) _ _ P
+      (λ e. documentation-by (code_at (byte_at 1 text)) m (e, refl)) (λ e. by.skip (ap is_c_text m) _)
+  mode-by mode.CPart m =
+      c-by (kind_at s.include text) m (kind-opens s.include (byte_at 0 text) (byte_at 1 text))
+  mode-by mode.Macro m =
+      macro-by (kind_at s.include text) m (kind-opens s.include (byte_at 0 text) (byte_at 1 text))
+
+  pub lexeme-by : P (lexeme s text)
+  unfolding lexeme
+  lexeme-by = mode-by s.mode refl

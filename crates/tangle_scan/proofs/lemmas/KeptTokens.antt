@@ -1,0 +1,123 @@
+-- Rules 1 to 3 keep all tokens other than white space, line ends, joins and faults, in their order.
+use Rattle.std.proofs.Common.{◌≡◌, ℕ, Bool, true, false, ◌&&◌, not, if◌then◌else◌, Option, Some, None, is_some}
+use Rattle.std.proofs.Common.{List, [], ◌∷◌, ◌++◌, flat_map, refl, ap, ◌∙◌}
+use Rattle.std.proofs.lemmas.Grind.{flat_map-append}
+use Rattle.tangle_lexer.specs.declared.tokens.Token.{Token}
+use Rattle.tangle_lexer.specs.declared.tokens.Token.TheVariants as token
+use Rattle.tangle_scan.specs.Rules.{without_faults, would_merge, with_spaces, may_follow_name, with_space_after}
+use Rattle.tangle_scan.specs.Rules.{with_name_space, is_gap, has_join, left_of_run, without_joins, part_tokens}
+use Rattle.tangle_scan.specs.Rules.{at_line_front, blanks, next_item, has_blank_at_line_end, is_name_part}
+use Rattle.tangle_scan.specs.Rules.{macro_blanks, without_front_gaps, macro_tokens}
+
+-- a token that the rules keep, as a list
+abbrev pub keep : Token → List Token
+keep (token.Fault kind line) = []
+keep e = if is_gap e then [] else e ∷ []
+
+abbrev pub kept : List Token → List Token
+kept es = flat_map keep es
+
+white-kept : (b : Bool) (es : List Token) → kept ((if b then token.White ∷ [] else []) ++ es) ≡ kept es
+white-kept true es = refl
+white-kept false es = refl
+
+without_faults-kept : (es : List Token) → kept (without_faults es) ≡ kept es
+without_faults-kept [] = refl
+without_faults-kept (token.Fault kind line ∷ es) = without_faults-kept es
+without_faults-kept (e ∷ es) = ap (λ ts. keep e ++ ts) (without_faults-kept es)
+
+with_spaces-kept : (es : List Token) → kept (with_spaces es) ≡ kept es
+with_spaces-kept [] = refl
+with_spaces-kept (e ∷ []) = refl
+with_spaces-kept (e ∷ f ∷ es) =
+    ap (λ ts. keep e ++ ts) (white-kept (would_merge e f) (with_spaces (f ∷ es)) ∙ with_spaces-kept (f ∷ es))
+
+with_space_after-kept : (texts : List (List ℕ)) (e : Token) (es : List Token)
+    → kept (with_space_after texts e es) ≡ kept (e ∷ es)
+with_space_after-kept texts e [] = refl
+with_space_after-kept texts e (f ∷ es) = ap (λ ts. keep e ++ ts) (by (may_follow_name texts f))
+  where
+    by : (b : Bool) → kept ((if b then [] else token.White ∷ []) ++ f ∷ es) ≡ kept (f ∷ es)
+    by true = refl
+    by false = refl
+
+with_name_space-kept : (texts : List (List ℕ)) (es : List Token) → kept (with_name_space texts es) ≡ kept es
+with_name_space-kept texts [] = refl
+with_name_space-kept texts (token.White ∷ es) = with_name_space-kept texts es
+with_name_space-kept texts (token.LineEnd line ∷ es) = with_name_space-kept texts es
+with_name_space-kept texts (token.Join ∷ es) = with_name_space-kept texts es
+with_name_space-kept texts (e ∷ es) = with_space_after-kept texts e es
+
+gap-gone : (e : Token) → is_gap e ≡ true → keep e ≡ []
+gap-gone (token.Fault kind line) h = refl
+gap-gone _ h = cc
+
+left-kept : (run : List Token) → kept run ≡ [] → kept (left_of_run run) ≡ []
+left-kept run none = by (has_join run)
+  where
+    by : (b : Bool) → kept (if b then [] else run) ≡ []
+    by true = refl
+    by false = none
+
+-- `run` is the part of the first run that is before the tokens
+without_joins-kept : (run es : List Token) → kept run ≡ [] → kept (without_joins run es) ≡ kept es
+without_joins-kept run [] none = left-kept run none
+without_joins-kept run (e ∷ es) none =
+    by (is_gap e) refl (without_joins-kept (run ++ e ∷ []) es) (without_joins-kept [] es refl)
+  where
+    by : (b : Bool) → is_gap e ≡ b
+        → (kept (run ++ e ∷ []) ≡ [] → kept (without_joins (run ++ e ∷ []) es) ≡ kept es)
+        → kept (without_joins [] es) ≡ kept es
+        → kept (if b then without_joins (run ++ e ∷ []) es else left_of_run run ++ e ∷ without_joins [] es)
+        ≡ keep e ++ kept es
+    by true gap more rest =
+        let gone = gap-gone e gap in rw gone (more (rw (flat_map-append, none, gone) refl))
+    by false gap more rest = rw (flat_map-append, left-kept run none) (ap (λ ts. keep e ++ ts) rest)
+
+blanks-kept : (texts : List (List ℕ)) (before : Option Token) (white : Bool) (es : List Token)
+    → kept (blanks texts before white es) ≡ kept es
+blanks-kept texts before white [] = refl
+blanks-kept texts before white (token.White ∷ es) = blanks-kept texts before true es
+blanks-kept texts before white (token.LineEnd line ∷ es) = blanks-kept texts (at_line_front texts before line) false es
+blanks-kept texts before white (e ∷ es) =
+    white-kept (is_some before && white) (e ∷ blanks texts (Some e) false es)
+    ∙ ap (λ ts. keep e ++ ts) (blanks-kept texts (Some e) false es)
+
+macro_blanks-kept : (texts : List (List ℕ)) (in_name : Bool) (before : Option Token) (white : Bool) (es : List Token)
+    → kept (macro_blanks texts in_name before white es) ≡ kept es
+macro_blanks-kept texts in_name before white [] = refl
+macro_blanks-kept texts in_name before white (token.White ∷ es) = macro_blanks-kept texts in_name before true es
+macro_blanks-kept texts in_name before white (token.LineEnd line ∷ es) =
+    white-kept (has_blank_at_line_end texts in_name before (next_item es))
+    (token.LineEnd line ∷ macro_blanks texts false None false es)
+    ∙ macro_blanks-kept texts false None false es
+macro_blanks-kept texts in_name before white (e ∷ es) =
+    white-kept (is_some before && white)
+    (e ∷ macro_blanks texts (in_name && not white && is_name_part e) (Some e) false es)
+    ∙ ap (λ ts. keep e ++ ts) (macro_blanks-kept texts (in_name && not white && is_name_part e) (Some e) false es)
+
+without_front-kept : (es : List Token) → kept (without_front_gaps es) ≡ kept es
+without_front-kept [] = refl
+without_front-kept (token.White ∷ es) = without_front-kept es
+without_front-kept (token.LineEnd line ∷ es) = without_front-kept es
+without_front-kept (_ ∷ es) = refl
+
+-- the tokens of a C part after rules 1 to 3
+pub part-kept : (texts : List (List ℕ)) (es : List Token) → kept (blanks texts None false (part_tokens es)) ≡ kept es
+part-kept texts es =
+    blanks-kept texts None false (part_tokens es)
+    ∙ without_joins-kept [] (with_spaces (without_faults es)) refl
+    ∙ with_spaces-kept (without_faults es)
+    ∙ without_faults-kept es
+
+-- the tokens of a macro after rules 1 to 3
+pub macro-kept : (texts : List (List ℕ)) (es : List Token)
+    → kept (macro_blanks texts true None false (macro_tokens texts es)) ≡ kept es
+macro-kept texts es =
+    let front : List Token = without_front_gaps (without_faults es) in
+    macro_blanks-kept texts true None false (macro_tokens texts es)
+    ∙ without_joins-kept [] (with_name_space texts (with_spaces front)) refl
+    ∙ with_name_space-kept texts (with_spaces front)
+    ∙ with_spaces-kept front
+    ∙ without_front-kept (without_faults es)
+    ∙ without_faults-kept es
