@@ -1,5 +1,5 @@
 //! The lines that the programs write on the error stream.
-ghost use Rattle.std.specs.Prelude.{◌≡◌, ◌<◌, ◌^◌, ◌++◌, [], length, OnOk, OnErr};
+ghost use Rattle.std.specs.Prelude.{◌≡◌, ◌<◌, ◌^◌, ◌++◌, [], length};
 ghost use Rattle.std.specs.List.{fold};
 ghost use Rattle.tangle_script.specs.Script.{WritesAnswer};
 ghost use Rattle.tangle_streams.specs.Streams.{IsWritten};

@@ -68,6 +68,7 @@ fn limbo(
 }
 
 /// Reads a control code that becomes this token.
+#[inline(always)]
 fn code_token(
     tokens: &mut Vec<Token>,
     reader: &mut Reader,

@@ -15,7 +15,7 @@ use Rattle.tangle_faults.specs.declared.faults.FaultKind.TheVariants as kind
 use Rattle.tangle_lexer.specs.Occurrences.{OccurrenceRead}
 use Rattle.tangle_scan.specs.Web.{WebRead, PieceRead}
 use Rattle.tangle_names.specs.Faults.{name_faults, named_place_of}
-use Rattle.tangle_names.specs.NameTable.{TableRead, table_of}
+use Rattle.tangle_names.specs.NameTable.{table_of}
 use Rattle.tangle_names.specs.Resolving.{first_number, first_occurrence, names_in_order, resolves_to}
 use Rattle.tangle_expansion.specs.Limits.{levels, heaviest}
 use Rattle.tangle_expansion.specs.Outputs.{OutputRead}
@@ -25,6 +25,7 @@ use Rattle.tangle_graph.specs.Faults.{AreGraphFaults, fault_of, fault_occurrence
 use Rattle.tangle_graph.specs.Faults as of_graph
 use Rattle.tangle_plans.specs.Nodes.{title_at}
 use Rattle.tangle_graph.specs.Outputs.{name_with_number}
+use Rattle.tangle_graph.proofs.FaultLemmas.{one_list}
 use Rattle.tangle_graph.proofs.NodeLemmas.{title_inside}
 use Rattle.tangle_graph.proofs.StoreLemmas.{there}
 use Rattle.tangle_graph.proofs.OutputLemmas.{IsFit}
@@ -37,24 +38,19 @@ use Rattle.tangle_session.specs.Laws.{IsReportedSelfContaining}
 use Rattle.tangle_session.specs.Tangle.{Tangling, IsTanglingOf}
 use Rattle.tangle_names.proofs.FirstLemmas.{some_of}
 
-abbrev AreOneList : Type 0
-AreOneList =
-    (web : WebRead) (table : TableRead) (out : List ℕ) (a b : List FaultRead)
-    → AreGraphFaults web table out a → AreGraphFaults web table out b → a ≡ b
-
-one_faults : AreOneList → (source : SourceRead) (web : WebRead) (out : List ℕ) (a b : List FaultRead)
+one_faults : (source : SourceRead) (web : WebRead) (out : List ℕ) (a b : List FaultRead)
     → AreFaults source web out a → AreFaults source web out b → a ≡ b
-one_faults law source web out a b x y =
+one_faults source web out a b x y =
     x.list
     ∙ ap (λ l. source.faults ++ (web.faults ++ (name_faults web ++ l)))
-    (law web (table_of web) out x.of_graph y.of_graph x.are_of_graph y.are_of_graph)
+    (one_list web (table_of web) out x.of_graph y.of_graph x.are_of_graph y.are_of_graph)
     ∙ sym y.list
 
-pub one_tangling : AreOneList → (files : FileTable) (roles : RolesRead) (a b : Tangling)
+pub one_tangling : (files : FileTable) (roles : RolesRead) (a b : Tangling)
     → IsTanglingOf files roles a → IsTanglingOf files roles b → a ≡ b
-one_tangling law files roles a b x y =
+one_tangling files roles a b x y =
     let faults : a.faults ≡ b.faults =
-    one_faults law (source_at files roles) (web_at files roles) roles.out a.faults b.faults x.faults y.faults in
+    one_faults (source_at files roles) (web_at files roles) roles.out a.faults b.faults x.faults y.faults in
     let outputs : a.outputs ≡ b.outputs = x.outputs ∙ sym y.outputs in
     λ i. record { faults = faults i; outputs = outputs i }
 

@@ -26,15 +26,11 @@ ghost use Rattle.tangle_session.specs.Laws.{IsReportedSelfContaining};
 ghost use Rattle.tangle_session.specs.Moves.{HaveSameShapes, IsMoved};
 ghost use Rattle.tangle_session.specs.Sessions.{ListsAffectedOfWebs, SessionRead};
 
-use tangle_graph::graph_faults_are_one_list;
-
 /// The files and the roles determine the faults and the outputs: no two tanglings of them differ.
 pub fn tangling_is_one()
     ensures { (files : FileTable) (roles : RolesRead) (a b : Tangling)
         → IsTanglingOf files roles a → IsTanglingOf files roles b → a ≡ b }
-{
-    graph_faults_are_one_list();
-}
+{}
 
 /// No two output files have the same name, so each is found by its name.
 pub fn outputs_are_found_by_their_names()

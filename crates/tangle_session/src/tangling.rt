@@ -14,7 +14,7 @@ use crate::refusing::{ListRefusal, refusal_of_role};
 use std::alloc::Global;
 use tangle_affected::expand_again;
 use tangle_expansion::{Kept, Output, Work};
-use tangle_lines::{Edit, Files, MarkMode, NoMemory, Refusal, Roles};
+use tangle_lines::{Edit, Files, MarkMode, Refusal, Roles};
 
 /// Files with what tangling makes of them: the analysis, the expansions, and the list of the nodes
 /// that were expanded.
