@@ -292,7 +292,7 @@ def bench_edits(bench):
            ['  at most, with the table of names', most, ratio(most, of_whole), ''],
            ['one refused edit', refused, '', 'under 10,000'],
            # A replaced line has a text of its own; the rest is free memory between blocks.
-           ['most memory in 1,000 edits, KB', many, ratio(many, few), 'at most 1.2 of ten']])
+           ['most memory in 1,000 edits, KB', many, ratio(many, few), 'at most 1.1 of ten']])
 
 
 def bench_marks(bench):
