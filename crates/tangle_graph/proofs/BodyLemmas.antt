@@ -15,7 +15,7 @@ use Rattle.tangle_names.specs.NameTable.{TableRead}
 use Rattle.tangle_plans.specs.Comparing.{IsPlanned}
 use Rattle.tangle_plans.specs.ItemSlots.{pieces_at, pieces_slots}
 use Rattle.tangle_plans.specs.Nodes.{has_piece_in, title_at}
-use Rattle.tangle_plans.specs.NodeBodies.{body_title, body_uses, plan_uses}
+use Rattle.tangle_plans.specs.NodeBodies.{body_title, body_uses}
 use Rattle.tangle_plans.specs.WebShapes.{ResolvesInside}
 use Rattle.tangle_plans.specs.declared.nodes.NodeBody.{NodeBody}
 use Rattle.tangle_graph.specs.Plans.{ArePlanned, AreBodies, IsBodyAt, node_bodies}
@@ -46,23 +46,24 @@ module _ (bodies : List (Rc NodeBody Global)) (n : ℕ) where
   body_read None h = tt
   body_read (Some x) h = read x.now (below h.0) h.1
 
-  pub uses_of_read : (count : ℕ) (body : Rc NodeBody Global)
-      → All (All (λ id. id < count)) (map body_uses (node_bodies bodies))
-      → n < length bodies → body ≡ get_or bodies n body → All (λ id. id < count) (body_uses body.value)
-  uses_of_read count body all low same =
+  pub uses_of_read : (P : ℕ → Type 0) (body : Rc NodeBody Global)
+      → All (All P) (map body_uses (node_bodies bodies))
+      → n < length bodies → body ≡ get_or bodies n body → All P (body_uses body.value)
+  uses_of_read P body all low same =
       let had = read body low same in
       let there : n < length (node_bodies bodies) = slice_get_within (node_bodies bodies) n body.value had in
       let here : get_or (map body_uses (node_bodies bodies)) n (body_uses body.value) ≡ body_uses body.value =
       get_or-map body_uses (node_bodies bodies) n body.value (body_uses body.value) there
       ∙ ap body_uses (get_or_from_slice_get (node_bodies bodies) n body.value body.value had) in
-      subst (All (λ id. id < count)) here
+      subst (All P) here
       (all n (body_uses body.value) (omega (arith, there, length-map (node_bodies bodies) body_uses)))
 
   pub names_of_read : (names count : ℕ) (body : Rc NodeBody Global)
       → All (All (λ id. id < names)) (map body_uses (node_bodies bodies)) → names ≡ count
       → true ≡ nat_lt n (length bodies) → body ≡ get_or bodies n body → All (λ id. id < count) (body_uses body.value)
   names_of_read names count body all size test same =
-      subst (λ c. All (λ id. id < c) (body_uses body.value)) size (uses_of_read names body all (below test) same)
+      subst (λ c. All (λ id. id < c) (body_uses body.value)) size
+      (uses_of_read (λ id. id < names) body all (below test) same)
 
   pub none_read : false ≡ nat_lt n (length bodies) → slice_get (node_bodies bodies) n ≡ None
   none_read test =

@@ -5,12 +5,14 @@ use Rattle.tangle_scan.specs.Web.{WebRead, PieceRead}
 use Rattle.tangle_names.specs.NameTable.{TableRead}
 use Rattle.tangle_plans.specs.Shapes.{Program}
 use Rattle.tangle_plans.specs.ItemSlots.{no_piece}
-use Rattle.tangle_expansion.specs.Limits.{weight_of, depth_of}
-use Rattle.tangle_plans.specs.WebShapes.{pieces_of, shapes, shape_item}
+use Rattle.tangle_plans.specs.WebShapes.{ResolvesInside, pieces_of, shapes, shape_item}
+use Rattle.tangle_plans.specs.declared.nodes.NodeBody.{NodeBody}
 use Rattle.digraph.specs.Graph.{Graph, row_at}
 use Rattle.tangle_graph.specs.Groups.{IsGraphOf}
 use Rattle.tangle_plans.specs.Nodes.{row_has_piece, title_at}
 use Rattle.tangle_graph.specs.Outputs.{shape_has_piece, is_expandable}
+use Rattle.tangle_graph.specs.Measures.{AreDepths, AreWeights}
+use Rattle.tangle_graph.specs.Plans.{AreBodies}
 use Rattle.tangle_graph.specs.Stores.{AreWithin}
 use Rattle.tangle_graph.proofs.StoreLemmas.{expandable_by_limits, piece_in_both}
 
@@ -23,14 +25,16 @@ module _ (web : WebRead) (table : TableRead) (rows uses : Graph) (is : IsGraphOf
       (λ (p : PieceRead). map (shape_item web.texts table) p.items)
       ∙ ap length (sym pieces) ∙ length-map (row_at rows n) (λ k. get_or web.pieces k no_piece)
 
-  pub limited : (weights depths : List ℕ) (flags : List Bool) → AreWithin rows weights depths flags
-      → ((n : ℕ) → n < length uses → get_or weights n 0 ≡ weight_of (shapes web table) (title_at table.names n))
-      → ((n : ℕ) → n < length uses → get_or depths n 0 ≡ depth_of (shapes web table) (title_at table.names n))
+  pub limited : (bodies : List NodeBody) (weights depths : List ℕ) (flags : List Bool)
+      → AreBodies web table rows bodies → ResolvesInside table
+      → AreWeights uses bodies weights → AreDepths rows uses depths
+      → AreWithin rows weights depths flags
       → (n : ℕ) → n < length uses → get_or flags n false ≡ is_expandable (shapes web table) (title_at table.names n)
-  limited weights depths flags within weighed measured n h =
+  limited bodies weights depths flags are inside weighed measured within n h =
       within.flag n (omega (arith, h, is.rows_size, is.uses_size))
       ∙ expandable_by_limits (shapes web table) (title_at table.names n) (row_at rows n)
-      (get_or weights n 0) (get_or depths n 0) (shape_size n h) (weighed n h) (measured n h)
+      (get_or weights n 0) (get_or depths n 0) (shape_size n h) (weighed web table rows is are inside n h)
+      (measured web table is n h)
 
   pub program_has_piece : row_has_piece (row_at rows 0) ≡ shape_has_piece (shapes web table Program)
   program_has_piece =

@@ -40,6 +40,11 @@ graph_over web table pieces bodies name_graph distinct inside grouped are is =
     graph_of web table pieces (map body_uses bodies) name_graph.uses distinct inside grouped
     (uses_collected web table pieces bodies grouped are) is.uses is.range
 
+-- the nodes of the names that are used are there, if there is a node for each name and the program
+pub nodes_inside : (count size : ℕ) (ids : List (List ℕ))
+    → size ≡ count + 1 → All (All (λ id. id < count)) ids → All (All (λ id. suc id < size)) ids
+nodes_inside count size ids e all k row h j id low = (let below = all k row h j id low in omega (arith, below, e))
+
 -- the bodies of a web use names of the table
 pub uses_inside : (web : WebRead) (table : TableRead) (pieces : List (List ℕ)) (bodies : List NodeBody)
     → ResolvesInside table → AreBodies web table pieces bodies
@@ -56,16 +61,16 @@ module _ (ids : List (List ℕ)) (rows : Graph) (are : AreUsesOf ids rows) where
   each_increasing = All-from_get_or IsStrictlyIncreasing rows []
       (λ n h. (are.once n (omega (arith, h, are.size))).increasing)
 
-  -- the nodes of names with numbers below a count are in the range of a graph with one more node
-  pub each_in_range : (count : ℕ) → length ids ≡ count + 1 → All (All (λ id. id < count)) ids → InRange rows
-  each_in_range count size all = All-from_get_or (All (λ m. m < length rows)) rows [] (λ n h. (
+  -- the nodes of the names are nodes of the graph
+  pub each_in_range : All (All (λ id. suc id < length ids)) ids → InRange rows
+  each_in_range all = All-from_get_or (All (λ m. m < length rows)) rows [] (λ n h. (
       let low : n < length ids = omega (arith, h, are.size) in
       λ j d l. (
       let used = Contains-get_or (row_at rows n) j d l in
       let found = out_of_map suc (row_at ids n) (get_or (row_at rows n) j d) (((are.once n low).same _).0 used) in
-      let below : found.0 < count =
-      All-contains (λ id. id < count) (row_at ids n) found.0 (all n [] low) found.1 in
-      omega (arith, below, found.2, size, are.size))))
+      let below : suc found.0 < length ids =
+      All-contains (λ id. suc id < length ids) (row_at ids n) found.0 (all n [] low) found.1 in
+      omega (arith, below, found.2, are.size))))
 
 -- each number with 1 added to it
 pub once_more : (all once : List ℕ) → IsOnceEach all once → IsOnceEach (map suc all) (map suc once)
@@ -97,13 +102,16 @@ uses_push ids rows used row are is = record {
   ];
 }
 
--- the names that a body uses, each once, are below a count if those of all bodies are
-pub once_below : (bodies : List (Rc NodeBody Global)) (i count : ℕ) (body : Rc NodeBody Global) (once : List ℕ)
+-- what holds of each name that a body uses holds of each of them once
+pub once_all : (P : ℕ → Type 0) (bodies : List (Rc NodeBody Global)) (i : ℕ)
+    (body : Rc NodeBody Global) (once : List ℕ)
     → i < length bodies → body ≡ get_or bodies i body
-    → All (All (λ id. id < count)) (map body_uses (node_bodies bodies)) → IsOnceEach (body_uses body.value) once → All (λ id. id < count) once
-once_below bodies i count body once low read all is = All-from_get_or (λ id. id < count) once 0
-    (λ k h. All-contains (λ id. id < count) (body_uses body.value) (get_or once k 0)
-    (uses_of_read bodies i count body all low read) ((is.same (get_or once k 0)).0 (Contains-get_or once k 0 h)))
+    → All (All P) (map body_uses (node_bodies bodies)) → IsOnceEach (body_uses body.value) once
+    → All P once
+once_all P bodies i body once low read all is = All-from_get_or P once 0
+    (λ k h. All-contains P (body_uses body.value) (get_or once k 0)
+    (uses_of_read bodies i P body all low read)
+    ((is.same (get_or once k 0)).0 (Contains-get_or once k 0 h)))
 
 -- lists of numbers that a test finds equal
 pub same_by_test : (xs ys : List ℕ) → not (bytes_eq xs ys) ≡ false → xs ≡ ys

@@ -136,6 +136,14 @@ fn body_before<'s>(
     body_if_same_pieces(old, node_before(old.names, names, node)?, pieces)
 }
 
+/// A web with its table of names, and with a row for each node: the numbers of the node's pieces.
+#[derive(Clone, Copy)]
+pub(crate) struct GroupedWeb<'w, 's, 'a> {
+    pub(crate) web: &'w Web<'s, 'a>,
+    pub(crate) table: &'w NameTable,
+    pub(crate) pieces: &'w Rows<usize>,
+}
+
 /// The body of a node, and whether it is the old one.
 #[derive(Drop)]
 struct BodyAfter {
@@ -147,23 +155,25 @@ struct BodyAfter {
 fn body_after(
     alloc: Global,
     builder: &mut BodyBuilder,
-    web: &Web,
-    table: &NameTable,
-    pieces: &Rows<usize>,
+    grouped: GroupedWeb,
     node: Node,
     before: Option<&Rc<NodeBody>>,
 ) -> Result<BodyAfter, NoMemory>
-    requires numbers { All (λ i. i < length web.now.pieces) (row_at pieces.now node) }
-    requires ours { length table.now.resolved ≡ length web.now.occurrences }
+    requires numbers { All (λ i. i < length grouped.web.now.pieces)
+        (row_at grouped.pieces.now node) }
+    requires ours { length grouped.table.now.resolved
+        ≡ length grouped.web.now.occurrences }
     requires title { IfSome before
-        (λ body. body_title body.now.value ≡ title_at table.now.names node) }
+        (λ body. body_title body.now.value ≡ title_at grouped.table.now.names node) }
     requires planned { IfSome before
-        (λ body. IsPlanned (has_piece_in pieces.now) body.now.value) }
+        (λ body. IsPlanned (has_piece_in grouped.pieces.now) body.now.value) }
     ensures body { IfOk result
-        (λ made. IsBodyAt web.now table.now pieces.now node made.body.value) }
+        (λ made. IsBodyAt grouped.entry.web.now grouped.entry.table.now
+        grouped.entry.pieces.now node made.body.value) }
     ensures old { IfOk result (λ made. made.is_old ≡ true
         → MatchOption before.entry ⊥ (λ body. made.body.value ≡ body.now.value)) }
 {
+    let GroupedWeb { web, table, pieces } = grouped;
     if let Some(body) = before {
         if has_items_of(body, web, table, pieces.row(node.number())) {
             let body = body.clone()?;
@@ -193,37 +203,39 @@ pub(crate) struct Bodies {
     pub(crate) are_kept: Vec<bool>,
 }
 
-/// The body of each node of the table, by the rows of the nodes' pieces. An old body is shared if
-/// its items did not change. `same_nodes` says that neither the names nor which of them have a
-/// piece changed.
+/// The body of each node of the web, whose names are these. An old body is shared if its items did
+/// not change. `same_nodes` says that neither the names nor which of them have a piece changed.
 pub(crate) fn bodies_by_node(
     alloc: Global,
-    web: &Web,
-    table: &NameTable,
+    grouped: GroupedWeb,
     names: &Names,
-    pieces: &Rows<usize>,
     old: OldBodies,
     same_nodes: bool,
 ) -> Result<Bodies, NoMemory>
-    requires rows { length pieces.now ≡ length table.now.names + 1 }
-    requires inside { All (All (λ i. i < length web.now.pieces)) pieces.now }
-    requires ours { length table.now.resolved ≡ length web.now.occurrences }
-    requires names { names.now ≡ table.now.names }
+    requires rows { length grouped.pieces.now ≡ length grouped.table.now.names + 1 }
+    requires inside { All (All (λ i. i < length grouped.web.now.pieces))
+        grouped.pieces.now }
+    requires ours { length grouped.table.now.resolved
+        ≡ length grouped.web.now.occurrences }
+    requires names { names.now ≡ grouped.table.now.names }
     requires old { AreBodiesBefore old }
-    requires same_nodes { same_nodes ≡ true → HaveSameNodes old table.now.names pieces.now }
+    requires same_nodes { same_nodes ≡ true
+        → HaveSameNodes old grouped.table.now.names grouped.pieces.now }
     ensures bodies { IfOk result
-        (λ made. AreBodies web.now table.now pieces.now (node_bodies made.bodies.items)) }
+        (λ made. AreBodies grouped.entry.web.now grouped.entry.table.now
+        grouped.entry.pieces.now (node_bodies made.bodies.items)) }
     ensures are_kept { IfOk result
-        (λ made. AreKept old.entry table.now.names (node_bodies made.bodies.items)
-        made.are_kept.items) }
+        (λ made. AreKept old.entry grouped.entry.table.now.names
+        (node_bodies made.bodies.items) made.are_kept.items) }
 {
+    let pieces = grouped.pieces;
     let mut builder = BodyBuilder::new(alloc);
     let mut bodies = Vec::with_capacity(alloc, pieces.len())?;
     let mut are_kept = Vec::with_capacity(alloc, pieces.len())?;
     for n in 0..pieces.len() {
         let node = Node::new(n);
         let before = body_before(old, same_nodes, names, pieces, node);
-        let made = body_after(alloc, &mut builder, web, table, pieces, node, before)?;
+        let made = body_after(alloc, &mut builder, grouped, node, before)?;
         are_kept.push(made.is_old && keeps_uses(same_nodes, &made.body))?;
         bodies.push(made.body)?;
     }

@@ -1,23 +1,20 @@
 //! The weight and the depth of each node.
-ghost use Rattle.std.specs.Prelude.{◌≡◌, ◌<◌, ◌≤◌, ◌+◌, ◌⊎◌, ℕ, IfOk, length, vec_len, min};
-ghost use Rattle.std.specs.Prelude.{sum_by, slice_index, slice_index_or, All, Contains};
-ghost use Rattle.std.specs.Prelude.{false, ◌&&◌, nat_lt, nat_le, suc};
+ghost use Rattle.std.specs.Prelude.{◌≡◌, ◌<◌, ◌≤◌, ◌+◌, ◌⊎◌, ℕ, IfOk, length, vec_len, min, map};
+ghost use Rattle.std.specs.Prelude.{sum_by, slice_index, All, Contains};
+ghost use Rattle.std.specs.Prelude.{◌&&◌, nat_lt, nat_le, suc};
+ghost use Rattle.digraph.specs.Graph.{InRange};
 ghost use Rattle.digraph.specs.Order.{IsOrder};
 ghost use Rattle.tangle_plans.specs.NodeBodies.{body_uses, plan_slots};
-ghost use Rattle.tangle_expansion.specs.Limits.{weight_cap, levels, heaviest, weight_of, depth_of};
-ghost use Rattle.tangle_plans.specs.WebShapes.{shapes, ResolvesInside};
-ghost use Rattle.tangle_graph.specs.Groups.{IsGraphOf};
-ghost use Rattle.tangle_plans.specs.Nodes.{row_has_piece, title_at};
-ghost use Rattle.tangle_graph.specs.Outputs.{is_expandable};
-ghost use Rattle.tangle_graph.specs.Plans.{AreBodies, node_bodies};
+ghost use Rattle.tangle_expansion.specs.Limits.{weight_cap, levels, heaviest};
+ghost use Rattle.tangle_plans.specs.Nodes.{row_has_piece};
+ghost use Rattle.tangle_graph.specs.Measures.{AreDepths, AreWeights};
+ghost use Rattle.tangle_graph.specs.Plans.{node_bodies};
 ghost use Rattle.tangle_graph.specs.Stores.{AreWithin};
 
 use digraph::{Node, Rows};
 use std::alloc::{AllocError, Global};
 use std::rc::Rc;
-use tangle_names::NameTable;
 use tangle_plans::NodeBody;
-use tangle_scan::Web;
 
 /// The greatest weight of an expandable node.
 const HEAVIEST: u32 = 16_777_216;
@@ -50,21 +47,17 @@ fn weight_of_node(weights: &[u32], body: &NodeBody) -> u32
 #[tactic(auto, unfolding(tangle_expansion::specs::Limits::weight_cap))]
 fn weights(
     alloc: Global,
-    web: &Web,
-    table: &NameTable,
-    pieces: &Rows<usize>,
     uses: &Rows<Node>,
     order: &[Node],
     bodies: &[Rc<NodeBody>],
 ) -> Result<Vec<u32>, AllocError>
-    requires graph { IsGraphOf web.now table.now pieces.now uses.now }
     requires order { IsOrder uses.now order.now }
-    requires bodies { AreBodies web.now table.now pieces.now (node_bodies bodies.now) }
-    requires inside { ResolvesInside table.now }
+    requires size { length bodies.now ≡ length uses.now }
+    requires inside { All (All (λ id. suc id < length uses.now))
+        (map body_uses (node_bodies bodies.now)) }
     ensures size { IfOk result (λ weights. vec_len weights ≡ length uses.now) }
-    ensures weights { IfOk result (λ weights. (n : ℕ) → n < length uses.now
-        → slice_index weights.items n ≡ weight_of (shapes web.now table.now)
-        (title_at table.now.names n)) }
+    ensures weights { IfOk result
+        (λ weights. AreWeights uses.now (node_bodies bodies.now) weights.items) }
 {
     let mut weights = vec![in alloc; WEIGHT_CAP; uses.len()]?;
     for node in order {
@@ -93,6 +86,7 @@ fn greatest(depths: &[u16], nodes: &[Node]) -> u16
 fn depth_of_node(depths: &[u16], pieces: &[usize], used: &[Node]) -> u16
     requires range { All (λ m. m < length depths.now) used.now }
     requires capped { All (λ depth. depth ≤ levels) depths.now }
+    ensures capped { result ≤ levels }
     ensures none { length pieces.now ≡ 0 → result ≡ 0 }
     ensures least { 0 < length pieces.now → (1 ≤ result)
         × All (λ m. min levels (1 + slice_index depths.now m) ≤ result) used.now }
@@ -110,18 +104,14 @@ fn depth_of_node(depths: &[u16], pieces: &[usize], used: &[Node]) -> u16
 #[tactic(auto, unfolding(tangle_expansion::specs::Limits::levels))]
 fn depths(
     alloc: Global,
-    web: &Web,
-    table: &NameTable,
     pieces: &Rows<usize>,
     uses: &Rows<Node>,
     order: &[Node],
 ) -> Result<Vec<u16>, AllocError>
-    requires graph { IsGraphOf web.now table.now pieces.now uses.now }
     requires order { IsOrder uses.now order.now }
+    requires range { InRange uses.now }
     ensures size { IfOk result (λ depths. vec_len depths ≡ length uses.now) }
-    ensures depths { IfOk result (λ depths. (n : ℕ) → n < length uses.now
-        → slice_index depths.items n ≡ depth_of (shapes web.now table.now)
-        (title_at table.now.names n)) }
+    ensures depths { IfOk result (λ depths. AreDepths pieces.now uses.now depths.items) }
 {
     let mut depths = vec![in alloc; LEVELS; uses.len()]?;
     for node in order {
@@ -173,33 +163,27 @@ impl Measures {
     /// cycle, after those that it uses.
     pub(crate) fn build(
         alloc: Global,
-        web: &Web,
-        table: &NameTable,
         pieces: &Rows<usize>,
         uses: &Rows<Node>,
         order: &[Node],
         bodies: &[Rc<NodeBody>],
     ) -> Result<Measures, AllocError>
-        requires graph { IsGraphOf web.now table.now pieces.now uses.now }
+        requires range { InRange uses.now }
         requires order { IsOrder uses.now order.now }
-        requires bodies { AreBodies web.now table.now pieces.now
-            (node_bodies bodies.now) }
-        requires inside { ResolvesInside table.now }
-        ensures weights { IfOk result (λ measures. (n : ℕ) → n < length uses.now
-            → slice_index measures.weights.items n ≡ weight_of (shapes web.now table.now)
-            (title_at table.now.names n)) }
-        ensures depths { IfOk result (λ measures. (n : ℕ) → n < length uses.now
-            → slice_index measures.depths.items n ≡ depth_of (shapes web.now table.now)
-            (title_at table.now.names n)) }
+        requires pieces { length pieces.now ≡ length uses.now }
+        requires bodies { length bodies.now ≡ length uses.now }
+        requires inside { All (All (λ id. suc id < length uses.now))
+            (map body_uses (node_bodies bodies.now)) }
+        ensures weights { IfOk result (λ measures. AreWeights uses.now (node_bodies bodies.now)
+            measures.weights.items) }
+        ensures depths { IfOk result
+            (λ measures. AreDepths pieces.now uses.now measures.depths.items) }
         ensures within { IfOk result
             (λ measures. AreWithin pieces.now measures.weights.items measures.depths.items
             measures.expandable.items) }
-        ensures expandable { IfOk result (λ measures. (n : ℕ) → n < length uses.now
-            → slice_index_or measures.expandable.items n false
-            ≡ is_expandable (shapes web.now table.now) (title_at table.now.names n)) }
     {
-        let weights = weights(alloc, web, table, pieces, uses, order, bodies)?;
-        let depths = depths(alloc, web, table, pieces, uses, order)?;
+        let weights = weights(alloc, uses, order, bodies)?;
+        let depths = depths(alloc, pieces, uses, order)?;
         let expandable = expandable(alloc, pieces, &weights, &depths)?;
         Ok(Measures {
             weights,

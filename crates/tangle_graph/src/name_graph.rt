@@ -1,6 +1,6 @@
 //! The graph of names of a store: all that follows from the names and the uses of the nodes,
 //! whatever else the nodes contain.
-ghost use Rattle.std.specs.Prelude.{◌≡◌, ◌<◌, ◌+◌, IfOk, OnOk, All, length, map, suc, true};
+ghost use Rattle.std.specs.Prelude.{◌≡◌, ◌<◌, ◌+◌, ◌^◌, IfOk, OnOk, All, length, map, suc, true};
 ghost use Rattle.std.specs.List.Sorted.{IsStrictlyIncreasing};
 ghost use Rattle.digraph.specs.Graph.{InRange};
 ghost use Rattle.tangle_plans.specs.NodeBodies.{body_uses};
@@ -45,7 +45,7 @@ impl NameGraph {
             (λ name_graph. IsNameGraphOf (map body_uses (node_bodies bodies.now))
             name_graph.value) }
     {
-        let uses = uses_of_bodies(alloc, names.count(), bodies)?;
+        let uses = uses_of_bodies(alloc, bodies)?;
         let users = users(alloc, &uses)?;
         let order = order(alloc, &uses, &users)?;
         let self_containing = self_containing(alloc, &uses, &users)?;
@@ -62,9 +62,9 @@ impl NameGraph {
     }
 }
 
-/// Replaces `nodes` by the nodes of the names with these numbers, of which there are `count`.
-fn fill_with_names(nodes: &mut Vec<Node>, count: usize, ids: &[usize]) -> Result<(), AllocError>
-    requires { All (λ id. id < count) ids.now }
+/// Replaces `nodes` by the nodes of the names with these numbers.
+fn fill_with_names(nodes: &mut Vec<Node>, ids: &[usize]) -> Result<(), AllocError>
+    requires { All (λ id. suc id < 2 ^ 64) ids.now }
     ensures { OnOk result (nodes.new.items ≡ map suc ids.now) }
 {
     nodes.clear();
@@ -74,14 +74,10 @@ fn fill_with_names(nodes: &mut Vec<Node>, count: usize, ids: &[usize]) -> Result
     Ok(())
 }
 
-/// For each node, the names that its items use, each once. There are `count` names.
-fn uses_of_bodies(
-    alloc: Global,
-    count: usize,
-    bodies: &[Rc<NodeBody>],
-) -> Result<Rows<Node>, AllocError>
-    requires size { length bodies.now ≡ count + 1 }
-    requires inside { All (All (λ id. id < count)) (map body_uses (node_bodies bodies.now)) }
+/// For each node, the names that its items use, each once.
+fn uses_of_bodies(alloc: Global, bodies: &[Rc<NodeBody>]) -> Result<Rows<Node>, AllocError>
+    requires { All (All (λ id. suc id < length bodies.now))
+        (map body_uses (node_bodies bodies.now)) }
     ensures uses { IfOk result (AreUsesOf (map body_uses (node_bodies bodies.now))) }
     ensures range { IfOk result InRange }
     ensures increasing { IfOk result (All IsStrictlyIncreasing) }
@@ -93,7 +89,7 @@ fn uses_of_bodies(
         ids.clear();
         ids.extend_from_slice(body.uses())?;
         once_each(&mut ids);
-        fill_with_names(&mut nodes, count, &ids)?;
+        fill_with_names(&mut nodes, &ids)?;
         rows.push_row(&nodes)?;
     }
     Ok(rows)

@@ -20,7 +20,7 @@ ghost use Rattle.tangle_graph.specs.Stores.{contains_itself_at, is_expandable_at
 ghost use Rattle.tangle_graph.specs.Stores.{weight_at, depth_at, uses_at, users_at, has_piece_at};
 ghost use Rattle.tangle_graph.specs.WebStores.{IsStoreOfWeb};
 
-use crate::bodies::{OldBodies, bodies_by_node, have_same_pieces, no_bodies};
+use crate::bodies::{GroupedWeb, OldBodies, bodies_by_node, have_same_pieces, no_bodies};
 use crate::faults::FaultSearch;
 use crate::measures::Measures;
 use crate::name_graph::{NameGraph, are_same_names, have_same_uses};
@@ -64,6 +64,14 @@ impl Model for Store {
     ghost invariant = { λ s. StoreInvariant s };
 }
 
+/// The nodes of a web: the numbers of their pieces, their bodies, and the graph of their names.
+#[derive(Drop)]
+struct Nodes {
+    pieces: Rc<Rows<usize>>,
+    bodies: Vec<Rc<NodeBody>>,
+    name_graph: Rc<NameGraph>,
+}
+
 /// A store that was built from an older one, with a flag for each of its nodes: whether the node
 /// keeps its old body and the names that it uses.
 #[derive(Drop)]
@@ -86,11 +94,21 @@ impl Store {
         let pieces = shared_pieces(alloc, web, table)?;
         let names = table.names()?;
         let rows: &Rows<usize> = &pieces;
+        let grouped = GroupedWeb {
+            web,
+            table,
+            pieces: rows,
+        };
         let none = no_bodies(&names, rows);
-        let made = bodies_by_node(alloc, web, table, &names, rows, none, true)?;
+        let made = bodies_by_node(alloc, grouped, &names, none, true)?;
         let bodies = made.bodies;
         let name_graph = NameGraph::shared(alloc, names, &bodies)?;
-        Store::over(alloc, web, table, out, pieces, bodies, name_graph)
+        let nodes = Nodes {
+            pieces,
+            bodies,
+            name_graph,
+        };
+        Store::over(alloc, web, table, out, nodes)
     }
 
     /// The same store, built from the store of an older web: what did not change is shared with the
@@ -116,12 +134,22 @@ impl Store {
         let rows: &Rows<usize> = &pieces;
         let same_names = are_same_names(old.names(), &names);
         let same_nodes = same_names && have_same_pieces(old.pieces(), rows);
+        let grouped = GroupedWeb {
+            web,
+            table,
+            pieces: rows,
+        };
         let before = old.bodies();
-        let made = bodies_by_node(alloc, web, table, &names, rows, before, same_nodes)?;
+        let made = bodies_by_node(alloc, grouped, &names, before, same_nodes)?;
         let are_kept = made.are_kept;
         let bodies = made.bodies;
         let name_graph = old.name_graph_for(alloc, names, same_names, &bodies)?;
-        let store = Store::over(alloc, web, table, out, pieces, bodies, name_graph)?;
+        let nodes = Nodes {
+            pieces,
+            bodies,
+            name_graph,
+        };
+        let store = Store::over(alloc, web, table, out, nodes)?;
         Ok(Rebuilt { store, are_kept })
     }
 
@@ -195,38 +223,34 @@ impl Store {
         }
     }
 
-    /// Makes a store from the pieces, the bodies and the graph of a web's nodes.
+    /// Makes a store from the nodes of a web.
     fn over(
         alloc: Global,
         web: &Web,
         table: &NameTable,
         out: &[u8],
-        pieces: Rc<Rows<usize>>,
-        bodies: Vec<Rc<NodeBody>>,
-        name_graph: Rc<NameGraph>,
+        nodes: Nodes,
     ) -> Result<Store, NoMemory>
         requires table { table.now ≡ table_of web.now }
         requires grouped { IsRowsOf (length table.now.names + 1)
-            (positions_of table.now web.now.pieces) pieces.value }
-        requires bodies { AreBodies web.now table.now pieces.value (node_bodies bodies.items) }
-        requires names { name_graph.value.names ≡ table.now.names }
-        requires name_graph { IsNameGraphOf (map body_uses (node_bodies bodies.items))
-            name_graph.value }
+            (positions_of table.now web.now.pieces) nodes.pieces.value }
+        requires bodies { AreBodies web.now table.now nodes.pieces.value
+            (node_bodies nodes.bodies.items) }
+        requires names { nodes.name_graph.value.names ≡ table.now.names }
+        requires name_graph { IsNameGraphOf (map body_uses (node_bodies nodes.bodies.items))
+            nodes.name_graph.value }
         ensures store { IfOk result (IsStoreOfWeb web.now table.now out.now) }
-        ensures bodies { IfOk result (λ store. store.bodies ≡ node_bodies bodies.items) }
+        ensures bodies { IfOk result (λ store. store.bodies ≡ node_bodies nodes.bodies.items) }
     {
+        let Nodes {
+            pieces,
+            bodies,
+            name_graph,
+        } = nodes;
         let shared: &NameGraph = &name_graph;
         let rows: &Rows<usize> = &pieces;
         // Measures are made anew, in one short pass.
-        let measures = Measures::build(
-            alloc,
-            web,
-            table,
-            rows,
-            &shared.uses,
-            &shared.order,
-            &bodies,
-        )?;
+        let measures = Measures::build(alloc, rows, &shared.uses, &shared.order, &bodies)?;
         let has_program = !rows.row(Node::program().number()).is_empty();
         let outputs = outputs(alloc, web, table, out, has_program, &measures.expandable)?;
         Ok(Store {

@@ -52,24 +52,32 @@ fn push_range(
     Ok(())
 }
 
+/// The unit that is next in a region, with its first bytes and the number of its line.
+#[derive(Clone, Copy)]
+struct NextUnit {
+    unit: Unit,
+    front: Front,
+    line: u32,
+}
+
 /// Adds the tokens of a unit inside a region, whose current range starts at column `start`. Returns
 /// the column at which the range after the unit starts: `start` itself, unless the text is cut.
 fn push_quoted_unit(
     tokens: &mut Vec<Token>,
     reader: &Reader,
     region: Region,
-    unit: Unit,
     start: usize,
-    front: Front,
-    line: u32,
+    next: NextUnit,
 ) -> Result<usize, AllocError>
-    requires { IsFront reader.now front }
-    ensures tokens { (last : ℕ) → line ≡ front_line last reader.now
+    requires { IsFront reader.now next.front }
+    ensures tokens { (last : ℕ) → next.line ≡ front_line last reader.now
         → OnOk result (tokens.new.items ≡ tokens.old.items
-        ++ spec.unit_tokens region unit start (front_cell last reader.now) (byte_at 1 reader.now)) }
-    ensures start { (last : ℕ) → IfOk result (λ next. next
-        ≡ spec.next_start unit start (front_cell last reader.now) (byte_at 1 reader.now)) }
+        ++ spec.unit_tokens region next.unit start (front_cell last reader.now)
+        (byte_at 1 reader.now)) }
+    ensures start { (last : ℕ) → IfOk result (λ after. after
+        ≡ spec.next_start next.unit start (front_cell last reader.now) (byte_at 1 reader.now)) }
 {
+    let NextUnit { unit, front, line } = next;
     let is_two = matches!(unit, Unit::Two);
     if is_two && holds(b'@', front.byte) {
         let end = reader.column_after();
@@ -109,15 +117,12 @@ fn cut(
         if let Unit::Stop = unit {
             return Ok(start);
         }
-        start = push_quoted_unit(
-            tokens,
-            reader,
-            region,
+        let next = NextUnit {
             unit,
-            start,
             front,
-            reader.line(last),
-        )?;
+            line: reader.line(last),
+        };
+        start = push_quoted_unit(tokens, reader, region, start, next)?;
         reader.pass(unit);
         reader.skip_ordinary();
     }

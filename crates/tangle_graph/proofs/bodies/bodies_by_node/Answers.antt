@@ -11,7 +11,7 @@ use Rattle.tangle_graph.proofs.bodies.bodies_by_node.Goals.{then-made, else-made
 
 pub loop-n-preserved : goal.loop-n-preserved
 loop-n-preserved c =
-    let table = c.args.table.now in
+    let table = c.args.grouped.table.now in
     let old = c.args.old in
     let i = c.loop-n.n in
     let body = c.in_ok-made.made.body in
@@ -35,7 +35,7 @@ loop-n-preserved c =
       flags_size = ap length c.in_ok-push.ensures.items
           ∙ omega (arith, length-append c.loop-n.are_kept.items (c.if-made.push ∷ []), c.loop-n.invariant.flags_size);
       each = rw (c.in_ok-push-2.ensures.items, c.in_ok-push.ensures.items)
-          (bodies_push (IsBodyMade c.args.web.now table c.args.pieces.now old) c.loop-n.bodies.items
+          (bodies_push (IsBodyMade c.args.grouped.web.now table c.args.grouped.pieces.now old) c.loop-n.bodies.items
           c.loop-n.are_kept.items i body c.if-made.push c.loop-n.invariant.size c.loop-n.invariant.flags_size
           c.loop-n.invariant.each (rw c.new-node.ensures at c.in_ok-made.ensures.body, kept));
     }
@@ -54,7 +54,7 @@ returns-clause-bodies c =
 pub returns-clause-are_kept : goal.returns-clause-are_kept
 returns-clause-are_kept c = λ node e.
     let bodies = c.loop-n.bodies.items in
-    let found = at_flag (IsBodyMade c.args.web.now c.args.table.now c.args.pieces.now c.args.old) (node_bodies bodies)
+    let found = at_flag (IsBodyMade c.args.grouped.web.now c.args.grouped.table.now c.args.grouped.pieces.now c.args.old) (node_bodies bodies)
     c.loop-n.are_kept.items (length-map bodies (λ (t : Rc NodeBody Global). t.value)
     ∙ c.loop-n.invariant.size ∙ sym c.loop-n.invariant.flags_size) c.loop-n.invariant.each node e in
     (found.0, found.1, found.2.1 refl)

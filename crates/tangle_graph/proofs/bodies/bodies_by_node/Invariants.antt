@@ -7,5 +7,5 @@ abbrev pub invariant-loop-n : goal.invariant-loop-n
 invariant-loop-n l = record {
   size : length l.bodies.items ≡ l.n;
   flags_size : length l.are_kept.items ≡ l.n;
-  each : HoldsAtEach (IsBodyMade l.web l.table l.pieces l.old) (node_bodies l.bodies.items) l.are_kept.items;
+  each : HoldsAtEach (IsBodyMade l.grouped.web.now l.grouped.table.now l.grouped.pieces.now l.old) (node_bodies l.bodies.items) l.are_kept.items;
 }

@@ -9,9 +9,9 @@ use Rattle.tangle_graph.proofs.bodies.body_after.Goals as goal
 
 pub returns-then-has_items_of-clause-body : goal.returns-then-has_items_of-clause-body
 returns-then-has_items_of-clause-body c =
-    let web = c.args.web.now in
-    let table = c.args.table.now in
-    let rows = c.args.pieces.now in
+    let web = c.args.grouped.web.now in
+    let table = c.args.grouped.table.now in
+    let rows = c.args.grouped.pieces.now in
     let has : ℕ → Bool = has_piece_in rows in
     let old = c.in-Some.body.now.value in
     let found = c.has_items_of.ensures in

@@ -1,4 +1,4 @@
-use Rattle.std.proofs.Common.{◌≡◌, ◌∙◌, ◌≤◌, ◌++◌, ℕ, List, ap, arith, length, map, subst, suc, take}
+use Rattle.std.proofs.Common.{◌≡◌, ◌∙◌, ◌≤◌, ◌<◌, ◌++◌, ℕ, List, All, ap, arith, length, map, subst, suc, sym, take}
 use Rattle.std.specs.Global.{Global}
 use Rattle.std.specs.declared.rc.Rc.{Rc}
 use Rattle.std.proofs.lemmas.List.{length-map, take_all}
@@ -8,7 +8,7 @@ use Rattle.tangle_plans.specs.NodeBodies.{body_uses}
 use Rattle.tangle_plans.specs.declared.nodes.NodeBody.{NodeBody}
 use Rattle.tangle_graph.specs.NameGraphs.{AreUsesOf}
 use Rattle.tangle_graph.specs.Plans.{node_bodies}
-use Rattle.tangle_graph.proofs.NameGraphLemmas.{each_in_range, each_increasing, once_below, once_more}
+use Rattle.tangle_graph.proofs.NameGraphLemmas.{each_in_range, each_increasing, once_all, once_more}
 use Rattle.tangle_graph.proofs.NameGraphLemmas.{uses_more, uses_push}
 use Rattle.tangle_graph.proofs.name_graph.uses_of_bodies.Goals as goal
 
@@ -23,9 +23,11 @@ fill_with_names-requires c =
     c.in_ok-extend_from_slice.ensures.items
     ∙ ap (λ l. l ++ c.uses.result.now) c.clear.ensures.items ∙ c.uses.ensures ∙ ap body_uses c.deref.ensures in
     rw c.deref-in-loop-body.ensures.value
-    (once_below c.args.bodies.now c.loop-body.body-index c.args.count c.body-item.result c.once_each.new.row.items
-    c.loop-body-test.true c.body-item.is c.requires.inside
-    (subst (λ all. IsOnceEach all c.once_each.new.row.items) given c.once_each.ensures))
+    (λ k id h. (let below = once_all (λ id. suc id < length c.args.bodies.now) c.args.bodies.now
+    c.loop-body.body-index c.body-item.result c.once_each.new.row.items
+    c.loop-body-test.true c.body-item.is c.requires
+    (subst (λ all. IsOnceEach all c.once_each.new.row.items) given c.once_each.ensures) k id h in
+    omega (arith, below)))
 
 pub loop-body-preserved : goal.loop-body-preserved
 loop-body-preserved c =
@@ -48,10 +50,11 @@ pub returns-clause-range : goal.returns-clause-range
 returns-clause-range c =
     let bodies = c.args.bodies.now in
     each_in_range (map body_uses (node_bodies bodies)) c.loop-body.rows
-    (all_taken c.loop-body.body-index bodies c.loop-body.rows (omega arith) c.loop-body.invariant) c.args.count
-    (length-map (node_bodies bodies) body_uses
-    ∙ length-map bodies (λ (t : Rc NodeBody Global). t.value) ∙ c.requires.size)
-    c.requires.inside
+    (all_taken c.loop-body.body-index bodies c.loop-body.rows (omega arith) c.loop-body.invariant)
+    (subst (λ size. All (All (λ id. suc id < size)) (map body_uses (node_bodies bodies)))
+    (sym (length-map (node_bodies bodies) body_uses
+    ∙ length-map bodies (λ (t : Rc NodeBody Global). t.value)))
+    c.requires)
 
 pub returns-clause-increasing : goal.returns-clause-increasing
 returns-clause-increasing c =
