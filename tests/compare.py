@@ -43,7 +43,7 @@ from hostile import chained
 from running import run
 from scripts import Script, answer
 from sessions import Session
-from tangling import Tangling
+from tangling import Tangling, tangling_of
 
 LONGEST_LINE = 200          # the most characters that are shown of a line
 
@@ -60,7 +60,7 @@ def tangled(arguments, folder):
         return 3, fault.line(b'ctangle'), {}
     faults = b''.join(map(fault_line, tangling.faults))
     created = {}
-    for name, text in tangling.files():
+    for name, text in tangling.files:
         if not is_utf_8(name):
             return 3, faults + b'ctangle: cannot write %s\n' % name, created
         created[name] = text
@@ -320,7 +320,7 @@ def listed(edits):
 
 def questions_about(*webs):
     """What is asked of each of these webs: every output file that one of them has, and the faults."""
-    names = {name for web in webs for name, _ in Tangling(files_with(web), ROLES).files()}
+    names = {name for web in webs for name, _ in tangling_of(files_with(web), ROLES).files}
     return b''.join(b'show %s\n' % name for name in sorted(names | {b'a.c'})) + b'faults\n'
 
 

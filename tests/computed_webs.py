@@ -151,7 +151,7 @@ def lemma(seed):
         return None
     nodes = ['record { depth = %d; weight = %d; bytes = %s }'
              % (graph.depth[node], graph.weight[node], bytes_term(writer.text(node))) for node in plain]
-    made = ['record { name = %s; bytes = %s }' % (bytes_term(name), bytes_term(text)) for name, text in tangling.files()]
+    made = ['record { name = %s; bytes = %s }' % (bytes_term(name), bytes_term(text)) for name, text in tangling.files]
     name = 'web_%d' % seed
     return '''%s : shown %s %s %s %s %s ≡ record {
   nodes = %s;

@@ -37,7 +37,7 @@ PAGES = {
     'docs/sessions.md': [
         'tangle_files/Edits', 'tangle_files/Edited', 'tangle_session/Edits', 'tangle_script',
         'ctangle_cli/RetangleArguments', 'ctangle_cli/Conversation'],
-    'docs/programs.md': ['tangle_folders', 'tangle_memory_folder', 'ctangle_cli'],
+    'docs/programs.md': ['tangle_folders', 'tangle_memory_folder', 'tangle_loading', 'ctangle_cli'],
 }
 
 NOTES = {

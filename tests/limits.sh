@@ -62,7 +62,12 @@ test_line_count() {
     must_end 3 'ctangle: a.w: TooManyLines'
     run_case 'file of 1,000,001 lines' "$case"
 
-    mv "$case/in/a.w" "$case/in/b.w"
+    cp "$case/in/a.w" "$temporary/lines"
+    repeated 65536 x >>"$case/in/a.w"
+    must_end 3 'ctangle: a.w: LineTooLong'
+    run_case 'file of 1,000,002 lines, the last of 65,536 bytes' "$case"
+
+    mv "$temporary/lines" "$case/in/b.w"
     printf '@i b.w\n' >"$case/in/a.w"
     must_end 3 'ctangle: b.w: TooManyLines'
     run_case 'included file of 1,000,001 lines' "$case"
@@ -171,6 +176,9 @@ test_file_count() {
     included_files 256
     must_end 3 'ctangle: f256.w: TooManyFiles'
     run_case '257 files' "$case"
+
+    repeated 65536 x >"$case/in/f256.w"
+    run_case '257 files, the last with a line of 65,536 bytes' "$case"
 
     rm "$case/in/f256.w"
     must_end 1 'a.w:256: error: included file not found: f256.w' 'warning: no program text'

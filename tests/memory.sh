@@ -1,6 +1,5 @@
-# Each allocation of a run, of a conversation and of calls refused, one at a time, by a library that is
-# loaded before the C library's malloc; and how many allocations there are, which shows what is
-# expanded.
+# Each allocation of a run and of a conversation refused, one at a time, by a library that is loaded
+# before the C library's malloc; and how many allocations there are, which shows what is expanded.
 
 test_memory() {
     compile_library 'refused allocations' refuse || return
@@ -14,7 +13,6 @@ test_memory() {
     done
     refuse_each_allocation refusing_from 'one web, without memory from an allocation on' "$one_web"
     test_conversation
-    test_crates
 }
 
 test_conversation() {
@@ -84,28 +82,5 @@ survived_as() { # FILE OLD EXPECTED
         cmp -s "$1" "$2"
     else
         is_prefix "$1" "$3" || { [ -f "$2" ] && cmp -s "$1" "$2"; }
-    fi
-}
-
-# The tests of the crates, which ask the library for their own refusals.
-test_crates() {
-    kit=$(dirname "$(rt doc)")
-    test_crate tangle_tests
-}
-
-# The library makes the file when it refuses an allocation; without it the tests would pass and show nothing.
-test_crate() { # CRATE
-    tests=$top/crates/$1/out/$1_tests
-    rm -rf "$temporary/tests" "$temporary/refused"
-    mkdir "$temporary/tests"
-    if [ ! -x "$tests" ]; then
-        fail "refused allocations of $1" 'no test program: run make check'
-    elif ! (cd "$temporary/tests" && REFUSE_REPORT="$temporary/refused" LD_PRELOAD="$temporary/refuse.so" \
-        "$kit/bin/rattle-test" --seconds 60 "$tests") >"$temporary/log" 2>&1; then
-        fail "refused allocations of $1" "$(grep -v ' \.\.\. ok$' "$temporary/log")"
-    elif [ ! -e "$temporary/refused" ]; then
-        fail "refused allocations of $1" 'no allocation was refused'
-    else
-        pass
     fi
 }

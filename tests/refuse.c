@@ -3,10 +3,6 @@
 // REFUSE_AT=N refuses the Nth allocation of the process, from 1, and with REFUSE_ALL=1 each one
 // after it too; then it makes the file that REFUSE_REPORT names. The file that COUNT_TO names gets,
 // at the end of the process, how many allocations there were and how many bytes they asked for.
-// A test asks from inside: a request for 2^62 + n bytes is answered with a small block and refuses
-// the nth allocation after it (none where n is 0), and one for 2^62 + 2^61 bytes is answered where
-// that refusal is still to come. Without this library nothing is so large, so the same test passes
-// and refuses nothing.
 #define _GNU_SOURCE
 #include <fcntl.h>
 #include <malloc.h>
@@ -17,9 +13,6 @@
 
 extern void *__libc_malloc(size_t);
 extern void *__libc_realloc(void *, size_t);
-
-static const size_t CONTROL = (size_t)1 << 62;
-static const size_t IS_WAITING = (size_t)1 << 61;
 
 static size_t left;
 static int started, refuses_all;
@@ -51,17 +44,7 @@ static int is_refused(size_t more) {
     return 1;
 }
 
-static void *control(size_t request) {
-    start();
-    if (request & IS_WAITING)
-        return left ? __libc_malloc(16) : NULL;
-    left = request & (IS_WAITING - 1);
-    return __libc_malloc(16);
-}
-
 void *malloc(size_t size) {
-    if (size / CONTROL == 1)
-        return control(size);
     return is_refused(size) ? NULL : __libc_malloc(size);
 }
 

@@ -24,6 +24,7 @@ MOST = 100000
 LONG_COMMAND, CHAIN = 'a long command', 'chain'
 
 QUESTIONS = b'show a.c\nfaults\nwork\n'
+CYCLE = b'@ P.\n@c\n@<A@>\n@ @<A@>=\n@<B@>\n@ @<B@>=\n@<A@>\n@ @(h.h@>=\nint h;\n'
 FILE_COMES_AND_GOES = b'create b.w\nwork\ninsert 1 b.w\ny;\nwork\ndiscard b.w\n' + QUESTIONS
 TWO_BRANCHES = (b'@ P.\n@c\n@<A@>@<S@>\n@ @<A@>=\n@<B@>\n@ @<B@>=\n@<C@>\n@ @<C@>=\n1\n'
                 b'@ @<S@>=\n2\n')
@@ -39,11 +40,14 @@ CONVERSATIONS = {
         QUESTIONS + b'insert 6 a.w\n@ @<Init table@>=\n' + QUESTIONS + b'replace 6 a.w\n@ @<Init table@>=\n' + QUESTIONS
         + b'remove 6 a.w\n' + QUESTIONS + b'insert 7 a.w\nx\n' + FILE_COMES_AND_GOES),
     'cycle': (
-        b'@ P.\n@c\n@<A@>\n@ @<A@>=\n@<B@>\n@ @<B@>=\n@<A@>\n@ @(h.h@>=\nint h;\n',
+        CYCLE,
         b'work\nreplace 7 a.w\nb;\n' + QUESTIONS + b'insert 8 a.w\nc;\n' + QUESTIONS
         + b'remove 8 a.w\n' + QUESTIONS
         + b'remove 99 a.w\nshow h.h\nwork\ncreate b.w\ninsert 1 b.w\ny;\ninsert 3 a.w\n@i b.w\n' + QUESTIONS + b'discard b.w\nfaults\nremove 3 a.w\nwork\nnothing\nshow a.c\nreplace 7 a.w\n@<A@>\n'
         b'faults\nquit\n'),
+    'a list that breaks a cycle': (
+        CYCLE,
+        b'insert 99 a.w\nx\nbegin\ninsert 7 a.w\nb;\nremove 8 a.w\ncommit\n' + QUESTIONS + b'show h.h\n'),
     'two branches': (
         TWO_BRANCHES,
         b'work\nreplace 9 a.w\n3\n' + QUESTIONS + b'replace 9 a.w\n3\n' + QUESTIONS + b'insert 10 a.w\n4\n' + QUESTIONS

@@ -201,7 +201,8 @@ def edits_of_files(last):
             'discard %s' % last, 'create %s' % last, 'create more.w', 'marks none', 'marks full',
             'begin\ndiscard i001.w\ncreate one.w\ninsert 1 one.w\none\n'
             'replace 4 a.w\n@i one.w\ncommit',
-            'begin\ncreate two.w\ncreate three.w\ncommit']
+            'begin\ncreate two.w\ncreate three.w\ncommit',
+            'create a.w', 'create ' + 'f' * 256, 'create ' + 'f' * 255]
 
 
 def test_files():
@@ -285,6 +286,16 @@ def test_inclusions():
     converse('a file that includes itself', files, turns, 1)
 
 
+def test_longest_texts():
+    """A text of as many bytes as a line may have, of which the spaces at its end do not count, and
+    one of a byte more."""
+    longest = 'x' * 65535
+    turns = [('insert 4 a.w\n%s   \n' % longest, 'ok\n'), work(1),
+             shown('a.c', piece(1, 2, '\ny\n%s\n' % longest) + '\n'),
+             ('insert 4 a.w\n%sx\n' % longest, 'no LineTooLong\n'), work(1)]
+    converse('texts of 65,535 bytes and of one more', {'a.w': '@ P.\n@c\ny\n'}, turns)
+
+
 def test_lines_taken():
     """More lines than are taken, by three inclusions of a million lines and by two, and fewer by
     one."""
@@ -334,8 +345,8 @@ def test_depths():
 
 def main():
     return run_all((test_names, test_outputs, test_changes, test_files, test_sections, test_uses,
-                    test_macros, test_lists, test_inclusions, test_lines_taken, test_weights,
-                    test_depths))
+                    test_macros, test_lists, test_inclusions, test_longest_texts, test_lines_taken,
+                    test_weights, test_depths))
 
 
 if __name__ == '__main__':

@@ -196,7 +196,7 @@ def test_names_asked():
 def tangled(files):
     tangling = Tangling(table_of(files), Roles(b'a.w', b'a.ch', b'a.c'))
     faults = b''.join(map(fault_line, tangling.faults))
-    return tangling.status, faults, [(name.decode(), text) for name, text in tangling.files()]
+    return tangling.status, faults, [(name.decode(), text) for name, text in tangling.files]
 
 
 def test_failing_files():

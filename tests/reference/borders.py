@@ -16,7 +16,7 @@ import sys
 
 from files import ROLES, lines_of, table_of
 from graph import affected
-from tangling import Tangling
+from tangling import tangling_of
 
 EDITS = 10
 TRIES = 25                  # for an edit
@@ -136,22 +136,26 @@ class Web:
             self._gap(BLANK)
 
 
-def tangled(lines):
-    return Tangling(table_of({'a.w': joined(lines)}), ROLES)
-
-
 def joined(lines):
     return b''.join(line + b'\n' for line in lines)
 
 
-def has_same_shapes(old, new):
-    """Whether these tanglings have the same faults and names, and each name has the same shape in both."""
-    return old.faults == new.faults and old.graph.nodes == new.graph.nodes and all(
-        old.graph.shape(node) == new.graph.shape(node) for node in new.graph.nodes)
+class State:
+    """The lines of a web with what they make."""
+
+    def __init__(self, lines):
+        self.lines = lines
+        self.tangling = tangling_of(table_of({'a.w': joined(lines)}), ROLES)
+
+    def has_shapes_of(self, other):
+        """Whether both have the same faults and names, and each name the same shape."""
+        mine, others = self.tangling, other.tangling
+        return mine.faults == others.faults and mine.graph.nodes == others.graph.nodes and all(
+            mine.graph.shape(node) == others.graph.shape(node) for node in mine.graph.nodes)
 
 
 def with_other_borders(web, before):
-    """The lines of the web with some gaps written otherwise, or None where no shape may change."""
+    """The web with some gaps written otherwise, or None where no shape may change."""
     gaps, chance = web.gaps, web.chance
     count = len(gaps) if chance.random() < .05 else chance.choice([1, 1, 1, 2, 3, 5])
     some = chance.sample(gaps, min(count, len(gaps)))
@@ -159,18 +163,13 @@ def with_other_borders(web, before):
     for gap in some:
         gap.write(chance, .4)
     lines = web.lines()
-    if lines != before.lines and len(lines) == len(before.lines) and has_same_shapes(before.tangling, tangled(lines)):
-        return lines
+    if lines != before.lines and len(lines) == len(before.lines):
+        state = State(lines)
+        if state.has_shapes_of(before):
+            return state
     for gap, old in zip(some, written):
         gap.written = old
     return None
-
-
-class Before:
-    """The lines of a web with what they make, to which others are compared."""
-
-    def __init__(self, lines):
-        self.lines, self.tangling = lines, tangled(lines)
 
 
 def replaced(old, new):
@@ -192,13 +191,13 @@ def edited_web(chance):
     """The lines of a web, and its lines after each of some edits. After the last one they are those
     at the start."""
     web = Web(chance)
-    states = [Before(web.lines())]
+    states = [State(web.lines())]
     while len(states) < EDITS:
         tries = (with_other_borders(web, states[-1]) for _ in range(TRIES))
-        lines = next((lines for lines in tries if lines), None)
-        if lines is None:
+        state = next((state for state in tries if state), None)
+        if state is None:
             break
-        states.append(Before(lines))
+        states.append(state)
     assert not affected(states[-1].tangling.graph, states[0].tangling.graph)
     states = [state.lines for state in states]
     return states[0], states[1:] + states[:1]

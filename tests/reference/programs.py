@@ -138,7 +138,7 @@ def run_ctangle(names, folder):
         sys.stderr.buffer.write(fault.line(b'ctangle'))
         return 3
     sys.stderr.buffer.write(b''.join(map(fault_line, tangling.faults)))
-    for name, text in tangling.files():
+    for name, text in tangling.files:
         sys.stdout.buffer.write(b'= %s %d\n' % (name, len(text)) + text)
     return tangling.status
 

@@ -2,7 +2,7 @@
 import limits
 from files import Refused, is_file_name
 from graph import affected
-from tangling import Tangling
+from tangling import tangling_of
 
 
 def edited(files, roles, edit):
@@ -50,7 +50,7 @@ class Session:
 
     def __init__(self, files, roles, watch=lambda tangling: None):
         self.files, self.roles, self.watch = files, roles, watch
-        self.tangling = Tangling(files, roles)
+        self.tangling = tangling_of(files, roles)
         watch(self.tangling)
         self.last_work = len(self.tangling.graph.expandable)
 
@@ -62,11 +62,11 @@ class Session:
                 files, roles = edited(files, roles, edit)
             except Refused as refused:
                 return refused.refusal, number
-        new = Tangling(files, roles)
+        new = tangling_of(files, roles)
         self.watch(new)
         work = len(affected(self.tangling.graph, new.graph))
         self.files, self.roles, self.tangling, self.last_work = files, roles, new, work
         return None
 
     def output(self, name):
-        return dict(self.tangling.files()).get(name)
+        return dict(self.tangling.files).get(name)

@@ -1,5 +1,6 @@
 """Plain tangling: the output files and the faults of files with roles (docs/output.md, docs/faults.md)."""
 from collections import namedtuple
+from functools import cached_property, lru_cache
 
 from faults import Fault, status_of
 from graph import PROGRAM, Graph
@@ -70,6 +71,7 @@ class Tangling:
         writer = self.writer()
         return sum(size_of(output, writer) for output in self.outputs())
 
+    @cached_property
     def files(self):
         """The name and bytes of each output file, in order."""
         writer = self.writer()
@@ -85,3 +87,13 @@ def size_of(output, writer):
 def text_of(output, writer):
     front = writer.macros if output.has_macros else b''
     return front + (writer.text(output.node) + b'\n' if output.has_piece else b'')
+
+
+def tangling_of(files, roles):
+    """The tangling of these files. The last ones are kept, since tests come back to the same files."""
+    return _tangling_of(tuple((name, tuple(lines)) for name, lines in files), roles)
+
+
+@lru_cache(maxsize=32)
+def _tangling_of(files, roles):
+    return Tangling(files, roles)

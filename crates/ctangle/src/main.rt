@@ -1,11 +1,8 @@
 //! `ctangle [flags] web [change [out]]`: tangles a web into C, in the current folder.
 #![tactic(auto)]
 
-use ctangle_cli::{
-    Disk, Ended, LoadFault, command_line, lines_to, run_keeping_session, write_load,
-};
+use ctangle_cli::{Disk, LoadFault, command_line, lines_to, run_before_exit, write_load};
 use std::io::ErrorKind;
-use std::mem::forget;
 use std::process::ExitCode;
 use tangle_lines::Sink;
 
@@ -19,22 +16,9 @@ fn run<E: Sink>(rt: &HostRuntime, err: &mut E) -> u8 {
     };
     let names = arguments.iter().skip(1).map(|argument| argument.as_bytes());
     match names.collect::<Vec<&[u8]>>(rt.alloc()) {
-        Ok(arguments) => run_arguments(rt, arguments.as_slice(), err),
+        Ok(arguments) => run_before_exit(rt.alloc(), arguments.as_slice(), &mut Disk::new(rt), err),
         Err(_) => no_memory(err),
     }
-}
-
-// Runs `ctangle` with these arguments. The session is not dropped, since the end of the program
-// frees its memory at once.
-fn run_arguments<E: Sink>(rt: &HostRuntime, arguments: &[&[u8]], err: &mut E) -> u8 {
-    let Ended { status, session } = run_keeping_session(
-        rt.alloc(),
-        arguments,
-        &mut Disk::new(rt),
-        err,
-    );
-    forget(session);
-    status
 }
 
 fn no_memory<E: Sink>(err: &mut E) -> u8 {

@@ -1,9 +1,4 @@
-mod AskLemmas
-mod LoadLemmas
 mod NameLemmas
-mod StepLemmas
-mod RoundLemmas
-mod MissingLemmas
 mod NothingDone
 mod RunLemmas
 mod WriteLemmas
@@ -11,6 +6,5 @@ mod WorkedWebs
 mod RetangleLemmas
 mod WorkedArguments
 mod AnswerLemmas
-mod NoMissingLemmas
 mod HistoryLemmas
 mod PlainLemmas

@@ -9,8 +9,8 @@ use Rattle.tangle_files.specs.Roles.{RolesRead}
 use Rattle.tangle_folders.specs.Folder.{FolderRead}
 use Rattle.tangle_folders.specs.declared.folder.FolderFault.{FolderFault}
 use Rattle.tangle_folders.specs.declared.folder.FolderFault.TheVariants.{NoMemory as FolderMemory}
-use Rattle.ctangle_cli.specs.Loading.{LoadEnd}
-use Rattle.ctangle_cli.specs.Loading.LoadEnd.{NoMemory}
+use Rattle.tangle_loading.specs.Loading.{LoadEnd}
+use Rattle.tangle_loading.specs.Loading.LoadEnd.{NoMemory}
 use Rattle.ctangle_cli.specs.Messages.{ending_line, fault_lines, no_memory_line, faults_status, unwritten_line}
 use Rattle.tangle_session.specs.Tangle.{Tangling}
 use Rattle.ctangle_cli.specs.Run.{NamedEnds, RunEnds, TangledEnds, moment, nothing_done}

@@ -1,12 +1,7 @@
 pub mod Arguments
 pub mod RetangleArguments
 pub mod Writing
-pub mod Loading
 pub mod Messages
 pub mod Run
-pub mod AskedNames
-pub mod AskedOnce
-pub mod Loads
-pub mod Steps
 pub mod Conversation
 pub mod Histories

@@ -24,8 +24,8 @@ use Rattle.tangle_folders.specs.declared.folder.FolderFault.{FolderFault}
 use Rattle.tangle_folders.specs.declared.folder.FolderFault.TheVariants.{Missing, TooBig}
 use Rattle.tangle_folders.specs.declared.folder.FolderFault.TheVariants.{Failed as IsFailed}
 use Rattle.tangle_folders.specs.declared.folder.FolderFault.TheVariants.{NoMemory as FolderMemory}
-use Rattle.ctangle_cli.specs.Loading.{LoadEnd}
-use Rattle.ctangle_cli.specs.Loading.LoadEnd.{CannotRead, Refused, NoMemory as LoadMemory}
+use Rattle.tangle_loading.specs.Loading.{LoadEnd}
+use Rattle.tangle_loading.specs.Loading.LoadEnd.{CannotRead, Refused, NoMemory as LoadMemory}
 
 abbrev pub usage_line : List ℕ
 usage_line = codes "usage: ctangle [flags] web [change [out]]\n"

@@ -9,8 +9,8 @@ use Rattle.tangle_folders.specs.declared.folder.FolderFault.TheVariants.{NoMemor
 use Rattle.tangle_folders.specs.Folder.{File, FolderRead, with_created}
 use Rattle.ctangle_cli.specs.Writing.{IsPrefixOf}
 use Rattle.ctangle_cli.specs.Arguments.{names_by_arguments}
-use Rattle.ctangle_cli.specs.Loading.{LoadEnd}
-use Rattle.ctangle_cli.specs.Loads.{Loads, StopsLoading}
+use Rattle.tangle_loading.specs.Loading.{LoadEnd}
+use Rattle.tangle_loading.specs.Loads.{Loads, StopsLoading}
 use Rattle.ctangle_cli.specs.Messages.{usage_line, ending_line, no_memory_line, unwritten_line}
 use Rattle.ctangle_cli.specs.Messages.{fault_lines, faults_status}
 

@@ -3,13 +3,13 @@ ghost use Rattle.std.specs.Prelude.{◌≡◌, ◌<◌, ◌^◌, ◌++◌, [], l
 ghost use Rattle.std.specs.List.{fold};
 ghost use Rattle.tangle_script.specs.Script.{WritesAnswer};
 ghost use Rattle.tangle_streams.specs.Streams.{IsWritten};
-ghost use Rattle.ctangle_cli.specs.Loading.{ending_of};
+ghost use Rattle.tangle_loading.specs.Loading.{ending_of};
 ghost use Rattle.ctangle_cli.specs.Messages.{cannot_write_line, ending_line};
 ghost use Rattle.ctangle_cli.specs.Messages.{fault_lines, refusal_name, unwritten_line, usage_line};
 
-use crate::loading::LoadFault;
 use tangle_folders::FolderFault;
 use tangle_lines::{Fault, Refusal, Sink, WriteFault, write_after, write_fault};
+use tangle_loading::LoadFault;
 use tangle_script::SinkFailed;
 
 /// The name of a refusal, as the programs print it.

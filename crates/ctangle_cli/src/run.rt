@@ -2,16 +2,17 @@
 ghost use Rattle.std.specs.Prelude.{◌≡◌, ℕ, List, map};
 ghost use Rattle.ctangle_cli.specs.Messages.{faults_status};
 ghost use Rattle.tangle_folders.specs.Folder.{FolderRead};
-ghost use Rattle.ctangle_cli.specs.Loads.{Loads};
+ghost use Rattle.tangle_loading.specs.Loads.{Loads};
 ghost use Rattle.ctangle_cli.specs.Run.{NamedEnds, RunEnds, SessionEnds, moment, nothing_done};
 
 use crate::arguments::{WordFault, Words, read_words};
-use crate::loading::{LoadFault, load};
 use crate::messages::{write_faults, write_load, write_unwritten, write_usage};
 use crate::writing::create_outputs;
 use std::alloc::Global;
+use std::mem::forget;
 use tangle_folders::Folder;
 use tangle_lines::{Fault, Files, Roles, Sink};
+use tangle_loading::{LoadFault, load};
 use tangle_session::Session;
 
 fn status(faults: &[Fault]) -> u8
@@ -49,13 +50,11 @@ fn run_session<F: Folder, E: Sink>(
     }
 }
 
-/// The result of a run of `ctangle`.
+// The result of a run: the status, and the session unless the run ended before one was started.
 #[derive(Drop)]
-pub struct Ended {
-    /// The status with which the program ends.
-    pub status: u8,
-    /// The session, unless the run ended before one was started.
-    pub session: Option<Session>,
+struct Ended {
+    status: u8,
+    session: Option<Session>,
 }
 
 // The result of a run that ended before a session was started.
@@ -109,9 +108,8 @@ fn run_named<F: Folder, E: Sink>(alloc: Global, names: &Words, folder: &mut F, e
     }
 }
 
-/// Runs `ctangle` as [`run_ctangle`] does, and also returns the session. A program that ends after
-/// the run need not free it: the system takes all memory back at once.
-pub fn run_keeping_session<F: Folder, E: Sink>(
+// Runs `ctangle`, and keeps the session.
+fn run_keeping_session<F: Folder, E: Sink>(
     alloc: Global,
     arguments: &[&[u8]],
     folder: &mut F,
@@ -156,6 +154,23 @@ pub fn run_ctangle<F: Folder, E: Sink>(
 {
     let ended = run_keeping_session(alloc, arguments, folder, err);
     ended.status
+}
+
+/// Runs `ctangle` as [`run_ctangle`] does, for a program that ends after the run. The session is not
+/// dropped: the system takes all memory back at once.
+pub fn run_before_exit<F: Folder, E: Sink>(
+    alloc: Global,
+    arguments: &[&[u8]],
+    folder: &mut F,
+    err: &mut E,
+) -> u8
+    ensures { RunEnds (map (λ w. w.now) arguments.now)
+        (moment (F.state folder.old) (E.stream err.old))
+        (moment (F.state folder.new) (E.stream err.new)) result }
+{
+    let Ended { status, session } = run_keeping_session(alloc, arguments, folder, err);
+    forget(session);
+    status
 }
 
 /// A run that reads and writes nothing, and in which nothing fails, does not end with status 3. So

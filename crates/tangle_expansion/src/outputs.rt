@@ -10,7 +10,7 @@ use crate::kept::Kept;
 use crate::numbers::Numbers;
 use digraph::Node;
 use std::marker::Model;
-use tangle_lines::{Sink, WriteFault, write_after};
+use tangle_lines::{Discarding, Sink, WriteFault, write_after};
 
 /// An output file of a web: the expansion of a node. Where the file is the main file and no C part
 /// has `@h`, all macros come before it.
@@ -125,31 +125,12 @@ pub fn write_file<S: Sink>(
     write_after(sink, written, b"\n")
 }
 
-/// A sink that takes all bytes and stores none.
-#[derive(Drop)]
-struct Discarding {}
-
-impl Sink for Discarding {
-    ghost use Rattle.std.specs.Prelude.{None};
-
-    ghost stream = { λ _. record { taken = None; failures = 0 } };
-
-    fn take(&mut self, bytes: &[u8]) -> Option<usize> {
-        Some(bytes.len())
-    }
-
-    fn failures(&self) -> u64 {
-        0
-    }
-}
-
 /// The size of an output file in bytes. Nothing is allocated.
 pub fn file_size(output: &Output, kept: &Kept, numbers: &Numbers) -> u128
     requires { IsReady output.now kept.now }
     ensures { result ≡ length (kept_output_bytes numbers.now kept.now output.now) }
 {
-    let mut sink = Discarding {};
-    match write_file(output, kept, numbers, &mut sink) {
+    match write_file(output, kept, numbers, &mut Discarding) {
         Ok(size) => size,
         Err(_) => 0,
     }

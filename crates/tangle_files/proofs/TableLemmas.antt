@@ -12,6 +12,7 @@ use Rattle.std.specs.Vec.{vec_len}
 use Rattle.std.proofs.lemmas.Bool.{leb-false, ltb-false}
 use Rattle.std.proofs.lemmas.List.{length-map, map-append}
 use Rattle.std.proofs.lemmas.Cmp.{nat_list_eq_equiv}
+use Rattle.std.proofs.lemmas.Grind.{common_steps}
 use Rattle.std.proofs.lemmas.Map.Keys.{IsDistinct-push}
 use Rattle.std.proofs.lemmas.List.Elements.{All-append}
 use Rattle.std.specs.Map.{lookup}
@@ -187,3 +188,9 @@ position-entries name es =
 pub file_number-entries : (t : Table) (files : FileTable) (name : List ℕ) → files_of t ≡ files
     → file_number files name ≡ position (λ (k : Vec ℕ Global). bytes_eq name k.items) (map (λ e. e.0) t.entries)
 file_number-entries t files name is = rw (← is) (position-entries name t.entries)
+
+-- a table has the files of both its parts
+pub has_file-append : (files more : FileTable) (name : List ℕ)
+    → has_file (files ++ more) name ≡ (has_file files name || has_file more name)
+has_file-append [] more name = refl
+has_file-append (f ∷ files) more name = grind (arith, common_steps, has_file-append files more name)

@@ -4,15 +4,15 @@ ghost use Rattle.tangle_expansion.specs.Outputs.{IsReady};
 
 use crate::graph::add_node;
 use crate::listing::Listing;
-use crate::text_lines::{Discarding, LineFeeds, TextLines};
+use crate::text_lines::{LineFeeds, TextLines};
 use tangle_expansion::{Kept, Numbers, Output, file_size, write_file};
-use tangle_lines::{Sink, WriteFault};
+use tangle_lines::{Discarding, Sink, WriteFault};
 
 // The number of bytes that writing the file returns.
 fn written_size(output: &Output, kept: &Kept, numbers: &Numbers) -> u128
     requires { IsReady output.now kept.now }
 {
-    match write_file(output, kept, numbers, &mut Discarding {}) {
+    match write_file(output, kept, numbers, &mut Discarding) {
         Ok(size) | Err(WriteFault(size)) => size,
     }
 }

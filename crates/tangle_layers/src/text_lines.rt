@@ -65,21 +65,3 @@ impl<'l, S: Sink> Sink for TextLines<'l, S> {
         0
     }
 }
-
-/// A sink that takes all bytes and keeps none.
-#[derive(Drop)]
-pub struct Discarding {}
-
-impl Sink for Discarding {
-    ghost use Rattle.std.specs.Prelude.{None};
-
-    ghost stream = { λ _. record { taken = None; failures = 0 } };
-
-    fn take(&mut self, bytes: &[u8]) -> Option<usize> {
-        Some(bytes.len())
-    }
-
-    fn failures(&self) -> u64 {
-        0
-    }
-}

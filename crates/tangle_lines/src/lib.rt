@@ -17,4 +17,6 @@ pub use reading::{read_source, reading_goes_step_by_step};
 pub use source::Source;
 pub use tangle_faults::{Fault, FaultKind, Place, write_fault};
 pub use tangle_files::{Edit, Files, Line, MarkMode, Refusal, Roles, Words, is_file_name};
-pub use tangle_streams::{Feed, IoFeed, IoSink, NoMemory, Sink, WriteFault, write_after};
+pub use tangle_streams::{
+    Discarding, Feed, IoFeed, IoSink, NoMemory, Sink, WriteFault, write_after,
+};

@@ -179,10 +179,10 @@ fn line_after<'a>(lines: &'a [Line], read: u32) -> Option<(&'a Line, u32)>
         × (drop read lines.entry.now ≡ r.0.now ∷ drop (read + 1) lines.entry.now)) }
     ensures none { IfNone result (drop read lines.entry.now ≡ []) }
 {
-    if read as usize >= lines.len() {
-        return None;
+    match lines.get(read as usize) {
+        Some(line) => Some((line, read + 1)),
+        None => None,
     }
-    Some((&lines[read as usize], read + 1))
 }
 
 /// The open files. The last one is read first.

@@ -1,5 +1,5 @@
 -- The web and the change file are there after an edit that is not refused.
-use Rattle.std.proofs.Common.{◌+◌, ◌≡◌, ◌∙◌, inl, inr, ℕ, Bool, true, false, ◌||◌, List, [], ◌∷◌, ◌++◌, Option}
+use Rattle.std.proofs.Common.{◌+◌, ◌≡◌, ◌∙◌, inl, inr, ℕ, Bool, true, false, List, [], ◌∷◌, Option}
 use Rattle.std.proofs.Common.{None}
 use Rattle.std.proofs.Common.{Some, Result, Err, refl, ap, subst, sym, arith}
 use Rattle.std.specs.Prelude.{◌⊎◌, IfSome, IfNone, IsOkUnless}
@@ -19,7 +19,7 @@ use Rattle.tangle_files.specs.Adding.{has_file, or_else}
 use Rattle.tangle_files.specs.Roles.{RolesRead, fits, has_file_if_any}
 use Rattle.tangle_files.specs.declared.edits.Edit.{Edit}
 use Rattle.tangle_files.specs.declared.edits.Edit.TheVariants.{Insert, Remove, Replace, Create, Discard, Marks}
-use Rattle.tangle_files.proofs.TableLemmas.{both_none}
+use Rattle.tangle_files.proofs.TableLemmas.{both_none, has_file-append}
 use Rattle.tangle_files.specs.declared.marks.MarkMode.{MarkMode}
 use Rattle.tangle_files.specs.declared.refusal.Refusal.{Refusal}
 use Rattle.tangle_files.specs.declared.refusal.Refusal.TheVariants.{NoMemory, RoleFile}
@@ -44,12 +44,6 @@ stays_edited files name other change = by (lines_of files name)
         is_some-lookup (bytes_eq other) (set_value (bytes_eq name) files (change lines))
         ∙ ap (list_any (bytes_eq other)) (keys-set_value (bytes_eq name) files (change lines))
         ∙ sym (is_some-lookup (bytes_eq other) files)
-
--- a table has the files of both its parts
-pub has_file-append : (files more : FileTable) (name : List ℕ)
-    → has_file (files ++ more) name ≡ (has_file files name || has_file more name)
-has_file-append [] more name = refl
-has_file-append (f ∷ files) more name = grind (arith, common_steps, has_file-append files more name)
 
 -- a name that is one name is not another
 other_name : (name other x : List ℕ) → bytes_eq name other ≡ false → bytes_eq name x ≡ true

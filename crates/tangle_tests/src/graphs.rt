@@ -1,14 +1,22 @@
 //! Nodes that a store does not have, and expansions that are written on their own.
-use crate::reading::read;
 use crate::support::files_with;
 use std::alloc::{AllocError, Global};
 use std::test::Fail;
 use tangle_affected::expand_all;
 use tangle_graph::{Expansion, Kept, Node, Numbers, Store, Work, same_shape};
-use tangle_lines::{MarkMode, NoMemory, Source, WriteFault};
+use tangle_lines::{Files, MarkMode, NoMemory, Refusal, Roles, Source, WriteFault, read_source};
 use tangle_memory_folder::MemorySink;
 use tangle_names::NameTable;
 use tangle_scan::scan;
+
+// The source of the web `a.w`.
+fn read<'a>(alloc: Global, files: &'a Files) -> Result<Source<'a>, Refusal> {
+    let roles = Roles::new(alloc, b"a.w", None, b"a.c")?;
+    if !roles.fits(files) {
+        return Err(Refusal::NoWeb);
+    }
+    Ok(read_source(alloc, files, &roles)?)
+}
 
 fn tangle_source(alloc: Global, source: &Source) -> Result<(Store, Kept, Numbers), NoMemory> {
     let web = scan(alloc, source)?;

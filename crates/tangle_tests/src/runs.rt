@@ -1,9 +1,8 @@
 //! Runs over a folder in memory, of which a call or a writer fails.
 use crate::support::AMPLE;
-use ctangle_cli::{LoadFault, run_ctangle, write_load};
+use ctangle_cli::run_ctangle;
 use std::alloc::Global;
 use std::test::Fail;
-use tangle_lines::Refusal;
 use tangle_memory_folder::{MemoryFolder, MemorySink};
 
 const IN_C: &[u8] = b"/*1:*/\n#line 2 \"a.w\"\n\nint x;\n/*:1*/\n";
@@ -47,15 +46,5 @@ fn folders_that_fail(rt: HostRuntime) -> Result<(), Fail> {
             assert!(rt; Some(file.bytes.as_slice()) == *bytes);
         }
     }
-    Ok(())
-}
-
-#[test]
-fn a_fault_of_loading(rt: HostRuntime) -> Result<(), Fail> {
-    let name = b"b.w".to_vec(rt.alloc())?;
-    let fault = LoadFault::Refused(name, Refusal::TooManyFiles);
-    let mut err = MemorySink::new(rt.alloc(), AMPLE);
-    assert_eq!(rt; write_load(b"ctangle", &fault, &mut err), Ok(27));
-    assert!(rt; err.bytes() == b"ctangle: b.w: TooManyFiles\n".as_slice());
     Ok(())
 }

@@ -1,14 +1,16 @@
-//! Writers that fail: what was written is the front of the whole, and the session is as it was.
+//! Writers that fail, at a byte or at a flush: what was written is the front of the whole, and the
+//! session is as it was.
 ghost use Rattle.std.specs.Prelude.{None};
 
-use crate::support::{AMPLE, end_failures, fail_allocation, start};
+use crate::support::{AMPLE, start};
 use ctangle_cli::run_retangle;
 use std::alloc::Global;
+use std::io::{self, ErrorKind, Write};
 use std::process::Abort;
 use std::test::Fail;
-use tangle_lines::{Feed, IoFeed, IoSink, Refusal, Sink};
+use tangle_lines::{Feed, IoFeed, IoSink, Refusal, Sink, WriteFault, write_after};
 use tangle_memory_folder::MemorySink;
-use tangle_session::{Session, ask_all};
+use tangle_session::Session;
 
 /// A writer that takes one byte a call until it has taken `left` further ones, and then fails.
 #[derive(Drop)]
@@ -128,45 +130,6 @@ fn writers_that_fail_at_each_byte(rt: HostRuntime) -> Result<(), Fail> {
     Ok(())
 }
 
-// Writes the main file with this allocation of the writer failing, and says whether none did: it
-// has the front that is counted.
-fn write_without_failure(
-    rt: &impl Abort,
-    alloc: Global,
-    session: &Session,
-    nth: u32,
-) -> Result<bool, Fail> {
-    let mut sink = MemorySink::new(alloc, AMPLE);
-    let has_library = fail_allocation(alloc, nth);
-    let written = session.write_output(b"a.c", &mut sink);
-    let none_failed = end_failures(alloc, has_library);
-    let count = sink.bytes().len();
-    let expected = if none_failed {
-        Ok(count as u128)
-    } else {
-        Err(Refusal::WriteFault(count as u128))
-    };
-    assert_eq!(rt; written, expected);
-    assert!(rt; Some(sink.bytes()) == ONE_PIECE_IN_C.get(..count));
-    assert_eq!(rt; sink.failures() == 0, none_failed);
-    Ok(none_failed)
-}
-
-fn fail_each_allocation(rt: &impl Abort, alloc: Global, session: &Session) -> Result<(), Fail> {
-    for nth in 1..1000 {
-        if write_without_failure(rt, alloc, session, nth)? {
-            return Ok(());
-        }
-    }
-    Err(Fail::from("never written"))
-}
-
-#[test]
-fn each_allocation_of_a_writer_failing(rt: HostRuntime) -> Result<(), Fail> {
-    let session = start(rt.alloc(), ONE_PIECE)?;
-    fail_each_allocation(&rt, rt.alloc(), &session)
-}
-
 const SCRIPT: &[u8] = b"work\nreplace 3 a.w\nint y;\nshow a.c\nremove 9 a.w\nfaults\nquit\n";
 
 const ANSWERS: &[u8] =
@@ -216,22 +179,31 @@ fn a_conversation_whose_writer_fails(rt: HostRuntime) -> Result<(), Fail> {
     check_conversations(&rt, rt.alloc(), &mut session)
 }
 
-// All questions are asked where the first allocation would fail: none is made.
-fn check_questions(rt: &impl Abort, alloc: Global, session: &Session) {
-    let mut buffer = [0u8; 36];
-    let mut sink = IoSink::new(buffer.as_mut_slice());
-    let has_library = fail_allocation(alloc, 1);
-    let shown = ask_all(session, b"a.c", &mut sink);
-    let outputs = shown.names.count();
-    let none_failed = end_failures(alloc, has_library);
-    assert_eq!(rt; (outputs, shown.size, shown.written), (1, Some(36), Ok(36)));
-    assert_eq!(rt; (shown.faults.len(), shown.work), (0, 1));
-    assert!(rt; none_failed && buffer.as_slice() == ONE_PIECE_IN_C);
+// A writer that takes all and can't pass it on.
+#[derive(Drop)]
+struct Stuck;
+
+impl Write for Stuck {
+    fn write(&mut self, bytes: &[u8]) -> io::Result<usize> {
+        Ok(bytes.len())
+    }
+
+    fn flush(&mut self) -> io::Result<()> {
+        Err(io::Error::from(ErrorKind::StorageFull))
+    }
+}
+
+// What is written, and the numbers of failures before a flush and after it.
+fn flushed<W: Write + Drop>(writer: W) -> (Result<u128, WriteFault>, u64, u64) {
+    let mut sink = IoSink::new(writer);
+    let written = write_after(&mut sink, Ok(0), b"kept back");
+    let before = sink.failures();
+    sink.flush();
+    (written, before, sink.failures())
 }
 
 #[test]
-fn questions_take_no_memory(rt: HostRuntime) -> Result<(), Fail> {
-    let session = start(rt.alloc(), ONE_PIECE)?;
-    check_questions(&rt, rt.alloc(), &session);
-    Ok(())
+fn a_failed_flush_is_a_failure(rt: HostRuntime) {
+    assert_eq!(rt; flushed(Stuck), (Ok(9), 0, 1));
+    assert_eq!(rt; flushed(Vec::new(rt.alloc())), (Ok(9), 0, 0));
 }

@@ -1,4 +1,4 @@
-//! What the tests share: files and sessions in memory, and allocations that fail.
+//! What the tests share: files and sessions in memory.
 use std::alloc::Global;
 use std::test::Fail;
 use tangle_lines::{Files, Refusal, Roles};
@@ -26,17 +26,4 @@ pub(crate) fn start(alloc: Global, web: &[u8]) -> Result<Session, Fail> {
     let files = files_with(alloc, &[(b"a.w", web)])?;
     let roles = Roles::new(alloc, b"a.w", None, b"a.c")?;
     Ok(started(alloc, files, roles).ok_or("not started")?)
-}
-
-/// Makes the nth allocation from here on fail, none at 0: whether the library of `tests/memory.sh`
-/// is there. Without it the request is too large to succeed, and no later one fails.
-pub(crate) fn fail_allocation(alloc: Global, nth: u32) -> bool {
-    Vec::<u8>::with_capacity(alloc, (1 << 62) + nth as usize).is_ok()
-}
-
-/// Ends the failures: true where the nth allocation was not reached, or there is no library.
-pub(crate) fn end_failures(alloc: Global, has_library: bool) -> bool {
-    let is_waiting = Vec::<u8>::with_capacity(alloc, 3 << 61).is_ok();
-    fail_allocation(alloc, 0);
-    is_waiting || !has_library
 }

@@ -1,0 +1,6 @@
+mod AskLemmas
+mod LoadLemmas
+mod MissingLemmas
+mod NoMissingLemmas
+mod RoundLemmas
+mod StepLemmas

@@ -1,0 +1,37 @@
+use Rattle.std.proofs.Common.{◌∙◌, ap, subst, sym}
+use Rattle.std.specs.Option.{option_copied}
+use Rattle.std.proofs.lemmas.Result.{err_from_is_err_and}
+use Rattle.tangle_files.specs.Roles.{RolesRead}
+use Rattle.tangle_loading.specs.Loading.{bad_name, ending_of}
+use Rattle.tangle_loading.specs.Loads.{Loads, StopsLoading}
+use Rattle.tangle_loading.proofs.RoundLemmas.{stops_at_once, stops_badly}
+use Rattle.tangle_loading.proofs.loading.load.Goals as goal
+
+pub returns-in-Some-clause-err : goal.returns-in-Some-clause-err
+returns-in-Some-clause-err g c =
+    stops_badly c.args.names.now (g.F.Folder.state c.args.folder.now) _ (ending_of c.refused.result)
+    (sym c.first_bad.ensures ∙ ap option_copied c.in-Some.is) c.refused.ensures
+
+pub returns-in_default-new-clause-err : goal.returns-in_default-new-clause-err
+returns-in_default-new-clause-err g c = stops_at_once c.args.names.now (g.F.Folder.state c.args.folder.now)
+
+pub load_files-requires : goal.load_files-requires
+load_files-requires g c =
+    let given = rw (c.web.ensures, c.change.ensures, c.out.ensures) at c.in-Ok.ensures.roles in
+    ap bad_name (c.set_marks.ensures ∙ (λ i. record (given i) { marks = c.marks.ensures i }))
+    ∙ sym c.first_bad.ensures ∙ ap option_copied c.in_default.is
+
+pub returns-clause-ok : goal.returns-clause-ok
+returns-clause-ok g c =
+    let given = rw (c.web.ensures, c.change.ensures, c.out.ensures) at c.in-Ok.ensures.roles in
+    subst (λ (r : RolesRead).
+    Loads r (g.F.Folder.state c.args.folder.now) (g.F.Folder.state c.load_files.new.folder) c.in_ok-files.files)
+    (c.set_marks.ensures ∙ (λ i. record (given i) { marks = c.marks.ensures i })) c.in_ok-files.ensures.ok
+
+pub returns-in_err-files-clause-err : goal.returns-in_err-files-clause-err
+returns-in_err-files-clause-err g c =
+    let left = err_from_is_err_and c.from_residual.result c.from_residual.ensures.1 in
+    let given = rw (c.web.ensures, c.change.ensures, c.out.ensures) at c.in-Ok.ensures.roles in
+    rw (left.1, left.2) (subst (λ (r : RolesRead). StopsLoading r (g.F.Folder.state c.args.folder.now)
+    (g.F.Folder.state c.load_files.new.folder) (ending_of c.in_err-files.field-0.0))
+    (c.set_marks.ensures ∙ (λ i. record (given i) { marks = c.marks.ensures i })) c.in_err-files.ensures.err)

@@ -1,0 +1,5 @@
+pub mod AskedNames
+pub mod AskedOnce
+pub mod Loading
+pub mod Loads
+pub mod Steps
