@@ -1,39 +1,54 @@
 # make             proves and builds the programs into bin/
-# make try         runs ctangle on examples/hello.w, and builds and proves nothing: about a minute
-# make install     copies them and their manual pages to DESTDIR and PREFIX (/usr/local)
+# make try         tangles examples/hello.w, unproved: about a minute. WEB=path/to/web.w tangles any
+#                  web, with a change file by CHANGE=path/to/changes.ch; its C comes into bin/try
+# make install     copies the programs, their manual pages and webs.mk to DESTDIR and PREFIX (/usr/local)
 # make uninstall   removes what make install copied
 # make example     tangles the web in examples/, compiles it and runs it, and edits it by a script
 # make check       runs the gate (rt ci) and the tests over the built programs; 'N passed, M failed' ends it
 # make further     tries the wrong bodies that the gate leaves out for their time
 # make layers      proves and builds bin/tangle_layers, which prints what each layer makes of a web
 # make bench       measures the instructions, time and memory that the built programs take
-# make documents   makes docs/definitions.md from the sources
+# make documents   makes docs/generated/definitions.md from the sources
 #
-# PROGRAM_PREFIX=proved- installs proved-ctangle and proved-retangle, with pages of these names.
-# Give the same to make uninstall. GNU make's own rule for webs then takes CTANGLE=proved-ctangle,
-# and examples/editor.py RETANGLE=proved-retangle in the environment.
+# PROGRAM_PREFIX=proved- installs proved-ctangle and proved-retangle, with pages of these names and
+# webs.mk in share/proved-ctangle. Give the same to make uninstall. GNU make's own rule for webs then
+# takes CTANGLE=proved-ctangle, and examples/editor.py RETANGLE=proved-retangle in the environment.
 #
 # The kit's command rt, cc and python3 have to be on the path. To try, build and install, rt is enough.
 
 PREFIX = /usr/local
 DESTDIR =
 PROGRAM_PREFIX =
+WEB = examples/hello.w
+CHANGE =
 
-programs = $(DESTDIR)$(PREFIX)/bin
-pages = $(DESTDIR)$(PREFIX)/share/man/man1
+# what make install copies: programs into bin, pages into share/man/man1, the others into share/ctangle
+programs = bin/ctangle bin/retangle
+pages = docs/ctangle.1 docs/retangle.1
+shared = examples/webs.mk
+
+program_folder = $(DESTDIR)$(PREFIX)/bin
+page_folder = $(DESTDIR)$(PREFIX)/share/man/man1
+shared_folder = $(DESTDIR)$(PREFIX)/share/$(PROGRAM_PREFIX)ctangle
 
 sources := $(shell find crates crates.txt -name out -prune -o -type f -print)
 
-all: bin/ctangle bin/retangle
+# Before a command of the kit.
+kit = @command -v rt >/dev/null || { echo "This needs rt, the command of Rattle's kit, which proves and \
+builds these programs. It is not on the path. README.md, 'Build and install', says what it is." >&2; exit 1; }
+
+all: $(programs)
 
 # rt builds a program in order to run it, so the program tangles the web of its stored run.
 bin/ctangle: $(sources)
+	$(kit)
 	cd crates/ctangle && rt run -- data/a.w - out/a
 	mkdir -p bin
 	cp crates/ctangle/out/ctangle $@
 
 # It answers the script of its stored run.
 bin/retangle: $(sources)
+	$(kit)
 	cd crates/retangle && rt run -- data/a.w <stdin
 	mkdir -p bin
 	cp crates/retangle/out/retangle $@
@@ -42,30 +57,33 @@ layers: bin/tangle_layers
 
 # It lists the layers of the web of its stored run (docs/layers.md).
 bin/tangle_layers: $(sources)
+	$(kit)
 	cd crates/tangle_layers && rt run -- data/a.w
 	mkdir -p bin
 	cp crates/tangle_layers/out/tangle_layers $@
 
-# rt keeps no file that is written in its own folder, so the C has a full path.
 try:
-	rm -rf bin/try
-	mkdir -p bin/try
-	cd crates/ctangle && rt try --data hello.w=../../examples/hello.w \
-	    -- hello - "$(CURDIR)/bin/try/hello.c"
-	cat bin/try/hello.c
-	@echo 'This is bin/try/hello.c. Nothing was proved or built: make does both.'
+	$(kit)
+	@python3 -B examples/try.py "$(WEB)" $(if $(CHANGE),"$(CHANGE)")
+	@$(if $(filter examples/hello.w,$(WEB)),cat bin/try/hello.c)
 
-install: bin/ctangle bin/retangle
-	install -d "$(programs)" "$(pages)"
-	for name in ctangle retangle; do \
-	    install -m 755 bin/$$name "$(programs)/$(PROGRAM_PREFIX)$$name" && \
-	    install -m 644 docs/$$name.1 "$(pages)/$(PROGRAM_PREFIX)$$name.1" || exit 1; \
+# Where strip is, the installed programs have no table of symbols. A script stays as it is.
+install: $(programs)
+	install -d "$(program_folder)" "$(page_folder)" "$(shared_folder)"
+	for file in $(programs); do \
+	    to="$(program_folder)/$(PROGRAM_PREFIX)$${file##*/}" && install -m 755 $$file "$$to" || exit 1; \
+	    strip "$$to" 2>/dev/null || :; \
 	done
+	for file in $(pages); do \
+	    install -m 644 $$file "$(page_folder)/$(PROGRAM_PREFIX)$${file##*/}" || exit 1; \
+	done
+	install -m 644 $(shared) "$(shared_folder)"
 
 uninstall:
-	for name in ctangle retangle; do \
-	    rm -f "$(programs)/$(PROGRAM_PREFIX)$$name" "$(pages)/$(PROGRAM_PREFIX)$$name.1" || exit 1; \
-	done
+	for file in $(notdir $(programs)); do rm -f "$(program_folder)/$(PROGRAM_PREFIX)$$file" || exit 1; done
+	for file in $(notdir $(pages)); do rm -f "$(page_folder)/$(PROGRAM_PREFIX)$$file" || exit 1; done
+	for file in $(notdir $(shared)); do rm -f "$(shared_folder)/$$file" || exit 1; done
+	[ ! -d "$(shared_folder)" ] || rmdir "$(shared_folder)"
 
 example: bin/ctangle bin/retangle
 	$(MAKE) -C examples run CTANGLE=../bin/ctangle RETANGLE=../bin/retangle
@@ -77,9 +95,11 @@ documents:
 	python3 -B tests/definitions.py
 
 check:
+	$(kit)
 	tests/check.sh
 
 further:
+	$(kit)
 	tests/wrong_bodies.sh
 
 clean:

@@ -1,6 +1,3 @@
-@ A program that greets.
-@c
-#include <stdio.h>
+@ @c #include <stdio.h>
 int main(void) { @<Greet@> }
-@ @<Greet@>=
-puts("hello, world");
+@ @<Greet@>= puts("hello, world");

@@ -1,4 +1,4 @@
-"""Makes docs/definitions.md from the definitions, the contracts and the code.
+"""Makes docs/generated/definitions.md from the definitions, the contracts and the code.
 
 usage: definitions.py [FOLDER]      the folder of the repository, into which the page is written
 
@@ -17,7 +17,7 @@ from sources import crates_in, exported_of, functions_in
 
 # The page that explains a crate, or a file as CRATE/FILE, which goes before its crate.
 PAGES = {
-    'README.md': [
+    'PROOFS.md': [
         'tangle_session/Headline', 'tangle_session/Tangle', 'tangle_session/Files',
         'tangle_session/Sessions', 'ctangle_cli/Histories', 'tangle_streams'],
     'docs/reading.md': ['tangle_files', 'tangle_lines'],
@@ -41,7 +41,7 @@ PAGES = {
 }
 
 NOTES = {
-    'README.md':
+    'PROOFS.md':
         'The headline is the page `tangle_session/specs/Headline.antt`, to be read from its top.',
     'docs/scanning.md':
         '`next_block` of `tangle_lexer` promises what is at a position, and `scan: web` of\n'
@@ -400,7 +400,7 @@ def unlisted_in(definitions):
 
 
 def page(crates):
-    """The text of docs/definitions.md."""
+    """The text of docs/generated/definitions.md."""
     definitions = Definitions(crates)
     texts = [TOP]
     for name in PAGES:
@@ -416,7 +416,7 @@ def page(crates):
 def main():
     here = os.path.dirname(os.path.abspath(__file__))
     top = sys.argv[1] if len(sys.argv) > 1 else os.path.join(here, '..')
-    with open(os.path.join(top, 'docs', 'definitions.md'), 'w', encoding='utf-8') as file:
+    with open(os.path.join(top, 'docs', 'generated', 'definitions.md'), 'w', encoding='utf-8') as file:
         file.write(page(crates_in(top)))
 
 

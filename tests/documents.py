@@ -2,19 +2,23 @@
 
 usage: documents.py [FOLDER]      the folder of the repository
 
-- docs/definitions.md is what tests/definitions.py makes of the sources; bugs that are planted in a
-  copy of these change it. Each page of docs/ that leads to it has a part there. It has just the
-  files of specs/ on which clauses of public functions rest, and each kind of fault.
+- docs/generated/definitions.md is what tests/definitions.py makes of the sources; bugs that are
+  planted in a copy of these change it. Each page of docs/ that leads to it has a part there. It has
+  just the files of specs/ on which clauses of public functions rest, and each kind of fault.
 - docs/faults.md: the kinds of faults, their messages and levels are those of the code.
 - docs/words.md: each name of the code is in the crate beside it. No word that these replaced is in
   the sources, the definitions, the proofs or the documents.
 - docs/DECISIONS.md: each crate exports what the table of the surface says, and besides only laws.
 - docs/promises.md: the page has each crate below those that it uses. Each public call has a
   comment, and a clause unless the page says that it has none.
-- Each file, name and make target of docs/promises.md and docs/changing.md is there. What
-  docs/changing.md quotes is in the file that it names.
+- Each file, name and make target of docs/promises.md and CONTRIBUTING.md is there. What
+  CONTRIBUTING.md quotes is in the file that it names.
 - docs/sessions.md: the reference gives the answers of its conversation; each line of a script is in
-  its table and in docs/retangle.1. README.md names each page of docs/.
+  its table and in docs/retangle.1.
+- Every page: what its links lead to is there, headings too, and so is each path that it has in code.
+  docs/README.md names each page of docs/. README.md and PROOFS.md are short.
+- The manual pages, CHANGELOG.md and `retangle --version` have the same version, and the manual pages
+  the date of CHANGELOG.md.
 - crates/*/must-fail and tests/wrong-bodies: each public function that is no law has an edit of its own, or of a private
   function that it calls, unless docs/wrong-bodies.md has it in a row '| `CRATE` | without an edit: `TYPE::NAME`, `NAME` |
   why |'. Each text that an edit replaces is once in its file.
@@ -23,6 +27,7 @@ usage: documents.py [FOLDER]      the folder of the repository
 The last line is 'N passed, M failed'.
 """
 import copy
+import glob
 import os
 import re
 import sys
@@ -40,6 +45,10 @@ CODED = re.compile(r'`([^`]+)`')
 REPLACED = re.compile(
     r'\b(?:told|tells?|wanted|wants|talk|put\s+out|hands\s+on|handed\s+on|handed\s+over|Ground|Tangled|byte_count|Spot|'
     r'RoleNames|ItemCode|NodeText|Placed|is_extended|name_after_mark|PutsOut|Telling|behind(?!\s+an\s+`Rc`))\b')
+
+# The folders whose pages' links are followed, and those to which a path in code leads.
+LINKED = ('', 'docs', 'docs/generated', 'bench', 'tests/reference')
+FOLDERS = ('crates', 'docs', 'examples', 'tests', 'bench')
 
 # The crates in which nodes are expanded and expansions written.
 EXPANDING = ('tangle_plans', 'tangle_expansion', 'tangle_graph', 'tangle_affected', 'tangle_session', 'ctangle_cli',
@@ -129,7 +138,7 @@ PLANTED = {
         '            let _ = self.write_output(name, &mut self.outputs);\n        }\n'),
 }
 
-# Bugs that change docs/definitions.md, in a file of a crate: what is replaced, and by what.
+# Bugs that change docs/generated/definitions.md, in a file of a crate: what is replaced, and by what.
 MISTAKEN = {
     'a clause promises less': (
         'tangle_lines', 'code', 'reading.rt', 's ≡ source_of files.entry.now roles.now', 's ≡ s'),
@@ -145,7 +154,7 @@ MISTAKEN = {
 # ------------------------------------------------------------------ definitions and faults
 
 def check_definitions(crates, top):
-    name = 'docs/definitions.md'
+    name = 'docs/generated/definitions.md'
     text, found = page_in(top, name), definitions.Definitions(crates)
     check(text == definitions.page(crates), name, 'is not made of these sources: run make documents')
     for bug, (crate, part, file, old, new) in MISTAKEN.items():
@@ -155,9 +164,9 @@ def check_definitions(crates, top):
         setattr(mistaken, part, {**texts, file: texts[file].replace(old, new)})
         check(definitions.page({**crates, crate: mistaken}) != text, 'a planted bug',
               '%s, and it is not seen' % bug)
-    for page in sorted(os.listdir(os.path.join(top, 'docs'))):
-        leads = '`%s` leads from each rule' % name in page_in(top, 'docs/' + page)
-        check(not leads or '\n## `docs/%s`\n' % page in text, name, 'nothing of docs/%s' % page)
+    for page in pages_of(top, 'docs'):
+        leads = '`%s` leads from each rule' % name in page_in(top, page)
+        check(not leads or '\n## `%s`\n' % page in text, name, 'nothing of %s' % page)
     for page in definitions.PAGES:
         check(os.path.exists(os.path.join(top, page)), name, 'no page %s' % page)
     resting = {(one.crate, one.file) for one in found.resting}
@@ -178,12 +187,12 @@ def check_faults(crates, top):
     kinds = re.findall(r'^    (\w+),', enum, re.M)
     check([row[0] for row in rows] == kinds, name, 'other kinds than FaultKind has')
     messages = dict(re.findall(r'FaultKind::(\w+) => \(\s*b"([^"]*)"', code['fault_line.rt']))
-    page = page_in(top, 'docs/definitions.md')
+    page = page_in(top, 'docs/generated/definitions.md')
     for kind, warning, message in rows:
         check(message.startswith(messages.get(kind, '?')), name, 'another message of %s' % kind)
         is_warning = 'is_error_kind %s = false' % kind in specs['Faults.antt']
         check(is_warning == bool(warning), name, '%s is a warning, or none' % kind)
-        check('`%s`' % kind in page, 'docs/definitions.md', 'nothing of %s' % kind)
+        check('`%s`' % kind in page, 'docs/generated/definitions.md', 'nothing of %s' % kind)
 
 
 # ------------------------------------------------------------------ the conversation
@@ -232,9 +241,9 @@ def check_replaced_words(top):
     """None of REPLACED is in the sources, the definitions, the proofs or the documents."""
     folders = [os.path.join('crates', crate, part) for crate in sorted(os.listdir(os.path.join(top, 'crates')))
                for part in ('src', 'specs', 'proofs')]
-    paths = ['README.md'] + [os.path.relpath(os.path.join(folder, file), top)
-                             for part in folders + ['docs']
-                             for folder, _, files in os.walk(os.path.join(top, part)) for file in sorted(files)]
+    paths = pages_of(top, '') + [os.path.relpath(os.path.join(folder, file), top)
+                                 for part in folders + ['docs']
+                                 for folder, _, files in os.walk(os.path.join(top, part)) for file in sorted(files)]
     for path in paths:
         with open(os.path.join(top, path), encoding='utf-8') as source:
             text = source.read()
@@ -242,11 +251,59 @@ def check_replaced_words(top):
         check(not found, path, ', '.join(found))
 
 
-def check_readme(top):
-    with open(os.path.join(top, 'README.md'), encoding='utf-8') as source:
-        reported = set(CODED.findall(source.read()))
-    for page in sorted(os.listdir(os.path.join(top, 'docs'))):
-        check('docs/%s' % page in reported, 'README.md', 'docs/%s is not in it' % page)
+# ------------------------------------------------------------------ links, lengths and versions
+
+def pages_of(top, folder):
+    """The pages of a folder, in their order."""
+    return [os.path.join(folder, name) for name in sorted(os.listdir(os.path.join(top, folder))) if name.endswith('.md')]
+
+
+def anchors_of(text):
+    """What a link after # may name: the headings, in small letters, with hyphens for spaces."""
+    return {re.sub(r'[^\w\- ]', '', heading.lower()).replace(' ', '-')
+            for heading in re.findall(r'^#+ (.*)', without_blocks(text), re.M)}
+
+
+def without_blocks(text):
+    return re.sub(r'^    .*', '', text, flags=re.M)
+
+
+def check_links(top):
+    """What the links of all pages lead to is there, and so is each path of this repository that a page has in code."""
+    pages = [page for folder in LINKED for page in pages_of(top, folder)]
+    for page in pages:
+        text = without_blocks(page_in(top, page))
+        for link in re.findall(r'\]\(([^)]*)\)', text):
+            path, _, anchor = link.partition('#')
+            to = os.path.normpath(os.path.join(os.path.dirname(page), path)) if path else page
+            is_there = os.path.exists(os.path.join(top, to))
+            check(is_there, page, '%s leads to no file' % link)
+            if is_there and anchor:
+                check(anchor in anchors_of(page_in(top, to)), page, '%s leads to no heading' % link)
+        for path in re.findall(r'`((?:%s)/[^`\s]*)' % '|'.join(FOLDERS), text):
+            found = glob.glob(os.path.join(top, re.sub('[A-Z]{4,}', '*', path)))
+            check(found, page, '%s is not there' % path)
+    listed = page_in(top, 'docs/README.md')
+    for name in sorted(os.listdir(os.path.join(top, 'docs'))):
+        check(name == 'README.md' or '](%s' % name in listed, 'docs/README.md', 'docs/%s is not in it' % name)
+
+
+def check_lengths(top):
+    for page, most in (('README.md', 450), ('PROOFS.md', 600)):
+        words = len(page_in(top, page).split())
+        check(words <= most, page, '%d words' % words)
+
+
+def check_versions(crates, top):
+    """The version and the day of CHANGELOG.md's first heading are those of the manual pages, NAME, version and day by
+    .TH, and the version that of retangle."""
+    newest = re.findall(r'^## (\S+), (.*)', page_in(top, 'CHANGELOG.md'), re.M)[:1]
+    for version in re.findall(r'\.version\("([^"]*)"\)', crates['ctangle_cli'].whole):
+        check([version] == [one[0] for one in newest], 'CHANGELOG.md', 'retangle has the version %s' % version)
+    for page in sorted(name for name in os.listdir(os.path.join(top, 'docs')) if name.endswith('.1')):
+        head = re.match(r'\.TH \S+ 1 "([^"]*)" "%s ([^"]*)"' % page[:-2], page_in(top, 'docs/' + page))
+        found = [(head.group(2), head.group(1))] if head else []
+        check(found == newest, 'docs/' + page, 'its version and date are not those of CHANGELOG.md')
 
 
 # ------------------------------------------------------------------ crates and calls
@@ -466,13 +523,15 @@ def main():
     check_commands(crates, top)
     check_words(top, crates)
     check_replaced_words(top)
-    check_readme(top)
+    check_links(top)
+    check_lengths(top)
+    check_versions(crates, top)
     check_surface(crates, top)
     check_crates(crates, top)
     check_calls_say(crates, top)
     check_names(crates, top, 'docs/promises.md')
-    check_names(crates, top, 'docs/changing.md')
-    check_quotes(top, 'docs/changing.md')
+    check_names(crates, top, 'CONTRIBUTING.md')
+    check_quotes(top, 'CONTRIBUTING.md')
     rows = re.findall(r'^\| `(\w+)` \| without an edit: ([^|]*)', page_in(top, 'docs/wrong-bodies.md'), re.M)
     for crate, here in crates.items():
         check_edits(crate, here, {name for row in rows if row[0] == crate for name in CODED.findall(row[1])})
