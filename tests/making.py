@@ -17,7 +17,8 @@ def copy_of_top(top, programs, temporary, name):
     os.makedirs(os.path.join(source, 'crates', 'ctangle'))
     for folder in ('docs', 'examples'):
         shutil.copytree(os.path.join(top, folder), os.path.join(source, folder))
-    shutil.copy(os.path.join(top, 'Makefile'), source)
+    for file in ('Makefile', 'crates.txt'):
+        shutil.copy(os.path.join(top, file), source)
     copy_programs(programs, os.path.join(source, 'bin'))
     return source
 

@@ -2,22 +2,20 @@
 
 usage: users.py CTANGLE RETANGLE TOP       TOP is the folder of the repository
 
-- README.md: the web, its C and its fault, the rule for a Makefile, the conversation.
-- make install and make uninstall, with the manual pages.
+- README.md: the web, its C and its fault, the rule for a Makefile.
+- make install and make uninstall, with the manual pages and webs.mk.
 - examples/several: both recipes.
 
 The last line is 'N passed, M failed'.
 """
 import os
-import re
 import shutil
 import sys
 import tempfile
 
 ctangle, retangle, top = (os.path.abspath(path) for path in sys.argv[1:4])
 import making
-from checks import (blocks_of, check, files_below, new_folder, read, read_if_there, run_all, same,
-                    turns_of, write)
+from checks import blocks_of, check, files_below, new_folder, read, read_if_there, run_all, same, write
 from running import run
 
 
@@ -39,7 +37,8 @@ def test_install(temporary):
     _, errors, status = run(make + ['install', 'PREFIX=/usr', 'DESTDIR=' + root], source)
     check(status == 0, 'make install', errors)
     pages = ['usr/share/man/man1/ctangle.1', 'usr/share/man/man1/retangle.1']
-    same(files_below(root), ['usr/bin/ctangle', 'usr/bin/retangle'] + pages, 'make install')
+    same(files_below(root), ['usr/bin/ctangle', 'usr/bin/retangle', 'usr/share/ctangle/webs.mk'] + pages,
+         'make install')
     for page in pages:
         same(read_if_there(root, page), read(top, 'docs', os.path.basename(page)), page)
         check_page(os.path.join(root, page))
@@ -81,29 +80,22 @@ def test_readme(temporary):
     web = block(b'@ ')
     folder = new_folder(temporary, 'hello', {'hello.w': web})
     same(run([ctangle, 'hello'], folder), (b'', b'', 0), 'README.md, ctangle hello')
-    same(read_if_there(folder, 'hello.c'), block(b'/*1:*/'), 'README.md, hello.c')
-    check_conversation(folder, block(b'$ retangle hello'))
 
-    write(b''.join(web.splitlines(True)[:-2]), folder, 'hello.w')
+    write(b''.join(web.splitlines(True)[:-1]), folder, 'hello.w')
     same(run([ctangle, 'hello'], folder), (b'', block(b'hello.w:'), 1), 'README.md, the fault')
 
     write(web, folder, 'hello.w')
     path = os.path.join(installed(temporary), 'bin') + os.pathsep + os.environ['PATH']
     check_make(folder, path, 'make hello without a Makefile')
-    write(block(b'.DELETE_ON_ERROR:'), folder, 'Makefile')
+    rule = block(b'include /usr/local/')
+    write(rule.replace(b'/usr/local', installed(temporary).encode()), folder, 'Makefile')
     check_make(folder, path, 'make hello by the rule of README.md')
 
     write(web + b'"\n', folder, 'hello.w')
     _, errors, status = run(['make', 'hello.c'], folder, PATH=path)
-    check(status != 0 and b'hello.w:7: error: quoted text did not end\n' in errors,
+    check(status != 0 and b'hello.w:4: error: quoted text did not end\n' in errors,
           'make with an error', errors)
     check(not is_there(folder, 'hello.c'), 'make with an error', 'hello.c is there')
-
-
-def check_conversation(folder, conversation):
-    arguments = conversation.split(b'\n', 1)[0].split()[2:]
-    typed, answered = (b''.join(parts) for parts in zip(*turns_of(conversation)))
-    same(run([retangle] + arguments, folder, typed)[0], answered, 'README.md, retangle')
 
 
 def remove(folder, name):
@@ -117,13 +109,6 @@ def check_make(folder, path, name):
     _, errors, status = run(['make', 'hello'], folder, PATH=path)
     check(status == 0, name, errors)
     same(run(['./hello'], folder), (b'hello, world\n', b'', 0), name + ', and ./hello')
-
-
-def test_names(_):
-    """README.md names what is there."""
-    text = re.sub(r'^    .*$', '', read(top, 'README.md').decode(), flags=re.M)
-    for name in re.findall(r'`((?:crates|docs|examples|tests)/[^`]*)`', text):
-        check(is_there(top, name), 'README.md', '%s is not there' % name)
 
 
 OUTPUTS = ['calc.c', 'stack.c', 'stack.h']
@@ -215,7 +200,7 @@ def test_unchanged(temporary):
 
 def main():
     with tempfile.TemporaryDirectory() as temporary:
-        return run_all((test_install, test_readme, test_names, test_several, test_unchanged),
+        return run_all((test_install, test_readme, test_several, test_unchanged),
                        temporary)
 
 
