@@ -13,6 +13,7 @@ usage: documents.py [FOLDER]      the folder of the repository
   comment, and a clause unless the page says that it has none.
 - Each file, name and make target of docs/promises.md and CONTRIBUTING.md is there. What
   CONTRIBUTING.md quotes is in the file that it names.
+- docs/layers.md: each definition of its first two tables is in the file beside it.
 - docs/sessions.md: the reference gives the answers of its conversation; each line of a script is in
   its table and in docs/retangle.1.
 - Every page: what its links lead to is there, headings too, and so is each path that it has in code.
@@ -373,6 +374,16 @@ def check_names(crates, top, page):
             check(not missing, page, '%s: no %s' % (word, ', '.join(sorted(missing))))
 
 
+def check_forms(crates, top):
+    """A cell `NAME`, .. in `FILE` has names that the file of specs/ defines."""
+    cells = re.findall(r'\| ((?:`\w+`(?:, )?)+) in `crates/(\w+)/specs/(\w+\.antt)` \|', page_in(top, 'docs/layers.md'))
+    check(len(cells) > 20, 'docs/layers.md', 'no definitions')
+    for names, crate, file in cells:
+        for name in CODED.findall(names):
+            found = re.search(r'^ *abbrev pub %s :' % name, crates[crate].specs.get(file, ''), re.M)
+            check(found, 'docs/layers.md', '%s is not in %s' % (name, file))
+
+
 def check_quotes(top, page):
     """A block after a paragraph that ends in a colon has lines of the file that this names last."""
     blocks = r'((?:^(?!    ).+\n)*^(?!    ).+:\n)\n((?:^    .*\n)+)'
@@ -532,6 +543,7 @@ def main():
     check_names(crates, top, 'docs/promises.md')
     check_names(crates, top, 'CONTRIBUTING.md')
     check_quotes(top, 'CONTRIBUTING.md')
+    check_forms(crates, top)
     rows = re.findall(r'^\| `(\w+)` \| without an edit: ([^|]*)', page_in(top, 'docs/wrong-bodies.md'), re.M)
     for crate, here in crates.items():
         check_edits(crate, here, {name for row in rows if row[0] == crate for name in CODED.findall(row[1])})
