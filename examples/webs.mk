@@ -3,9 +3,16 @@
 # $(call files_of,primes.w primes.ch) is these files, and each file that they include, at any depth.
 # It is computed from the files at each make, so no list has to be kept:
 #
-#     include webs.mk
+#     include /usr/local/share/ctangle/webs.mk
+#     .DELETE_ON_ERROR:
 #     primes.c: $(call files_of,primes.w primes.ch)
 #     	ctangle primes primes
+#
+# `make install` puts this file there, or below another PREFIX.
+#
+# Names of included files count from the folder where make runs, as for ctangle, also in a file that
+# is in another folder. So webs of the folder src that include each other by their bare names are
+# made by `make -C src`.
 #
 # The web comes first and then the change file, if there is one. An included file may itself be
 # made by a rule. One that is not there and has no rule stops make, which names it. A change file

@@ -7,7 +7,7 @@ usage: documents.py [FOLDER]      the folder of the repository
   just the files of specs/ on which clauses of public functions rest, and each kind of fault.
 - docs/faults.md: the kinds of faults, their messages and levels are those of the code.
 - docs/words.md: each name of the code is in the crate beside it. No word that these replaced is in
-  the sources, the definitions, the proofs or the documents.
+  the sources, the definitions, the proofs or the documents, and no phrase of STIFF in a page.
 - docs/DECISIONS.md: each crate exports what the table of the surface says, and besides only laws.
 - docs/promises.md: the page has each crate below those that it uses. Each public call has a
   comment, and a clause unless the page says that it has none.
@@ -46,6 +46,12 @@ CODED = re.compile(r'`([^`]+)`')
 REPLACED = re.compile(
     r'\b(?:told|tells?|wanted|wants|talk|put\s+out|hands\s+on|handed\s+on|handed\s+over|Ground|Tangled|byte_count|Spot|'
     r'RoleNames|ItemCode|NodeText|Placed|is_extended|name_after_mark|PutsOut|Telling|behind(?!\s+an\s+`Rc`))\b')
+
+# Phrases that a reader has to read twice, and that plain sentences replaced.
+STIFF = re.compile('|'.join(phrase.replace(' ', r'\s+') for phrase in (
+    'stays apart for', 'with just the accepted edits made', 'that report bytes', 'holds of what', 'Readers judge',
+    'are those affected, each', 'is at its line for', 'there only where it holds', 'at its front belongs to',
+    'always does so', 'its result cannot refuse', 'where reader, writer or folder report', 'refuse such a body')))
 
 # The folders whose pages' links are followed, and those to which a path in code leads.
 LINKED = ('', 'docs', 'docs/generated', 'bench', 'tests/reference')
@@ -248,7 +254,8 @@ def check_replaced_words(top):
     for path in paths:
         with open(os.path.join(top, path), encoding='utf-8') as source:
             text = source.read()
-        found = ['line %d: %s' % (text.count('\n', 0, word.start()) + 1, word.group()) for word in REPLACED.finditer(text)]
+        words = list(REPLACED.finditer(text)) + [word for word in STIFF.finditer(text) if path.endswith('.md')]
+        found = ['line %d: %s' % (text.count('\n', 0, word.start()) + 1, word.group()) for word in words]
         check(not found, path, ', '.join(found))
 
 
