@@ -80,7 +80,7 @@ def run(sources, arguments):
 def main():
     if len(sys.argv) not in (2, 3):
         sys.exit('usage: make try WEB=path/to/web.w [CHANGE=path/to/changes.ch]')
-    paths = [with_extension(path, extension) for path, extension in zip(sys.argv[1:], ('.w', '.ch'))]
+    paths = [os.path.expanduser(with_extension(path, extension)) for path, extension in zip(sys.argv[1:], ('.w', '.ch'))]
     for path in paths:
         if not os.path.isfile(path):
             sys.exit('make try: %s is not there' % path)
