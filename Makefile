@@ -22,14 +22,14 @@ PROGRAM_PREFIX =
 WEB = examples/hello.w
 CHANGE =
 
-# what make install copies: programs into bin, pages into share/man/man1, the others into share/ctangle
-programs = bin/ctangle bin/retangle
-pages = docs/ctangle.1 docs/retangle.1
-shared = examples/webs.mk
+programs = $(DESTDIR)$(PREFIX)/bin
+pages = $(DESTDIR)$(PREFIX)/share/man/man1
+shared = $(DESTDIR)$(PREFIX)/share/$(PROGRAM_PREFIX)ctangle
 
-program_folder = $(DESTDIR)$(PREFIX)/bin
-page_folder = $(DESTDIR)$(PREFIX)/share/man/man1
-shared_folder = $(DESTDIR)$(PREFIX)/share/$(PROGRAM_PREFIX)ctangle
+# what make install copies into these
+program_files = bin/ctangle bin/retangle
+page_files = docs/ctangle.1 docs/retangle.1
+shared_files = examples/webs.mk
 
 sources := $(shell find crates crates.txt -name out -prune -o -type f -print)
 
@@ -37,7 +37,7 @@ sources := $(shell find crates crates.txt -name out -prune -o -type f -print)
 kit = @command -v rt >/dev/null || { echo "This needs rt, the command of Rattle's kit, which proves and \
 builds these programs. It is not on the path. README.md, 'Build and install', says what it is." >&2; exit 1; }
 
-all: $(programs)
+all: $(program_files)
 
 # rt builds a program in order to run it, so the program tangles the web of its stored run.
 bin/ctangle: $(sources)
@@ -68,22 +68,22 @@ try:
 	@$(if $(filter examples/hello.w,$(WEB)),cat bin/try/hello.c)
 
 # Where strip is, the installed programs have no table of symbols. A script stays as it is.
-install: $(programs)
-	install -d "$(program_folder)" "$(page_folder)" "$(shared_folder)"
-	for file in $(programs); do \
-	    to="$(program_folder)/$(PROGRAM_PREFIX)$${file##*/}" && install -m 755 $$file "$$to" || exit 1; \
+install: $(program_files)
+	install -d "$(programs)" "$(pages)" "$(shared)"
+	for file in $(program_files); do \
+	    to="$(programs)/$(PROGRAM_PREFIX)$${file##*/}" && install -m 755 $$file "$$to" || exit 1; \
 	    strip "$$to" 2>/dev/null || :; \
 	done
-	for file in $(pages); do \
-	    install -m 644 $$file "$(page_folder)/$(PROGRAM_PREFIX)$${file##*/}" || exit 1; \
+	for file in $(page_files); do \
+	    install -m 644 $$file "$(pages)/$(PROGRAM_PREFIX)$${file##*/}" || exit 1; \
 	done
-	install -m 644 $(shared) "$(shared_folder)"
+	install -m 644 $(shared_files) "$(shared)"
 
 uninstall:
-	for file in $(notdir $(programs)); do rm -f "$(program_folder)/$(PROGRAM_PREFIX)$$file" || exit 1; done
-	for file in $(notdir $(pages)); do rm -f "$(page_folder)/$(PROGRAM_PREFIX)$$file" || exit 1; done
-	for file in $(notdir $(shared)); do rm -f "$(shared_folder)/$$file" || exit 1; done
-	[ ! -d "$(shared_folder)" ] || rmdir "$(shared_folder)"
+	for file in $(notdir $(program_files)); do rm -f "$(programs)/$(PROGRAM_PREFIX)$$file" || exit 1; done
+	for file in $(notdir $(page_files)); do rm -f "$(pages)/$(PROGRAM_PREFIX)$$file" || exit 1; done
+	for file in $(notdir $(shared_files)); do rm -f "$(shared)/$$file" || exit 1; done
+	[ ! -d "$(shared)" ] || rmdir "$(shared)"
 
 example: bin/ctangle bin/retangle
 	$(MAKE) -C examples run CTANGLE=../bin/ctangle RETANGLE=../bin/retangle
