@@ -22,9 +22,11 @@ OUT = os.path.join(TOP, 'bin', 'try')
 PATH = os.fsencode(OUT).replace(b'@', b'@@') + b'/'
 
 INCLUSION = re.compile(rb'^@[iI][ \t\r\v\f]*(?:"([^"\n]*)|([^ \t\r\v\f"\n]+))', re.M)
-OUTPUT = re.compile(rb'@@|@\(\s*([^/\s@][^@]*?)\s*@>')         # one with its full name, on no other folder's path
+OUTPUT = re.compile(rb'@@|@\(\s*([^/\s@][^@]*?)\s*@>')     # a name that begins with / stays as it is
 
-MEANINGS = {0: 'no error.', 1: 'the web has an error (above). Its C is written all the same; do not compile it.'}
+MEANINGS = {
+    0: 'no error.',
+    1: 'the web has an error (above). Its C is written all the same; do not compile it.'}
 
 
 def with_extension(path, extension):
@@ -32,8 +34,8 @@ def with_extension(path, extension):
 
 
 def sources_of(folder, given):
-    """These files, by name, and those of the folder that they include, at any depth. A file that is not there is left
-    to ctangle, and so is one with a full path, which it reads where it is."""
+    """These files, by name, and those of the folder that they include, at any depth. A file that is
+    not there is left to ctangle, and so is one with a full path, which it reads where it is."""
     found, ahead = {}, list(given.items())
     while ahead:
         name, path = ahead.pop()
@@ -70,17 +72,21 @@ def run(sources, arguments):
             with open(copy, 'wb') as file:
                 file.write(text)
             command += ['--data', '%s=%s' % (name, copy)]
-        done = subprocess.run(command + ['--'] + arguments, cwd=os.path.join(TOP, 'crates', 'ctangle'),
-                              stdin=subprocess.DEVNULL, stdout=subprocess.PIPE, stderr=subprocess.STDOUT, check=False)
+        done = subprocess.run(command + ['--'] + arguments, check=False, stdin=subprocess.DEVNULL,
+                              stdout=subprocess.PIPE, stderr=subprocess.STDOUT,
+                              cwd=os.path.join(TOP, 'crates', 'ctangle'))
     ended = re.search(rb'^run=ended status=(\d+) ', done.stdout, re.M)
-    said = re.sub(rb'^(?:checked|interpreter|races|run)[:=] ?.*\n', b'', done.stdout, flags=re.M) if ended else done.stdout
-    return int(ended[1]) if ended else None, said.replace(PATH, b'')
+    if not ended:
+        return None, done.stdout
+    said = re.sub(rb'^(?:checked|interpreter|races|run)[:=] ?.*\n', b'', done.stdout, flags=re.M)
+    return int(ended[1]), said.replace(PATH, b'')
 
 
 def main():
     if len(sys.argv) not in (2, 3):
         sys.exit('usage: make try WEB=path/to/web.w [CHANGE=path/to/changes.ch]')
-    paths = [os.path.expanduser(with_extension(path, extension)) for path, extension in zip(sys.argv[1:], ('.w', '.ch'))]
+    paths = [os.path.expanduser(with_extension(path, extension))
+             for path, extension in zip(sys.argv[1:], ('.w', '.ch'))]
     for path in paths:
         if not os.path.isfile(path):
             sys.exit('make try: %s is not there' % path)
@@ -98,10 +104,13 @@ def main():
     if status is None:
         sys.exit('make try: rt did not run ctangle')
 
-    written = sorted(os.path.relpath(os.path.join(path, one), TOP) for path, _, files in os.walk(OUT) for one in files)
+    written = sorted(os.path.relpath(os.path.join(path, one), TOP)
+                     for path, _, files in os.walk(OUT) for one in files)
     print('C: %s' % (' '.join(written) or 'none'))
-    print('Status %d: %s' % (status, MEANINGS.get(status, 'ctangle stopped, for the reason above.')))
-    print('Nothing was proved or built: make does both. docs/programs.md has all statuses, and a remedy for each fault.')
+    meaning = MEANINGS.get(status, 'ctangle stopped, for the reason above.')
+    print('Status %d: %s' % (status, meaning))
+    print('Nothing was proved or built: make does both.')
+    print('docs/programs.md has all statuses, and a remedy for each fault.')
     return 0 if status < 2 else status
 
 
