@@ -29,10 +29,13 @@ import sys
 import tempfile
 
 import webs
+from dense import dense_webs
 from measuring import HERE, RUNS, UNREPORTED, Bench, Command, lines_of, own_instructions
 
 DROPPED = '...'             # after the names of parts: they are abbreviations of none
-REQUIRED = {'hiformat.w': 0.29, 'mp.w': 0.30, 'hitex.w': 0.40}    # beside CTANGLE 4.11
+REQUIRED = {'hiformat.w': 0.29, 'mp.w': 0.30, 'hitex.w': 0.40,     # beside CTANGLE 4.11
+            'dense, 10,000 lines': 0.34, 'dense, 100,000 lines': 0.34,
+            'dense, 1,000,000 lines, long parts': 0.24}
 
 
 def table(title, head, rows):
@@ -154,15 +157,22 @@ def bench_names(bench):
 class Web:
     """A web of a whole run: a file in a folder."""
 
-    def __init__(self, title, folder, name, lines, size):
-        self.title, self.folder, self.name = title, folder, name
+    def __init__(self, title, folder, arguments, lines, size):
+        self.title, self.folder, self.arguments = title, folder, arguments
         self.lines, self.size = lines, size
         self.dropped = None                     # its lines with all parts dropped
-        self.required = ''                        # at most so much of the instructions of CTANGLE
+        # the most that it may take of the instructions of CTANGLE
+        self.required = REQUIRED.get(title, '')
 
 
 def generated(bench, title, lines):
-    return Web(title, bench.folder({'a.w': lines}), 'a.w', len(lines), size_of(lines))
+    return Web(title, bench.folder({'a.w': lines}), ['a.w'], len(lines), size_of(lines))
+
+
+def generated_dense(bench, title, dense):
+    files = dense.files()
+    return Web(title, bench.folder(files), ['syn', 'syn'], len(dense.lines),
+               sum(map(size_of, files.values())))
 
 
 def whole_webs(bench):
@@ -172,14 +182,14 @@ def whole_webs(bench):
             with open(path, 'rb') as file:
                 text = file.read()
             name = os.path.basename(path)
-            web = Web(name, bench.folder_of(path), name, text.count(b'\n'), len(text))
-            web.required = REQUIRED.get(name, '')
-            yield web
+            yield Web(name, bench.folder_of(path), [name], text.count(b'\n'), len(text))
     for count in (10000, 100000, 1000000):
         web = generated(bench, '{:,} lines'.format(count), webs.named_program(count))
         web.dropped = webs.named_program(count, tail=DROPPED)
         yield web
     yield generated(bench, '40,000 sections, 30,000 names', webs.many_names(40000, 30000))
+    for title, dense in dense_webs():
+        yield generated_dense(bench, title, dense)
 
 
 def bench_whole(bench):
