@@ -78,7 +78,7 @@ class Bench:
 
     def whole(self, web, programs):
         """The fastest run of each program over a web, with its instructions. They run in turn."""
-        commands = [[program, web.name] for program in programs]
+        commands = [[program] + web.arguments for program in programs]
         turns = [[self.run_once(command, web.folder, os.devnull) for command in commands]
                  for _ in range(RUNS_OF_LARGE if web.lines > 100000 else RUNS)]
         best = [fastest(runs) for runs in zip(*turns)]

@@ -29,10 +29,13 @@ import sys
 import tempfile
 
 import webs
+from dense import dense_webs
 from measuring import HERE, RUNS, UNREPORTED, Bench, Command, lines_of, own_instructions
 
 DROPPED = '...'             # after the names of parts: they are abbreviations of none
-REQUIRED = {'hiformat.w': 0.29, 'mp.w': 0.30, 'hitex.w': 0.40}    # beside CTANGLE 4.11
+REQUIRED = {'hiformat.w': 0.29, 'mp.w': 0.30, 'hitex.w': 0.40,     # beside CTANGLE 4.11
+            'dense, 10,000 lines': 0.34, 'dense, 100,000 lines': 0.34,
+            'dense, 1,000,000 lines, long parts': 0.24}
 
 
 def table(title, head, rows):
@@ -154,15 +157,22 @@ def bench_names(bench):
 class Web:
     """A web of a whole run: a file in a folder."""
 
-    def __init__(self, title, folder, name, lines, size):
-        self.title, self.folder, self.name = title, folder, name
+    def __init__(self, title, folder, arguments, lines, size):
+        self.title, self.folder, self.arguments = title, folder, arguments
         self.lines, self.size = lines, size
         self.dropped = None                     # its lines with all parts dropped
-        self.required = ''                        # at most so much of the instructions of CTANGLE
+        # the most that it may take of the instructions of CTANGLE
+        self.required = REQUIRED.get(title, '')
 
 
 def generated(bench, title, lines):
-    return Web(title, bench.folder({'a.w': lines}), 'a.w', len(lines), size_of(lines))
+    return Web(title, bench.folder({'a.w': lines}), ['a.w'], len(lines), size_of(lines))
+
+
+def generated_dense(bench, title, dense):
+    files = dense.files()
+    return Web(title, bench.folder(files), ['syn', 'syn'], len(dense.lines),
+               sum(map(size_of, files.values())))
 
 
 def whole_webs(bench):
@@ -172,14 +182,14 @@ def whole_webs(bench):
             with open(path, 'rb') as file:
                 text = file.read()
             name = os.path.basename(path)
-            web = Web(name, bench.folder_of(path), name, text.count(b'\n'), len(text))
-            web.required = REQUIRED.get(name, '')
-            yield web
+            yield Web(name, bench.folder_of(path), [name], text.count(b'\n'), len(text))
     for count in (10000, 100000, 1000000):
         web = generated(bench, '{:,} lines'.format(count), webs.named_program(count))
         web.dropped = webs.named_program(count, tail=DROPPED)
         yield web
     yield generated(bench, '40,000 sections, 30,000 names', webs.many_names(40000, 30000))
+    for title, dense in dense_webs():
+        yield generated_dense(bench, title, dense)
 
 
 def bench_whole(bench):
@@ -277,6 +287,8 @@ def bench_edits(bench):
         least, most = edit - until, edit - until + as_names - as_texts
         of_whole = whole - scanned(bench, dropped + [UNREPORTED], names)[0]
     refused = bench.cost_of_one(folder, refusals(110), few=10)
+    chain = webs.chain(3000)
+    in_chain = bench.cost_of_one(bench.folder({'a.w': chain}), replaced_printing(chain, 12))
     few, many = (bench.run_of_script(folder, lines_of(replaces(lines, count))).kilobytes
                  for count in (10, 1000))
     table('Edits by retangle of a web of 35,000 lines with 3,000 names, of which ctangle takes %s '
@@ -290,6 +302,8 @@ def bench_edits(bench):
            ['after scanning one replace takes at least', least, ratio(least, of_whole),
             'at most 0.05 of the same part of a whole run'],
            ['  at most, with the table of names', most, ratio(most, of_whole), ''],
+           ['one replace in a chain of 3,000 names, {:,} lines'.format(len(chain)), in_chain, '',
+            'at most 44,000,000'],
            ['one refused edit', refused, '', 'under 10,000'],
            # A replaced line has a text of its own; the rest is free memory between blocks.
            ['most memory in 1,000 edits, KB', many, ratio(many, few), 'at most 1.1 of ten']])
@@ -334,31 +348,38 @@ def bench_lists(bench):
 
 
 def replaces(lines, count):
-    """So many commands that each replace the last line of another leaf, or of a web without any."""
+    """Commands that each replace the last line of another leaf, or of a web without any."""
     heads = [number for number, line in enumerate(lines) if line.startswith('@ Leaf')]
     ends = heads[1:] or [len(lines)]            # counted from 1
     return [Command(['replace %d a.w' % ends[number * 37 % len(ends)], 'edited(%d);' % number],
                     ['ok']) for number in range(count)]
 
 
+def replaced_printing(lines, count):
+    """Commands that each replace another line of C with a quoted text."""
+    at = [number for number, line in enumerate(lines, 1) if line.startswith('  printf')]
+    return [Command(['replace %d a.w' % at[number * 37 * 7 % len(at)], '  edited(%d, "x");' % number],
+                    ['ok']) for number in range(count)]
+
+
 def insertions(lines, count):
-    """So many commands that each insert a line before all sections, and so move all others."""
+    """Commands that each insert a line before all sections, and so move all others."""
     return [Command(['insert 1 a.w', '% line ' + str(number), 'work'], ['ok', 'work 0'])
             for number in range(count)]
 
 
 def uses_more(lines, count):
-    """So many commands that each make the last line of a leaf a use of another leaf."""
+    """Commands that each make the last line of a leaf a use of another leaf."""
     return used_at_ends(lines, count, 'Leaf %d of the program')
 
 
 def names_more(lines, count):
-    """So many commands that each make the last line of a leaf a use of a name that is new."""
+    """Commands that each make the last line of a leaf a use of a name that is new."""
     return used_at_ends(lines, count, 'Leaf %d, which is new')
 
 
 def used_at_ends(lines, count, name):
-    """So many commands that each make the last line of a leaf a use of the name with a number."""
+    """Commands that each make the last line of a leaf a use of the name with a number."""
     made = replaces(lines, count)
     for number, command in enumerate(made):
         command.lines[1] = '@<' + name % (1000 + number) + '@>;'
@@ -366,14 +387,14 @@ def used_at_ends(lines, count, name):
 
 
 def rewordings(lines, count):
-    """So many commands that each replace a line of documentation, which affects no node."""
+    """Commands that each replace a line of documentation, which affects no node."""
     heads = [number for number, line in enumerate(lines) if line.startswith('@ Leaf')]
     return [Command(['replace %d a.w' % (heads[number * 37] + 1), '@ Leaf, edited.', 'work'],
                     ['ok', 'work 0']) for number in range(count)]
 
 
 def settings(count):
-    """So many commands that each set the line marks as they are not, which affects no node."""
+    """Commands that each set the line marks as they are not, which affects no node."""
     return [Command(['marks full' if number % 2 else 'marks none', 'work'], ['ok', 'work 0'])
             for number in range(count)]
 

@@ -105,6 +105,19 @@ def leaves(lines, names, groups=30, tail=''):
     return made
 
 
+def chain(names):
+    """A program of `names` names, each a part of six lines with a quoted text in each, and a use of the next."""
+    made = ['@ The program.', '@c', '@<Part 0 of the chain@>']
+    for number in range(names):
+        made += ['@ Part %d.' % number, 'It prints entries of the table.', 'The next part follows.',
+                 '@<Part %d of the chain@>=' % number]
+        made += ['  printf("value %d of %%d\\n", table[%d] * 17);' % (entry, entry % 6)
+                 for entry in range(6 * number, 6 * number + 6)]
+        if number + 1 < names:
+            made.append('@<Part %d of the chain@>' % (number + 1))
+    return made
+
+
 def names_in(lines):
     """The abbreviations that are alone in their lines, uses and definitions, as often as there."""
     return [line[2:line.index('@>')] for line in lines if line.startswith('@<') and '...@>' in line]

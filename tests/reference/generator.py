@@ -42,6 +42,10 @@ INCLUDES = [b'#include <p.h>', b'#include <p@@q>', b'# include <p', b'#include<p
 WILD = [(.30, WORDS), (.45, SIGNS), (.62, SPACES), (.72, None), (.77, QUOTED), (.82, CONSTANTS), (.87, CONTROL_TEXTS),
         (.91, COMMENTS), (.94, INCLUDES), (.955, b'@&'), (.965, b'@h'), (1, CODES)]
 
+# The same of dense C text, where most words are beside a join, an ASCII constant or a code.
+DENSE = [(.30, WORDS), (.40, SIGNS), (.56, SPACES), (.70, [b'@&', b' @&', b'@& ']), (.84, CONSTANTS), (.87, b'@h'),
+         (.90, QUOTED), (.93, CONTROL_TEXTS), (.98, [b'@,', b'@/', b'@;', b'@^i@>', b'/* c */']), (1, None)]
+
 DOCUMENTATION = [b'', b'A.', b'Text @<In it@> more', b'Doc @, @@ @^i@>', b'P.']
 MACROS = [b'N 10', b'F(x) x', b'M', b'3', b'N@&x', b'N"s"', b'N  ', b'N-1', b"N@'a'", b'', b'G(a)\\', b'N@^i@>5']
 
@@ -58,11 +62,11 @@ def used_name(chance):
     return name + text + b'@>'
 
 
-def wild_text(chance, most):
+def wild_text(chance, most, kinds=WILD):
     made = b''
     for _ in range(chance.randint(0, most)):
         drawn = chance.random()
-        parts = next(parts for bound, parts in WILD if drawn < bound)
+        parts = next(parts for bound, parts in kinds if drawn < bound)
         if parts is None:
             made += used_name(chance)
         else:
@@ -103,7 +107,7 @@ def macro(chance, is_wild):
     return lines
 
 
-def section(chance, is_wild):
+def section(chance, is_wild, kinds=WILD):
     start = chance.choice([b'@ ', b'@ ', b'@*', b'@\t', b'@'])
     lines = [start + chance.choice(DOCUMENTATION)]
     if chance.random() < .25:
@@ -117,7 +121,7 @@ def section(chance, is_wild):
         if chance.random() < .85:
             lines.append(head(chance, is_wild))
     for _ in range(chance.randint(0, 5)):
-        lines.append(wild_text(chance, 7) if is_wild else tame_text(chance, 6))
+        lines.append(wild_text(chance, 7, kinds) if is_wild else tame_text(chance, 6))
         if chance.random() < .1:
             lines += continued_lines(chance)
     return lines
@@ -137,9 +141,10 @@ def web_lines(chance, included):
     lines = []
     for _ in range(chance.choice([0, 0, 1, 2])):
         lines.append(chance.choice([b'limbo', b'% top', b'@q x@>', b'@@', b'', b'@s a b', b'@<no@>', b'@i']))
-    is_wild = chance.random() < .6
+    is_dense = chance.random() < 1 / 3
+    is_wild = is_dense or chance.random() < .6
     for _ in range(chance.randint(1, 6)):
-        lines += section(chance, is_wild)
+        lines += section(chance, is_wild, DENSE if is_dense else WILD)
         if included and chance.random() < .3:
             lines.append(inclusion(chance, included))
     return list(map(clean, lines))
