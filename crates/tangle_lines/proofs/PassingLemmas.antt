@@ -1,6 +1,7 @@
 -- Reading goes past lines that no change takes and that are no inclusions.
-use Rattle.std.proofs.Common.{◌≡◌, ℕ, ◌+◌, Bool, List, [], ◌∷◌, ◌++◌, drop, Option, None, Some, slice_get, true, false}
+use Rattle.std.proofs.Common.{◌≡◌, ℕ, ◌+◌, Bool, List, [], ◌∷◌, ◌++◌, ◌<◌, length, get_or, drop, Option, None, Some, slice_get, true, false}
 use Rattle.std.proofs.Common.{not, ◌&&◌, cond, refl, sym, ap, ◌∙◌, append-nil, arith}
+use Rattle.std.proofs.lemmas.List.{drop_more}
 use Rattle.tangle_files.specs.Lines.{FileTable}
 use Rattle.tangle_lines.specs.Change.{Change}
 use Rattle.tangle_faults.specs.Faults.{FaultRead}
@@ -10,7 +11,7 @@ use Rattle.tangle_lines.specs.Reading.{reads_from, before_reads}
 use Rattle.tangle_lines.specs.Waiting.{Makes, PassesOn, awaited, is_awaited}
 use Rattle.tangle_lines.proofs.ReadingLemmas.{at, so_far-plain}
 
-abbrev line_of : WaitingLine → SourceLine
+abbrev pub line_of : WaitingLine → SourceLine
 line_of w = record { bytes = w.bytes; origin = w.origin; changed = w.changed }
 
 -- all that is read, from these lines and from those that wait
@@ -44,15 +45,19 @@ module _ (cs : List Change) (lines : List SourceLine) (ws : List WaitingLine) wh
       ws (lines ++ line_of w ∷ []) faults (omega (arith, h)) unchanged
       (is_plain files faults w (included_name w.bytes) plain)
 
--- the line after the first `number` lines of a file, where more lines wait after the file
-pub waiting-next : (file : ℕ) (changed : Bool) (depth number next : ℕ)
-    (file_lines : List (List ℕ)) (line : List ℕ) (rest : List WaitingLine)
-    → next ≡ number + 1 → drop number file_lines ≡ line ∷ drop (number + 1) file_lines
-    → waiting_lines file changed depth (number + 1) (drop number file_lines) ++ rest
-    ≡ record { bytes = line; origin = record { file = file; line = next }; changed = changed; depth = depth }
-    ∷ waiting_lines file changed depth (next + 1) (drop next file_lines) ++ rest
-waiting-next file changed depth number next file_lines line rest is_next first =
-    rw (first, is_next) refl
+-- the line at an index of the lines of a file, where more lines wait after the file
+pub waiting-next : (file : ℕ) (changed : Bool) (depth read index : ℕ)
+    (lines : List (List ℕ)) (rest : List WaitingLine) → index < length lines
+    → waiting_lines file changed depth (read + index + 1) (drop index lines) ++ rest
+    ≡ record {
+      bytes = get_or lines index [];
+      origin = record { file = file; line = read + index + 1 };
+      changed = changed;
+      depth = depth;
+    } ∷ waiting_lines file changed depth (read + (index + 1) + 1) (drop (index + 1) lines) ++ rest
+waiting-next file changed depth read index lines rest inside =
+    let next : read + (index + 1) + 1 ≡ read + index + 1 + 1 = omega arith in
+    rw (drop_more lines index [] inside, next) refl
 
 -- one more line was taken
 pub passes-next : (cs : List Change) (lines lines₁ lines₂ : List SourceLine)

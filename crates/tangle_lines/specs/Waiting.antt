@@ -1,6 +1,6 @@
 -- The open files as one list of the lines that wait, and how one step changes it.
 use Rattle.std.specs.Prelude.{◌≡◌, ℕ, ◌+◌, ◌≤◌, Bool, false, if◌then◌else◌, Option, None, Some}
-use Rattle.std.specs.Prelude.{slice_get, List, [], ◌∷◌, ◌++◌, length, drop, map}
+use Rattle.std.specs.Prelude.{slice_get, List, [], ◌∷◌, ◌++◌, length, map}
 use Rattle.std.specs.Str.{bytes_eq}
 use Rattle.tangle_lines.specs.declared.waiting.Rest.{Rest}
 use Rattle.tangle_lines.specs.declared.waiting.Rest.TheVariants.{OfFile, OfChange}
@@ -22,13 +22,13 @@ stacked (f ∷ fs) = stacked fs ++ f
 -- the lines of an open file that are not yet read
 abbrev pub rest_lines : ℕ → Bool → ℕ → Rest → List WaitingLine
 rest_lines file changed depth (OfFile lines read) =
-    waiting_lines file changed depth (read + 1) (drop read lines.now)
+    waiting_lines file changed depth (read + 1) lines.now
 rest_lines file changed depth (OfChange lines) =
     change_lines file depth (map (λ l. (l.0, l.1.now)) lines.now)
 
 -- a file has no more lines than the limit
 abbrev pub IsWithinLimit : Rest → Type 0
-IsWithinLimit (OfFile lines read) = length lines.now ≤ most_lines
+IsWithinLimit (OfFile lines read) = read + length lines.now ≤ most_lines
 IsWithinLimit (OfChange lines) = Unit {0}
 
 -- the source lines and faults that a step adds, and the lines that wait after it
@@ -53,6 +53,11 @@ awaited (c ∷ cs) changed = if changed then None else slice_get c.old_lines 0
 abbrev pub is_awaited : Option (List ℕ) → List ℕ → Bool
 is_awaited None line = false
 is_awaited (Some old) line = bytes_eq line old
+
+-- a line that becomes a source line as it is
+pub record IsUnchanged (first : Option (List ℕ)) (line : List ℕ) : Type 0 where
+  pub unawaited : is_awaited first line ≡ false
+  pub plain : None ≡ included_name line
 
 -- Reading takes `n` more lines, within the limit. The lines that were read, with those
 -- that the waiting lines give, are the same before and after.

@@ -11,8 +11,7 @@ ghost use Rattle.tangle_lines.specs.Reading.{before_reads, change_number, change
 ghost use Rattle.tangle_lines.specs.Reading.{begins, change_here, unequal_front, unequal_lines};
 ghost use Rattle.tangle_lines.specs.Reading.{mismatch_faults, unused_faults, change_lines};
 ghost use Rattle.tangle_lines.specs.Reading.{IsShort};
-ghost use Rattle.tangle_lines.specs.Waiting.{IsPlain, awaited, is_awaited};
-ghost use Rattle.tangle_lines.specs.Inclusion.{included_name};
+ghost use Rattle.tangle_lines.specs.Waiting.{IsPlain, IsUnchanged, awaited};
 
 use crate::changes::{Change, changes_of};
 use crate::inclusion::included_name;
@@ -187,9 +186,7 @@ pub(crate) fn awaited_line<'c>(changes: &'c [Change<'_>], is_changed: bool) -> O
 /// Whether a line becomes a source line unchanged: it is no inclusion, and the next change is not
 /// used at it.
 pub(crate) fn is_source_line(awaited: Option<&[u8]>, line: &[u8]) -> bool
-    ensures { result ≡ true →
-        (is_awaited (option_copied awaited.entry) line.now ≡ false)
-        × (None ≡ included_name line.now) }
+    ensures { result ≡ true → IsUnchanged (option_copied awaited.entry) line.now }
 {
     match awaited {
         Some(old) if line == old => false,
@@ -317,6 +314,15 @@ fn add_unused_fault(
     }
 }
 
+/// The number of the lines of all files, or the most that are read.
+fn line_count(files: &Files) -> usize {
+    let mut count = 0usize;
+    for number in 0..files.count() {
+        count = count.saturating_add(files.lines_at(number as u16).len());
+    }
+    count.min(SOURCE_LINE_LIMIT)
+}
+
 /// Reads the lines that wait. Its faults are added to the given ones.
 fn read_on<'a, 'c>(
     alloc: Global,
@@ -334,7 +340,7 @@ fn read_on<'a, 'c>(
     ensures limit { IfOk result (λ lines. length lines.items ≤ source_line_limit) }
     ensures short { IfOk result (λ lines. All IsShort lines.items) }
 {
-    let mut lines = Vec::new(alloc);
+    let mut lines = Vec::with_capacity(alloc, line_count(files))?;
     let mut changes = changes;
     let mut taken = 0usize;
     while let Some(line) = waiting.take() {

@@ -1,11 +1,12 @@
 //! The open files, as one list of the lines that wait to be read.
-ghost use Rattle.std.specs.Prelude.{◌≡◌, ◌+◌, ◌≤◌, List, [], ◌∷◌, ◌++◌, length, drop, map};
-ghost use Rattle.std.specs.Prelude.{IfSome, IfNone, IfOk, OnOk};
+ghost use Rattle.std.specs.Prelude.{◌≡◌, ◌+◌, ◌≤◌, ◌<◌, ℕ, List, [], ◌∷◌, ◌++◌, length, map};
+ghost use Rattle.std.specs.Prelude.{min, slice_index_or, IfSome, IfNone, IfOk, OnOk};
 ghost use Rattle.std.specs.List.{All};
-ghost use Rattle.tangle_files.specs.Adding.{most_lines};
+ghost use Rattle.std.specs.Option.{option_copied};
+ghost use Rattle.tangle_files.specs.Adding.{longest_line, most_lines};
 ghost use Rattle.tangle_lines.specs.Reading.{WaitingLine as WaitingLineRead};
 ghost use Rattle.tangle_lines.specs.Reading.{waiting_lines, change_lines, IsShort};
-ghost use Rattle.tangle_lines.specs.Waiting.{PassesOn};
+ghost use Rattle.tangle_lines.specs.Waiting.{IsUnchanged, PassesOn};
 
 use crate::changes::Change;
 use crate::origin::Origin;
@@ -43,7 +44,7 @@ impl<'a> Model for WaitingLine<'a> {
 /// The lines of an open file that are not yet read.
 #[derive(Clone, Copy)]
 pub enum Rest<'a, 'c> {
-    /// The lines of a file, and the number of those that were read.
+    /// Lines of a file, and the number of those before them.
     OfFile(&'a [Line], u32),
     /// The new lines of a change, with their numbers.
     OfChange(&'c [(u32, &'a Line)]),
@@ -102,15 +103,15 @@ impl<'a, 'c> OpenFile<'a, 'c> {
         ensures none { IfNone result ((self.old ≡ []) × (self.new ≡ [])) }
     {
         match self.rest {
-            Rest::OfFile(lines, read) => match line_after(lines, read) {
-                None => None,
-                Some((line, number)) => {
-                    self.rest = Rest::OfFile(lines, number);
+            Rest::OfFile(lines, read) => match lines {
+                [] => None,
+                [line, others @ ..] => {
+                    self.rest = Rest::OfFile(others, read + 1);
                     Some(WaitingLine {
                         line,
                         origin: Origin {
                             file: self.file,
-                            line: number,
+                            line: read + 1,
                         },
                         is_changed: self.is_changed,
                         depth: self.depth,
@@ -153,36 +154,32 @@ impl<'a, 'c> OpenFile<'a, 'c> {
         let Rest::OfFile(file_lines, read) = self.rest else {
             return Ok(0);
         };
-        let awaited = awaited_line(changes, self.is_changed);
-        let mut number = read;
-        while let Some((line, next)) = line_after(file_lines, number) {
-            if (number - read) as usize >= limit || !is_source_line(awaited, line.bytes()) {
-                break;
-            }
+        let count = plain_count(awaited_line(changes, self.is_changed), file_lines, limit);
+        for index in 0..count {
             let origin = Origin {
                 file: self.file,
-                line: next,
+                line: read + index as u32 + 1,
             };
-            lines.push(SourceLine::new(line, origin, self.is_changed))?;
-            number = next;
+            lines.push(SourceLine::new(&file_lines[index], origin, self.is_changed))?;
         }
-        self.rest = Rest::OfFile(file_lines, number);
-        Ok((number - read) as usize)
+        self.rest = Rest::OfFile(&file_lines[count..], read + count as u32);
+        Ok(count)
     }
 }
 
-/// The line after the first `read` lines, with its number, if there is one.
-fn line_after<'a>(lines: &'a [Line], read: u32) -> Option<(&'a Line, u32)>
-    requires { length lines.now ≤ most_lines }
-    ensures line { IfSome result
-        (λ r. (r.1 ≡ read + 1)
-        × (drop read lines.entry.now ≡ r.0.now ∷ drop (read + 1) lines.entry.now)) }
-    ensures none { IfNone result (drop read lines.entry.now ≡ []) }
+/// How many of the lines, at most the limit, become source lines unchanged before one that does not.
+fn plain_count(awaited: Option<&[u8]>, lines: &[Line], limit: usize) -> usize
+    ensures limit { result ≤ min (length lines.now) limit }
+    ensures plain { (k : ℕ) → k < result →
+        IsUnchanged (option_copied awaited.entry) (slice_index_or lines.now k []) }
+    ensures short { (k : ℕ) → k < result → length (slice_index_or lines.now k []) ≤ longest_line }
 {
-    match lines.get(read as usize) {
-        Some(line) => Some((line, read + 1)),
-        None => None,
+    let most = lines.len().min(limit);
+    let mut count = 0;
+    while count < most && is_source_line(awaited, lines[count].bytes()) {
+        count += 1;
     }
+    count
 }
 
 /// The open files. The last one is read first.

@@ -428,12 +428,12 @@ impl<'s, 'a> Reader<'s, 'a> {
     pub fn skip_prose(&mut self)
         ensures { self.new ≡ region_end region.Prose self.old }
     {
-        while let Some(front) = self.front() {
-            if holds(b'@', front.byte) {
+        while !self.is_at_end() {
+            self.skip_to_at_sign();
+            if holds(b'@', self.byte()) {
                 return;
             }
             self.advance();
-            self.skip_to_at_sign();
         }
     }
 }

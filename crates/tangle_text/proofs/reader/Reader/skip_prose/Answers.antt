@@ -7,16 +7,20 @@ use Rattle.tangle_text.proofs.reader.Reader.skip_prose.Goals as goal
 
 pub returns-then-holds : goal.returns-then-holds
 returns-then-holds c =
-    let stop : unit_at region.Prose c.loop-front.self ≡ unit.Stop =
-    rw (c.in-Some.ensures.front.byte, ← c.holds.ensures, c.if-holds.true) refl in
-    rw (← c.loop-front.invariant, region_end-stop region.Prose c.loop-front.self stop) refl
+    let here = c.skip_to_at_sign.new.self in
+    let stop : unit_at region.Prose here ≡ unit.Stop =
+    rw (← c.byte.ensures, ← c.holds.ensures, c.if-holds.true) refl in
+    rw (← c.loop-self.invariant, ← c.skip_to_at_sign.ensures.same, region_end-stop region.Prose here stop) refl
 
-pub loop-front-preserved : goal.loop-front-preserved
-loop-front-preserved c =
-    let one : unit_at region.Prose c.loop-front.self ≡ unit.One =
-    rw (c.in-Some.ensures.front.byte, ← c.holds.ensures, c.if-holds.false) refl in
-    rw (c.skip_to_at_sign.ensures.same, c.advance.ensures, ← region_end-one region.Prose c.loop-front.self one)
-    c.loop-front.invariant
+pub loop-self-preserved : goal.loop-self-preserved
+loop-self-preserved c =
+    let here = c.skip_to_at_sign.new.self in
+    let one : unit_at region.Prose here ≡ unit.One =
+    rw (← c.byte.ensures, ← c.holds.ensures, c.if-holds.false) refl in
+    rw (c.advance.ensures, ← region_end-one region.Prose here one, c.skip_to_at_sign.ensures.same)
+    c.loop-self.invariant
 
 pub returns : goal.returns
-returns c = rw (← c.loop-front.invariant, c.in_default.ensures.end, region_end-nothing region.Prose) refl
+returns c =
+    let done = c.is_at_end.ensures.end c.loop-self-test.false in
+    rw (← c.loop-self.invariant, done, region_end-nothing region.Prose) refl
