@@ -12,6 +12,7 @@ Piece = namedtuple('Piece', 'section place occurrence items')
 Occurrence = namedtuple('Occurrence', 'text is_abbreviated is_file role place')
 
 HEAD = re.compile(rb'[ \t\r\v\f]*(?:\+[ \t\r\v\f]*)?==?')
+LIMBO_CODES = b'@fslq>'                         # what may stand before the first section
 
 
 class Web:
@@ -45,8 +46,9 @@ class Web:
         column = item.at - self.starts[row]
         return row, column, column + len(item.value)
 
-    def fault(self, kind, at):
-        self.noted.append((at, Fault(kind, self.place(at))))
+    def fault(self, kind, at, order=None):
+        """A fault whose place is there, and that comes in the list where `order` is, if not there."""
+        self.noted.append((at if order is None else order, Fault(kind, self.place(at))))
 
     def occurrence(self, name, code, role, at):
         """The number of a new occurrence, whose @ is there."""
@@ -81,6 +83,8 @@ class Web:
                 return
             if is_section_start(self.text[at + 1]):
                 break
+            if lower(self.text[at + 1]) not in LIMBO_CODES:
+                self.fault('LimboCode', at)
             at += 2
         while at < len(self.text):
             self.section_count += 1
@@ -91,6 +95,7 @@ class Web:
         text = self.text
         if text[at] == 42:
             at += 1
+        macro_end = None
         while True:
             found = text.find(b'@', at)
             if found < 0:
@@ -100,7 +105,7 @@ class Web:
             code = lower(text[found + 1])
             at = found + 2
             if code == 100:
-                at = self._macro(found)
+                at = macro_end = self._macro(found)
             elif code in b'cp':
                 return self._piece(at, None)
             elif code in b'<(':
@@ -109,6 +114,8 @@ class Web:
                 occurrence = self.occurrence(name, code, 'definition' if head else 'mention', found)
                 if head:
                     return self._piece(head.end(), occurrence)
+                if found == macro_end:
+                    self.fault('NameInMacro', found, at)
 
     def _piece(self, at, occurrence):
         part = Part(self, at, False)

@@ -9,7 +9,7 @@ use std::marker::Model;
 use tangle_streams::NoMemory;
 
 /// The kind of a fault. The first ten kinds belong to change files and reading, those from
-/// `CodeInC` on to scanning, and those from `NoFullName` on to names and outputs.
+/// `LimboCode` on to scanning, and those from `NoFullName` on to names and outputs.
 #[derive(Clone, Copy, Debug, PartialEq, Eq)]
 pub enum FaultKind {
     /// An `@y` or `@z` out of place.
@@ -32,8 +32,12 @@ pub enum FaultKind {
     SourceTooLong,
     /// A change that was never used. Only the first one is reported.
     ChangeUnused,
+    /// A control code before the first section.
+    LimboCode,
     /// A control code that begins a definition, in C text.
     CodeInC,
+    /// A section name that ends a macro and begins no definition.
+    NameInMacro,
     /// An `@h` in a macro.
     MisplacedH,
     /// A macro that does not start with an identifier.

@@ -12,6 +12,7 @@ use Rattle.tangle_lexer.specs.declared.names.Equals.{Equals}
 use Rattle.tangle_lexer.specs.declared.names.Equals.TheVariants as equals
 use Rattle.tangle_lexer.specs.declared.names.Name.{Name}
 use Rattle.tangle_text.specs.declared.regions.Region.TheVariants as region
+use Rattle.tangle_lexer.specs.declared.modes.Mode.{Mode}
 use Rattle.tangle_lexer.specs.declared.modes.Mode.TheVariants as mode
 use Rattle.tangle_lexer.specs.declared.modes.LexerState.{LexerState}
 use Rattle.tangle_lexer.specs.declared.tokens.Token.{Token}
@@ -161,11 +162,22 @@ use_of_name s text =
     fault.NameEquals (front_line s.last_line text))
     (name_more text) (elsewhere s) text
 
--- A name of documentation is a definition if `count` cells after it end with an equals sign: a C
--- part begins after them. Otherwise it is a mention.
+abbrev pub is_macro : Mode → Bool
+is_macro mode.Macro = true
+is_macro _ = false
+
+-- a mention that ends a macro is a fault, since the macro is cut there
+abbrev pub mention_faults : LexerState → List Cell → List Token
+mention_faults s text =
+    name_faults s.last_line text
+    ++ fault_if (is_macro s.mode) fault.NameInMacro (front_line s.last_line text)
+
+-- A name of documentation, or one that ends a macro, is a definition if `count` cells after it end
+-- with an equals sign: a C part begins after them. Otherwise it is a mention.
 abbrev pub definition_or_mention : Option ℕ → LexerState → List Cell → Lexeme
 definition_or_mention None s text =
-    name_lexeme role.Mention (name_faults s.last_line text) (name_more text) s text
+    name_lexeme role.Mention (mention_faults s text) (name_more text)
+    (in_mode mode.Documentation s) text
 definition_or_mention (Some count) s text =
     name_lexeme role.Definition
     (token.NamedPart (front_line s.last_line (drop (name_more text + count) text)) s.occurrences

@@ -1,7 +1,8 @@
 -- The four modes: what begins at a position, and what is read there.
 use Rattle.std.specs.Prelude.{ℕ, zero, suc, ◌+◌, ◌-◌, Bool, ◌==◌, ◌&&◌, ◌||◌, List, [], ◌∷◌, length}
 use Rattle.std.specs.Prelude.{map, flat_map, take, drop, if◌then◌else◌, Option, Some, None}
-use Rattle.std.specs.Prelude.{option_to_list}
+use Rattle.std.specs.Prelude.{option_to_list, codes, not, false}
+use Rattle.std.specs.List.{list_any}
 use Rattle.tangle_lines.specs.Bytes.{at_sign, double_quote, is_white}
 use Rattle.tangle_lines.specs.Reading.{SourceLine}
 use Rattle.tangle_faults.specs.declared.faults.FaultKind.{FaultKind}
@@ -25,7 +26,7 @@ use Rattle.tangle_text.specs.Bytes.{lower}
 use Rattle.tangle_text.specs.Text.{Cell, byte_at, bytes_of, front_line, span_at, text_from}
 use Rattle.tangle_text.specs.Regions.{count_before}
 use Rattle.tangle_lexer.specs.Lexemes.{OccurrenceOnLine, Lexeme, lexeme_of, in_mode, with_include}
-use Rattle.tangle_lexer.specs.Lexemes.{elsewhere, white_lexeme}
+use Rattle.tangle_lexer.specs.Lexemes.{elsewhere, white_lexeme, fault_if}
 use Rattle.tangle_lexer.specs.Comments.{block_comment, line_comment, control_text, starts_section}
 use Rattle.tangle_lexer.specs.Quoted.{quoted_text, verbatim_text}
 use Rattle.tangle_lexer.specs.Constants.{ascii_constant}
@@ -117,11 +118,24 @@ section_start s = lexeme_of (token.Section ∷ []) 0 (in_mode mode.Documentation
 abbrev pub prose : LexerState → List Cell → Lexeme
 prose s text = lexeme_of [] (count_before region.Prose (drop 1 text)) s
 
--- Limbo: all is skipped up to the first section start, each control code as two bytes.
+-- @@, @f, @s, @l, @q and @> may stand before the first section
+abbrev pub is_limbo_code : Option ℕ → Bool
+is_limbo_code None = false
+is_limbo_code (Some b) = list_any (λ code. lower b == code) (codes "@fslq>")
+
+-- a control code before the first section, which is skipped as two bytes, as far as it is a fault
+abbrev pub limbo_code : Bool → LexerState → List Cell → Lexeme
+limbo_code is_fault s text =
+    lexeme_of (fault_if is_fault fault.LimboCode (front_line s.last_line text)) 1 s
+
+-- Limbo: all is skipped up to the first section start. Most control codes are a fault there, since
+-- what they begin would be lost.
 abbrev pub limbo_lexeme : LexerState → List Cell → Lexeme
 limbo_lexeme s text =
     if starts_section text then section_start s else
-    if holds at_sign (byte_at 0 text) then lexeme_of [] 1 s else prose s text
+    if holds at_sign (byte_at 0 text)
+    then limbo_code (not (is_limbo_code (byte_at 1 text))) s text
+    else prose s text
 
 -- A control code in documentation.
 abbrev pub documentation_code : ControlCode → LexerState → List Cell → Lexeme
@@ -190,7 +204,7 @@ c_lexeme lexeme_kind.Other s text =
 abbrev pub macro_code : ControlCode → LexerState → List Cell → Lexeme
 macro_code code.Macro s text = documentation_code code.Macro s text
 macro_code code.UnnamedPart s text = documentation_code code.UnnamedPart s text
-macro_code code.Name s text = documentation_code code.Name (in_mode mode.Documentation s) text
+macro_code code.Name s text = documentation_code code.Name s text
 -- @f and @s lead back to documentation
 macro_code code.Format s text = lexeme_of [] 1 (in_mode mode.Documentation s)
 -- @h is a fault and white space

@@ -341,7 +341,14 @@ fn pass_equals(reader: &mut Reader, last: u32) -> Option<u32>
     }
 }
 
-/// Adds a mention of this name, and a fault if `@>` does not end the name.
+fn is_macro(mode: Mode) -> bool
+    ensures { result ≡ spec.is_macro mode }
+{
+    matches!(mode, Mode::Macro)
+}
+
+/// Adds a mention of this name, with a fault if `@>` does not end the name, and with one if the name
+/// ends a macro. Documentation follows.
 fn push_mention(
     source: &Source,
     buffers: &mut LexerBuffers,
@@ -349,21 +356,24 @@ fn push_mention(
     state: LexerState,
 ) -> Result<LexerState, AllocError>
     requires { state.occurrences ≡ length buffers.old.occurrences.items }
-    ensures tokens { OnOk result (buffers.new.tokens.items
-        ≡ buffers.old.tokens.items ++ fault_if (not name.is_ended) fault.NameEnd name.end_line) }
+    ensures tokens { OnOk result (buffers.new.tokens.items ≡ buffers.old.tokens.items
+        ++ fault_if (not name.is_ended) fault.NameEnd name.end_line
+        ++ fault_if (spec.is_macro state.mode) fault.NameInMacro name.line) }
     ensures occurrences { OnOk result (buffers.new.occurrences.items ≡ buffers.old.occurrences.items
         ++ occurrence_of source.now.lines (spec.in_role role.Mention name) ∷ []) }
-    ensures state { IfOk result
-        (λ after. after ≡ record state { occurrences = state.occurrences + 1 }) }
+    ensures state { IfOk result (λ after. after
+        ≡ record (in_mode mode.Documentation state) { occurrences = state.occurrences + 1 }) }
 {
     let tokens = &mut buffers.tokens;
     push_fault_if(tokens, !name.is_ended, FaultKind::NameEnd, name.end_line)?;
+    let in_macro = is_macro(state.mode);
+    push_fault_if(tokens, in_macro, FaultKind::NameInMacro, name.line)?;
     let after = push_occurrence(
         source,
         &mut buffers.occurrences,
         name,
         OccurrenceRole::Mention,
-        state,
+        state.in_mode(Mode::Documentation),
     )?;
     Ok(after)
 }
@@ -399,7 +409,8 @@ fn push_definition(
     Ok(after)
 }
 
-/// Reads a name in documentation: a definition with its equals sign, or else a mention.
+/// Reads a name in documentation, or one that ends a macro: a definition with its equals sign, or
+/// else a mention.
 pub fn name_in_documentation(
     source: &Source,
     buffers: &mut LexerBuffers,

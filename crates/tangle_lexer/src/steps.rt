@@ -18,10 +18,10 @@ use crate::lexeme_kinds::{ControlCode, LexemeKind, code_at, kind_by};
 use crate::modes::{IncludeState, LexerState, Mode};
 use crate::names::{name_in_documentation, use_of_name};
 use crate::quoted::{quoted_text, verbatim_text};
-use crate::tokens::{LexerBuffers, SpanKind, Token};
+use crate::tokens::{LexerBuffers, SpanKind, Token, push_fault_if};
 use std::alloc::AllocError;
 use tangle_lines::{FaultKind, Source};
-use tangle_text::{Front, Reader, Region, Unit, holds, is_section_start};
+use tangle_text::{Front, Reader, Region, Unit, holds, is_section_start, lower};
 
 /// Begins a section. Only the `@` is read: the byte after it is skipped as documentation.
 fn section_start(
@@ -45,7 +45,18 @@ fn prose(reader: &mut Reader)
     reader.skip_prose();
 }
 
-/// Reads the first section start, or skips text in limbo: a control code, or the text up to an `@`.
+/// Whether `@` makes a control code with this byte that may stand before the first section.
+fn is_limbo_code(next: Option<u8>) -> bool
+    ensures { result ≡ spec.is_limbo_code next }
+{
+    match next {
+        Some(byte) => matches!(lower(byte), b'@' | b'f' | b's' | b'l' | b'q' | b'>'),
+        None => false,
+    }
+}
+
+/// Reads the first section start, or skips text in limbo: a control code, which may be a fault, or
+/// the text up to an `@`.
 fn limbo(
     tokens: &mut Vec<Token>,
     reader: &mut Reader,
@@ -60,6 +71,13 @@ fn limbo(
         return section_start(tokens, reader, state);
     }
     if holds(b'@', front.byte) {
+        let line = reader.line(state.last_line);
+        push_fault_if(
+            tokens,
+            !is_limbo_code(front.next),
+            FaultKind::LimboCode,
+            line,
+        )?;
         reader.pass(Unit::Two);
     } else {
         prose(reader);
@@ -280,11 +298,7 @@ fn macro_code(
         reader.old reader.new after (spec.macro_code code state reader.old)) }
 {
     match code {
-        ControlCode::Macro | ControlCode::UnnamedPart => {
-            documentation_code(source, buffers, reader, state, code)
-        }
-        ControlCode::Name => {
-            let state = state.in_mode(Mode::Documentation);
+        ControlCode::Macro | ControlCode::UnnamedPart | ControlCode::Name => {
             documentation_code(source, buffers, reader, state, code)
         }
         ControlCode::Format => {

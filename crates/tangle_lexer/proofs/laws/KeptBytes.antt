@@ -26,14 +26,15 @@ use Rattle.tangle_lexer.specs.Lexemes.{Lexeme, fault_if, in_mode}
 use Rattle.tangle_lexer.specs.Comments.{unit_line_end, line_ends, ends_comment, starts_section, has_end_code}
 use Rattle.tangle_lexer.specs.Constants.{constant_at, constant_lexeme}
 use Rattle.tangle_lexer.specs.Names.{name_end, is_ended, name_faults, after_name, has_single_equals}
-use Rattle.tangle_lexer.specs.Names.{definition_or_mention, definition_count}
+use Rattle.tangle_lexer.specs.Names.{definition_or_mention, definition_count, mention_faults}
 use Rattle.tangle_lexer.specs.Simple.{is_c_part}
 use Rattle.tangle_lexer.specs.Steps.{kind_at, c_lexeme, lexeme, lexemes}
 use Rattle.tangle_lexer.specs.Segments.{Segment, segment, span_points, byte_points, kept_points}
 use Rattle.tangle_lexer.specs.Segments.{c_segments, segments_in, segments, text_segments, verbatim_segments}
 use Rattle.tangle_lexer.specs.Segments.SegmentKind.{ControlBytes}
 use Rattle.tangle_lexer.proofs.lemmas.PlainTokens.{is_not_plain, fault_if-plain}
-use Rattle.tangle_lexer.proofs.lemmas.PlainLexemes.{IsPlainLexeme, use-plain, fault-plain, kind-plain}
+use Rattle.tangle_lexer.proofs.lemmas.PlainLexemes.{IsPlainLexeme, use-plain, mention-plain, fault-plain}
+use Rattle.tangle_lexer.proofs.lemmas.PlainLexemes.{kind-plain}
 use Rattle.tangle_lexer.proofs.lemmas.LexemeCases.{OpensLexeme, kind-opens, lexeme-by}
 use Rattle.tangle_lexer.proofs.lemmas.StepLemmas.{lexeme-here}
 use Rattle.tangle_lexer.proofs.laws.Points.{Point, after_cell, after_cells, HoldsBytes, IsTextAt, text-after_cells}
@@ -202,12 +203,10 @@ module _ (width : ℕ → ℕ) (count : ℕ) where
   plain-leads s here m p us =
       part_points-plain false here.tokens us p.tokens.none ∙ ap (λ x. part_points x us) (sym (ap is_c_part p.mode ∙ m))
 
-  name-leads : (s : LexerState) (text : List Cell)
-      → is_c_part s.mode ≡ false → (o : Option ℕ) → Leads (definition_or_mention o s text)
-  name-leads s text m None us =
-      part_points-plain false (name_faults s.last_line text) us (fault_if-plain _ fault.NameEnd _).none
-      ∙ ap (λ x. part_points x us) (sym m)
-  name-leads s text m (Some k) us = refl
+  name-leads : (s : LexerState) (text : List Cell) (o : Option ℕ) → Leads (definition_or_mention o s text)
+  name-leads s text None us =
+      part_points-plain false (mention_faults s text) us (mention-plain s text).none
+  name-leads s text (Some k) us = refl
 
   lexeme-leads : (s : LexerState) (text : List Cell) → is_c_part s.mode ≡ false → Leads (lexeme s text)
   lexeme-leads s text out =
@@ -216,8 +215,11 @@ module _ (width : ℕ → ℕ) (count : ℕ) where
         macro = λ o us. refl;
         part = λ o us. refl;
         used = λ m o. absurd (let never : false ≡ true = sym out ∙ ap is_c_part m in cc);
-        name = λ m. name-leads s text out (definition_count text);
-        ending = λ m. name-leads (in_mode mode.Documentation s) text refl (definition_count text);
+        name = λ outside. name-leads s text (definition_count text);
+        limbo = λ m is_fault us.
+            let ts = fault_if is_fault fault.LimboCode (front_line s.last_line text) in
+            part_points-plain false ts us (fault_if-plain is_fault fault.LimboCode (front_line s.last_line text)).none
+            ∙ ap (λ x. part_points x us) (sym out);
         skip = λ outside n us. rw out refl;
         format = λ m us. refl;
         misplaced = λ m o. plain-leads s _ out (fault-plain fault.MisplacedH s text);

@@ -25,7 +25,7 @@ use Rattle.tangle_lexer.proofs.laws.Points.{Point, point_at, PrecedesOnLine, IsB
 use Rattle.tangle_lexer.proofs.laws.Points.{HoldsBytes, IsTextAt, precedes-after_cells}
 use Rattle.tangle_lexer.proofs.laws.TokenOrder.{AreInOrder, jumped, goes-refl, in_order-append}
 use Rattle.tangle_lexer.proofs.laws.RegionOrder.{some-byte, are_bytes-hold, code-bytes, more-bytes, after_cells-more}
-use Rattle.tangle_lexer.proofs.laws.RegionOrder.{bytes-precede}
+use Rattle.tangle_lexer.proofs.laws.RegionOrder.{bytes-precede, faults-in_order}
 use Rattle.tangle_lexer.proofs.laws.WhiteOrder.{white-bytes, block_comment-in_order, control_text-in_order}
 use Rattle.tangle_lexer.proofs.laws.WhiteOrder.{line_comment-in_order, span-in_order, word-in_order}
 use Rattle.tangle_lexer.proofs.laws.CutTexts.{double_quote-cut, apostrophe-cut, header_name-cut}
@@ -64,17 +64,16 @@ module _ (width : ℕ → ℕ) (count : ℕ) where
       subst (λ l. (at.line ≤ l) × PrecedesOnLine (jumped at l) (after_cells at 2 (c ∷ cs)))
       (sym is.0.line) (omega arith, (goes.0, omega (arith, j.1, goes.1)))
 
-  name-law : (from : Bool) (s : LexerState) (at : Point) (c : Cell) (cs : List Cell)
-      → is_c_text s.mode ≡ false → IsTextAt width count at (c ∷ cs)
+  name-law : (from : Bool) (s : LexerState) (at : Point) (c : Cell) (cs : List Cell) → IsTextAt width count at (c ∷ cs)
       → AreInOrder width count from at (name_in_documentation s (c ∷ cs)).tokens
       (is_c_text (name_in_documentation s (c ∷ cs)).after.mode)
       (after_cells at (1 + (name_in_documentation s (c ∷ cs)).more) (c ∷ cs))
-  name-law from s at c cs out is =
-      by (definition_count (c ∷ cs)) (name-in_order width count from s at c cs is (is_c_text s.mode) out)
+  name-law from s at c cs is =
+      by (definition_count (c ∷ cs)) (name-in_order width count from s at c cs is)
     where
       by : (o : Option ℕ)
           → AreInOrder width count from at (definition_or_mention o s (c ∷ cs)).tokens
-          (is_some o || is_c_text s.mode) (after_cells at (1 + (definition_or_mention o s (c ∷ cs)).more) (c ∷ cs))
+          (is_some o) (after_cells at (1 + (definition_or_mention o s (c ∷ cs)).more) (c ∷ cs))
           → AreInOrder width count from at (definition_or_mention o s (c ∷ cs)).tokens
           (is_c_text (definition_or_mention o s (c ∷ cs)).after.mode)
           (after_cells at (1 + (definition_or_mention o s (c ∷ cs)).more) (c ∷ cs))
@@ -144,11 +143,13 @@ module _ (width : ℕ → ℕ) (count : ℕ) where
         used = λ m o.
             stays-inside s at text (use_of_name s text) (ap is_c_text m) refl refl
             (use_of_name-in_order width count s at c cs last is);
-        name = λ m.
-            record { last = name-last s text; ordered = inl (name-law (is_c_text s.mode) s at c cs (ap is_c_text m) is) };
-        ending = λ m.
-            let t : LexerState = in_mode mode.Documentation s in
-            record { last = name-last t text; ordered = inl (name-law (is_c_text s.mode) t at c cs refl is) };
+        name = λ out. record { last = name-last s text; ordered = inl (name-law (is_c_text s.mode) s at c cs is) };
+        limbo = λ m is_fault. record {
+          last = refl;
+          ordered = inl (rw (ap is_c_text m)
+              (faults-in_order width count false false is_fault fault.LimboCode c.line at (after_cells at 2 text)
+              (precedes-after_cells width count at 2 text is)));
+        };
         skip = λ out n.
             record { last = refl; ordered = inl (rw out (precedes-after_cells width count at (1 + n) text is)) };
         format = λ m. record { last = refl; ordered = inl (precedes-after_cells width count at 2 text is) };

@@ -18,7 +18,7 @@ use Rattle.tangle_lexer.specs.Lexemes.{Lexeme, fault_if}
 use Rattle.tangle_lexer.specs.Comments.{two_if}
 use Rattle.tangle_lexer.specs.Names.{name_count, name_end, is_ended, name_more, after_name, count_before_equals}
 use Rattle.tangle_lexer.specs.Names.{count_through, equals_count, has_single_equals, definition_count, use_of_name}
-use Rattle.tangle_lexer.specs.Names.{definition_or_mention, name_in_documentation}
+use Rattle.tangle_lexer.specs.Names.{definition_or_mention, name_in_documentation, is_macro}
 use Rattle.tangle_lexer.proofs.laws.Points.{Point, Precedes, PrecedesOnLine, IsByte, after_cells, HoldsBytes, IsTextAt}
 use Rattle.tangle_lexer.proofs.laws.Points.{text-after_cells, precedes-after_cells, precedes-trans, after-byte}
 use Rattle.tangle_lexer.proofs.laws.TokenOrder.{GoesOn, AreInOrder, jumped}
@@ -157,10 +157,14 @@ module _ (width : ℕ → ℕ) (count : ℕ) where
             inr (none, subst (λ q. AreInOrder width count true at ts false q) (sym to) ordered.1)
       ]
 
-  mention-in_order : (from b : Bool) (kind : FaultKind) (line : ℕ) (at to : Point)
-      → Precedes at to → AreInOrder width count from at (fault_if b kind line) false to
-  mention-in_order true b kind line at to h = faults-in_order width count true false b kind line at to h
-  mention-in_order false b kind line at to h = faults-in_order width count false false b kind line at to h
+  mention-in_order : (from a b : Bool) (last line : ℕ) (at to : Point) → Precedes at to
+      → AreInOrder width count from at (fault_if a fault.NameEnd last ++ fault_if b fault.NameInMacro line) false to
+  mention-in_order true a b last line at to h =
+      fault-before width count true false a fault.NameEnd last at to (fault_if b fault.NameInMacro line)
+      (faults-in_order width count true false b fault.NameInMacro line at to h)
+  mention-in_order false a b last line at to h =
+      fault-before width count false false a fault.NameEnd last at to (fault_if b fault.NameInMacro line)
+      (faults-in_order width count false false b fault.NameInMacro line at to h)
 
   -- a C part that begins after the byte at the front
   part-in_order : (last : ℕ) (at p : Point) (text : List Cell)
@@ -173,20 +177,19 @@ module _ (width : ℕ → ℕ) (count : ℕ) where
 
   -- a mention or a definition, in documentation or at the end of a macro
   pub name-in_order : (from : Bool) (s : LexerState) (at : Point) (c : Cell) (cs : List Cell)
-      → IsTextAt width count at (c ∷ cs) → (stays : Bool) → stays ≡ false
+      → IsTextAt width count at (c ∷ cs)
       → AreInOrder width count from at (name_in_documentation s (c ∷ cs)).tokens
-      (is_some (definition_count (c ∷ cs)) || stays)
+      (is_some (definition_count (c ∷ cs)))
       (after_cells at (1 + (name_in_documentation s (c ∷ cs)).more) (c ∷ cs))
-  name-in_order from s at c cs is stays out = by (definition_count (c ∷ cs)) (definition-last (c ∷ cs))
+  name-in_order from s at c cs is = by (definition_count (c ∷ cs)) (definition-last (c ∷ cs))
     where
       by : (o : Option ℕ) → ((k : ℕ) → o ≡ Some k → (j : ℕ) × ((k ≡ j + 1) × IsByte (byte_at j (after_name (c ∷ cs)))))
           → AreInOrder width count from at (definition_or_mention o s (c ∷ cs)).tokens
-          (is_some o || stays) (after_cells at (1 + (definition_or_mention o s (c ∷ cs)).more) (c ∷ cs))
+          (is_some o) (after_cells at (1 + (definition_or_mention o s (c ∷ cs)).more) (c ∷ cs))
       by None last =
-          rw out
-          (mention-in_order from (not (is_ended (c ∷ cs))) fault.NameEnd
-          (front_line s.last_line (name_end (c ∷ cs))) at (after_cells at (1 + name_more (c ∷ cs)) (c ∷ cs))
-          (precedes-after_cells width count at (1 + name_more (c ∷ cs)) (c ∷ cs) is))
+          mention-in_order from (not (is_ended (c ∷ cs))) (is_macro s.mode)
+          (front_line s.last_line (name_end (c ∷ cs))) c.line at (after_cells at (1 + name_more (c ∷ cs)) (c ∷ cs))
+          (precedes-after_cells width count at (1 + name_more (c ∷ cs)) (c ∷ cs) is)
       by (Some k) last =
           let text : List Cell = c ∷ cs in
           let m : ℕ = name_more text in

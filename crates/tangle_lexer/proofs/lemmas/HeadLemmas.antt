@@ -7,12 +7,12 @@ use Rattle.tangle_lexer.specs.declared.modes.LexerState.{LexerState}
 use Rattle.tangle_lexer.specs.declared.tokens.Token.{Token}
 use Rattle.tangle_lexer.specs.declared.tokens.Token.TheVariants as token
 use Rattle.tangle_text.specs.Text.{Cell}
-use Rattle.tangle_lexer.specs.Lexemes.{Lexeme, in_mode}
+use Rattle.tangle_lexer.specs.Lexemes.{Lexeme}
 use Rattle.tangle_faults.specs.declared.faults.FaultKind.TheVariants as fault
-use Rattle.tangle_lexer.specs.Names.{name_faults, definition_or_mention, definition_count}
+use Rattle.tangle_lexer.specs.Names.{mention_faults, definition_or_mention, definition_count}
 use Rattle.tangle_lexer.specs.Steps.{lexeme}
 use Rattle.tangle_lexer.proofs.lemmas.PlainTokens.{HasNone, none-by, ArePlain, is_not_plain, fault_if-plain}
-use Rattle.tangle_lexer.proofs.lemmas.PlainLexemes.{IsPlainLexeme, use-plain, fault-plain, kind-plain}
+use Rattle.tangle_lexer.proofs.lemmas.PlainLexemes.{IsPlainLexeme, use-plain, mention-plain, fault-plain, kind-plain}
 use Rattle.tangle_lexer.proofs.lemmas.LexemeCases.{lexeme-by}
 use Rattle.tangle_lexer.specs.Heads.{is_head}
 use Rattle.tangle_lexer.specs.Runs.{is_run}
@@ -50,12 +50,10 @@ plain-special ts h = none-by is_not_plain is_special one ts h.none
 plain-alone : (s : LexerState) (l : Lexeme) → IsPlainLexeme s l → IsHeadAlone s l
 plain-alone s l h = inl (plain-special l.tokens h.tokens, λ e. sym h.mode ∙ e)
 
--- a mention or a definition that is read in the state `t`
-name-alone : (found : Option ℕ) (s t : LexerState) (text : List Cell)
-    → (t.mode ≡ mode.CPart → s.mode ≡ mode.CPart) → IsHeadAlone s (definition_or_mention found t text)
-name-alone None s t text before =
-    inl (plain-special (name_faults t.last_line text) (fault_if-plain _ fault.NameEnd _), before)
-name-alone (Some count) s t text before = inr (_, refl, refl, tt)
+name-alone : (found : Option ℕ) (s : LexerState) (text : List Cell)
+    → IsHeadAlone s (definition_or_mention found s text)
+name-alone None s text = inl (plain-special (mention_faults s text) (mention-plain s text), λ e. cc)
+name-alone (Some count) s text = inr (_, refl, refl, tt)
 
 pub lexeme-alone : (s : LexerState) (text : List Cell) → IsHeadAlone s (lexeme s text)
 lexeme-alone s text =
@@ -64,8 +62,8 @@ lexeme-alone s text =
       macro = λ o. inr (_, refl, refl, refl);
       part = λ o. inr (_, refl, refl, tt);
       used = λ m o. inl (plain-special _ (use-plain s text), λ e. e);
-      name = λ m. name-alone (definition_count text) s s text (λ e. e);
-      ending = λ m. name-alone (definition_count text) s (in_mode mode.Documentation s) text (λ e. cc);
+      name = λ out. name-alone (definition_count text) s text;
+      limbo = λ m is_fault. inl (plain-special _ (fault_if-plain is_fault fault.LimboCode _), λ e. e);
       skip = λ out n. inl (refl, λ e. e);
       format = λ m. inl (refl, λ e. cc);
       misplaced = λ m o. plain-alone s _ (fault-plain fault.MisplacedH s text);

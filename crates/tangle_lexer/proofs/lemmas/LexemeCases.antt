@@ -1,5 +1,5 @@
 -- The cases of a lexeme, by the mode and by the first two cells.
-use Rattle.std.proofs.Common.{◌≡◌, ℕ, true, false, ◌&&◌, ◌==◌, Option, Some, None, List, [], refl, ap}
+use Rattle.std.proofs.Common.{◌≡◌, ℕ, Bool, true, false, ◌&&◌, ◌==◌, Option, Some, None, List, [], refl, ap}
 use Rattle.std.proofs.lemmas.Bool.{cond_both}
 use Rattle.tangle_faults.specs.declared.faults.FaultKind.TheVariants as fault
 use Rattle.tangle_lines.specs.Bytes.{at_sign, double_quote, is_white}
@@ -19,9 +19,9 @@ use Rattle.tangle_lexer.specs.Lexemes.{Lexeme, lexeme_of, in_mode}
 use Rattle.tangle_lexer.specs.Comments.{starts_section}
 use Rattle.tangle_lexer.specs.Names.{use_of_name, name_in_documentation}
 use Rattle.tangle_lexer.specs.Segments.{OpensWith}
-use Rattle.tangle_lexer.specs.Simple.{is_c_text}
+use Rattle.tangle_lexer.specs.Simple.{is_c_text, is_c_part}
 use Rattle.tangle_lexer.specs.Steps.{code_at, less_kind, kind_by, kind_at, section_start, code_fault, documentation_code}
-use Rattle.tangle_lexer.specs.Steps.{c_code, c_lexeme, macro_code, macro_lexeme, lexeme_in, lexeme}
+use Rattle.tangle_lexer.specs.Steps.{limbo_code, c_code, c_lexeme, macro_code, macro_lexeme, lexeme_in, lexeme}
 
 -- what the first two cells of a lexeme of this kind are
 abbrev pub Opens : LexemeKind → Option ℕ → Option ℕ → Type 0
@@ -67,9 +67,9 @@ pub record LexemeCases (P : Lexeme → Type 0) (s : LexerState) (text : List Cel
   pub part : OpensWith code.UnnamedPart text → P (documentation_code code.UnnamedPart s text)
   -- names
   pub used : s.mode ≡ mode.CPart → OpensWith code.Name text → P (use_of_name s text)
-  pub name : s.mode ≡ mode.Documentation → P (name_in_documentation s text)
-  pub ending : s.mode ≡ mode.Macro → P (name_in_documentation (in_mode mode.Documentation s) text)
+  pub name : is_c_part s.mode ≡ false → P (name_in_documentation s text)
   -- outside of C text
+  pub limbo : s.mode ≡ mode.Limbo → (is_fault : Bool) → P (limbo_code is_fault s text)
   pub skip : is_c_text s.mode ≡ false → (n : ℕ) → P (lexeme_of [] n s)
   -- @f and @s, which end a macro
   pub format : s.mode ≡ mode.Macro → P (lexeme_of [] 1 (in_mode mode.Documentation s))
@@ -93,7 +93,7 @@ module _ (P : Lexeme → Type 0) (s : LexerState) (text : List Cell) (by : Lexem
   macro_code-by : (kind : ControlCode) → s.mode ≡ mode.Macro → OpensWith kind text → P (macro_code kind s text)
   macro_code-by code.Macro m o = by.macro o
   macro_code-by code.UnnamedPart m o = by.part o
-  macro_code-by code.Name m o = by.ending m
+  macro_code-by code.Name m o = by.name (ap is_c_part m)
   macro_code-by code.Format m o = by.format m
   macro_code-by code.AllMacros m o = by.misplaced m o
   macro_code-by kind m o = code-by kind (ap is_c_text m) (λ e. cc) o
@@ -107,14 +107,14 @@ module _ (P : Lexeme → Type 0) (s : LexerState) (text : List Cell) (by : Lexem
   documentation-by code.SectionStart m o = by.section
   documentation-by code.Macro m o = by.macro o
   documentation-by code.UnnamedPart m o = by.part o
-  documentation-by code.Name m o = by.name m
+  documentation-by code.Name m o = by.name (ap is_c_part m)
   documentation-by _ m o = by.skip (ap is_c_text m) 1
 
   mode-by : (m : Mode) → s.mode ≡ m → P (lexeme_in m s text)
   mode-by mode.Limbo m =
       cond_both (starts_section text) _ _ P (λ e. by.section)
       (λ e. cond_both (holds at_sign (byte_at 0 text)) _ _ P
-      (λ e. by.skip (ap is_c_text m) 1) (λ e. by.skip (ap is_c_text m) _))
+      (λ e. by.limbo m _) (λ e. by.skip (ap is_c_text m) _))
   mode-by mode.Documentation m =
       cond_both (holds at_sign (byte_at 0 text)) _ _ P
       (λ e. documentation-by (code_at (byte_at 1 text)) m (e, refl)) (λ e. by.skip (ap is_c_text m) _)

@@ -6,14 +6,13 @@ use Rattle.std.specs.List.{list_any, AllByRecursion}
 use Rattle.tangle_faults.specs.declared.faults.FaultKind.TheVariants as fault
 use Rattle.tangle_lexer.specs.declared.tokens.Token.{Token}
 use Rattle.tangle_lexer.specs.declared.tokens.Token.TheVariants as token
-use Rattle.tangle_lexer.specs.declared.modes.Mode.TheVariants as mode
 use Rattle.tangle_lexer.specs.declared.modes.LexerState.{LexerState}
 use Rattle.tangle_text.specs.Text.{Cell}
-use Rattle.tangle_lexer.specs.Lexemes.{Lexeme, in_mode}
+use Rattle.tangle_lexer.specs.Lexemes.{Lexeme}
 use Rattle.tangle_lexer.specs.Names.{definition_or_mention, definition_count}
 use Rattle.tangle_lexer.specs.Steps.{lexeme, lexemes, tokens_from, occurrences_from}
 use Rattle.tangle_lexer.proofs.lemmas.PlainTokens.{ArePlain, is_not_plain, seen, fault_if-plain}
-use Rattle.tangle_lexer.proofs.lemmas.PlainLexemes.{IsPlainLexeme, use-plain, fault-plain, kind-plain}
+use Rattle.tangle_lexer.proofs.lemmas.PlainLexemes.{IsPlainLexeme, use-plain, mention-plain, fault-plain, kind-plain}
 use Rattle.tangle_lexer.proofs.lemmas.LexemeCases.{lexeme-by}
 
 -- a token has no number of an occurrence, or one below `count`
@@ -68,7 +67,7 @@ head-keeps s l h none same is below = record {
 
 name-keeps : (count : Option ℕ) (s : LexerState) (text : List Cell) → Keeps s (definition_or_mention count s text)
 name-keeps None s text =
-    record { count = refl; below = plain-below (s.occurrences + 1) _ (fault_if-plain _ fault.NameEnd _).none }
+    record { count = refl; below = plain-below (s.occurrences + 1) _ (mention-plain s text).none }
 name-keeps (Some count) s text = record { count = refl; below = (omega arith, tt) }
 
 pub lexeme-keeps : (s : LexerState) (text : List Cell) → Keeps s (lexeme s text)
@@ -79,10 +78,8 @@ lexeme-keeps s text =
       part = λ o. head-keeps s _ _ refl refl refl tt;
       used = λ m o.
           record { count = refl; below = (omega arith, plain-below (s.occurrences + 1) _ (use-plain s text).none) };
-      name = λ m. name-keeps (definition_count text) s text;
-      ending = λ m.
-          let there = name-keeps (definition_count text) (in_mode mode.Documentation s) text in
-          record { count = there.count; below = there.below };
+      name = λ out. name-keeps (definition_count text) s text;
+      limbo = λ m is_fault. plain-keeps s _ refl refl (fault_if-plain is_fault fault.LimboCode _);
       skip = λ out n. plain-keeps s _ refl refl (seen _ refl);
       format = λ m. plain-keeps s _ refl refl (seen _ refl);
       misplaced = λ m o. lexeme-plain s _ (fault-plain fault.MisplacedH s text);

@@ -12,7 +12,7 @@ use Rattle.tangle_lexer.specs.declared.lexeme_kinds.LexemeKind.TheVariants as le
 use Rattle.tangle_lexer.specs.declared.modes.LexerState.{LexerState}
 use Rattle.tangle_lexer.specs.Constants.{constant_at, constant_lexeme}
 use Rattle.tangle_lexer.specs.Lexemes.{Lexeme, fault_if}
-use Rattle.tangle_lexer.specs.Names.{name_faults, has_single_equals, after_name}
+use Rattle.tangle_lexer.specs.Names.{name_faults, mention_faults, has_single_equals, after_name, is_macro}
 use Rattle.tangle_lexer.specs.Quoted.{quote_end, quoted_text}
 use Rattle.tangle_lexer.specs.Steps.{code_fault, c_lexeme}
 use Rattle.tangle_lexer.proofs.lemmas.LexemeCases.{IsPlainKind}
@@ -38,6 +38,11 @@ pub use-plain : (s : LexerState) (text : List Cell) → ArePlain (name_faults s.
     ++ fault_if (has_single_equals (after_name text)) fault.NameEquals (front_line s.last_line text))
 use-plain s text = plain-append _ _ (fault_if-plain _ fault.NameEnd _)
     (fault_if-plain (has_single_equals (after_name text)) fault.NameEquals (front_line s.last_line text))
+
+-- the faults of a name that is mentioned
+pub mention-plain : (s : LexerState) (text : List Cell) → ArePlain (mention_faults s text)
+mention-plain s text = plain-append _ _ (fault_if-plain _ fault.NameEnd _)
+    (fault_if-plain (is_macro s.mode) fault.NameInMacro (front_line s.last_line text))
 
 constant-plain : (constant : Option AsciiConstant) (s : LexerState) (text : List Cell)
     → IsPlainLexeme s (constant_lexeme constant s text)

@@ -212,6 +212,25 @@ pub occurrences_and_faults :
 unfolding lexeme tokens_from occurrences_from
 occurrences_and_faults = refl
 
+-- control codes before the first section
+pub codes_in_limbo : shown (codes "a @@ @d b @q c @L @> @F" ∷ codes "@Q@C @ A." ∷ [])
+    ≡ record plain { faults = on fault.LimboCode 1 ∷ on fault.LimboCode 2 ∷ [] }
+unfolding lexeme tokens_from occurrences_from
+codes_in_limbo = refl
+
+-- names that end macros, of which one does not end and one is a definition
+pub names_in_macros :
+    shown (codes "@ A." ∷ codes "@d F a @<n@> b @<n@>" ∷ codes "@d G@<q" ∷ codes "@ B." ∷ codes "@d H@<n@>=" ∷ [])
+    ≡ record plain {
+      sections = 2;
+      pieces = codes "2:5\n\n";
+      macros = codes "F a\nG\nH\n";
+      names = codes "n" ∷ codes "n" ∷ codes "q" ∷ codes "n" ∷ [];
+      faults = on fault.NameInMacro 2 ∷ on fault.NameEnd 4 ∷ on fault.NameInMacro 3 ∷ [];
+    }
+unfolding lexeme tokens_from occurrences_from
+names_in_macros = refl
+
 -- an empty verbatim text, and one that ends in @@
 pub empty_verbatim : shown (codes "@ A." ∷ codes "@c" ∷ codes "a@=@>b@=x@@@>c" ∷ [])
     ≡ record plain { pieces = codes "1:2\nabx@c\n\n" }
