@@ -7,7 +7,7 @@ use Rattle.std.specs.Str.{bytes_eq}
 use Rattle.std.proofs.lemmas.Bool.{and_parts, and_from, or_cases, or_left, or_right, and_right, both_ways, cases_Bool, false≢true}
 use Rattle.std.proofs.lemmas.Bool.{eqb-true, eq-eqb, not-true, not_from_false, false_from_ne_true}
 use Rattle.std.proofs.lemmas.Slice.Eq.{bytes_eq-Decides}
-use Rattle.c_tokens.specs.Bytes.{line_feed, slash, backslash, full_stop, double_quote, apostrophe, is_digit, is_word_byte, is_white}
+use Rattle.c_tokens.specs.Bytes.{line_feed, slash, backslash, full_stop, double_quote, apostrophe, is_digit, is_word_byte, is_quote, is_white}
 use Rattle.c_tokens.specs.Grammar.{is_identifier_byte, is_identifier, begins_number, is_number_byte, is_number}
 use Rattle.c_tokens.specs.Grammar.{signs_follow_exponents, has_universal_names, ends_quoted, is_quoted, is_character}
 use Rattle.c_tokens.specs.Grammar.{is_string, has_prefix, is_character_constant, is_string_literal, punctuators}
@@ -70,9 +70,6 @@ unfolding is_punctuator
 punctuator-is test all t h = one-of test t punctuators all h
 
 -- character constants and string literals
-
-abbrev pub is_quote : ℕ → Bool
-is_quote b = b == double_quote || b == apostrophe
 
 -- the first bytes of the prefixes
 abbrev pub is_prefix_byte : ℕ → Bool
@@ -177,15 +174,17 @@ literal-last a s l = go l.prefix a l.has
     go (p ∷ q ∷ ps) [] has = absurd (false≢true (and_parts (s == p) false has).1)
     go (p ∷ ps) (b ∷ a) has = go ps a (and_parts (b == p) (has_prefix ps (is_quoted l.quote) (a ++ s ∷ [])) has).1
 
--- after the word bytes at the front stands a quote
+-- after the word bytes at the front stand a quote and what it encloses
 pub literal-word : (a : List ℕ) (b : ℕ) (bs : List ℕ) → list_all is_word_byte a ≡ true → is_word_byte b ≡ false →
-    IsLiteral (a ++ b ∷ bs) → is_quote b ≡ true
+    IsLiteral (a ++ b ∷ bs) → (is_quote b ≡ true) × (ends_quoted b bs ≡ true)
 literal-word a b bs word other l = go l.prefix a l.word word l.has
   where
     go : (prefix a : List ℕ) → list_all is_word_byte prefix ≡ true → list_all is_word_byte a ≡ true →
-        has_prefix prefix (is_quoted l.quote) (a ++ b ∷ bs) ≡ true → is_quote b ≡ true
+        has_prefix prefix (is_quoted l.quote) (a ++ b ∷ bs) ≡ true → (is_quote b ≡ true) × (ends_quoted b bs ≡ true)
     go [] [] words word has =
-        ap is_quote (eqb-true b l.quote (and_parts (b == l.quote) (ends_quoted l.quote bs) has).0) ∙ l.quotes
+        let parts = and_parts (b == l.quote) (ends_quoted l.quote bs) has in
+        let same : b ≡ l.quote = eqb-true b l.quote parts.0 in
+        (ap is_quote same ∙ l.quotes, ap (λ k. ends_quoted k bs) same ∙ parts.1)
     go [] (x ∷ a) words word has =
         let same : x ≡ l.quote = eqb-true x l.quote (and_parts (x == l.quote) (ends_quoted l.quote (a ++ b ∷ bs)) has).0 in
         absurd (both_ways (is_word_byte x) (ap is_word_byte same ∙ quote-other l.quote l.quotes)

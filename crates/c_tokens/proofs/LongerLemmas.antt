@@ -6,12 +6,13 @@ use Rattle.std.specs.List.{list_any, list_all}
 use Rattle.std.proofs.lemmas.Bool.{and_parts, and_from, or_cases, or_left, or_right, or_parts, and_left, both_ways, false≢true}
 use Rattle.std.proofs.lemmas.Bool.{eqb-true, not-true, not_from_false, false_from_ne_true, cases_Bool}
 use Rattle.std.proofs.lemmas.List.Folds.{list_all-append}
-use Rattle.c_tokens.specs.Bytes.{space, slash, asterisk, backslash, full_stop, double_quote, apostrophe, line_feed, is_digit, is_word_byte, is_white}
+use Rattle.c_tokens.specs.Bytes.{space, slash, asterisk, backslash, full_stop, double_quote, apostrophe, line_feed, is_digit, is_word_byte, is_quote, is_white}
 use Rattle.c_tokens.specs.Grammar.{is_identifier_byte, is_identifier, is_number_byte, is_number, is_quoted, ends_quoted}
 use Rattle.c_tokens.specs.Grammar.{is_character_constant, is_string_literal, is_punctuator, is_other_character, is_token}
 use Rattle.c_tokens.specs.Grammar.{ends_once, is_comment, is_white_character, is_element, has_prefix}
+use Rattle.c_tokens.specs.Borders.{is_plain_byte}
 use Rattle.c_tokens.specs.Touching.{is_separator, is_operator, is_plain_word}
-use Rattle.c_tokens.proofs.GrammarLemmas.{listed, identifier-bytes, number-bytes, number-first, punctuator-is, is_quote}
+use Rattle.c_tokens.proofs.GrammarLemmas.{listed, identifier-bytes, number-bytes, number-first, punctuator-is}
 use Rattle.c_tokens.proofs.GrammarLemmas.{is_prefix_byte, IsLiteral, literal-from_character, literal-from_string}
 use Rattle.c_tokens.proofs.GrammarLemmas.{begins_prefix, literal-first, literal-last, literal-word, ends-once}
 
@@ -67,9 +68,6 @@ is_short_or_has_none (b ∷ c ∷ bs) = list_all (λ d. not (is_separator d)) (b
 long-punctuator : (b c : ℕ) (bs : List ℕ) → is_punctuator (b ∷ c ∷ bs) ≡ true →
     list_all (λ d. not (is_separator d)) (b ∷ c ∷ bs) ≡ true
 long-punctuator b c bs h = punctuator-is is_short_or_has_none refl (b ∷ c ∷ bs) h
-
-abbrev pub is_plain_byte : ℕ → Bool
-is_plain_byte b = is_word_byte b || is_quote b
 
 punctuator-bytes : (t : List ℕ) → is_punctuator t ≡ true → list_all (λ b. not (is_plain_byte b)) t ≡ true
 punctuator-bytes t h = punctuator-is (list_all (λ b. not (is_plain_byte b))) refl t h
@@ -203,7 +201,7 @@ word-longer x a o q word h = false_from_ne_true (is_element (x ∷ a ++ o ∷ q)
       | inr stop ↦ both_ways (is_word_byte x) (ap is_word_byte (eqb-true x full_stop stop)) first
     ])
     (λ literal. both_ways (is_quote o) (operator-not is_quote refl o h)
-    (literal-word (x ∷ a) o q parts.1 (operator-not is_word_byte refl o h) literal))
+    (literal-word (x ∷ a) o q parts.1 (operator-not is_word_byte refl o h) literal).0)
     (λ punctuator. both_ways (is_plain_byte x) (not-true (is_plain_byte x)
     (all-last (λ b. not (is_plain_byte b)) [] x (a ++ o ∷ q) (punctuator-bytes (x ∷ a ++ o ∷ q) punctuator)))
     (or_left (is_word_byte x) (is_quote x) first))

@@ -1,24 +1,24 @@
 -- The elements of two texts that may touch.
-use Rattle.std.proofs.Common.{◌≡◌, ℕ, Bool, true, false, List, [], ◌∷◌, ◌++◌, codes, refl, ap, sym, ◌∙◌}
-use Rattle.std.proofs.Common.{◌⊎◌, inl, inr, append-nil, arith}
+use Rattle.std.proofs.Common.{◌≡◌, ℕ, ◌-◌, Bool, true, false, List, [], ◌∷◌, ◌++◌, codes, refl, ap, sym, ◌∙◌}
+use Rattle.std.proofs.Common.{◌⊎◌, inl, inr, append-nil, arith, length, take}
 use Rattle.std.specs.Prelude.{◌&&◌, ◌||◌, not, ◌==◌, if◌then◌else◌, filter}
 use Rattle.std.specs.List.{list_any, list_all}
 use Rattle.std.specs.Str.{bytes_eq}
-use Rattle.std.proofs.lemmas.Bool.{and_parts, and_from, or_cases, or_left, or_right, and_right, both_ways, false≢true}
+use Rattle.std.proofs.lemmas.Bool.{and_parts, and_from, or_cases, or_left, or_right, or_parts, and_right, both_ways, false≢true}
 use Rattle.std.proofs.lemmas.Bool.{not_from_false, not-true, false_from_ne_true, eqb-true}
 use Rattle.std.proofs.lemmas.List.Elements.{filter-append}
-use Rattle.c_tokens.specs.Bytes.{space, slash, backslash, line_feed, double_quote, apostrophe, is_digit, is_word_byte, is_white}
+use Rattle.c_tokens.specs.Bytes.{space, slash, backslash, line_feed, double_quote, apostrophe, is_digit, is_word_byte, is_quote, is_white}
 use Rattle.c_tokens.specs.Grammar.{is_identifier_byte, is_identifier, has_universal_names, begins_universal_name, is_number}
 use Rattle.c_tokens.specs.Grammar.{is_quoted, ends_quoted, is_character, is_string, has_prefix, is_character_constant}
 use Rattle.c_tokens.specs.Grammar.{is_string_literal, is_punctuator, is_other_character, is_token, is_comment}
 use Rattle.c_tokens.specs.Grammar.{is_white_character, is_element}
-use Rattle.c_tokens.specs.Reading.{spliced, elements_from, elements, tokens, ends_in_comment}
+use Rattle.c_tokens.specs.Reading.{spliced, longest, elements_from, elements, tokens, ends_in_comment}
 use Rattle.c_tokens.specs.Touching.{TextKind, is_separator, is_operator, is_one, is_plain_word, is_plain, IsOfKind}
+use Rattle.c_tokens.specs.Borders.{is_plain_byte}
 use Rattle.c_tokens.specs.Touching.{kinds_may_touch}
 use Rattle.c_tokens.specs.Touching.TextKind.{Separator, Operator, Plain, Other}
-use Rattle.c_tokens.proofs.ReadingLemmas.{NoLonger, elements-front, elements-last}
-use Rattle.c_tokens.proofs.GrammarLemmas.{is_quote}
-use Rattle.c_tokens.proofs.LongerLemmas.{separator-not, operator-not, is_plain_byte, comment-first, comment-second}
+use Rattle.c_tokens.proofs.ReadingLemmas.{no-longer-nothing, no-longer, elements-front, elements-append}
+use Rattle.c_tokens.proofs.LongerLemmas.{separator-not, operator-not, comment-first, comment-second}
 use Rattle.c_tokens.proofs.LongerLemmas.{separator-longer, separator-last, comment-open, word-longer, quoted-longer}
 use Rattle.c_tokens.proofs.LongerLemmas.{operator-longer}
 
@@ -33,7 +33,7 @@ single-element b = go (is_white b) _
     go false true = refl
     go false false = refl
 
-comment-element : (t : List ℕ) → is_comment t ≡ true → is_element t ≡ true
+pub comment-element : (t : List ℕ) → is_comment t ≡ true → is_element t ≡ true
 unfolding is_element
 comment-element t h = or_left (is_white_character t || is_comment t) (is_token t) (or_right (is_white_character t) (is_comment t) h)
 
@@ -124,33 +124,48 @@ abbrev is_open : List ℕ → Bool
 is_open element = is_comment (element ++ space ∷ [])
 
 separator-elements : (s : ℕ) (b : List ℕ) → is_separator s ≡ true → elements_from 0 (s ∷ b) ≡ (s ∷ []) ∷ elements_from 0 b
-separator-elements s [] h = elements-front s [] [] (single-element s) tt
-separator-elements s (c ∷ r) h = elements-front s [] (c ∷ r) (single-element s) (λ q. separator-longer s c q h)
+separator-elements s [] h = elements-front s [] [] (single-element s) (no-longer-nothing is_element (s ∷ []))
+separator-elements s (c ∷ r) h =
+    elements-front s [] (c ∷ r) (single-element s) (no-longer is_element (s ∷ []) c r (λ q. separator-longer s c q h))
 
-one-element : (b : ℕ) (a : List ℕ) → is_element (b ∷ a) ≡ true → elements_from 0 (b ∷ a) ≡ (b ∷ a) ∷ []
-one-element b a h = ap (elements_from 0) (sym (append-nil (b ∷ a))) ∙ elements-front b a [] h tt
+pub one-element : (b : ℕ) (a : List ℕ) → is_element (b ∷ a) ≡ true → elements_from 0 (b ∷ a) ≡ (b ∷ a) ∷ []
+one-element b a h =
+    ap (elements_from 0) (sym (append-nil (b ∷ a))) ∙ elements-front b a [] h (no-longer-nothing is_element (b ∷ a))
 
 elements-separator : (a : List ℕ) (s : ℕ) → is_separator s ≡ true → list_any is_open (elements_from 0 a) ≡ false →
-    elements_from 0 (a ++ s ∷ []) ≡ elements_from 0 a ++ (s ∷ []) ∷ []
-elements-separator a s h closed = elements-last s is_open single-element stays 0 a (omega arith) closed
+    elements_from 0 (a ++ s ∷ []) ≡ elements_from 0 a ++ elements_from 0 (s ∷ [])
+elements-separator a s h closed =
+    elements-append s [] (λ n a. list_any is_open (elements_from n a) ≡ false) (λ n x a good. good) next stays 0 a (omega arith) closed
   where
-    stays : (x : ℕ) (a : List ℕ) → list_any is_open (elements_from 0 (x ∷ a)) ≡ false → is_element (x ∷ a ++ s ∷ []) ≡ false
-    stays x a closed = false_from_ne_true (is_element (x ∷ a ++ s ∷ [])) λ is.
+    next : (x : ℕ) (a : List ℕ) → list_any is_open (elements_from 0 (x ∷ a)) ≡ false →
+        list_any is_open (elements_from (longest is_element (x ∷ a) - 1) a) ≡ false
+    next x a good = (or_parts (is_open (take (longest is_element (x ∷ a)) (x ∷ a)))
+        (list_any is_open (elements_from (longest is_element (x ∷ a) - 1) a)) good).1
+
+    alone : (x : ℕ) (a : List ℕ) → list_any is_open (elements_from 0 (x ∷ a)) ≡ false → is_element (x ∷ a ++ s ∷ []) ≡ false
+    alone x a closed = false_from_ne_true (is_element (x ∷ a ++ s ∷ [])) λ is.
         let comment = comment-open x a s h (separator-last x a s h is) in
         both_ways (list_any is_open (elements_from 0 (x ∷ a))) closed
         (ap (list_any is_open) (one-element x a (comment-element (x ∷ a) comment.0)) ∙ or_left (is_open (x ∷ a)) false comment.1)
+
+    stays : (x : ℕ) (a : List ℕ) → list_any is_open (elements_from 0 (x ∷ a)) ≡ false → (q rest : List ℕ) → [] ≡ q ++ rest →
+        is_element (x ∷ a ++ s ∷ q) ≡ false
+    stays x a closed [] rest same = alone x a closed
+    stays x a closed (d ∷ q) rest same = absurd (omega (arith, ap length same))
 
 operator-elements : (o : ℕ) (b : List ℕ) → is_operator o ≡ true → is_plain b ≡ true →
     elements_from 0 (o ∷ b) ≡ (o ∷ []) ∷ elements_from 0 b
 operator-elements o [] operator h = absurd (false≢true h)
 operator-elements o (p ∷ b) operator h =
-    elements-front o [] (p ∷ b) (single-element o) (λ q. operator-longer o p q operator (plain-byte p b h))
+    elements-front o [] (p ∷ b) (single-element o)
+    (no-longer is_element (o ∷ []) p b (λ q. operator-longer o p q operator (plain-byte p b h)))
 
 plain-elements : (a : List ℕ) (o : ℕ) (r : List ℕ) → is_plain a ≡ true → is_operator o ≡ true →
     elements_from 0 (a ++ o ∷ r) ≡ elements_from 0 a ++ elements_from 0 (o ∷ r)
 plain-elements [] o r h operator = absurd (false≢true h)
 plain-elements (b ∷ a) o r h operator =
-    elements-front b a (o ∷ r) (plain-element (b ∷ a) h) (λ q. plain-longer b a o q h operator)
+    elements-front b a (o ∷ r) (plain-element (b ∷ a) h)
+    (no-longer is_element (b ∷ a) o r (λ q. plain-longer b a o q h operator))
     ∙ ap (λ es. es ++ elements_from 0 (o ∷ r)) (sym (one-element b a (plain-element (b ∷ a) h)))
 
 plain-closed : (a : List ℕ) → is_plain a ≡ true → list_any is_open (elements_from 0 a) ≡ false
@@ -207,7 +222,6 @@ separator-second a (s ∷ c ∷ b) closed h = absurd (false≢true h)
 separator-second a (s ∷ []) closed h =
     ap (elements_from 0) (spliced-append a s [] (separator-not (λ c. c == line_feed) refl s h))
     ∙ elements-separator (spliced a) s h closed
-    ∙ ap (λ es. elements a ++ es) (sym (one-element s [] (single-element s)))
 
 operator-plain : (a b : List ℕ) → is_one is_operator a ≡ true → is_plain (spliced b) ≡ true →
     elements (a ++ b) ≡ elements a ++ elements b

@@ -41,6 +41,9 @@ is_word_byte b =
     is_between 97 122 b || is_between 65 90 b || is_digit b
     || b == 95 || b == 36 || is_between 128 255 b
 
+abbrev pub is_quote : ℕ → Bool
+is_quote b = b == double_quote || b == apostrophe
+
 -- plus or minus
 abbrev pub is_sign : ℕ → Bool
 is_sign b = b == 43 || b == 45
