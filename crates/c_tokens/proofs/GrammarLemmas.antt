@@ -1,17 +1,17 @@
 -- What the bytes of a token are, by its kind.
-use Rattle.std.proofs.Common.{◌≡◌, ℕ, ◌+◌, ◌≤◌, zero, suc, Bool, true, false, List, [], ◌∷◌, ◌++◌, codes}
-use Rattle.std.proofs.Common.{◌⊎◌, inl, inr, ⊎_elim, refl, ap, sym, ◌∙◌, arith}
-use Rattle.std.specs.Prelude.{◌&&◌, ◌||◌, not, ◌==◌, nat_eq, if◌then◌else◌}
+use Rattle.std.proofs.Common.{◌≡◌, ℕ, Bool, true, false, List, [], ◌∷◌, ◌++◌, codes}
+use Rattle.std.proofs.Common.{inl, inr, refl, ap, ◌∙◌}
+use Rattle.std.specs.Prelude.{◌&&◌, ◌||◌, not, ◌==◌, if◌then◌else◌}
 use Rattle.std.specs.List.{list_any, list_all}
 use Rattle.std.specs.Str.{bytes_eq}
-use Rattle.std.proofs.lemmas.Bool.{and_parts, and_from, or_cases, or_left, or_right, and_right, both_ways, cases_Bool, false≢true}
-use Rattle.std.proofs.lemmas.Bool.{eqb-true, eq-eqb, not-true, not_from_false, false_from_ne_true}
+use Rattle.std.proofs.lemmas.Bool.{and_parts, and_from, or_cases, or_left, or_right, and_right, both_ways, false≢true}
+use Rattle.std.proofs.lemmas.Bool.{eqb-true}
 use Rattle.std.proofs.lemmas.Slice.Eq.{bytes_eq-Decides}
-use Rattle.c_tokens.specs.Bytes.{line_feed, slash, backslash, full_stop, double_quote, apostrophe, is_digit, is_word_byte, is_quote, is_white}
+use Rattle.c_tokens.specs.Bytes.{line_feed, backslash, full_stop, double_quote, apostrophe, is_digit, is_word_byte, is_quote}
 use Rattle.c_tokens.specs.Grammar.{is_identifier_byte, is_identifier, begins_number, is_number_byte, is_number}
 use Rattle.c_tokens.specs.Grammar.{signs_follow_exponents, has_universal_names, ends_quoted, is_quoted, is_character}
 use Rattle.c_tokens.specs.Grammar.{is_string, has_prefix, is_character_constant, is_string_literal, punctuators}
-use Rattle.c_tokens.specs.Grammar.{is_punctuator, is_other_character, is_token, is_comment, is_white_character, is_element}
+use Rattle.c_tokens.specs.Grammar.{is_punctuator}
 
 second : (x y z : Bool) → (x && y && z) ≡ true → y ≡ true
 second x y z h = (and_parts x y (and_parts (x && y) z h).0).1
@@ -33,7 +33,7 @@ identifier-bytes [] h = refl
 identifier-bytes (b ∷ bs) h =
     second (not (is_digit b)) (list_all is_identifier_byte (b ∷ bs)) (has_universal_names (b ∷ bs)) h
 
-number-start : (t : List ℕ) → is_number t ≡ true → (begins_number t && list_all is_number_byte t) ≡ true
+pub number-start : (t : List ℕ) → is_number t ≡ true → (begins_number t && list_all is_number_byte t) ≡ true
 number-start t h =
     (and_parts (begins_number t && list_all is_number_byte t) (signs_follow_exponents t)
     (and_parts (begins_number t && list_all is_number_byte t && signs_follow_exponents t) (has_universal_names t) h).0).0

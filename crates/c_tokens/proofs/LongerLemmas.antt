@@ -1,12 +1,11 @@
 -- Texts that are no element: a text that may touch what follows, with more behind it.
-use Rattle.std.proofs.Common.{◌≡◌, ℕ, ◌+◌, ◌≤◌, zero, suc, Bool, true, false, List, [], ◌∷◌, ◌++◌, codes}
-use Rattle.std.proofs.Common.{◌⊎◌, inl, inr, refl, ap, sym, ◌∙◌, arith}
+use Rattle.std.proofs.Common.{◌≡◌, ℕ, Bool, true, false, List, [], ◌∷◌, ◌++◌, codes}
+use Rattle.std.proofs.Common.{◌⊎◌, inl, inr, refl, ap, ◌∙◌}
 use Rattle.std.specs.Prelude.{◌&&◌, ◌||◌, not, ◌==◌}
-use Rattle.std.specs.List.{list_any, list_all}
-use Rattle.std.proofs.lemmas.Bool.{and_parts, and_from, or_cases, or_left, or_right, or_parts, and_left, both_ways, false≢true}
-use Rattle.std.proofs.lemmas.Bool.{eqb-true, not-true, not_from_false, false_from_ne_true, cases_Bool}
-use Rattle.std.proofs.lemmas.List.Folds.{list_all-append}
-use Rattle.c_tokens.specs.Bytes.{space, slash, asterisk, backslash, full_stop, double_quote, apostrophe, line_feed, is_digit, is_word_byte, is_quote, is_white}
+use Rattle.std.specs.List.{list_all}
+use Rattle.std.proofs.lemmas.Bool.{and_parts, and_from, or_cases, or_left, or_right, both_ways, false≢true}
+use Rattle.std.proofs.lemmas.Bool.{eqb-true, not-true, false_from_ne_true}
+use Rattle.c_tokens.specs.Bytes.{space, slash, asterisk, backslash, full_stop, double_quote, apostrophe, line_feed, is_digit, is_word_byte, is_quote}
 use Rattle.c_tokens.specs.Grammar.{is_identifier_byte, is_identifier, is_number_byte, is_number, is_quoted, ends_quoted}
 use Rattle.c_tokens.specs.Grammar.{is_character_constant, is_string_literal, is_punctuator, is_other_character, is_token}
 use Rattle.c_tokens.specs.Grammar.{ends_once, is_comment, is_white_character, is_element, has_prefix}
@@ -69,7 +68,7 @@ long-punctuator : (b c : ℕ) (bs : List ℕ) → is_punctuator (b ∷ c ∷ bs)
     list_all (λ d. not (is_separator d)) (b ∷ c ∷ bs) ≡ true
 long-punctuator b c bs h = punctuator-is is_short_or_has_none refl (b ∷ c ∷ bs) h
 
-punctuator-bytes : (t : List ℕ) → is_punctuator t ≡ true → list_all (λ b. not (is_plain_byte b)) t ≡ true
+pub punctuator-bytes : (t : List ℕ) → is_punctuator t ≡ true → list_all (λ b. not (is_plain_byte b)) t ≡ true
 punctuator-bytes t h = punctuator-is (list_all (λ b. not (is_plain_byte b))) refl t h
 
 pub comment-first : (b : ℕ) (bs : List ℕ) → is_comment (b ∷ bs) ≡ true → (b == slash) ≡ true
@@ -85,11 +84,11 @@ comment-second b c bs h =
       | inr line ↦ or_right (c == asterisk) (c == slash) (and_parts (c == slash) (list_all (λ d. not (d == line_feed)) bs) line).0
     ]
 
-two-white : (x : ℕ) (a : List ℕ) (b : ℕ) (q : List ℕ) → is_white_character (x ∷ a ++ b ∷ q) ≡ false
+pub two-white : (x : ℕ) (a : List ℕ) (b : ℕ) (q : List ℕ) → is_white_character (x ∷ a ++ b ∷ q) ≡ false
 two-white x [] b q = refl
 two-white x (y ∷ a) b q = refl
 
-two-other : (x : ℕ) (a : List ℕ) (b : ℕ) (q : List ℕ) → is_other_character (x ∷ a ++ b ∷ q) ≡ false
+pub two-other : (x : ℕ) (a : List ℕ) (b : ℕ) (q : List ℕ) → is_other_character (x ∷ a ++ b ∷ q) ≡ false
 two-other x [] b q = refl
 two-other x (y ∷ a) b q = refl
 
@@ -126,63 +125,66 @@ separator-last x a s h is =
     (λ literal. absurd (both_ways (is_quote s) (separator-not is_quote refl s h) (literal-last (x ∷ a) s literal)))
     (λ punctuator. absurd (both_ways (is_separator s) (not-true (is_separator s) (long-punctuator-last x a s punctuator)) h))
 
-ends_once-front : (a : List ℕ) (s : ℕ) → ends_once (a ++ s ∷ []) ≡ true → ends_once a ≡ true
-ends_once-front [] s h = refl
-ends_once-front (b ∷ []) s h = refl
-ends_once-front (b ∷ c ∷ []) s h = refl
-ends_once-front (b ∷ c ∷ d ∷ a) s h =
-    let parts = and_parts (not (b == asterisk && c == slash)) (ends_once (c ∷ d ∷ a ++ s ∷ [])) h in
-    and_from (not (b == asterisk && c == slash)) (ends_once (c ∷ d ∷ a)) parts.0 (ends_once-front (c ∷ d ∷ a) s parts.1)
+ends_once-front : (a q : List ℕ) → ends_once (a ++ q) ≡ true → ends_once a ≡ true
+ends_once-front [] q h = refl
+ends_once-front (b ∷ []) q h = refl
+ends_once-front (b ∷ c ∷ []) q h = refl
+ends_once-front (b ∷ c ∷ d ∷ a) q h =
+    let parts = and_parts (not (b == asterisk && c == slash)) (ends_once (c ∷ d ∷ a ++ q)) h in
+    and_from (not (b == asterisk && c == slash)) (ends_once (c ∷ d ∷ a)) parts.0 (ends_once-front (c ∷ d ∷ a) q parts.1)
 
-ends_once-other : (a : List ℕ) (s t : ℕ) → ends_once (a ++ s ∷ []) ≡ true → ends_once (a ++ t ∷ []) ≡ true
-ends_once-other [] s t h = refl
-ends_once-other (b ∷ []) s t h = refl
-ends_once-other (b ∷ c ∷ []) s t h = h
-ends_once-other (b ∷ c ∷ d ∷ a) s t h =
-    let parts = and_parts (not (b == asterisk && c == slash)) (ends_once (c ∷ d ∷ a ++ s ∷ [])) h in
+ends_once-other : (a : List ℕ) (s : ℕ) (q : List ℕ) (t : ℕ) → ends_once (a ++ s ∷ q) ≡ true → ends_once (a ++ t ∷ []) ≡ true
+ends_once-other [] s q t h = refl
+ends_once-other (b ∷ []) s q t h = refl
+ends_once-other (b ∷ c ∷ []) s q t h =
+    and_from (not (b == asterisk && c == slash)) true (and_parts (not (b == asterisk && c == slash)) (ends_once (c ∷ s ∷ q)) h).0 refl
+ends_once-other (b ∷ c ∷ d ∷ a) s q t h =
+    let parts = and_parts (not (b == asterisk && c == slash)) (ends_once (c ∷ d ∷ a ++ s ∷ q)) h in
     and_from (not (b == asterisk && c == slash)) (ends_once (c ∷ d ∷ a ++ t ∷ [])) parts.0
-    (ends_once-other (c ∷ d ∷ a) s t parts.1)
+    (ends_once-other (c ∷ d ∷ a) s q t parts.1)
 
-line-front : (a : List ℕ) (s : ℕ) → list_all (λ d. not (d == line_feed)) (a ++ s ∷ []) ≡ true →
-    list_all (λ d. not (d == line_feed)) a ≡ true
-line-front [] s h = refl
-line-front (b ∷ a) s h =
-    let parts = and_parts (not (b == line_feed)) (list_all (λ d. not (d == line_feed)) (a ++ s ∷ [])) h in
-    and_from (not (b == line_feed)) (list_all (λ d. not (d == line_feed)) a) parts.0 (line-front a s parts.1)
+abbrev is_in_line : List ℕ → Bool
+is_in_line = list_all (λ d. not (d == line_feed))
 
-line-other : (a : List ℕ) (t : ℕ) → (t == line_feed) ≡ false → list_all (λ d. not (d == line_feed)) a ≡ true →
-    list_all (λ d. not (d == line_feed)) (a ++ t ∷ []) ≡ true
-line-other [] t other h = rw other refl
-line-other (b ∷ a) t other h =
-    let parts = and_parts (not (b == line_feed)) (list_all (λ d. not (d == line_feed)) a) h in
-    and_from (not (b == line_feed)) (list_all (λ d. not (d == line_feed)) (a ++ t ∷ [])) parts.0 (line-other a t other parts.1)
+line-front : (a q : List ℕ) → is_in_line (a ++ q) ≡ true → is_in_line a ≡ true
+line-front [] q h = refl
+line-front (b ∷ a) q h =
+    let parts = and_parts (not (b == line_feed)) (is_in_line (a ++ q)) h in
+    and_from (not (b == line_feed)) (is_in_line a) parts.0 (line-front a q parts.1)
 
--- a comment that takes a separator is a comment without it, and would take a space too
-pub comment-open : (x : ℕ) (a : List ℕ) (s : ℕ) → is_separator s ≡ true → is_comment (x ∷ a ++ s ∷ []) ≡ true →
-    (is_comment (x ∷ a) ≡ true) × (is_comment (x ∷ a ++ space ∷ []) ≡ true)
-comment-open x [] s h is =
-    absurd (both_ways (s == asterisk || s == slash) (separator-not (λ b. b == asterisk || b == slash) refl s h) (comment-second x s [] is))
-comment-open x (c ∷ a) s h is =
-    let parts = and_parts (x == slash) (c == asterisk && ends_once (a ++ s ∷ []) || c == slash && list_all (λ d. not (d == line_feed)) (a ++ s ∷ [])) is in
-    elim (or_cases (c == asterisk && ends_once (a ++ s ∷ [])) (c == slash && list_all (λ d. not (d == line_feed)) (a ++ s ∷ [])) parts.1) [
+line-space : (a : List ℕ) → is_in_line a ≡ true → is_in_line (a ++ space ∷ []) ≡ true
+line-space [] h = refl
+line-space (b ∷ a) h =
+    let parts = and_parts (not (b == line_feed)) (is_in_line a) h in
+    and_from (not (b == line_feed)) (is_in_line (a ++ space ∷ [])) parts.0 (line-space a parts.1)
+
+comment-from : (x y : ℕ) (a : List ℕ) → (x == slash) ≡ true →
+    ((y == asterisk && ends_once a) ≡ true) ⊎ ((y == slash && is_in_line a) ≡ true) → is_comment (x ∷ y ∷ a) ≡ true
+comment-from x y a first rest =
+    and_from (x == slash) (y == asterisk && ends_once a || y == slash && is_in_line a) first
+    (elim rest [
+      | inl star ↦ or_left (y == asterisk && ends_once a) (y == slash && is_in_line a) star
+      | inr line ↦ or_right (y == asterisk && ends_once a) (y == slash && is_in_line a) line
+    ])
+
+-- a comment that goes on after two bytes or more is a comment without that, and would take a space too
+pub comment-open : (x y : ℕ) (a : List ℕ) (c : ℕ) (q : List ℕ) → is_comment (x ∷ y ∷ a ++ c ∷ q) ≡ true →
+    (is_comment (x ∷ y ∷ a) ≡ true) × (is_comment (x ∷ y ∷ a ++ space ∷ []) ≡ true)
+comment-open x y a c q is =
+    let parts = and_parts (x == slash) (y == asterisk && ends_once (a ++ c ∷ q) || y == slash && is_in_line (a ++ c ∷ q)) is in
+    elim (or_cases (y == asterisk && ends_once (a ++ c ∷ q)) (y == slash && is_in_line (a ++ c ∷ q)) parts.1) [
       | inl star ↦
-          let block = and_parts (c == asterisk) (ends_once (a ++ s ∷ [])) star in (
-            and_from (x == slash) (c == asterisk && ends_once a || c == slash && list_all (λ d. not (d == line_feed)) a) parts.0
-                (or_left (c == asterisk && ends_once a) (c == slash && list_all (λ d. not (d == line_feed)) a)
-                (and_from (c == asterisk) (ends_once a) block.0 (ends_once-front a s block.1))),
-            and_from (x == slash) (c == asterisk && ends_once (a ++ space ∷ []) || c == slash && list_all (λ d. not (d == line_feed)) (a ++ space ∷ [])) parts.0
-                (or_left (c == asterisk && ends_once (a ++ space ∷ [])) (c == slash && list_all (λ d. not (d == line_feed)) (a ++ space ∷ []))
-                (and_from (c == asterisk) (ends_once (a ++ space ∷ [])) block.0 (ends_once-other a s space block.1))),
+          let block = and_parts (y == asterisk) (ends_once (a ++ c ∷ q)) star in (
+            comment-from x y a parts.0 (inl (and_from (y == asterisk) (ends_once a) block.0 (ends_once-front a (c ∷ q) block.1))),
+            comment-from x y (a ++ space ∷ []) parts.0
+                (inl (and_from (y == asterisk) (ends_once (a ++ space ∷ [])) block.0 (ends_once-other a c q space block.1))),
           )
       | inr slashes ↦
-          let line = and_parts (c == slash) (list_all (λ d. not (d == line_feed)) (a ++ s ∷ [])) slashes in
-          let front = line-front a s line.1 in (
-            and_from (x == slash) (c == asterisk && ends_once a || c == slash && list_all (λ d. not (d == line_feed)) a) parts.0
-                (or_right (c == asterisk && ends_once a) (c == slash && list_all (λ d. not (d == line_feed)) a)
-                (and_from (c == slash) (list_all (λ d. not (d == line_feed)) a) line.0 front)),
-            and_from (x == slash) (c == asterisk && ends_once (a ++ space ∷ []) || c == slash && list_all (λ d. not (d == line_feed)) (a ++ space ∷ [])) parts.0
-                (or_right (c == asterisk && ends_once (a ++ space ∷ [])) (c == slash && list_all (λ d. not (d == line_feed)) (a ++ space ∷ []))
-                (and_from (c == slash) (list_all (λ d. not (d == line_feed)) (a ++ space ∷ [])) line.0 (line-other a space refl front))),
+          let line = and_parts (y == slash) (is_in_line (a ++ c ∷ q)) slashes in
+          let front = line-front a (c ∷ q) line.1 in (
+            comment-from x y a parts.0 (inr (and_from (y == slash) (is_in_line a) line.0 front)),
+            comment-from x y (a ++ space ∷ []) parts.0
+                (inr (and_from (y == slash) (is_in_line (a ++ space ∷ [])) line.0 (line-space a front))),
           )
     ]
 
@@ -208,7 +210,7 @@ word-longer x a o q word h = false_from_ne_true (is_element (x ∷ a ++ o ∷ q)
 
 -- a quoted text with anything behind it
 
-quote-not : (test : ℕ → Bool) → test double_quote ≡ false → test apostrophe ≡ false → (b : ℕ) → is_quote b ≡ true → test b ≡ false
+pub quote-not : (test : ℕ → Bool) → test double_quote ≡ false → test apostrophe ≡ false → (b : ℕ) → is_quote b ≡ true → test b ≡ false
 quote-not test double single b h =
     elim (or_cases (b == double_quote) (b == apostrophe) h) [
       | inl same ↦ ap test (eqb-true b double_quote same) ∙ double

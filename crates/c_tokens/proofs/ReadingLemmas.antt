@@ -1,6 +1,6 @@
 -- The longest front that passes a test, and the elements of two texts that are written together.
 use Rattle.std.proofs.Common.{◌≡◌, ℕ, ◌+◌, ◌-◌, ◌<◌, ◌≤◌, zero, suc, Bool, true, false, List, [], ◌∷◌, ◌++◌, length, take, drop}
-use Rattle.std.proofs.Common.{refl, ap, sym, subst, ◌∙◌, get_or, arith}
+use Rattle.std.proofs.Common.{refl, ap, subst, ◌∙◌, get_or, arith}
 use Rattle.std.specs.Prelude.{nat_lt, if◌then◌else◌}
 use Rattle.std.proofs.lemmas.Bool.{lt-ltb}
 use Rattle.std.proofs.lemmas.List.{take_at, take-append-le}
@@ -18,7 +18,7 @@ pub no-longer : (test : List ℕ → Bool) (a : List ℕ) (c : ℕ) (r : List �
     NoLonger test a (c ∷ r)
 no-longer test a c r none d q rest same = subst (λ k. test (a ++ k ∷ q) ≡ false) (ap (λ l. get_or l 0 0) same) (none q)
 
-abbrev counted : (List ℕ → Bool) → ℕ → ℕ → ℕ
+abbrev pub counted : (List ℕ → Bool) → ℕ → ℕ → ℕ
 counted test b more = if nat_lt 0 more then more + 1 else if test (b ∷ []) then 1 else 0
 
 longest-none : (test : List ℕ → Bool) (b : List ℕ) → NoLonger test [] b → longest test b ≡ 0
@@ -27,7 +27,7 @@ longest-none test (c ∷ r) none =
     ap (counted test c) (longest-none (λ t. test (c ∷ t)) r (λ d q rest same. none c (d ∷ q) rest (ap (λ l. c ∷ l) same)))
     ∙ rw (none c [] r refl) refl
 
-longer : (test : List ℕ → Bool) (x n : ℕ) → 0 < n → counted test x n ≡ suc n
+pub longer : (test : List ℕ → Bool) (x n : ℕ) → 0 < n → counted test x n ≡ suc n
 longer test x n h = rw (lt-ltb 0 n h) (omega arith)
 
 longest-front : (test : List ℕ → Bool) (x : ℕ) (a b : List ℕ) → test (x ∷ a) ≡ true → NoLonger test (x ∷ a) b →

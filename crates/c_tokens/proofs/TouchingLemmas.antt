@@ -1,15 +1,15 @@
 -- The elements of two texts that may touch.
 use Rattle.std.proofs.Common.{◌≡◌, ℕ, ◌-◌, Bool, true, false, List, [], ◌∷◌, ◌++◌, codes, refl, ap, sym, ◌∙◌}
-use Rattle.std.proofs.Common.{◌⊎◌, inl, inr, append-nil, arith, length, take}
+use Rattle.std.proofs.Common.{inl, inr, append-nil, arith, length, take}
 use Rattle.std.specs.Prelude.{◌&&◌, ◌||◌, not, ◌==◌, if◌then◌else◌, filter}
 use Rattle.std.specs.List.{list_any, list_all}
 use Rattle.std.specs.Str.{bytes_eq}
 use Rattle.std.proofs.lemmas.Bool.{and_parts, and_from, or_cases, or_left, or_right, or_parts, and_right, both_ways, false≢true}
-use Rattle.std.proofs.lemmas.Bool.{not_from_false, not-true, false_from_ne_true, eqb-true}
+use Rattle.std.proofs.lemmas.Bool.{not_from_false, false_from_ne_true, eqb-true}
 use Rattle.std.proofs.lemmas.List.Elements.{filter-append}
-use Rattle.c_tokens.specs.Bytes.{space, slash, backslash, line_feed, double_quote, apostrophe, is_digit, is_word_byte, is_quote, is_white}
+use Rattle.c_tokens.specs.Bytes.{space, asterisk, slash, backslash, line_feed, double_quote, apostrophe, is_digit, is_word_byte, is_quote, is_white}
 use Rattle.c_tokens.specs.Grammar.{is_identifier_byte, is_identifier, has_universal_names, begins_universal_name, is_number}
-use Rattle.c_tokens.specs.Grammar.{is_quoted, ends_quoted, is_character, is_string, has_prefix, is_character_constant}
+use Rattle.c_tokens.specs.Grammar.{is_quoted, ends_quoted, is_character, is_string, is_character_constant}
 use Rattle.c_tokens.specs.Grammar.{is_string_literal, is_punctuator, is_other_character, is_token, is_comment}
 use Rattle.c_tokens.specs.Grammar.{is_white_character, is_element}
 use Rattle.c_tokens.specs.Reading.{spliced, longest, elements_from, elements, tokens, ends_in_comment}
@@ -37,7 +37,7 @@ pub comment-element : (t : List ℕ) → is_comment t ≡ true → is_element t 
 unfolding is_element
 comment-element t h = or_left (is_white_character t || is_comment t) (is_token t) (or_right (is_white_character t) (is_comment t) h)
 
-token-element : (t : List ℕ) → is_token t ≡ true → is_element t ≡ true
+pub token-element : (t : List ℕ) → is_token t ≡ true → is_element t ≡ true
 unfolding is_element
 token-element t h = or_right (is_white_character t || is_comment t) (is_token t) h
 
@@ -142,15 +142,19 @@ elements-separator a s h closed =
     next x a good = (or_parts (is_open (take (longest is_element (x ∷ a)) (x ∷ a)))
         (list_any is_open (elements_from (longest is_element (x ∷ a) - 1) a)) good).1
 
-    alone : (x : ℕ) (a : List ℕ) → list_any is_open (elements_from 0 (x ∷ a)) ≡ false → is_element (x ∷ a ++ s ∷ []) ≡ false
-    alone x a closed = false_from_ne_true (is_element (x ∷ a ++ s ∷ [])) λ is.
-        let comment = comment-open x a s h (separator-last x a s h is) in
-        both_ways (list_any is_open (elements_from 0 (x ∷ a))) closed
-        (ap (list_any is_open) (one-element x a (comment-element (x ∷ a) comment.0)) ∙ or_left (is_open (x ∷ a)) false comment.1)
+    alone : (x : ℕ) (a : List ℕ) → list_any is_open (elements_from 0 (x ∷ a)) ≡ false → is_comment (x ∷ a ++ s ∷ []) ≡ true → ⊥
+    alone x [] closed comment =
+        both_ways (s == asterisk || s == slash) (separator-not (λ b. b == asterisk || b == slash) refl s h) (comment-second x s [] comment)
+    alone x (y ∷ a) closed comment =
+        let open_at_end = comment-open x y a s [] comment in
+        both_ways (list_any is_open (elements_from 0 (x ∷ y ∷ a))) closed
+        (ap (list_any is_open) (one-element x (y ∷ a) (comment-element (x ∷ y ∷ a) open_at_end.0))
+        ∙ or_left (is_open (x ∷ y ∷ a)) false open_at_end.1)
 
     stays : (x : ℕ) (a : List ℕ) → list_any is_open (elements_from 0 (x ∷ a)) ≡ false → (q rest : List ℕ) → [] ≡ q ++ rest →
         is_element (x ∷ a ++ s ∷ q) ≡ false
-    stays x a closed [] rest same = alone x a closed
+    stays x a closed [] rest same = false_from_ne_true (is_element (x ∷ a ++ s ∷ []))
+        (λ is. alone x a closed (separator-last x a s h is))
     stays x a closed (d ∷ q) rest same = absurd (omega (arith, ap length same))
 
 operator-elements : (o : ℕ) (b : List ℕ) → is_operator o ≡ true → is_plain b ≡ true →

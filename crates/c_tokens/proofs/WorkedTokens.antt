@@ -1,5 +1,5 @@
 -- Texts and their tokens, typed from the standard.
-use Rattle.std.proofs.Common.{◌≡◌, ℕ, Bool, List, [], ◌∷◌, ◌++◌, codes, refl}
+use Rattle.std.proofs.Common.{◌≡◌, ℕ, List, [], ◌∷◌, ◌++◌, codes, refl}
 use Rattle.std.specs.Prelude.{◌==◌, if◌then◌else◌}
 use Prim.Native.String.{String}
 use Rattle.c_tokens.specs.Bytes.{space}

@@ -4,4 +4,6 @@
 
 mod laws;
 
-pub use laws::texts_that_may_touch_stay_apart;
+pub use laws::{
+    elements_are_the_longest, texts_that_may_touch_stay_apart, texts_with_a_border_stay_apart,
+};
