@@ -1,4 +1,4 @@
--- Texts that are no element: a text that may touch what follows, with more behind it.
+-- Texts that are no element: a text that may touch what follows, and more after it.
 use Rattle.std.proofs.Common.{◌≡◌, ℕ, Bool, true, false, List, [], ◌∷◌, ◌++◌, codes}
 use Rattle.std.proofs.Common.{◌⊎◌, inl, inr, refl, ap, ◌∙◌}
 use Rattle.std.specs.Prelude.{◌&&◌, ◌||◌, not, ◌==◌}
@@ -92,7 +92,7 @@ pub two-other : (x : ℕ) (a : List ℕ) (b : ℕ) (q : List ℕ) → is_other_c
 two-other x [] b q = refl
 two-other x (y ∷ a) b q = refl
 
--- a separator with more behind it
+-- a separator, and more after it
 pub separator-longer : (s c : ℕ) (q : List ℕ) → is_separator s ≡ true → is_element (s ∷ c ∷ q) ≡ false
 separator-longer s c q h = false_from_ne_true (is_element (s ∷ c ∷ q)) λ is.
     element-cases (s ∷ c ∷ q) refl refl is
@@ -188,7 +188,7 @@ comment-open x y a c q is =
           )
     ]
 
--- a word with an operator behind it
+-- a word, and an operator after it
 pub word-longer : (x : ℕ) (a : List ℕ) (o : ℕ) (q : List ℕ) → is_plain_word (x ∷ a) ≡ true → is_operator o ≡ true →
     is_element (x ∷ a ++ o ∷ q) ≡ false
 word-longer x a o q word h = false_from_ne_true (is_element (x ∷ a ++ o ∷ q)) λ is.
@@ -208,7 +208,7 @@ word-longer x a o q word h = false_from_ne_true (is_element (x ∷ a ++ o ∷ q)
     (all-last (λ b. not (is_plain_byte b)) [] x (a ++ o ∷ q) (punctuator-bytes (x ∷ a ++ o ∷ q) punctuator)))
     (or_left (is_word_byte x) (is_quote x) first))
 
--- a quoted text with anything behind it
+-- a quoted text, and anything after it
 
 pub quote-not : (test : ℕ → Bool) → test double_quote ≡ false → test apostrophe ≡ false → (b : ℕ) → is_quote b ≡ true → test b ≡ false
 quote-not test double single b h =
@@ -244,7 +244,7 @@ quoted-longer x a c q quote ends = false_from_ne_true (is_element (x ∷ a ++ c 
     (all-last (λ b. not (is_plain_byte b)) [] x (a ++ c ∷ q) (punctuator-bytes (x ∷ a ++ c ∷ q) punctuator)))
     (or_right (is_word_byte x) (is_quote x) quote))
 
--- an operator with a word byte or a quote behind it
+-- an operator, and a word byte or a quote after it
 pub operator-longer : (o p : ℕ) (q : List ℕ) → is_operator o ≡ true → is_plain_byte p ≡ true → is_element (o ∷ p ∷ q) ≡ false
 operator-longer o p q h plain = false_from_ne_true (is_element (o ∷ p ∷ q)) λ is.
     element-cases (o ∷ p ∷ q) refl refl is
