@@ -2,7 +2,7 @@
 use Rattle.std.proofs.Common.{◌≡◌, ℕ, ◌-◌, zero, suc, Bool, true, false, List, [], ◌∷◌, ◌++◌, codes, refl, ap, sym, subst}
 use Rattle.std.proofs.Common.{◌∙◌, ◌⊎◌, inl, inr, get_or, take, drop, append_assoc, append-nil, arith}
 use Rattle.std.specs.Prelude.{◌&&◌, ◌||◌, not, ◌==◌, filter}
-use Rattle.std.specs.List.{list_any, list_all}
+use Rattle.std.specs.List.{list_any, list_all, concat, flat_map}
 use Rattle.std.proofs.lemmas.Bool.{and_parts, and_from, or_cases, or_left, or_right, or_parts, both_ways, false≢true}
 use Rattle.std.proofs.lemmas.Bool.{cases_Bool, not-true, not_from_false, false_from_ne_true, eqb-true}
 use Rattle.std.proofs.lemmas.List.Elements.{filter-append}
@@ -14,14 +14,15 @@ use Rattle.c_tokens.specs.Grammar.{has_prefix, is_punctuator, is_token, is_comme
 use Rattle.c_tokens.specs.Grammar.{is_identifier, is_character_constant, is_string_literal, is_white_character, is_other_character, is_character, is_string}
 use Rattle.c_tokens.specs.Reading.{spliced, longest, elements_from, elements, tokens}
 use Rattle.c_tokens.specs.Touching.{is_one, is_separator, is_operator, is_plain_word, is_plain}
-use Rattle.c_tokens.specs.Borders.{is_unfinished, is_whole, ends_in_number, last_byte, is_plain_byte, are_never_in_one}
-use Rattle.c_tokens.specs.Borders.{is_at_operator, is_border, have_border}
+use Rattle.c_tokens.specs.Borders.{is_unfinished, is_whole, last_element, last_byte, is_plain_byte, are_never_in_one}
+use Rattle.c_tokens.specs.Borders.{is_at_operator, is_border_of_bytes, is_border, have_border, keep_lines, are_apart, has_bytes, are_all_apart}
 use Rattle.c_tokens.proofs.ReadingLemmas.{NoLonger, elements-front, elements-append}
 use Rattle.c_tokens.proofs.GrammarLemmas.{listed as in_list, identifier-bytes, number-bytes, punctuator-is, is_prefix_byte}
 use Rattle.c_tokens.proofs.GrammarLemmas.{begins_prefix, IsLiteral, literal-word, ends-once}
 use Rattle.c_tokens.proofs.LongerLemmas.{element-cases, all-last, separator-not, operator-not, punctuator-bytes, comment-first}
 use Rattle.c_tokens.proofs.LongerLemmas.{comment-second, comment-open, two-white, two-other, quote-not}
 use Rattle.c_tokens.proofs.TouchingLemmas.{single-element, comment-element, token-element, one-element, plain-element}
+use Rattle.c_tokens.proofs.TouchingLemmas.{spliced-both}
 
 -- classes of bytes
 
@@ -409,12 +410,21 @@ identifier-fails d c met =
       | inr at ↦ operator-fails is_identifier_byte refl d c at
     ]
 
-border-met : (after_number : Bool) (d c : ℕ) → is_border after_number d c ≡ true → (are_never_in_one d c || is_at_operator d c) ≡ true
+border-met : (after_number : Bool) (d c : ℕ) → is_border_of_bytes after_number d c ≡ true → (are_never_in_one d c || is_at_operator d c) ≡ true
 border-met after_number d c h =
     elim (or_cases (are_never_in_one d c) (not after_number && is_at_operator d c) h) [
       | inl never ↦ or_left (are_never_in_one d c) (is_at_operator d c) never
       | inr at ↦ or_right (are_never_in_one d c) (is_at_operator d c) (and_parts (not after_number) (is_at_operator d c) at).1
     ]
+
+-- no comment goes on after a whole text of two bytes or more
+comment-ended : (x y : ℕ) (a : List ℕ) (c : ℕ) (q : List ℕ) → list_any is_unfinished (elements_from 0 (x ∷ y ∷ a)) ≡ false →
+    is_comment (x ∷ y ∷ a ++ c ∷ q) ≡ true → ⊥
+comment-ended x y a c q whole comment =
+    let goes_on = comment-open x y a c q comment in
+    both_ways (list_any is_unfinished (elements_from 0 (x ∷ y ∷ a))) whole
+    (ap (list_any is_unfinished) (one-element x (y ∷ a) (comment-element (x ∷ y ∷ a) goes_on.0))
+    ∙ or_left (is_unfinished (x ∷ y ∷ a)) false (or_left (is_comment (x ∷ y ∷ a ++ space ∷ [])) (is_one is_quote (x ∷ y ∷ a)) goes_on.1))
 
 comment-border : (x : ℕ) (a : List ℕ) (c : ℕ) (q : List ℕ) → list_any is_unfinished (elements_from 0 (x ∷ a)) ≡ false →
     (are_never_in_one (last_byte x a) c || is_at_operator (last_byte x a) c) ≡ true → is_comment (x ∷ a ++ c ∷ q) ≡ true → ⊥
@@ -428,76 +438,108 @@ comment-border x [] c q whole border comment =
     none k same computed =
         false≢true (computed (subst (λ d. (are_never_in_one d k || is_at_operator d k) ≡ true) (eqb-true x slash (comment-first x (c ∷ q) comment))
         (subst (λ e. (are_never_in_one x e || is_at_operator x e) ≡ true) same border)))
-comment-border x (y ∷ a) c q whole border comment =
-    let goes_on = comment-open x y a c q comment in
-    both_ways (list_any is_unfinished (elements_from 0 (x ∷ y ∷ a))) whole
-    (ap (list_any is_unfinished) (one-element x (y ∷ a) (comment-element (x ∷ y ∷ a) goes_on.0))
-    ∙ or_left (is_unfinished (x ∷ y ∷ a)) false (or_left (is_comment (x ∷ y ∷ a ++ space ∷ [])) (is_one is_quote (x ∷ y ∷ a)) goes_on.1))
+comment-border x (y ∷ a) c q whole border comment = comment-ended x y a c q whole comment
 
+-- a quoted text goes on after a whole text only within its prefix
 literal-border : (x : ℕ) (a : List ℕ) (c : ℕ) (q : List ℕ) → list_any is_unfinished (elements_from 0 (x ∷ a)) ≡ false →
-    (are_never_in_one (last_byte x a) c || is_at_operator (last_byte x a) c) ≡ true → IsLiteral (x ∷ a ++ c ∷ q) → ⊥
-literal-border x a c q whole border literal =
+    (is_word_byte (last_byte x a) ≡ true → is_plain_byte c ≡ true → ⊥) → IsLiteral (x ∷ a ++ c ∷ q) → ⊥
+literal-border x a c q whole apart literal =
     elim (literal-parts (x ∷ a) c q literal) [
       | inl o ↦ both_ways (list_any is_unfinished (elements_from 0 (x ∷ a))) whole
           (ap (λ t. list_any is_unfinished (elements_from 0 t)) o.same
           ∙ opened-unfinished o.prefix o.quote o.rest c q o.word o.begins o.quotes o.ends)
-      | inr inside ↦
-          let last : is_word_byte (last_byte x a) ≡ true = all-last-byte is_word_byte x a inside.0 in
-          both-plain (last_byte x a) c last inside.1 border
+      | inr inside ↦ apart (all-last-byte is_word_byte x a inside.0) inside.1
     ]
 
-number-border : (after_number : Bool) (x : ℕ) (a : List ℕ) (c : ℕ) (q : List ℕ) →
-    is_border (ends_in_number after_number (elements_from 0 (x ∷ a))) (last_byte x a) c ≡ true → is_number (x ∷ a ++ c ∷ q) ≡ true → ⊥
-number-border after_number x a c q border number =
-    elim (or_cases (are_never_in_one (last_byte x a) c) (not (ends_in_number after_number (elements_from 0 (x ∷ a))) && is_at_operator (last_byte x a) c) border) [
+number-border : (before : List ℕ) (x : ℕ) (a : List ℕ) (c : ℕ) (q : List ℕ) →
+    is_border_of_bytes (is_number (last_element before (elements_from 0 (x ∷ a)))) (last_byte x a) c ≡ true →
+    is_number (x ∷ a ++ c ∷ q) ≡ true → ⊥
+number-border before x a c q border number =
+    let element : List ℕ = last_element before (elements_from 0 (x ∷ a)) in
+    elim (or_cases (are_never_in_one (last_byte x a) c) (not (is_number element) && is_at_operator (last_byte x a) c) border) [
       | inl never ↦ none-fails is_number_byte x a c q (number-bytes (x ∷ a ++ c ∷ q) number)
           (never-fails is_number_byte (record { white = refl; separators = refl; slash = refl }) (last_byte x a) c never)
       | inr at ↦
-          let parts = and_parts (not (ends_in_number after_number (elements_from 0 (x ∷ a)))) (is_at_operator (last_byte x a) c) at in
+          let parts = and_parts (not (is_number element)) (is_at_operator (last_byte x a) c) at in
           let front : is_number (x ∷ a) ≡ true = number-front x a c q parts.1 number in
-          both_ways (ends_in_number after_number (elements_from 0 (x ∷ a)))
-          (not-true (ends_in_number after_number (elements_from 0 (x ∷ a))) parts.0)
-          (ap (ends_in_number after_number) (one-element x a (token-element (x ∷ a) (number-token (x ∷ a) front))) ∙ front)
+          both_ways (is_number element) (not-true (is_number element) parts.0)
+          (ap (λ es. is_number (last_element before es)) (one-element x a (token-element (x ∷ a) (number-token (x ∷ a) front))) ∙ front)
     ]
 
-border-longer : (after_number : Bool) (x : ℕ) (a : List ℕ) (c : ℕ) (q : List ℕ) →
+bytes-longer : (before : List ℕ) (x : ℕ) (a : List ℕ) (c : ℕ) (q : List ℕ) →
     list_any is_unfinished (elements_from 0 (x ∷ a)) ≡ false →
-    is_border (ends_in_number after_number (elements_from 0 (x ∷ a))) (last_byte x a) c ≡ true → is_element (x ∷ a ++ c ∷ q) ≡ false
-border-longer after_number x a c q whole border =
-    let met = border-met (ends_in_number after_number (elements_from 0 (x ∷ a))) (last_byte x a) c border in
+    is_border_of_bytes (is_number (last_element before (elements_from 0 (x ∷ a)))) (last_byte x a) c ≡ true →
+    is_element (x ∷ a ++ c ∷ q) ≡ false
+bytes-longer before x a c q whole border =
+    let met = border-met (is_number (last_element before (elements_from 0 (x ∷ a)))) (last_byte x a) c border in
     false_from_ne_true (is_element (x ∷ a ++ c ∷ q)) λ is.
     element-cases (x ∷ a ++ c ∷ q) (two-white x a c q) (two-other x a c q) is
     (comment-border x a c q whole met)
     (λ identifier. none-fails is_identifier_byte x a c q (identifier-bytes (x ∷ a ++ c ∷ q) identifier) (identifier-fails (last_byte x a) c met))
-    (number-border after_number x a c q border)
-    (literal-border x a c q whole met)
+    (number-border before x a c q border)
+    (literal-border x a c q whole (λ word plain. both-plain (last_byte x a) c word plain met))
     (λ punctuator. punctuator-border x a c q punctuator met)
+
+-- after a comment
+
+slash-alone : (before : List ℕ) (x : ℕ) → is_comment (last_element before (elements_from 0 (x ∷ []))) ≡ true → ⊥
+slash-alone before x comment =
+    false≢true (ap (λ es. is_comment (last_element before es)) (sym (one-element x [] (single-element x))) ∙ comment)
+
+comment-longer : (before : List ℕ) (x : ℕ) (a : List ℕ) (c : ℕ) (q : List ℕ) →
+    list_any is_unfinished (elements_from 0 (x ∷ a)) ≡ false →
+    is_comment (last_element before (elements_from 0 (x ∷ a))) ≡ true → (last_byte x a == slash) ≡ true →
+    is_element (x ∷ a ++ c ∷ q) ≡ false
+comment-longer before x [] c q whole comment last = absurd (slash-alone before x comment)
+comment-longer before x (y ∷ a) c q whole comment last =
+    let same : last_byte y a ≡ slash = eqb-true (last_byte y a) slash last in
+    let t : List ℕ = x ∷ y ∷ a ++ c ∷ q in
+    false_from_ne_true (is_element t) λ is.
+    element-cases t (two-white x (y ∷ a) c q) (two-other x (y ∷ a) c q) is
+    (comment-ended x y a c q whole)
+    (λ identifier. none-fails is_identifier_byte x (y ∷ a) c q (identifier-bytes t identifier) (inl (ap is_identifier_byte same)))
+    (λ number. none-fails is_number_byte x (y ∷ a) c q (number-bytes t number) (inl (ap is_number_byte same)))
+    (literal-border x (y ∷ a) c q whole (λ word plain. both_ways (is_word_byte (last_byte y a)) (ap is_word_byte same) word))
+    (λ punctuator. none-fails (λ d. not (d == slash)) y a c q (punctuator-is has_no_later_slash refl t punctuator)
+    (inl (ap (λ d. not (d == slash)) same)))
+
+border-longer : (before : List ℕ) (x : ℕ) (a : List ℕ) (c : ℕ) (q : List ℕ) →
+    list_any is_unfinished (elements_from 0 (x ∷ a)) ≡ false →
+    is_border (last_element before (elements_from 0 (x ∷ a))) (last_byte x a) c ≡ true → is_element (x ∷ a ++ c ∷ q) ≡ false
+border-longer before x a c q whole border =
+    let element : List ℕ = last_element before (elements_from 0 (x ∷ a)) in
+    elim (or_cases (is_border_of_bytes (is_number element) (last_byte x a) c) (is_comment element && last_byte x a == slash) border) [
+      | inl bytes ↦ bytes-longer before x a c q whole bytes
+      | inr comment ↦
+          let parts = and_parts (is_comment element) (last_byte x a == slash) comment in
+          comment-longer before x a c q whole parts.0 parts.1
+    ]
 
 -- The elements of both texts. `Borders n a`: no element is unfinished, and a border is at the end.
 
-abbrev IsAtBorder : ℕ → Bool → ℕ → List ℕ → Type 0
-IsAtBorder c after_number n [] = Unit {0}
-IsAtBorder c after_number n (x ∷ a) = is_border (ends_in_number after_number (elements_from n (x ∷ a))) (last_byte x a) c ≡ true
+abbrev IsAtBorder : ℕ → List ℕ → ℕ → List ℕ → Type 0
+IsAtBorder c before n [] = Unit {0}
+IsAtBorder c before n (x ∷ a) = is_border (last_element before (elements_from n (x ∷ a))) (last_byte x a) c ≡ true
 
 record Borders (c n : ℕ) (a : List ℕ) : Type 0 where
-  after_number : Bool
+  before : List ℕ
   whole : list_any is_unfinished (elements_from n a) ≡ false
-  border : IsAtBorder c after_number n a
+  border : IsAtBorder c before n a
 
 border-passed : (c n x : ℕ) (a : List ℕ) → Borders c (suc n) (x ∷ a) → Borders c n a
-border-passed c n x [] b = record { after_number = b.after_number; whole = b.whole; border = tt }
-border-passed c n x (y ∷ a) b = record { after_number = b.after_number; whole = b.whole; border = b.border }
+border-passed c n x [] b = record { before = b.before; whole = b.whole; border = tt }
+border-passed c n x (y ∷ a) b = record { before = b.before; whole = b.whole; border = b.border }
 
 border-next : (c x : ℕ) (a : List ℕ) → Borders c 0 (x ∷ a) → Borders c (longest is_element (x ∷ a) - 1) a
 border-next c x a b = record {
-  after_number = is_number (take (longest is_element (x ∷ a)) (x ∷ a));
+  before = take (longest is_element (x ∷ a)) (x ∷ a);
   whole = (or_parts (is_unfinished (take (longest is_element (x ∷ a)) (x ∷ a)))
       (list_any is_unfinished (elements_from (longest is_element (x ∷ a) - 1) a)) b.whole).1;
   border = go a b.border;
 }
   where
-    go : (a : List ℕ) → IsAtBorder c b.after_number 0 (x ∷ a) →
-        IsAtBorder c (is_number (take (longest is_element (x ∷ a)) (x ∷ a))) (longest is_element (x ∷ a) - 1) a
+    go : (a : List ℕ) → IsAtBorder c b.before 0 (x ∷ a) →
+        IsAtBorder c (take (longest is_element (x ∷ a)) (x ∷ a)) (longest is_element (x ∷ a) - 1) a
     go [] border = tt
     go (y ∷ a) border = border
 
@@ -508,12 +550,52 @@ border-elements (x ∷ a) [] whole border =
     ap (elements_from 0) (append-nil (x ∷ a)) ∙ sym (append-nil (elements_from 0 (x ∷ a)))
 border-elements (x ∷ a) (c ∷ r) whole border =
     elements-append c r (Borders c) (border-passed c) (border-next c)
-    (λ x a b q rest same. border-longer b.after_number x a c q b.whole b.border)
-    0 (x ∷ a) (omega arith) (record { after_number = false; whole = whole; border = border })
+    (λ x a b q rest same. border-longer b.before x a c q b.whole b.border)
+    0 (x ∷ a) (omega arith) (record { before = []; whole = whole; border = border })
 
-pub border-tokens : (a b : List ℕ) → spliced (a ++ b) ≡ spliced a ++ spliced b → is_whole a ≡ true →
-    have_border (spliced a) (spliced b) ≡ true → tokens (a ++ b) ≡ tokens a ++ tokens b
-border-tokens a b same whole border =
-    ap (λ t. filter is_token (elements_from 0 t)) same
-    ∙ ap (filter is_token) (border-elements (spliced a) (spliced b) (not-true (list_any is_unfinished (elements a)) whole) border)
+pub apart-tokens : (a b : List ℕ) → are_apart a b ≡ true → tokens (a ++ b) ≡ tokens a ++ tokens b
+apart-tokens a b apart =
+    let outer = and_parts (is_whole a && keep_lines a b) (have_border (spliced a) (spliced b)) apart in
+    let inner = and_parts (is_whole a) (keep_lines a b) outer.0 in
+    ap (λ t. filter is_token (elements_from 0 t)) (spliced-both a b inner.1)
+    ∙ ap (filter is_token) (border-elements (spliced a) (spliced b) (not-true (list_any is_unfinished (elements a)) inner.0) outer.1)
     ∙ filter-append is_token (elements a) (elements b)
+
+-- texts in a row
+
+-- what is written after a text with bytes changes nothing before that text
+
+keep_lines-more : (a b more : List ℕ) → has_bytes (spliced b) ≡ true → keep_lines a b ≡ true → keep_lines a (b ++ more) ≡ true
+keep_lines-more a [] more some kept = absurd (false≢true some)
+keep_lines-more [] (c ∷ b) more some kept = kept
+keep_lines-more (x ∷ a) (c ∷ b) more some kept = kept
+
+have_border-more : (a b more : List ℕ) → has_bytes b ≡ true → have_border a b ≡ true → have_border a (b ++ more) ≡ true
+have_border-more a [] more some border = absurd (false≢true some)
+have_border-more [] (c ∷ b) more some border = border
+have_border-more (x ∷ a) (c ∷ b) more some border = border
+
+pub row-tokens : (a : List ℕ) (rest : List (List ℕ)) → are_all_apart (a ∷ rest) ≡ true →
+    (spliced (a ++ concat rest) ≡ spliced a ++ spliced (concat rest))
+    × (tokens (a ++ concat rest) ≡ tokens a ++ flat_map tokens rest)
+row-tokens a [] apart =
+    (ap spliced (append-nil a) ∙ sym (append-nil (spliced a)), ap tokens (append-nil a) ∙ sym (append-nil (tokens a)))
+row-tokens a (b ∷ rest) apart =
+    let parts = and_parts (are_apart a b && has_bytes (spliced b)) (are_all_apart (b ∷ rest)) apart in
+    let first = and_parts (are_apart a b) (has_bytes (spliced b)) parts.0 in
+    let outer = and_parts (is_whole a && keep_lines a b) (have_border (spliced a) (spliced b)) first.0 in
+    let inner = and_parts (is_whole a) (keep_lines a b) outer.0 in
+    let later = row-tokens b rest parts.1 in
+    let kept : keep_lines a (b ++ concat rest) ≡ true = keep_lines-more a b (concat rest) first.1 inner.1 in
+    let border : have_border (spliced a) (spliced (b ++ concat rest)) ≡ true =
+    ap (have_border (spliced a)) later.0 ∙ have_border-more (spliced a) (spliced b) (spliced (concat rest)) first.1 outer.1 in (
+      spliced-both a (b ++ concat rest) kept,
+      apart-tokens a (b ++ concat rest)
+          (and_from (is_whole a && keep_lines a (b ++ concat rest)) (have_border (spliced a) (spliced (b ++ concat rest)))
+          (and_from (is_whole a) (keep_lines a (b ++ concat rest)) inner.0 kept) border)
+          ∙ ap (λ ts. tokens a ++ ts) later.1,
+    )
+
+pub all-tokens : (texts : List (List ℕ)) → are_all_apart texts ≡ true → tokens (concat texts) ≡ flat_map tokens texts
+all-tokens [] apart = refl
+all-tokens (a ∷ rest) apart = (row-tokens a rest apart).1

@@ -5,7 +5,7 @@ use Rattle.std.specs.Prelude.{◌&&◌, ◌||◌, not, ◌==◌, if◌then◌els
 use Rattle.std.specs.List.{list_any, list_all}
 use Rattle.std.specs.Str.{bytes_eq}
 use Rattle.std.proofs.lemmas.Bool.{and_parts, and_from, or_cases, or_left, or_right, or_parts, and_right, both_ways, false≢true}
-use Rattle.std.proofs.lemmas.Bool.{not_from_false, false_from_ne_true, eqb-true}
+use Rattle.std.proofs.lemmas.Bool.{not_from_false, not-true, false_from_ne_true, eqb-true}
 use Rattle.std.proofs.lemmas.List.Elements.{filter-append}
 use Rattle.c_tokens.specs.Bytes.{space, asterisk, slash, backslash, line_feed, double_quote, apostrophe, is_digit, is_word_byte, is_quote, is_white}
 use Rattle.c_tokens.specs.Grammar.{is_identifier_byte, is_identifier, has_universal_names, begins_universal_name, is_number}
@@ -14,7 +14,7 @@ use Rattle.c_tokens.specs.Grammar.{is_string_literal, is_punctuator, is_other_ch
 use Rattle.c_tokens.specs.Grammar.{is_white_character, is_element}
 use Rattle.c_tokens.specs.Reading.{spliced, longest, elements_from, elements, tokens, ends_in_comment}
 use Rattle.c_tokens.specs.Touching.{TextKind, is_separator, is_operator, is_one, is_plain_word, is_plain, IsOfKind}
-use Rattle.c_tokens.specs.Borders.{is_plain_byte}
+use Rattle.c_tokens.specs.Borders.{is_plain_byte, last_byte, keep_lines}
 use Rattle.c_tokens.specs.Touching.{kinds_may_touch}
 use Rattle.c_tokens.specs.Touching.TextKind.{Separator, Operator, Plain, Other}
 use Rattle.c_tokens.proofs.ReadingLemmas.{no-longer-nothing, no-longer, elements-front, elements-append}
@@ -196,18 +196,34 @@ pub spliced-first : (b : ℕ) (bs : List ℕ) → (b == backslash) ≡ false →
 spliced-first b [] other = refl
 spliced-first b (c ∷ bs) other = rw other refl
 
-pub spliced-append : (a : List ℕ) (c : ℕ) (r : List ℕ) → (c == line_feed) ≡ false → spliced (a ++ c ∷ r) ≡ spliced a ++ spliced (c ∷ r)
-spliced-append [] c r other = refl
-spliced-append (b ∷ []) c r other = rw (and_right (b == backslash) (c == line_feed) other) refl
-spliced-append (b ∷ d ∷ a) c r other =
-    go (b == backslash && d == line_feed) (spliced-append a c r other) (spliced-append (d ∷ a) c r other)
+spliced-bytes : (x : ℕ) (a : List ℕ) (c : ℕ) (r : List ℕ) → not (last_byte x a == backslash && c == line_feed) ≡ true →
+    spliced (x ∷ a ++ c ∷ r) ≡ spliced (x ∷ a) ++ spliced (c ∷ r)
+spliced-bytes x [] c r kept = rw (not-true (x == backslash && c == line_feed) kept) refl
+spliced-bytes x (d ∷ []) c r kept = one (x == backslash && d == line_feed) (spliced-bytes d [] c r kept)
   where
-    go : (x : Bool) → spliced (a ++ c ∷ r) ≡ spliced a ++ spliced (c ∷ r) →
-        spliced (d ∷ a ++ c ∷ r) ≡ spliced (d ∷ a) ++ spliced (c ∷ r) →
-        (if x then spliced (a ++ c ∷ r) else b ∷ spliced (d ∷ a ++ c ∷ r))
-        ≡ (if x then spliced a else b ∷ spliced (d ∷ a)) ++ spliced (c ∷ r)
-    go true taken left = taken
-    go false taken left = ap (λ t. b ∷ t) left
+    one : (taken : Bool) → spliced (d ∷ c ∷ r) ≡ d ∷ spliced (c ∷ r) →
+        (if taken then spliced (c ∷ r) else x ∷ spliced (d ∷ c ∷ r)) ≡ (if taken then [] else x ∷ d ∷ []) ++ spliced (c ∷ r)
+    one true left = refl
+    one false left = ap (λ t. x ∷ t) left
+spliced-bytes x (d ∷ e ∷ a) c r kept =
+    more (x == backslash && d == line_feed) (spliced-bytes e a c r kept) (spliced-bytes d (e ∷ a) c r kept)
+  where
+    more : (taken : Bool) → spliced (e ∷ a ++ c ∷ r) ≡ spliced (e ∷ a) ++ spliced (c ∷ r) →
+        spliced (d ∷ e ∷ a ++ c ∷ r) ≡ spliced (d ∷ e ∷ a) ++ spliced (c ∷ r) →
+        (if taken then spliced (e ∷ a ++ c ∷ r) else x ∷ spliced (d ∷ e ∷ a ++ c ∷ r))
+        ≡ (if taken then spliced (e ∷ a) else x ∷ spliced (d ∷ e ∷ a)) ++ spliced (c ∷ r)
+    more true taken left = taken
+    more false taken left = ap (λ t. x ∷ t) left
+
+pub spliced-both : (a b : List ℕ) → keep_lines a b ≡ true → spliced (a ++ b) ≡ spliced a ++ spliced b
+spliced-both [] b kept = refl
+spliced-both (x ∷ a) [] kept = ap spliced (append-nil (x ∷ a)) ∙ sym (append-nil (spliced (x ∷ a)))
+spliced-both (x ∷ a) (c ∷ r) kept = spliced-bytes x a c r kept
+
+spliced-append : (a : List ℕ) (c : ℕ) (r : List ℕ) → (c == line_feed) ≡ false → spliced (a ++ c ∷ r) ≡ spliced a ++ spliced (c ∷ r)
+spliced-append [] c r other = refl
+spliced-append (x ∷ a) c r other = spliced-bytes x a c r
+    (not_from_false (last_byte x a == backslash && c == line_feed) (and_right (last_byte x a == backslash) (c == line_feed) other))
 
 -- texts
 

@@ -1,10 +1,11 @@
 -- Texts and their tokens, typed from the standard.
-use Rattle.std.proofs.Common.{◌≡◌, ℕ, List, [], ◌∷◌, ◌++◌, codes, refl}
+use Rattle.std.proofs.Common.{◌≡◌, ℕ, true, List, [], ◌∷◌, ◌++◌, codes, refl}
 use Rattle.std.specs.Prelude.{◌==◌, if◌then◌else◌}
 use Prim.Native.String.{String}
 use Rattle.c_tokens.specs.Bytes.{space}
 use Rattle.c_tokens.specs.Grammar.{is_element, is_token, is_punctuator}
 use Rattle.c_tokens.specs.Reading.{tokens}
+use Rattle.c_tokens.specs.Borders.{are_all_apart}
 
 -- the words between the spaces of a text
 abbrev words_after : List ℕ → List ℕ → List (List ℕ)
@@ -196,11 +197,10 @@ other_texts :
     AreReadOtherwise "." "5" (words ".5") (words ". 5") ×
     AreReadOtherwise ".." "." (words "...") (words ". . .") ×
     AreReadOtherwise "\\" "u00e9" (words "\\u00e9") (words "\\ u00e9") ×
-    AreReadOtherwise "L" "'x'" (words "L'x'") (words "L 'x'") ×
     AreReadOtherwise "+" "+=" (words "++ =") (words "+ +=") ×
     AreReadOtherwise "a'" "b'" (words "a 'b'") (words "a ' b '")
 unfolding is_element is_token is_punctuator
-other_texts = ((refl, refl), (refl, refl), (refl, refl), (refl, refl), (refl, refl), (refl, refl), (refl, refl), (refl, refl), (refl, refl), (refl, refl), (refl, refl), (refl, refl))
+other_texts = ((refl, refl), (refl, refl), (refl, refl), (refl, refl), (refl, refl), (refl, refl), (refl, refl), (refl, refl), (refl, refl), (refl, refl), (refl, refl))
 
 -- A text that opens a comment, before a separator.
 open_comments :
@@ -208,3 +208,19 @@ open_comments :
     AreReadOtherwise "a/*b" "(" (words "a") (words "a (")
 unfolding is_element is_token is_punctuator
 open_comments = ((refl, refl), (refl, refl))
+
+-- Texts of several tokens: a quote that none closes, numbers, two slashes, and a backslash before a line feed.
+no_borders :
+    AreReadOtherwise "x\"a" ";\"y" (words "x \"a;\" y") (words "x \" a ; \" y") ×
+    AreReadOtherwise "1.e" "+5" (words "1.e+5") (words "1.e + 5") ×
+    AreReadOtherwise "1e+" "x" (words "1e+x") (words "1e+ x") ×
+    AreReadOtherwise "a/" "/**/b" (words "a") (words "a / b") ×
+    AreReadOtherwise "a\\" "\nb" (words "ab") (words "a \\ b")
+unfolding is_element is_token is_punctuator
+no_borders = ((refl, refl), (refl, refl), (refl, refl), (refl, refl), (refl, refl))
+
+-- a macro over two lines, as texts in a row
+row : are_all_apart
+    (codes "#define F(x)" ∷ codes " " ∷ codes "a+\\\n" ∷ codes "\"s\"" ∷ codes "/*1*/" ∷ codes "-1;" ∷ codes "\n" ∷ []) ≡ true
+unfolding is_element is_token is_punctuator
+row = refl

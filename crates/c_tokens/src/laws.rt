@@ -1,10 +1,10 @@
 //! Laws of the tokens that a C compiler reads.
-ghost use Rattle.std.specs.Prelude.{◌≡◌, ◌≤◌, ℕ, List, ◌∷◌, ◌++◌, true, length, take};
+ghost use Rattle.std.specs.Prelude.{◌≡◌, ◌≤◌, ℕ, List, ◌∷◌, ◌++◌, true, length, take, flat_map};
 ghost use Rattle.std.specs.List.{concat};
 ghost use Rattle.c_tokens.specs.Grammar.{is_element};
 ghost use Rattle.c_tokens.specs.Reading.{spliced, longest, elements, tokens};
 ghost use Rattle.c_tokens.specs.Touching.{TextKind, IsOfKind, kinds_may_touch};
-ghost use Rattle.c_tokens.specs.Borders.{is_whole, have_border};
+ghost use Rattle.c_tokens.specs.Borders.{are_apart, are_all_apart};
 
 /// Each byte of a text, without the backslashes before line feeds, is in one white-space character,
 /// comment or token, in order. At each place the longest one that there can be is taken.
@@ -23,9 +23,10 @@ pub fn texts_that_may_touch_stay_apart()
         → kinds_may_touch k g ≡ true → tokens (a ++ b) ≡ tokens a ++ tokens b }
 {}
 
-/// The same of two texts of several tokens that have a border, if the first is whole. No backslash
-/// at its end takes out a line feed of the second.
-pub fn texts_with_a_border_stay_apart()
-    ensures { (a b : List ℕ) → spliced (a ++ b) ≡ spliced a ++ spliced b → is_whole a ≡ true
-        → have_border (spliced a) (spliced b) ≡ true → tokens (a ++ b) ≡ tokens a ++ tokens b }
+/// The same of two texts of several tokens, if the first is whole and a border is between both; and
+/// of any number of such texts in a row.
+pub fn texts_with_borders_stay_apart()
+    ensures two { (a b : List ℕ) → are_apart a b ≡ true → tokens (a ++ b) ≡ tokens a ++ tokens b }
+    ensures row { (texts : List (List ℕ)) → are_all_apart texts ≡ true
+        → tokens (concat texts) ≡ flat_map tokens texts }
 {}

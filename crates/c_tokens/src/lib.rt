@@ -5,5 +5,5 @@
 mod laws;
 
 pub use laws::{
-    elements_are_the_longest, texts_that_may_touch_stay_apart, texts_with_a_border_stay_apart,
+    elements_are_the_longest, texts_that_may_touch_stay_apart, texts_with_borders_stay_apart,
 };
