@@ -3,13 +3,13 @@
 usage: c_tokens.py TOP        TOP is the folder of the repository
 
 `tokens` is a slow reading by the same grammar: each element of a text is the longest one that can be
-at its place. It gives the texts of the crate's worked texts the tokens that the crate does. gcc's `cc -E -fdebug-cpp` writes before each token where it is in the file, so that what
-is between two such notes is one token. Generated texts, each between two markers, have the same
-tokens for both. Left out are texts to which C11 gives no meaning (a quote or a comment that is not
-closed), directives, trigraphs, and a backslash with white space and a line end after it, where gcc
-joins the lines. Of the characters past 127 only a letter is tried: gcc reads others, as a multiplication
-sign, as tokens of their own. gcc is asked for C11: in its own dialect it also reads `::` and raw
-strings as one token.
+at its place. It gives the crate's worked texts the tokens that they have there. gcc's `cc -E
+-fdebug-cpp` writes before each token where it is in the file, so that what is between two such notes
+is one token. Generated texts, each between two markers, have the same tokens for both. Left out are
+texts to which C11 gives no meaning (a quote or a comment that is not closed), directives, trigraphs,
+and a backslash with white space and a line end after it, where gcc joins the lines. Of the characters
+past 127 only a letter is tried: gcc reads others, as a multiplication sign, as tokens of their own.
+gcc is asked for C11: in its own dialect it also reads `::` and raw strings as one token.
 
 The last line is 'N passed, M failed'.
 """
@@ -120,11 +120,14 @@ def in_ascii(token):
 # ---------------------------------------------------------------------- texts
 
 PIECES = (
-    [bytes([each]) for each in b'!#%&*+-/:<=>?^|!#%&*+-/:<=>?^|()[]{};,~.@`'] + [b'...', b'..', b'%:%:', b'<:', b':>', b'%:']
-    + [b'a', b'e', b'E', b'p', b'x', b'_', b'$', b'L', b'u', b'U', b'u8', b'0x', b'while', b'\xc3\xa9', b'\\u00e9', b'\\U000000e9']
+    [bytes([each]) for each in b'!#%&*+-/:<=>?^|!#%&*+-/:<=>?^|()[]{};,~.@`']
+    + [b'...', b'..', b'%:%:', b'<:', b':>', b'%:']
+    + [b'a', b'e', b'E', b'p', b'x', b'_', b'$', b'L', b'u', b'U', b'u8', b'0x', b'while']
+    + [b'\xc3\xa9', b'\\u00e9', b'\\U000000e9']
     + [b'0', b'1', b'8', b'1e', b'0xe', b'1.', b'.5', b'1p', b'1E+', b'2P-', b'1\\u00e9']
     + [b"'a'", b"'\\''", b'"s"', b'""', b'"a\\"b"', b'"/*"', b"'//'", b'"\\\\"', b'L"x"', b"u'y'"]
-    + [b' ', b' ', b'\n', b'\t', b'\\\n', b'\\\n', b'\\', b'/**/', b'/*"*/', b'/* a */', b'//', b'// b\n', b'/*/*/', b'/', b'*/'])
+    + [b' ', b' ', b'\n', b'\t', b'\\\n', b'\\\n', b'\\']
+    + [b'/**/', b'/*"*/', b'/* a */', b'//', b'// b\n', b'/*/*/', b'/', b'*/'])
 
 TRIGRAPH = re.compile(rb"\?\?[=/'()!<>-]")
 JOINED_BY_GCC = re.compile(rb'\\[ \t\v\f]+\n')
@@ -135,14 +138,15 @@ def is_defined(text):
     found = elements(spliced(text))
     first = True                # no token is before this element on its line
     for each in found:
-        if first and each in (b'#', b'%:') or each in (b'"', b"'") or COMMENT.fullmatch(each) and is_open(each):
+        if first and each in (b'#', b'%:') or each in (b'"', b"'") or is_open(each):
             return False
         first = each == b'\n' or first and not kind(each)
     return not (TRIGRAPH.search(text) or JOINED_BY_GCC.search(text + b'\n') or text.endswith(b'\\'))
 
 
-def is_open(comment):
-    return comment.startswith(b'/*') and COMMENT.fullmatch(comment + b' ')
+def is_open(element):
+    """A comment that does not end: it would go on."""
+    return element.startswith(b'/*') and COMMENT.fullmatch(element + b' ')
 
 
 def generated(chance):

@@ -2,7 +2,8 @@
 -- both.
 use Rattle.std.specs.Prelude.{ℕ, Bool, true, false, ◌==◌, ◌&&◌, ◌||◌, not, List, [], ◌∷◌, ◌++◌}
 use Rattle.std.specs.List.{list_any}
-use Rattle.c_tokens.specs.Bytes.{line_feed, space, slash, backslash, is_word_byte, is_quote, is_white}
+use Rattle.c_tokens.specs.Bytes.{line_feed, space, slash, backslash, is_word_byte, is_quote}
+use Rattle.c_tokens.specs.Bytes.{is_white}
 use Rattle.c_tokens.specs.Grammar.{is_number, is_comment}
 use Rattle.c_tokens.specs.Reading.{spliced, elements_from, elements}
 use Rattle.c_tokens.specs.Touching.{is_one, is_separator, is_operator}

@@ -52,6 +52,7 @@ is_sign b = b == 43 || b == 45
 abbrev pub is_exponent : ℕ → Bool
 is_exponent b = b == 101 || b == 69 || b == 112 || b == 80
 
--- the white-space characters: space, horizontal tab, line feed, vertical tab, form feed
+-- the white-space characters: space, horizontal tab, line feed, vertical tab, form feed (a carriage
+-- return is none)
 abbrev pub is_white : ℕ → Bool
 is_white b = b == space || b == 9 || b == line_feed || b == 11 || b == 12

@@ -98,7 +98,8 @@ has_prefix (p ∷ ps) test (b ∷ bs) = b == p && has_prefix ps test bs
 abbrev pub is_character_constant : List ℕ → Bool
 is_character_constant text =
     is_character text
-    || list_any (λ prefix. has_prefix prefix is_character text) (codes "L" ∷ codes "u" ∷ codes "U" ∷ [])
+    || list_any (λ prefix. has_prefix prefix is_character text)
+    (codes "L" ∷ codes "u" ∷ codes "U" ∷ [])
 
 -- string-literal: "s-char-sequence", which may be empty, alone, or after u8, u, U or L
 abbrev pub is_string_literal : List ℕ → Bool
@@ -141,11 +142,13 @@ ends_once (b ∷ []) = true
 ends_once (b ∷ c ∷ []) = true
 ends_once (b ∷ c ∷ d ∷ bs) = not (b == asterisk && c == slash) && ends_once (c ∷ d ∷ bs)
 
--- `/*` and the characters up to the `*/` that ends the comment, or `//` and the characters up to the
--- line feed, which is not in the comment; or a front of these with the two characters that open it
+-- `/*` and the characters up to the `*/` that ends the comment, or `//` and the characters up to
+-- the line feed, which is not in the comment; or a front of these with the two characters that
+-- open it
 abbrev pub is_comment : List ℕ → Bool
 is_comment (b ∷ c ∷ bs) =
-    b == slash && (c == asterisk && ends_once bs || c == slash && list_all (λ d. not (d == line_feed)) bs)
+    b == slash
+    && (c == asterisk && ends_once bs || c == slash && list_all (λ d. not (d == line_feed)) bs)
 is_comment _ = false
 
 abbrev pub is_white_character : List ℕ → Bool

@@ -1,7 +1,8 @@
 -- Which texts may touch: a C compiler reads the same tokens with and without white space between
 -- them. A separator is never a part of a longer token. An operator may be a part of a longer
 -- operator, as + of ++, or of a number, as in 1e+5, but not of an identifier or a quoted text.
-use Rattle.std.specs.Prelude.{◌≡◌, ℕ, Bool, true, false, ◌==◌, ◌&&◌, ◌||◌, not, List, [], ◌∷◌, codes}
+use Rattle.std.specs.Prelude.{◌≡◌, ℕ, Bool, true, false, ◌==◌, ◌&&◌, ◌||◌, not}
+use Rattle.std.specs.Prelude.{List, [], ◌∷◌, codes}
 use Rattle.std.specs.List.{list_any, list_all}
 use Rattle.c_tokens.specs.Bytes.{is_digit, is_word_byte}
 use Rattle.c_tokens.specs.Grammar.{is_character, is_string}
@@ -30,8 +31,8 @@ is_plain_word (b ∷ bs) = not (is_digit b) && list_all is_word_byte (b ∷ bs)
 abbrev pub is_plain : List ℕ → Bool
 is_plain text = is_plain_word text || is_character text || is_string text
 
--- Texts of these kinds. A quoted text may be continued over lines. Any text is of the other kind, of
--- a token or of several, if it opens no comment that it does not end.
+-- Texts of these kinds. A quoted text may be continued over lines. Any text is of the other kind,
+-- of a token or of several, if it opens no comment that it does not end.
 abbrev pub IsOfKind : TextKind → List ℕ → Type 0
 IsOfKind Separator text = is_one is_separator text ≡ true
 IsOfKind Operator text = is_one is_operator text ≡ true
