@@ -20,6 +20,7 @@ import tempfile
 from collections import Counter
 
 ctangle, top = (os.path.abspath(path) for path in sys.argv[1:3])
+from c_tokens import tokens
 from checks import check, lay, read, run_all, same
 from random_macros import KINDS, Web
 from running import run
@@ -30,13 +31,6 @@ TOGETHER = 50           # how many webs one run of the compiler reads
 LEAST = 20              # so often each pair of kinds, and each other place, is in the generated webs
 
 DEFINED = re.compile(rb'#define ([\w$]+)(\([^)]*\))?(?: (.*))?')
-
-# C's preprocessing tokens, each as long as it can be; bytes past 127 are letters.
-LETTER = rb'(?:[A-Za-z_$\x80-\xff]|\\u[0-9a-fA-F]{4}|\\U[0-9a-fA-F]{8})'
-TOKEN = re.compile(
-    rb'(?:u8|[uUL])?"(?:\\.|[^"\\])*"' rb"|[uUL]?'(?:\\.|[^'\\])+'"
-    rb'|\.?[0-9](?:[eEpP][+-]|[0-9.]|' + LETTER + rb')*|' + LETTER + rb'(?:[0-9]|' + LETTER + rb')*'
-    rb'|%:%:|\.\.\.|<<=|>>=|->|\+\+|--|<<|>>|<=|>=|==|!=|&&|\|\||[-*/%+&^|]=|##|<:|:>|<%|%>|%:|[^ ]', re.S)
 
 
 # ---------------------------------------------------------------------- running
@@ -87,17 +81,8 @@ def understood(lines):
     for line in lines:
         defined = DEFINED.fullmatch(line)
         name, parameters, text = defined.groups() if defined else (line, None, None)
-        found[name] = parameters, TOKEN.findall(text or b'')
+        found[name] = parameters, tokens(text or b'')
     return found
-
-
-def test_tokens():
-    """The longest token is taken."""
-    for text, tokens in ((b'a+++b1', [b'a', b'++', b'+', b'b1']), (b'1e+5.x-.5', [b'1e+5.x', b'-', b'.5']),
-                         (b'1.e +5', [b'1.e', b'+', b'5']), (b'L"s" L "s\\""', [b'L"s"', b'L', b'"s\\""']),
-                         (b"u8'c'\\u00e9\\ u", [b"u8", b"'c'", b'\\u00e9', b'\\', b'u']),
-                         (b'..5 <<=%:%:->=>', [b'.', b'.5', b'<<=', b'%:%:', b'->', b'=', b'>'])):
-        same(TOKEN.findall(text), tokens, 'tokens of %r' % text)
 
 
 def test_generated():
@@ -136,7 +121,7 @@ def check_webs(name, folder, webs):
 
 
 def main():
-    return run_all((test_tokens, test_stored_lists, test_program, test_generated))
+    return run_all((test_stored_lists, test_program, test_generated))
 
 
 if __name__ == '__main__':

@@ -1,0 +1,601 @@
+-- The elements of two texts with a border between them.
+use Rattle.std.proofs.Common.{◌≡◌, ℕ, ◌-◌, zero, suc, Bool, true, false, List, [], ◌∷◌, ◌++◌, codes, refl, ap, sym, subst}
+use Rattle.std.proofs.Common.{◌∙◌, ◌⊎◌, inl, inr, get_or, take, drop, append_assoc, append-nil, arith}
+use Rattle.std.specs.Prelude.{◌&&◌, ◌||◌, not, ◌==◌, filter}
+use Rattle.std.specs.List.{list_any, list_all, concat, flat_map}
+use Rattle.std.proofs.lemmas.Bool.{and_parts, and_from, or_cases, or_left, or_right, or_parts, both_ways, false≢true}
+use Rattle.std.proofs.lemmas.Bool.{cases_Bool, not-true, not_from_false, false_from_ne_true, eqb-true}
+use Rattle.std.proofs.lemmas.List.Elements.{filter-append}
+use Rattle.c_tokens.specs.Bytes.{space, slash, asterisk, backslash, full_stop}
+use Rattle.c_tokens.specs.Bytes.{is_digit, is_hexadecimal, is_word_byte, is_quote, is_sign, is_exponent, is_white}
+use Rattle.c_tokens.specs.Grammar.{begins_hexadecimal, begins_universal_name, has_universal_names, is_identifier_byte}
+use Rattle.c_tokens.specs.Grammar.{begins_number, is_number_byte, signs_follow_exponents, is_number, is_quoted, ends_quoted}
+use Rattle.c_tokens.specs.Grammar.{has_prefix, is_punctuator, is_token, is_comment, is_element}
+use Rattle.c_tokens.specs.Grammar.{is_identifier, is_character_constant, is_string_literal, is_white_character, is_other_character, is_character, is_string}
+use Rattle.c_tokens.specs.Reading.{spliced, longest, elements_from, elements, tokens}
+use Rattle.c_tokens.specs.Touching.{is_one, is_separator, is_operator, is_plain_word, is_plain}
+use Rattle.c_tokens.specs.Borders.{is_unfinished, is_whole, last_element, last_byte, is_plain_byte, are_never_in_one}
+use Rattle.c_tokens.specs.Borders.{is_at_operator, is_border_of_bytes, is_border, have_border, keep_lines, are_apart, has_bytes, are_all_apart}
+use Rattle.c_tokens.proofs.ReadingLemmas.{NoLonger, elements-front, elements-append}
+use Rattle.c_tokens.proofs.GrammarLemmas.{listed as in_list, identifier-bytes, number-bytes, punctuator-is, is_prefix_byte}
+use Rattle.c_tokens.proofs.GrammarLemmas.{begins_prefix, IsLiteral, literal-word, ends-once}
+use Rattle.c_tokens.proofs.LongerLemmas.{element-cases, all-last, separator-not, operator-not, punctuator-bytes, comment-first}
+use Rattle.c_tokens.proofs.LongerLemmas.{comment-second, comment-open, two-white, two-other, quote-not}
+use Rattle.c_tokens.proofs.TouchingLemmas.{single-element, comment-element, token-element, one-element, plain-element}
+use Rattle.c_tokens.proofs.TouchingLemmas.{spliced-both}
+
+-- classes of bytes
+
+white-not : (test : ℕ → Bool) → list_all (λ b. not (test b)) (32 ∷ 9 ∷ 10 ∷ 11 ∷ 12 ∷ []) ≡ true → (b : ℕ) → is_white b ≡ true →
+    test b ≡ false
+white-not test none b h =
+    elim (or_cases (b == 32 || b == 9 || b == 10 || b == 11) (b == 12) h) [
+      | inr same ↦ ap test (eqb-true b 12 same) ∙ not-true (test 12) (listed 12 refl)
+      | inl four ↦ elim (or_cases (b == 32 || b == 9 || b == 10) (b == 11) four) [
+        | inr same ↦ ap test (eqb-true b 11 same) ∙ not-true (test 11) (listed 11 refl)
+        | inl three ↦ elim (or_cases (b == 32 || b == 9) (b == 10) three) [
+          | inr same ↦ ap test (eqb-true b 10 same) ∙ not-true (test 10) (listed 10 refl)
+          | inl two ↦ elim (or_cases (b == 32) (b == 9) two) [
+            | inr same ↦ ap test (eqb-true b 9 same) ∙ not-true (test 9) (listed 9 refl)
+            | inl same ↦ ap test (eqb-true b 32 same) ∙ not-true (test 32) (listed 32 refl)
+          ]
+        ]
+      ]
+    ]
+  where
+    listed : (c : ℕ) → list_any (λ d. c == d) (32 ∷ 9 ∷ 10 ∷ 11 ∷ 12 ∷ []) ≡ true → not (test c) ≡ true
+    listed c any = in_list (λ d. not (test d)) (32 ∷ 9 ∷ 10 ∷ 11 ∷ 12 ∷ []) none c any
+
+-- which of the two bytes at a border fails a test
+abbrev OneFails : (ℕ → Bool) → ℕ → ℕ → Type 0
+OneFails test d c = (test d ≡ false) ⊎ (test c ≡ false)
+
+-- a test that white space, separators and the slash fail, as those of words and numbers
+record FailsAtBorders (test : ℕ → Bool) : Type 0 where
+  white : list_all (λ b. not (test b)) (32 ∷ 9 ∷ 10 ∷ 11 ∷ 12 ∷ []) ≡ true
+  separators : list_all (λ b. not (test b)) (codes "()[]{};,~") ≡ true
+  slash : test slash ≡ false
+
+gap-fails : (test : ℕ → Bool) → list_all (λ b. not (test b)) (32 ∷ 9 ∷ 10 ∷ 11 ∷ 12 ∷ []) ≡ true →
+    list_all (λ b. not (test b)) (codes "()[]{};,~") ≡ true → (d c : ℕ) →
+    (is_white d || is_white c || is_separator d || is_separator c) ≡ true → OneFails test d c
+gap-fails test white separators d c h =
+    elim (or_cases (is_white d || is_white c || is_separator d) (is_separator c) h) [
+      | inr is ↦ inr (separator-not test separators c is)
+      | inl three ↦ elim (or_cases (is_white d || is_white c) (is_separator d) three) [
+        | inr is ↦ inl (separator-not test separators d is)
+        | inl two ↦ elim (or_cases (is_white d) (is_white c) two) [
+          | inl is ↦ inl (white-not test white d is)
+          | inr is ↦ inr (white-not test white c is)
+        ]
+      ]
+    ]
+
+never-fails : (test : ℕ → Bool) → FailsAtBorders test → (d c : ℕ) → are_never_in_one d c ≡ true → OneFails test d c
+never-fails test f d c h =
+    elim (or_cases (is_white d || is_white c || is_separator d || is_separator c) (c == slash && not (d == slash)) h) [
+      | inr slashes ↦ inr (ap test (eqb-true c slash (and_parts (c == slash) (not (d == slash)) slashes).0) ∙ f.slash)
+      | inl gap ↦ gap-fails test f.white f.separators d c gap
+    ]
+
+operator-fails : (test : ℕ → Bool) → list_all (λ b. not (test b)) (codes "!#%&*+-/:<=>?^|") ≡ true → (d c : ℕ) →
+    is_at_operator d c ≡ true → OneFails test d c
+operator-fails test none d c h =
+    elim (or_cases (is_operator d && is_plain_byte c) (is_plain_byte d && is_operator c) h) [
+      | inl first ↦ inl (operator-not test none d (and_parts (is_operator d) (is_plain_byte c) first).0)
+      | inr second ↦ inr (operator-not test none c (and_parts (is_plain_byte d) (is_operator c) second).1)
+    ]
+
+all-front : (test : ℕ → Bool) (a q : List ℕ) → list_all test (a ++ q) ≡ true → list_all test a ≡ true
+all-front test [] q h = refl
+all-front test (b ∷ a) q h =
+    let parts = and_parts (test b) (list_all test (a ++ q)) h in
+    and_from (test b) (list_all test a) parts.0 (all-front test a q parts.1)
+
+all-last-byte : (test : ℕ → Bool) (x : ℕ) (a : List ℕ) → list_all test (x ∷ a) ≡ true → test (last_byte x a) ≡ true
+all-last-byte test x [] h = (and_parts (test x) true h).0
+all-last-byte test x (y ∷ a) h = all-last-byte test y a (and_parts (test x) (list_all test (y ∷ a)) h).1
+
+none-fails : (test : ℕ → Bool) (x : ℕ) (a : List ℕ) (c : ℕ) (q : List ℕ) → list_all test (x ∷ a ++ c ∷ q) ≡ true →
+    OneFails test (last_byte x a) c → ⊥
+none-fails test x a c q all fails =
+    elim fails [
+      | inl last ↦ both_ways (test (last_byte x a)) last (all-last-byte test x a (all-front test (x ∷ a) (c ∷ q) all))
+      | inr next ↦ both_ways (test c) next (all-last test (x ∷ a) c q all)
+    ]
+
+-- numbers
+
+hexadecimal-word : (b : ℕ) → is_hexadecimal b ≡ true → is_word_byte b ≡ true
+hexadecimal-word b h = grind (arith, h)
+
+hexadecimal-byte : (b : ℕ) → is_hexadecimal b ≡ true → is_identifier_byte b ≡ true
+hexadecimal-byte b h = or_left (is_word_byte b) (b == backslash) (hexadecimal-word b h)
+
+-- a universal character name does not go on over the end of the text
+abbrev Stops : List ℕ → ℕ → Type 0
+Stops [] c = is_identifier_byte c ≡ false
+Stops (b ∷ a) c = OneFails is_identifier_byte (last_byte b a) c
+
+stops-rest : (b : ℕ) (a : List ℕ) (c : ℕ) → is_identifier_byte b ≡ true → Stops (b ∷ a) c → Stops a c
+stops-rest b [] c is (inl last) = absurd (both_ways (is_identifier_byte b) last is)
+stops-rest b [] c is (inr next) = next
+stops-rest b (d ∷ a) c is stops = stops
+
+hexadecimal-front : (n : ℕ) (a : List ℕ) (c : ℕ) (q : List ℕ) → Stops a c → begins_hexadecimal n (a ++ c ∷ q) ≡ true →
+    begins_hexadecimal n a ≡ true
+hexadecimal-front zero a c q stops h = refl
+hexadecimal-front (suc n) [] c q stops h =
+    absurd (both_ways (is_identifier_byte c) stops (hexadecimal-byte c (and_parts (is_hexadecimal c) (begins_hexadecimal n q) h).0))
+hexadecimal-front (suc n) (b ∷ a) c q stops h =
+    let parts = and_parts (is_hexadecimal b) (begins_hexadecimal n (a ++ c ∷ q)) h in
+    and_from (is_hexadecimal b) (begins_hexadecimal n a) parts.0
+    (hexadecimal-front n a c q (stops-rest b a c (hexadecimal-byte b parts.0) stops) parts.1)
+
+universal-byte : (b : ℕ) (f g : Bool) → (b == 117 && f || b == 85 && g) ≡ true → is_identifier_byte b ≡ true
+universal-byte b f g h =
+    elim (or_cases (b == 117 && f) (b == 85 && g) h) [
+      | inl small ↦ ap is_identifier_byte (eqb-true b 117 (and_parts (b == 117) f small).0)
+      | inr capital ↦ ap is_identifier_byte (eqb-true b 85 (and_parts (b == 85) g capital).0)
+    ]
+
+universal-front : (a : List ℕ) (c : ℕ) (q : List ℕ) → Stops a c → begins_universal_name (a ++ c ∷ q) ≡ true →
+    begins_universal_name a ≡ true
+universal-front [] c q stops h =
+    absurd (both_ways (is_identifier_byte c) stops (universal-byte c (begins_hexadecimal 4 q) (begins_hexadecimal 8 q) h))
+universal-front (b ∷ a) c q stops h =
+    let rest : Stops a c =
+    stops-rest b a c (universal-byte b (begins_hexadecimal 4 (a ++ c ∷ q)) (begins_hexadecimal 8 (a ++ c ∷ q)) h) stops in
+    elim (or_cases (b == 117 && begins_hexadecimal 4 (a ++ c ∷ q)) (b == 85 && begins_hexadecimal 8 (a ++ c ∷ q)) h) [
+      | inl small ↦
+          let parts = and_parts (b == 117) (begins_hexadecimal 4 (a ++ c ∷ q)) small in
+          or_left (b == 117 && begins_hexadecimal 4 a) (b == 85 && begins_hexadecimal 8 a)
+          (and_from (b == 117) (begins_hexadecimal 4 a) parts.0 (hexadecimal-front 4 a c q rest parts.1))
+      | inr capital ↦
+          let parts = and_parts (b == 85) (begins_hexadecimal 8 (a ++ c ∷ q)) capital in
+          or_right (b == 117 && begins_hexadecimal 4 a) (b == 85 && begins_hexadecimal 8 a)
+          (and_from (b == 85) (begins_hexadecimal 8 a) parts.0 (hexadecimal-front 8 a c q rest parts.1))
+    ]
+
+name-front : (x : ℕ) (a : List ℕ) (c : ℕ) (q : List ℕ) → Stops (x ∷ a) c →
+    (not (x == backslash) || begins_universal_name (a ++ c ∷ q)) ≡ true → (not (x == backslash) || begins_universal_name a) ≡ true
+name-front x a c q stops h =
+    elim (or_cases (not (x == backslash)) (begins_universal_name (a ++ c ∷ q)) h) [
+      | inl other ↦ or_left (not (x == backslash)) (begins_universal_name a) other
+      | inr name ↦ elim (cases_Bool (x == backslash)) [
+        | inr other ↦ or_left (not (x == backslash)) (begins_universal_name a) (not_from_false (x == backslash) other)
+        | inl same ↦ or_right (not (x == backslash)) (begins_universal_name a)
+            (universal-front a c q (stops-rest x a c (or_right (is_word_byte x) (x == backslash) same) stops) name)
+      ]
+    ]
+
+names-front : (x : ℕ) (a : List ℕ) (c : ℕ) (q : List ℕ) → Stops (x ∷ a) c → has_universal_names (x ∷ a ++ c ∷ q) ≡ true →
+    has_universal_names (x ∷ a) ≡ true
+names-front x [] c q stops h =
+    let parts = and_parts (not (x == backslash) || begins_universal_name (c ∷ q)) (has_universal_names (c ∷ q)) h in
+    and_from (not (x == backslash) || begins_universal_name []) true (name-front x [] c q stops parts.0) refl
+names-front x (y ∷ a) c q stops h =
+    let parts = and_parts (not (x == backslash) || begins_universal_name (y ∷ a ++ c ∷ q)) (has_universal_names (y ∷ a ++ c ∷ q)) h in
+    and_from (not (x == backslash) || begins_universal_name (y ∷ a)) (has_universal_names (y ∷ a))
+    (name-front x (y ∷ a) c q stops parts.0) (names-front y a c q stops parts.1)
+
+signs-front : (a q : List ℕ) → signs_follow_exponents (a ++ q) ≡ true → signs_follow_exponents a ≡ true
+signs-front [] q h = refl
+signs-front (b ∷ []) q h = refl
+signs-front (b ∷ c ∷ a) q h =
+    let parts = and_parts (is_exponent b || not (is_sign c)) (signs_follow_exponents (c ∷ a ++ q)) h in
+    and_from (is_exponent b || not (is_sign c)) (signs_follow_exponents (c ∷ a)) parts.0 (signs-front (c ∷ a) q parts.1)
+
+begins-front : (x : ℕ) (a : List ℕ) (c : ℕ) (q : List ℕ) → is_at_operator (last_byte x a) c ≡ true →
+    begins_number (x ∷ a ++ c ∷ q) ≡ true → begins_number (x ∷ a) ≡ true
+begins-front x (y ∷ a) c q at h = h
+begins-front x [] c q at h =
+    elim (or_cases (is_digit x) (x == full_stop && is_digit c) h) [
+      | inl digit ↦ digit
+      | inr stop ↦
+          let same : x ≡ full_stop = eqb-true x full_stop (and_parts (x == full_stop) (is_digit c) stop).0 in
+          let none : is_at_operator full_stop c ≡ true = subst (λ k. is_at_operator k c ≡ true) same at in
+          absurd (false≢true none)
+    ]
+
+number-front : (x : ℕ) (a : List ℕ) (c : ℕ) (q : List ℕ) → is_at_operator (last_byte x a) c ≡ true →
+    is_number (x ∷ a ++ c ∷ q) ≡ true → is_number (x ∷ a) ≡ true
+number-front x a c q at h =
+    let all : List ℕ = x ∷ a ++ c ∷ q in
+    let outer = and_parts (begins_number all && list_all is_number_byte all && signs_follow_exponents all) (has_universal_names all) h in
+    let inner = and_parts (begins_number all && list_all is_number_byte all) (signs_follow_exponents all) outer.0 in
+    let first = and_parts (begins_number all) (list_all is_number_byte all) inner.0 in
+    let t : List ℕ = x ∷ a in
+    and_from (begins_number t && list_all is_number_byte t && signs_follow_exponents t) (has_universal_names t)
+    (and_from (begins_number t && list_all is_number_byte t) (signs_follow_exponents t)
+    (and_from (begins_number t) (list_all is_number_byte t) (begins-front x a c q at first.0)
+    (all-front is_number_byte t (c ∷ q) first.1)) (signs-front t (c ∷ q) inner.1))
+    (names-front x a c q (operator-fails is_identifier_byte refl (last_byte x a) c at) outer.1)
+
+-- punctuators
+
+abbrev has_no_later_slash : List ℕ → Bool
+has_no_later_slash [] = true
+has_no_later_slash (b ∷ bs) = list_all (λ d. not (d == slash)) bs
+
+abbrev is_in_punctuator : ℕ → Bool
+is_in_punctuator b = not (is_white b || is_separator b)
+
+abbrev is_short_or_has_no_gap : List ℕ → Bool
+is_short_or_has_no_gap [] = true
+is_short_or_has_no_gap (b ∷ []) = true
+is_short_or_has_no_gap (b ∷ c ∷ bs) = list_all is_in_punctuator (b ∷ c ∷ bs)
+
+punctuator-inside : (x : ℕ) (a : List ℕ) (c : ℕ) (q : List ℕ) → is_punctuator (x ∷ a ++ c ∷ q) ≡ true →
+    list_all is_in_punctuator (x ∷ a ++ c ∷ q) ≡ true
+punctuator-inside x [] c q h = punctuator-is is_short_or_has_no_gap refl (x ∷ c ∷ q) h
+punctuator-inside x (y ∷ a) c q h = punctuator-is is_short_or_has_no_gap refl (x ∷ y ∷ a ++ c ∷ q) h
+
+punctuator-border : (x : ℕ) (a : List ℕ) (c : ℕ) (q : List ℕ) → is_punctuator (x ∷ a ++ c ∷ q) ≡ true →
+    (are_never_in_one (last_byte x a) c || is_at_operator (last_byte x a) c) ≡ true → ⊥
+punctuator-border x a c q h border =
+    let d : ℕ = last_byte x a in
+    let none = punctuator-bytes (x ∷ a ++ c ∷ q) h in
+    elim (or_cases (are_never_in_one d c) (is_at_operator d c) border) [
+      | inl never ↦ elim (or_cases (is_white d || is_white c || is_separator d || is_separator c) (c == slash && not (d == slash)) never) [
+        | inl gap ↦ none-fails is_in_punctuator x a c q (punctuator-inside x a c q h) (gap-fails is_in_punctuator refl refl d c gap)
+        | inr slashes ↦ both_ways (not (c == slash))
+            (ap (λ k. not (k == slash)) (eqb-true c slash (and_parts (c == slash) (not (d == slash)) slashes).0))
+            (all-last (λ d. not (d == slash)) a c q (punctuator-is has_no_later_slash refl (x ∷ a ++ c ∷ q) h))
+      ]
+      | inr at ↦ elim (or_cases (is_operator d && is_plain_byte c) (is_plain_byte d && is_operator c) at) [
+        | inl first ↦ both_ways (is_plain_byte c) (not-true (is_plain_byte c) (all-last (λ b. not (is_plain_byte b)) (x ∷ a) c q none))
+            (and_parts (is_operator d) (is_plain_byte c) first).1
+        | inr second ↦ both_ways (is_plain_byte d)
+            (not-true (is_plain_byte d)
+            (all-last-byte (λ b. not (is_plain_byte b)) x a (all-front (λ b. not (is_plain_byte b)) (x ∷ a) (c ∷ q) none)))
+            (and_parts (is_plain_byte d) (is_operator c) second).0
+      ]
+    ]
+
+-- quoted texts
+
+-- a prefix, a quote, and the bytes after it, which may go on up to a closing quote
+record IsOpened (a : List ℕ) (c : ℕ) (q : List ℕ) : Type 0 where
+  prefix : List ℕ
+  quote : ℕ
+  rest : List ℕ
+  word : list_all is_word_byte prefix ≡ true
+  begins : begins_prefix prefix ≡ true
+  quotes : is_quote quote ≡ true
+  same : a ≡ prefix ++ quote ∷ rest
+  ends : ends_quoted quote (rest ++ c ∷ q) ≡ true
+
+-- the second text begins within the prefix of a literal, or at its quote
+abbrev IsInPrefix : List ℕ → ℕ → Type 0
+IsInPrefix a c = (list_all is_word_byte a ≡ true) × (is_plain_byte c ≡ true)
+
+literal-parts : (a : List ℕ) (c : ℕ) (q : List ℕ) → IsLiteral (a ++ c ∷ q) → IsOpened a c q ⊎ IsInPrefix a c
+literal-parts a c q l =
+    elim (go l.prefix a l.word l.has) [
+      | inr inside ↦ inr inside
+      | inl opened ↦ inl (record {
+        prefix = l.prefix;
+        quote = l.quote;
+        rest = opened.0;
+        word = l.word;
+        begins = l.begins;
+        quotes = l.quotes;
+        same = opened.1;
+        ends = opened.2;
+      })
+    ]
+  where
+    go : (prefix a : List ℕ) → list_all is_word_byte prefix ≡ true → has_prefix prefix (is_quoted l.quote) (a ++ c ∷ q) ≡ true →
+        ((rest : List ℕ) × (a ≡ prefix ++ l.quote ∷ rest) × (ends_quoted l.quote (rest ++ c ∷ q) ≡ true)) ⊎ IsInPrefix a c
+    go [] [] word has =
+        let same : c ≡ l.quote = eqb-true c l.quote (and_parts (c == l.quote) (ends_quoted l.quote q) has).0 in
+        inr (refl, or_right (is_word_byte c) (is_quote c) (ap is_quote same ∙ l.quotes))
+    go [] (x ∷ a) word has =
+        let parts = and_parts (x == l.quote) (ends_quoted l.quote (a ++ c ∷ q)) has in
+        inl (a, ap (λ k. k ∷ a) (eqb-true x l.quote parts.0), parts.1)
+    go (p ∷ ps) [] word has =
+        let same : c ≡ p = eqb-true c p (and_parts (c == p) (has_prefix ps (is_quoted l.quote) q) has).0 in
+        inr (refl, or_left (is_word_byte c) (is_quote c) (ap is_word_byte same ∙ (and_parts (is_word_byte p) (list_all is_word_byte ps) word).0))
+    go (p ∷ ps) (x ∷ a) word has =
+        let parts = and_parts (x == p) (has_prefix ps (is_quoted l.quote) (a ++ c ∷ q)) has in
+        let words = and_parts (is_word_byte p) (list_all is_word_byte ps) word in
+        let same : x ≡ p = eqb-true x p parts.0 in
+        elim (go ps a words.1 parts.1) [
+          | inl opened ↦ inl (opened.0, ap (λ k. k ∷ a) same ∙ ap (λ t. p ∷ t) opened.1, opened.2)
+          | inr inside ↦ inr (and_from (is_word_byte x) (list_all is_word_byte a) (ap is_word_byte same ∙ words.0) inside.0, inside.1)
+        ]
+
+quote-byte : (Q : ℕ) → is_quote Q ≡ true → is_word_byte Q ≡ false
+quote-byte Q h = quote-not is_word_byte refl refl Q h
+
+opened-first : (prefix : List ℕ) (Q : ℕ) (z : List ℕ) → list_all is_word_byte prefix ≡ true → is_quote Q ≡ true →
+    is_comment (prefix ++ Q ∷ z) ≡ true → ⊥
+opened-first [] Q z word quote comment =
+    both_ways (Q == slash) (quote-not (λ b. b == slash) refl refl Q quote) (comment-first Q z comment)
+opened-first (p ∷ ps) Q z word quote comment =
+    both_ways (is_word_byte p) (ap is_word_byte (eqb-true p slash (comment-first p (ps ++ Q ∷ z) comment)))
+    (and_parts (is_word_byte p) (list_all is_word_byte ps) word).0
+
+-- a prefix, a quote and bytes that do not end with the closing quote
+opened-longer : (prefix : List ℕ) (Q : ℕ) (z : List ℕ) → list_all is_word_byte prefix ≡ true → is_quote Q ≡ true →
+    ends_quoted Q z ≡ false → is_white_character (prefix ++ Q ∷ z) ≡ false → is_other_character (prefix ++ Q ∷ z) ≡ false →
+    is_element (prefix ++ Q ∷ z) ≡ false
+opened-longer prefix Q z word quote ends white other =
+    false_from_ne_true (is_element (prefix ++ Q ∷ z)) λ is. element-cases (prefix ++ Q ∷ z) white other is
+    (opened-first prefix Q z word quote)
+    (λ identifier. both_ways (is_identifier_byte Q) (quote-not is_identifier_byte refl refl Q quote)
+    (all-last is_identifier_byte prefix Q z (identifier-bytes (prefix ++ Q ∷ z) identifier)))
+    (λ number. both_ways (is_number_byte Q) (quote-not is_number_byte refl refl Q quote)
+    (all-last is_number_byte prefix Q z (number-bytes (prefix ++ Q ∷ z) number)))
+    (λ literal. both_ways (ends_quoted Q z) ends (literal-word prefix Q z word (quote-byte Q quote) literal).1)
+    (λ punctuator. both_ways (is_plain_byte Q)
+    (not-true (is_plain_byte Q) (all-last (λ b. not (is_plain_byte b)) prefix Q z (punctuator-bytes (prefix ++ Q ∷ z) punctuator)))
+    (or_right (is_word_byte Q) (is_quote Q) quote))
+
+-- no front of the bytes after the quote ends with the closing one
+unended : (Q : ℕ) (rest : List ℕ) (c : ℕ) (q : List ℕ) → is_quote Q ≡ true → ends_quoted Q (rest ++ c ∷ q) ≡ true →
+    (z w : List ℕ) → rest ≡ z ++ w → ends_quoted Q z ≡ false
+unended Q rest c q quote ends z w same = false_from_ne_true (ends_quoted Q z) λ ended.
+    both_ways (ends_quoted Q (rest ++ c ∷ q))
+    (ap (λ t. ends_quoted Q (t ++ c ∷ q)) same ∙ ap (ends_quoted Q) (append_assoc z w (c ∷ q)) ∙ go w ended) ends
+  where
+    go : (w : List ℕ) → ends_quoted Q z ≡ true → ends_quoted Q (z ++ (w ++ c ∷ q)) ≡ false
+    go [] ended = ends-once Q z c q (quote-not (λ b. b == backslash) refl refl Q quote) ended
+    go (d ∷ w) ended = ends-once Q z d (w ++ c ∷ q) (quote-not (λ b. b == backslash) refl refl Q quote) ended
+
+prefix-digit : (b : ℕ) → is_prefix_byte b ≡ true → is_digit b ≡ false
+prefix-digit b h =
+    elim (or_cases (b == 76 || b == 85) (b == 117) h) [
+      | inr same ↦ ap is_digit (eqb-true b 117 same)
+      | inl two ↦ elim (or_cases (b == 76) (b == 85) two) [
+        | inl same ↦ ap is_digit (eqb-true b 76 same)
+        | inr same ↦ ap is_digit (eqb-true b 85 same)
+      ]
+    ]
+
+quote-unfinished : (Q : ℕ) (rest : List ℕ) (c : ℕ) (q : List ℕ) → is_quote Q ≡ true → ends_quoted Q (rest ++ c ∷ q) ≡ true →
+    list_any is_unfinished (elements_from 0 (Q ∷ rest)) ≡ true
+quote-unfinished Q rest c q quote ends =
+    ap (list_any is_unfinished) (elements-front Q [] rest (single-element Q)
+    (λ e z w same. opened-longer [] Q (e ∷ z) refl quote (unended Q rest c q quote ends (e ∷ z) w same) refl refl))
+    ∙ or_left (is_unfinished (Q ∷ [])) (list_any is_unfinished (elements_from 0 rest))
+    (or_right (is_comment (Q ∷ space ∷ [])) (is_quote Q) quote)
+
+opened-unfinished : (prefix : List ℕ) (Q : ℕ) (rest : List ℕ) (c : ℕ) (q : List ℕ) → list_all is_word_byte prefix ≡ true →
+    begins_prefix prefix ≡ true → is_quote Q ≡ true → ends_quoted Q (rest ++ c ∷ q) ≡ true →
+    list_any is_unfinished (elements_from 0 (prefix ++ Q ∷ rest)) ≡ true
+opened-unfinished [] Q rest c q word begins quote ends = quote-unfinished Q rest c q quote ends
+opened-unfinished (p ∷ ps) Q rest c q word begins quote ends =
+    let plain : is_plain (p ∷ ps) ≡ true =
+    or_left (is_plain_word (p ∷ ps) || is_character (p ∷ ps)) (is_string (p ∷ ps))
+    (or_left (is_plain_word (p ∷ ps)) (is_character (p ∷ ps))
+    (and_from (not (is_digit p)) (list_all is_word_byte (p ∷ ps)) (not_from_false (is_digit p) (prefix-digit p begins)) word)) in
+    ap (list_any is_unfinished) (elements-front p ps (Q ∷ rest) (plain-element (p ∷ ps) plain) none)
+    ∙ or_right (is_unfinished (p ∷ ps)) (list_any is_unfinished (elements_from 0 (Q ∷ rest))) (quote-unfinished Q rest c q quote ends)
+  where
+    none : NoLonger is_element (p ∷ ps) (Q ∷ rest)
+    none e z w same = subst (λ k. is_element (p ∷ ps ++ k ∷ z) ≡ false) (ap (λ l. get_or l 0 0) same)
+        (opened-longer (p ∷ ps) Q z word quote (unended Q rest c q quote ends z w (ap (drop 1) same))
+        (two-white p ps Q z) (two-other p ps Q z))
+
+-- no element goes on over a border
+
+number-token : (t : List ℕ) → is_number t ≡ true → is_token t ≡ true
+unfolding is_token
+number-token t h =
+    or_left _ (is_other_character t) (or_left _ (is_punctuator t) (or_left _ (is_string_literal t)
+    (or_left _ (is_character_constant t) (or_right (is_identifier t) (is_number t) h))))
+
+-- the bytes at a border or at an operator are not both of words and quotes
+both-plain : (d c : ℕ) → is_word_byte d ≡ true → is_plain_byte c ≡ true →
+    (are_never_in_one d c || is_at_operator d c) ≡ true → ⊥
+both-plain d c word plain met =
+    elim (or_cases (are_never_in_one d c) (is_at_operator d c) met) [
+      | inl never ↦ plain-fails (never-fails is_plain_byte (record { white = refl; separators = refl; slash = refl }) d c never)
+      | inr at ↦ plain-fails (operator-fails is_plain_byte refl d c at)
+    ]
+  where
+    plain-fails : OneFails is_plain_byte d c → ⊥
+    plain-fails fails =
+        elim fails [
+          | inl last ↦ both_ways (is_plain_byte d) last (or_left (is_word_byte d) (is_quote d) word)
+          | inr next ↦ both_ways (is_plain_byte c) next plain
+        ]
+
+identifier-fails : (d c : ℕ) → (are_never_in_one d c || is_at_operator d c) ≡ true → OneFails is_identifier_byte d c
+identifier-fails d c met =
+    elim (or_cases (are_never_in_one d c) (is_at_operator d c) met) [
+      | inl never ↦ never-fails is_identifier_byte (record { white = refl; separators = refl; slash = refl }) d c never
+      | inr at ↦ operator-fails is_identifier_byte refl d c at
+    ]
+
+border-met : (after_number : Bool) (d c : ℕ) → is_border_of_bytes after_number d c ≡ true → (are_never_in_one d c || is_at_operator d c) ≡ true
+border-met after_number d c h =
+    elim (or_cases (are_never_in_one d c) (not after_number && is_at_operator d c) h) [
+      | inl never ↦ or_left (are_never_in_one d c) (is_at_operator d c) never
+      | inr at ↦ or_right (are_never_in_one d c) (is_at_operator d c) (and_parts (not after_number) (is_at_operator d c) at).1
+    ]
+
+-- no comment goes on after a whole text of two bytes or more
+comment-ended : (x y : ℕ) (a : List ℕ) (c : ℕ) (q : List ℕ) → list_any is_unfinished (elements_from 0 (x ∷ y ∷ a)) ≡ false →
+    is_comment (x ∷ y ∷ a ++ c ∷ q) ≡ true → ⊥
+comment-ended x y a c q whole comment =
+    let goes_on = comment-open x y a c q comment in
+    both_ways (list_any is_unfinished (elements_from 0 (x ∷ y ∷ a))) whole
+    (ap (list_any is_unfinished) (one-element x (y ∷ a) (comment-element (x ∷ y ∷ a) goes_on.0))
+    ∙ or_left (is_unfinished (x ∷ y ∷ a)) false (or_left (is_comment (x ∷ y ∷ a ++ space ∷ [])) (is_one is_quote (x ∷ y ∷ a)) goes_on.1))
+
+comment-border : (x : ℕ) (a : List ℕ) (c : ℕ) (q : List ℕ) → list_any is_unfinished (elements_from 0 (x ∷ a)) ≡ false →
+    (are_never_in_one (last_byte x a) c || is_at_operator (last_byte x a) c) ≡ true → is_comment (x ∷ a ++ c ∷ q) ≡ true → ⊥
+comment-border x [] c q whole border comment =
+    elim (or_cases (c == asterisk) (c == slash) (comment-second x c q comment)) [
+      | inl star ↦ none asterisk (eqb-true c asterisk star) (λ h. h)
+      | inr line ↦ none slash (eqb-true c slash line) (λ h. h)
+    ]
+  where
+    none : (k : ℕ) → c ≡ k → ((are_never_in_one slash k || is_at_operator slash k) ≡ true → false ≡ true) → ⊥
+    none k same computed =
+        false≢true (computed (subst (λ d. (are_never_in_one d k || is_at_operator d k) ≡ true) (eqb-true x slash (comment-first x (c ∷ q) comment))
+        (subst (λ e. (are_never_in_one x e || is_at_operator x e) ≡ true) same border)))
+comment-border x (y ∷ a) c q whole border comment = comment-ended x y a c q whole comment
+
+-- a quoted text goes on after a whole text only within its prefix
+literal-border : (x : ℕ) (a : List ℕ) (c : ℕ) (q : List ℕ) → list_any is_unfinished (elements_from 0 (x ∷ a)) ≡ false →
+    (is_word_byte (last_byte x a) ≡ true → is_plain_byte c ≡ true → ⊥) → IsLiteral (x ∷ a ++ c ∷ q) → ⊥
+literal-border x a c q whole apart literal =
+    elim (literal-parts (x ∷ a) c q literal) [
+      | inl o ↦ both_ways (list_any is_unfinished (elements_from 0 (x ∷ a))) whole
+          (ap (λ t. list_any is_unfinished (elements_from 0 t)) o.same
+          ∙ opened-unfinished o.prefix o.quote o.rest c q o.word o.begins o.quotes o.ends)
+      | inr inside ↦ apart (all-last-byte is_word_byte x a inside.0) inside.1
+    ]
+
+number-border : (before : List ℕ) (x : ℕ) (a : List ℕ) (c : ℕ) (q : List ℕ) →
+    is_border_of_bytes (is_number (last_element before (elements_from 0 (x ∷ a)))) (last_byte x a) c ≡ true →
+    is_number (x ∷ a ++ c ∷ q) ≡ true → ⊥
+number-border before x a c q border number =
+    let element : List ℕ = last_element before (elements_from 0 (x ∷ a)) in
+    elim (or_cases (are_never_in_one (last_byte x a) c) (not (is_number element) && is_at_operator (last_byte x a) c) border) [
+      | inl never ↦ none-fails is_number_byte x a c q (number-bytes (x ∷ a ++ c ∷ q) number)
+          (never-fails is_number_byte (record { white = refl; separators = refl; slash = refl }) (last_byte x a) c never)
+      | inr at ↦
+          let parts = and_parts (not (is_number element)) (is_at_operator (last_byte x a) c) at in
+          let front : is_number (x ∷ a) ≡ true = number-front x a c q parts.1 number in
+          both_ways (is_number element) (not-true (is_number element) parts.0)
+          (ap (λ es. is_number (last_element before es)) (one-element x a (token-element (x ∷ a) (number-token (x ∷ a) front))) ∙ front)
+    ]
+
+bytes-longer : (before : List ℕ) (x : ℕ) (a : List ℕ) (c : ℕ) (q : List ℕ) →
+    list_any is_unfinished (elements_from 0 (x ∷ a)) ≡ false →
+    is_border_of_bytes (is_number (last_element before (elements_from 0 (x ∷ a)))) (last_byte x a) c ≡ true →
+    is_element (x ∷ a ++ c ∷ q) ≡ false
+bytes-longer before x a c q whole border =
+    let met = border-met (is_number (last_element before (elements_from 0 (x ∷ a)))) (last_byte x a) c border in
+    false_from_ne_true (is_element (x ∷ a ++ c ∷ q)) λ is.
+    element-cases (x ∷ a ++ c ∷ q) (two-white x a c q) (two-other x a c q) is
+    (comment-border x a c q whole met)
+    (λ identifier. none-fails is_identifier_byte x a c q (identifier-bytes (x ∷ a ++ c ∷ q) identifier) (identifier-fails (last_byte x a) c met))
+    (number-border before x a c q border)
+    (literal-border x a c q whole (λ word plain. both-plain (last_byte x a) c word plain met))
+    (λ punctuator. punctuator-border x a c q punctuator met)
+
+-- after a comment
+
+slash-alone : (before : List ℕ) (x : ℕ) → is_comment (last_element before (elements_from 0 (x ∷ []))) ≡ true → ⊥
+slash-alone before x comment =
+    false≢true (ap (λ es. is_comment (last_element before es)) (sym (one-element x [] (single-element x))) ∙ comment)
+
+comment-longer : (before : List ℕ) (x : ℕ) (a : List ℕ) (c : ℕ) (q : List ℕ) →
+    list_any is_unfinished (elements_from 0 (x ∷ a)) ≡ false →
+    is_comment (last_element before (elements_from 0 (x ∷ a))) ≡ true → (last_byte x a == slash) ≡ true →
+    is_element (x ∷ a ++ c ∷ q) ≡ false
+comment-longer before x [] c q whole comment last = absurd (slash-alone before x comment)
+comment-longer before x (y ∷ a) c q whole comment last =
+    let same : last_byte y a ≡ slash = eqb-true (last_byte y a) slash last in
+    let t : List ℕ = x ∷ y ∷ a ++ c ∷ q in
+    false_from_ne_true (is_element t) λ is.
+    element-cases t (two-white x (y ∷ a) c q) (two-other x (y ∷ a) c q) is
+    (comment-ended x y a c q whole)
+    (λ identifier. none-fails is_identifier_byte x (y ∷ a) c q (identifier-bytes t identifier) (inl (ap is_identifier_byte same)))
+    (λ number. none-fails is_number_byte x (y ∷ a) c q (number-bytes t number) (inl (ap is_number_byte same)))
+    (literal-border x (y ∷ a) c q whole (λ word plain. both_ways (is_word_byte (last_byte y a)) (ap is_word_byte same) word))
+    (λ punctuator. none-fails (λ d. not (d == slash)) y a c q (punctuator-is has_no_later_slash refl t punctuator)
+    (inl (ap (λ d. not (d == slash)) same)))
+
+border-longer : (before : List ℕ) (x : ℕ) (a : List ℕ) (c : ℕ) (q : List ℕ) →
+    list_any is_unfinished (elements_from 0 (x ∷ a)) ≡ false →
+    is_border (last_element before (elements_from 0 (x ∷ a))) (last_byte x a) c ≡ true → is_element (x ∷ a ++ c ∷ q) ≡ false
+border-longer before x a c q whole border =
+    let element : List ℕ = last_element before (elements_from 0 (x ∷ a)) in
+    elim (or_cases (is_border_of_bytes (is_number element) (last_byte x a) c) (is_comment element && last_byte x a == slash) border) [
+      | inl bytes ↦ bytes-longer before x a c q whole bytes
+      | inr comment ↦
+          let parts = and_parts (is_comment element) (last_byte x a == slash) comment in
+          comment-longer before x a c q whole parts.0 parts.1
+    ]
+
+-- The elements of both texts. `Borders n a`: no element is unfinished, and a border is at the end.
+
+abbrev IsAtBorder : ℕ → List ℕ → ℕ → List ℕ → Type 0
+IsAtBorder c before n [] = Unit {0}
+IsAtBorder c before n (x ∷ a) = is_border (last_element before (elements_from n (x ∷ a))) (last_byte x a) c ≡ true
+
+record Borders (c n : ℕ) (a : List ℕ) : Type 0 where
+  before : List ℕ
+  whole : list_any is_unfinished (elements_from n a) ≡ false
+  border : IsAtBorder c before n a
+
+border-passed : (c n x : ℕ) (a : List ℕ) → Borders c (suc n) (x ∷ a) → Borders c n a
+border-passed c n x [] b = record { before = b.before; whole = b.whole; border = tt }
+border-passed c n x (y ∷ a) b = record { before = b.before; whole = b.whole; border = b.border }
+
+border-next : (c x : ℕ) (a : List ℕ) → Borders c 0 (x ∷ a) → Borders c (longest is_element (x ∷ a) - 1) a
+border-next c x a b = record {
+  before = take (longest is_element (x ∷ a)) (x ∷ a);
+  whole = (or_parts (is_unfinished (take (longest is_element (x ∷ a)) (x ∷ a)))
+      (list_any is_unfinished (elements_from (longest is_element (x ∷ a) - 1) a)) b.whole).1;
+  border = go a b.border;
+}
+  where
+    go : (a : List ℕ) → IsAtBorder c b.before 0 (x ∷ a) →
+        IsAtBorder c (take (longest is_element (x ∷ a)) (x ∷ a)) (longest is_element (x ∷ a) - 1) a
+    go [] border = tt
+    go (y ∷ a) border = border
+
+border-elements : (a b : List ℕ) → list_any is_unfinished (elements_from 0 a) ≡ false → have_border a b ≡ true →
+    elements_from 0 (a ++ b) ≡ elements_from 0 a ++ elements_from 0 b
+border-elements [] b whole border = refl
+border-elements (x ∷ a) [] whole border =
+    ap (elements_from 0) (append-nil (x ∷ a)) ∙ sym (append-nil (elements_from 0 (x ∷ a)))
+border-elements (x ∷ a) (c ∷ r) whole border =
+    elements-append c r (Borders c) (border-passed c) (border-next c)
+    (λ x a b q rest same. border-longer b.before x a c q b.whole b.border)
+    0 (x ∷ a) (omega arith) (record { before = []; whole = whole; border = border })
+
+pub apart-tokens : (a b : List ℕ) → are_apart a b ≡ true → tokens (a ++ b) ≡ tokens a ++ tokens b
+apart-tokens a b apart =
+    let outer = and_parts (is_whole a && keep_lines a b) (have_border (spliced a) (spliced b)) apart in
+    let inner = and_parts (is_whole a) (keep_lines a b) outer.0 in
+    ap (λ t. filter is_token (elements_from 0 t)) (spliced-both a b inner.1)
+    ∙ ap (filter is_token) (border-elements (spliced a) (spliced b) (not-true (list_any is_unfinished (elements a)) inner.0) outer.1)
+    ∙ filter-append is_token (elements a) (elements b)
+
+-- texts in a row
+
+-- what is written after a text with bytes changes nothing before that text
+
+keep_lines-more : (a b more : List ℕ) → has_bytes (spliced b) ≡ true → keep_lines a b ≡ true → keep_lines a (b ++ more) ≡ true
+keep_lines-more a [] more some kept = absurd (false≢true some)
+keep_lines-more [] (c ∷ b) more some kept = kept
+keep_lines-more (x ∷ a) (c ∷ b) more some kept = kept
+
+have_border-more : (a b more : List ℕ) → has_bytes b ≡ true → have_border a b ≡ true → have_border a (b ++ more) ≡ true
+have_border-more a [] more some border = absurd (false≢true some)
+have_border-more [] (c ∷ b) more some border = border
+have_border-more (x ∷ a) (c ∷ b) more some border = border
+
+pub row-tokens : (a : List ℕ) (rest : List (List ℕ)) → are_all_apart (a ∷ rest) ≡ true →
+    (spliced (a ++ concat rest) ≡ spliced a ++ spliced (concat rest))
+    × (tokens (a ++ concat rest) ≡ tokens a ++ flat_map tokens rest)
+row-tokens a [] apart =
+    (ap spliced (append-nil a) ∙ sym (append-nil (spliced a)), ap tokens (append-nil a) ∙ sym (append-nil (tokens a)))
+row-tokens a (b ∷ rest) apart =
+    let parts = and_parts (are_apart a b && has_bytes (spliced b)) (are_all_apart (b ∷ rest)) apart in
+    let first = and_parts (are_apart a b) (has_bytes (spliced b)) parts.0 in
+    let outer = and_parts (is_whole a && keep_lines a b) (have_border (spliced a) (spliced b)) first.0 in
+    let inner = and_parts (is_whole a) (keep_lines a b) outer.0 in
+    let later = row-tokens b rest parts.1 in
+    let kept : keep_lines a (b ++ concat rest) ≡ true = keep_lines-more a b (concat rest) first.1 inner.1 in
+    let border : have_border (spliced a) (spliced (b ++ concat rest)) ≡ true =
+    ap (have_border (spliced a)) later.0 ∙ have_border-more (spliced a) (spliced b) (spliced (concat rest)) first.1 outer.1 in (
+      spliced-both a (b ++ concat rest) kept,
+      apart-tokens a (b ++ concat rest)
+          (and_from (is_whole a && keep_lines a (b ++ concat rest)) (have_border (spliced a) (spliced (b ++ concat rest)))
+          (and_from (is_whole a) (keep_lines a (b ++ concat rest)) inner.0 kept) border)
+          ∙ ap (λ ts. tokens a ++ ts) later.1,
+    )
+
+pub all-tokens : (texts : List (List ℕ)) → are_all_apart texts ≡ true → tokens (concat texts) ≡ flat_map tokens texts
+all-tokens [] apart = refl
+all-tokens (a ∷ rest) apart = (row-tokens a rest apart).1

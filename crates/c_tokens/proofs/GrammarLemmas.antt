@@ -1,0 +1,216 @@
+-- What the bytes of a token are, by its kind.
+use Rattle.std.proofs.Common.{◌≡◌, ℕ, Bool, true, false, List, [], ◌∷◌, ◌++◌, codes}
+use Rattle.std.proofs.Common.{inl, inr, refl, ap, ◌∙◌}
+use Rattle.std.specs.Prelude.{◌&&◌, ◌||◌, not, ◌==◌, if◌then◌else◌}
+use Rattle.std.specs.List.{list_any, list_all}
+use Rattle.std.specs.Str.{bytes_eq}
+use Rattle.std.proofs.lemmas.Bool.{and_parts, and_from, or_cases, or_left, or_right, and_right, both_ways, false≢true}
+use Rattle.std.proofs.lemmas.Bool.{eqb-true}
+use Rattle.std.proofs.lemmas.Slice.Eq.{bytes_eq-Decides}
+use Rattle.c_tokens.specs.Bytes.{line_feed, backslash, full_stop, double_quote, apostrophe, is_digit, is_word_byte, is_quote}
+use Rattle.c_tokens.specs.Grammar.{is_identifier_byte, is_identifier, begins_number, is_number_byte, is_number}
+use Rattle.c_tokens.specs.Grammar.{signs_follow_exponents, has_universal_names, ends_quoted, is_quoted, is_character}
+use Rattle.c_tokens.specs.Grammar.{is_string, has_prefix, is_character_constant, is_string_literal, punctuators}
+use Rattle.c_tokens.specs.Grammar.{is_punctuator}
+
+second : (x y z : Bool) → (x && y && z) ≡ true → y ≡ true
+second x y z h = (and_parts x y (and_parts (x && y) z h).0).1
+
+-- what a test says of each byte of a list, it says of a byte in it
+pub listed : (test : ℕ → Bool) (bs : List ℕ) → list_all test bs ≡ true → (b : ℕ) → list_any (λ c. b == c) bs ≡ true →
+    test b ≡ true
+listed test [] all b any = absurd (false≢true any)
+listed test (c ∷ bs) all b any =
+    elim (or_cases (b == c) (list_any (λ c. b == c) bs) any) [
+      | inl same ↦ ap test (eqb-true b c same) ∙ (and_parts (test c) (list_all test bs) all).0
+      | inr later ↦ listed test bs (and_parts (test c) (list_all test bs) all).1 b later
+    ]
+
+-- identifiers and numbers
+
+pub identifier-bytes : (t : List ℕ) → is_identifier t ≡ true → list_all is_identifier_byte t ≡ true
+identifier-bytes [] h = refl
+identifier-bytes (b ∷ bs) h =
+    second (not (is_digit b)) (list_all is_identifier_byte (b ∷ bs)) (has_universal_names (b ∷ bs)) h
+
+pub number-start : (t : List ℕ) → is_number t ≡ true → (begins_number t && list_all is_number_byte t) ≡ true
+number-start t h =
+    (and_parts (begins_number t && list_all is_number_byte t) (signs_follow_exponents t)
+    (and_parts (begins_number t && list_all is_number_byte t && signs_follow_exponents t) (has_universal_names t) h).0).0
+
+pub number-bytes : (t : List ℕ) → is_number t ≡ true → list_all is_number_byte t ≡ true
+number-bytes t h = (and_parts (begins_number t) (list_all is_number_byte t) (number-start t h)).1
+
+begins-first : (b : ℕ) (bs : List ℕ) → begins_number (b ∷ bs) ≡ true → (is_digit b || b == full_stop) ≡ true
+begins-first b [] h = or_left (is_digit b) (b == full_stop) h
+begins-first b (c ∷ bs) h =
+    elim (or_cases (is_digit b) (b == full_stop && is_digit c) h) [
+      | inl digit ↦ or_left (is_digit b) (b == full_stop) digit
+      | inr stop ↦ or_right (is_digit b) (b == full_stop) (and_parts (b == full_stop) (is_digit c) stop).0
+    ]
+
+pub number-first : (b : ℕ) (bs : List ℕ) → is_number (b ∷ bs) ≡ true → (is_digit b || b == full_stop) ≡ true
+number-first b bs h = begins-first b bs
+    (and_parts (begins_number (b ∷ bs)) (list_all is_number_byte (b ∷ bs)) (number-start (b ∷ bs) h)).0
+
+-- punctuators
+
+one-of : (test : List ℕ → Bool) (t : List ℕ) (ps : List (List ℕ)) → list_all test ps ≡ true →
+    list_any (bytes_eq t) ps ≡ true → test t ≡ true
+one-of test t [] all any = absurd (false≢true any)
+one-of test t (p ∷ ps) all any =
+    elim (or_cases (bytes_eq t p) (list_any (bytes_eq t) ps) any) [
+      | inl same ↦ ap test ((bytes_eq-Decides t p).0 same) ∙ (and_parts (test p) (list_all test ps) all).0
+      | inr later ↦ one-of test t ps (and_parts (test p) (list_all test ps) all).1 later
+    ]
+
+pub punctuator-is : (test : List ℕ → Bool) → list_all test punctuators ≡ true → (t : List ℕ) → is_punctuator t ≡ true →
+    test t ≡ true
+unfolding is_punctuator
+punctuator-is test all t h = one-of test t punctuators all h
+
+-- character constants and string literals
+
+-- the first bytes of the prefixes
+abbrev pub is_prefix_byte : ℕ → Bool
+is_prefix_byte b = b == 76 || b == 85 || b == 117
+
+abbrev pub begins_prefix : List ℕ → Bool
+begins_prefix [] = true
+begins_prefix (b ∷ bs) = is_prefix_byte b
+
+-- a prefix, or none, and then a quoted text
+pub record IsLiteral (t : List ℕ) : Type 0 where
+  pub prefix : List ℕ
+  pub quote : ℕ
+  pub word : list_all is_word_byte prefix ≡ true
+  pub begins : begins_prefix prefix ≡ true
+  pub quotes : is_quote quote ≡ true
+  pub has : has_prefix prefix (is_quoted quote) t ≡ true
+
+has_prefix-weaker : (f g : List ℕ → Bool) → ((t : List ℕ) → f t ≡ true → g t ≡ true) → (prefix t : List ℕ) →
+    has_prefix prefix f t ≡ true → has_prefix prefix g t ≡ true
+has_prefix-weaker f g weaker [] t h = weaker t h
+has_prefix-weaker f g weaker (p ∷ ps) [] h = h
+has_prefix-weaker f g weaker (p ∷ ps) (b ∷ bs) h =
+    and_from (b == p) (has_prefix ps g bs) (and_parts (b == p) (has_prefix ps f bs) h).0
+    (has_prefix-weaker f g weaker ps bs (and_parts (b == p) (has_prefix ps f bs) h).1)
+
+character-quoted : (t : List ℕ) → is_character t ≡ true → is_quoted apostrophe t ≡ true
+character-quoted t h = (and_parts (is_quoted apostrophe t) (not (bytes_eq t (codes "''"))) h).0
+
+literal : (quote : ℕ) (test : List ℕ → Bool) → is_quote quote ≡ true →
+    ((t : List ℕ) → test t ≡ true → is_quoted quote t ≡ true) →
+    (prefixes : List (List ℕ)) → list_all (λ p. list_all is_word_byte p && begins_prefix p) prefixes ≡ true → (t : List ℕ) →
+    list_any (λ p. has_prefix p test t) prefixes ≡ true → IsLiteral t
+literal quote test is quoted [] all t any = absurd (false≢true any)
+literal quote test is quoted (p ∷ ps) all t any =
+    let parts = and_parts (list_all is_word_byte p && begins_prefix p) (list_all (λ p. list_all is_word_byte p && begins_prefix p) ps) all in
+    let of_p = and_parts (list_all is_word_byte p) (begins_prefix p) parts.0 in
+    elim (or_cases (has_prefix p test t) (list_any (λ p. has_prefix p test t) ps) any) [
+      | inl here ↦ record {
+        prefix = p;
+        quote = quote;
+        word = of_p.0;
+        begins = of_p.1;
+        quotes = is;
+        has = has_prefix-weaker test (is_quoted quote) quoted p t here;
+      }
+      | inr later ↦ literal quote test is quoted ps parts.1 t later
+    ]
+
+pub literal-from_character : (t : List ℕ) → is_character_constant t ≡ true → IsLiteral t
+literal-from_character t h =
+    literal apostrophe is_character refl character-quoted ([] ∷ codes "L" ∷ codes "u" ∷ codes "U" ∷ []) refl t h
+
+pub literal-from_string : (t : List ℕ) → is_string_literal t ≡ true → IsLiteral t
+literal-from_string t h =
+    literal double_quote is_string refl (λ t h. h) ([] ∷ codes "u8" ∷ codes "u" ∷ codes "U" ∷ codes "L" ∷ []) refl t h
+
+quote-other : (b : ℕ) → is_quote b ≡ true → is_word_byte b ≡ false
+quote-other b h =
+    elim (or_cases (b == double_quote) (b == apostrophe) h) [
+      | inl same ↦ ap is_word_byte (eqb-true b double_quote same)
+      | inr same ↦ ap is_word_byte (eqb-true b apostrophe same)
+    ]
+
+pub literal-first : (b : ℕ) (bs : List ℕ) → IsLiteral (b ∷ bs) → (is_quote b || is_prefix_byte b) ≡ true
+literal-first b bs l = go l.prefix l.begins l.has
+  where
+    go : (prefix : List ℕ) → begins_prefix prefix ≡ true → has_prefix prefix (is_quoted l.quote) (b ∷ bs) ≡ true →
+        (is_quote b || is_prefix_byte b) ≡ true
+    go [] begins has =
+        let same : b ≡ l.quote = eqb-true b l.quote (and_parts (b == l.quote) (ends_quoted l.quote bs) has).0 in
+        or_left (is_quote b) (is_prefix_byte b) (ap is_quote same ∙ l.quotes)
+    go (p ∷ ps) begins has =
+        let same : b ≡ p = eqb-true b p (and_parts (b == p) (has_prefix ps (is_quoted l.quote) bs) has).0 in
+        or_right (is_quote b) (is_prefix_byte b) (ap is_prefix_byte same ∙ begins)
+
+-- the last byte is the closing quote
+
+branch : {P : Type 0} (x escaped f other g : Bool) → (if x then escaped && f else other && g) ≡ true →
+    (f ≡ true → P) → (g ≡ true → P) → P
+branch true escaped f other g h of_f of_g = of_f (and_parts escaped f h).1
+branch false escaped f other g h of_f of_g = of_g (and_parts other g h).1
+
+ends-last : (quote : ℕ) (a : List ℕ) (s : ℕ) → ends_quoted quote (a ++ s ∷ []) ≡ true → s ≡ quote
+ends-last quote [] s h = eqb-true s quote h
+ends-last quote (b ∷ []) s h =
+    branch (b == backslash) (not (s == line_feed)) false (not (b == quote || b == line_feed)) (s == quote) h
+    (λ none. absurd (false≢true none)) (eqb-true s quote)
+ends-last quote (b ∷ c ∷ a) s h =
+    branch (b == backslash) (not (c == line_feed)) (ends_quoted quote (a ++ s ∷ []))
+    (not (b == quote || b == line_feed)) (ends_quoted quote (c ∷ a ++ s ∷ [])) h
+    (ends-last quote a s) (ends-last quote (c ∷ a) s)
+
+pub literal-last : (a : List ℕ) (s : ℕ) → IsLiteral (a ++ s ∷ []) → is_quote s ≡ true
+literal-last a s l = go l.prefix a l.has
+  where
+    go : (prefix a : List ℕ) → has_prefix prefix (is_quoted l.quote) (a ++ s ∷ []) ≡ true → is_quote s ≡ true
+    go [] [] has = absurd (false≢true (and_parts (s == l.quote) false has).1)
+    go [] (b ∷ a) has =
+        ap is_quote (ends-last l.quote a s (and_parts (b == l.quote) (ends_quoted l.quote (a ++ s ∷ [])) has).1) ∙ l.quotes
+    go (p ∷ []) [] has = absurd (false≢true (and_parts (s == p) false has).1)
+    go (p ∷ q ∷ ps) [] has = absurd (false≢true (and_parts (s == p) false has).1)
+    go (p ∷ ps) (b ∷ a) has = go ps a (and_parts (b == p) (has_prefix ps (is_quoted l.quote) (a ++ s ∷ [])) has).1
+
+-- after the word bytes at the front stand a quote and what it encloses
+pub literal-word : (a : List ℕ) (b : ℕ) (bs : List ℕ) → list_all is_word_byte a ≡ true → is_word_byte b ≡ false →
+    IsLiteral (a ++ b ∷ bs) → (is_quote b ≡ true) × (ends_quoted b bs ≡ true)
+literal-word a b bs word other l = go l.prefix a l.word word l.has
+  where
+    go : (prefix a : List ℕ) → list_all is_word_byte prefix ≡ true → list_all is_word_byte a ≡ true →
+        has_prefix prefix (is_quoted l.quote) (a ++ b ∷ bs) ≡ true → (is_quote b ≡ true) × (ends_quoted b bs ≡ true)
+    go [] [] words word has =
+        let parts = and_parts (b == l.quote) (ends_quoted l.quote bs) has in
+        let same : b ≡ l.quote = eqb-true b l.quote parts.0 in
+        (ap is_quote same ∙ l.quotes, ap (λ k. ends_quoted k bs) same ∙ parts.1)
+    go [] (x ∷ a) words word has =
+        let same : x ≡ l.quote = eqb-true x l.quote (and_parts (x == l.quote) (ends_quoted l.quote (a ++ b ∷ bs)) has).0 in
+        absurd (both_ways (is_word_byte x) (ap is_word_byte same ∙ quote-other l.quote l.quotes)
+        (and_parts (is_word_byte x) (list_all is_word_byte a) word).0)
+    go (p ∷ ps) [] words word has =
+        let same : b ≡ p = eqb-true b p (and_parts (b == p) (has_prefix ps (is_quoted l.quote) bs) has).0 in
+        absurd (both_ways (is_word_byte b) other
+        (ap is_word_byte same ∙ (and_parts (is_word_byte p) (list_all is_word_byte ps) words).0))
+    go (p ∷ ps) (x ∷ a) words word has =
+        go ps a (and_parts (is_word_byte p) (list_all is_word_byte ps) words).1
+        (and_parts (is_word_byte x) (list_all is_word_byte a) word).1
+        (and_parts (x == p) (has_prefix ps (is_quoted l.quote) (a ++ b ∷ bs)) has).1
+
+same-branch : (x escaped f f' other g g' : Bool) → (if x then escaped && f else other && g) ≡ true →
+    (f ≡ true → f' ≡ false) → (g ≡ true → g' ≡ false) → (if x then escaped && f' else other && g') ≡ false
+same-branch true escaped f f' other g g' h of_f of_g = and_right escaped f' (of_f (and_parts escaped f h).1)
+same-branch false escaped f f' other g g' h of_f of_g = and_right other g' (of_g (and_parts other g h).1)
+
+-- a quoted text ends at its first closing quote
+pub ends-once : (quote : ℕ) (a : List ℕ) (c : ℕ) (q : List ℕ) → (quote == backslash) ≡ false → ends_quoted quote a ≡ true →
+    ends_quoted quote (a ++ c ∷ q) ≡ false
+ends-once quote [] c q other h = absurd (false≢true h)
+ends-once quote (b ∷ []) c q other h =
+    let same : b ≡ quote = eqb-true b quote h in
+    rw (ap (λ x. x == backslash) same ∙ other, h) refl
+ends-once quote (b ∷ d ∷ a) c q other h =
+    same-branch (b == backslash) (not (d == line_feed)) (ends_quoted quote a) (ends_quoted quote (a ++ c ∷ q))
+    (not (b == quote || b == line_feed)) (ends_quoted quote (d ∷ a)) (ends_quoted quote (d ∷ a ++ c ∷ q)) h
+    (ends-once quote a c q other) (ends-once quote (d ∷ a) c q other)

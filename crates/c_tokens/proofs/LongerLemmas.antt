@@ -1,0 +1,262 @@
+-- Texts that are no element: a text that may touch what follows, and more after it.
+use Rattle.std.proofs.Common.{◌≡◌, ℕ, Bool, true, false, List, [], ◌∷◌, ◌++◌, codes}
+use Rattle.std.proofs.Common.{◌⊎◌, inl, inr, refl, ap, ◌∙◌}
+use Rattle.std.specs.Prelude.{◌&&◌, ◌||◌, not, ◌==◌}
+use Rattle.std.specs.List.{list_all}
+use Rattle.std.proofs.lemmas.Bool.{and_parts, and_from, or_cases, or_left, or_right, both_ways, false≢true}
+use Rattle.std.proofs.lemmas.Bool.{eqb-true, not-true, false_from_ne_true}
+use Rattle.c_tokens.specs.Bytes.{space, slash, asterisk, backslash, full_stop, double_quote, apostrophe, line_feed, is_digit, is_word_byte, is_quote}
+use Rattle.c_tokens.specs.Grammar.{is_identifier_byte, is_identifier, is_number_byte, is_number, is_quoted, ends_quoted}
+use Rattle.c_tokens.specs.Grammar.{is_character_constant, is_string_literal, is_punctuator, is_other_character, is_token}
+use Rattle.c_tokens.specs.Grammar.{ends_once, is_comment, is_white_character, is_element, has_prefix}
+use Rattle.c_tokens.specs.Borders.{is_plain_byte}
+use Rattle.c_tokens.specs.Touching.{is_separator, is_operator, is_plain_word}
+use Rattle.c_tokens.proofs.GrammarLemmas.{listed, identifier-bytes, number-bytes, number-first, punctuator-is}
+use Rattle.c_tokens.proofs.GrammarLemmas.{is_prefix_byte, IsLiteral, literal-from_character, literal-from_string}
+use Rattle.c_tokens.proofs.GrammarLemmas.{begins_prefix, literal-first, literal-last, literal-word, ends-once}
+
+-- what an element of two bytes or more is
+pub element-cases : {P : Type 0} (t : List ℕ) → is_white_character t ≡ false → is_other_character t ≡ false →
+    is_element t ≡ true → (is_comment t ≡ true → P) → (is_identifier t ≡ true → P) → (is_number t ≡ true → P) →
+    (IsLiteral t → P) → (is_punctuator t ≡ true → P) → P
+unfolding is_element is_token
+element-cases t white other h comment identifier number literal punctuator =
+    elim (or_cases (is_white_character t || is_comment t) (is_token t) h) [
+      | inl gap ↦ elim (or_cases (is_white_character t) (is_comment t) gap) [
+        | inl is ↦ absurd (both_ways (is_white_character t) white is)
+        | inr is ↦ comment is
+      ]
+      | inr token ↦ elim (or_cases (is_identifier t || is_number t || is_character_constant t || is_string_literal t || is_punctuator t)
+          (is_other_character t) token) [
+            | inr is ↦ absurd (both_ways (is_other_character t) other is)
+            | inl four ↦ elim (or_cases (is_identifier t || is_number t || is_character_constant t || is_string_literal t) (is_punctuator t) four) [
+              | inr is ↦ punctuator is
+              | inl three ↦ elim (or_cases (is_identifier t || is_number t || is_character_constant t) (is_string_literal t) three) [
+                | inr is ↦ literal (literal-from_string t is)
+                | inl two ↦ elim (or_cases (is_identifier t || is_number t) (is_character_constant t) two) [
+                  | inr is ↦ literal (literal-from_character t is)
+                  | inl one ↦ elim (or_cases (is_identifier t) (is_number t) one) [ inl is ↦ identifier is | inr is ↦ number is ]
+                ]
+              ]
+            ]
+          ]
+    ]
+
+pub all-last : (test : ℕ → Bool) (a : List ℕ) (b : ℕ) (q : List ℕ) → list_all test (a ++ b ∷ q) ≡ true → test b ≡ true
+all-last test [] b q h = (and_parts (test b) (list_all test q) h).0
+all-last test (x ∷ a) b q h = all-last test a b q (and_parts (test x) (list_all test (a ++ b ∷ q)) h).1
+
+pub separator-is : (test : ℕ → Bool) → list_all test (codes "()[]{};,~") ≡ true → (s : ℕ) → is_separator s ≡ true → test s ≡ true
+separator-is test all s h = listed test (codes "()[]{};,~") all s h
+
+pub separator-not : (test : ℕ → Bool) → list_all (λ b. not (test b)) (codes "()[]{};,~") ≡ true → (s : ℕ) →
+    is_separator s ≡ true → test s ≡ false
+separator-not test all s h = not-true (test s) (listed (λ b. not (test b)) (codes "()[]{};,~") all s h)
+
+pub operator-not : (test : ℕ → Bool) → list_all (λ b. not (test b)) (codes "!#%&*+-/:<=>?^|") ≡ true → (s : ℕ) →
+    is_operator s ≡ true → test s ≡ false
+operator-not test all s h = not-true (test s) (listed (λ b. not (test b)) (codes "!#%&*+-/:<=>?^|") all s h)
+
+-- A punctuator of two bytes or more has no separator. No punctuator has a word byte or a quote.
+
+abbrev is_short_or_has_none : List ℕ → Bool
+is_short_or_has_none [] = true
+is_short_or_has_none (b ∷ []) = true
+is_short_or_has_none (b ∷ c ∷ bs) = list_all (λ d. not (is_separator d)) (b ∷ c ∷ bs)
+
+long-punctuator : (b c : ℕ) (bs : List ℕ) → is_punctuator (b ∷ c ∷ bs) ≡ true →
+    list_all (λ d. not (is_separator d)) (b ∷ c ∷ bs) ≡ true
+long-punctuator b c bs h = punctuator-is is_short_or_has_none refl (b ∷ c ∷ bs) h
+
+pub punctuator-bytes : (t : List ℕ) → is_punctuator t ≡ true → list_all (λ b. not (is_plain_byte b)) t ≡ true
+punctuator-bytes t h = punctuator-is (list_all (λ b. not (is_plain_byte b))) refl t h
+
+pub comment-first : (b : ℕ) (bs : List ℕ) → is_comment (b ∷ bs) ≡ true → (b == slash) ≡ true
+comment-first b [] h = absurd (false≢true h)
+comment-first b (c ∷ bs) h =
+    (and_parts (b == slash) (c == asterisk && ends_once bs || c == slash && list_all (λ d. not (d == line_feed)) bs) h).0
+
+pub comment-second : (b c : ℕ) (bs : List ℕ) → is_comment (b ∷ c ∷ bs) ≡ true → (c == asterisk || c == slash) ≡ true
+comment-second b c bs h =
+    elim (or_cases (c == asterisk && ends_once bs) (c == slash && list_all (λ d. not (d == line_feed)) bs)
+    (and_parts (b == slash) (c == asterisk && ends_once bs || c == slash && list_all (λ d. not (d == line_feed)) bs) h).1) [
+      | inl star ↦ or_left (c == asterisk) (c == slash) (and_parts (c == asterisk) (ends_once bs) star).0
+      | inr line ↦ or_right (c == asterisk) (c == slash) (and_parts (c == slash) (list_all (λ d. not (d == line_feed)) bs) line).0
+    ]
+
+pub two-white : (x : ℕ) (a : List ℕ) (b : ℕ) (q : List ℕ) → is_white_character (x ∷ a ++ b ∷ q) ≡ false
+two-white x [] b q = refl
+two-white x (y ∷ a) b q = refl
+
+pub two-other : (x : ℕ) (a : List ℕ) (b : ℕ) (q : List ℕ) → is_other_character (x ∷ a ++ b ∷ q) ≡ false
+two-other x [] b q = refl
+two-other x (y ∷ a) b q = refl
+
+-- a separator, and more after it
+pub separator-longer : (s c : ℕ) (q : List ℕ) → is_separator s ≡ true → is_element (s ∷ c ∷ q) ≡ false
+separator-longer s c q h = false_from_ne_true (is_element (s ∷ c ∷ q)) λ is.
+    element-cases (s ∷ c ∷ q) refl refl is
+    (λ comment. both_ways (s == slash) (separator-not (λ b. b == slash) refl s h) (comment-first s (c ∷ q) comment))
+    (λ identifier. both_ways (is_identifier_byte s) (separator-not is_identifier_byte refl s h)
+    (all-last is_identifier_byte [] s (c ∷ q) (identifier-bytes (s ∷ c ∷ q) identifier)))
+    (λ number. both_ways (is_number_byte s) (separator-not is_number_byte refl s h)
+    (all-last is_number_byte [] s (c ∷ q) (number-bytes (s ∷ c ∷ q) number)))
+    (λ literal. both_ways (is_quote s || is_prefix_byte s) (separator-not (λ b. is_quote b || is_prefix_byte b) refl s h)
+    (literal-first s (c ∷ q) literal))
+    (λ punctuator. both_ways (is_separator s) (not-true (is_separator s)
+    (all-last (λ d. not (is_separator d)) [] s (c ∷ q) (long-punctuator s c q punctuator))) h)
+
+-- a separator after more: only a comment takes it
+
+long-punctuator-last : (x : ℕ) (a : List ℕ) (s : ℕ) → is_punctuator (x ∷ a ++ s ∷ []) ≡ true → not (is_separator s) ≡ true
+long-punctuator-last x [] s h = all-last (λ d. not (is_separator d)) (x ∷ []) s [] (long-punctuator x s [] h)
+long-punctuator-last x (y ∷ a) s h =
+    all-last (λ d. not (is_separator d)) (x ∷ y ∷ a) s [] (long-punctuator x y (a ++ s ∷ []) h)
+
+pub separator-last : (x : ℕ) (a : List ℕ) (s : ℕ) → is_separator s ≡ true → is_element (x ∷ a ++ s ∷ []) ≡ true →
+    is_comment (x ∷ a ++ s ∷ []) ≡ true
+separator-last x a s h is =
+    element-cases (x ∷ a ++ s ∷ []) (two-white x a s []) (two-other x a s []) is
+    (λ comment. comment)
+    (λ identifier. absurd (both_ways (is_identifier_byte s) (separator-not is_identifier_byte refl s h)
+    (all-last is_identifier_byte (x ∷ a) s [] (identifier-bytes (x ∷ a ++ s ∷ []) identifier))))
+    (λ number. absurd (both_ways (is_number_byte s) (separator-not is_number_byte refl s h)
+    (all-last is_number_byte (x ∷ a) s [] (number-bytes (x ∷ a ++ s ∷ []) number))))
+    (λ literal. absurd (both_ways (is_quote s) (separator-not is_quote refl s h) (literal-last (x ∷ a) s literal)))
+    (λ punctuator. absurd (both_ways (is_separator s) (not-true (is_separator s) (long-punctuator-last x a s punctuator)) h))
+
+ends_once-front : (a q : List ℕ) → ends_once (a ++ q) ≡ true → ends_once a ≡ true
+ends_once-front [] q h = refl
+ends_once-front (b ∷ []) q h = refl
+ends_once-front (b ∷ c ∷ []) q h = refl
+ends_once-front (b ∷ c ∷ d ∷ a) q h =
+    let parts = and_parts (not (b == asterisk && c == slash)) (ends_once (c ∷ d ∷ a ++ q)) h in
+    and_from (not (b == asterisk && c == slash)) (ends_once (c ∷ d ∷ a)) parts.0 (ends_once-front (c ∷ d ∷ a) q parts.1)
+
+ends_once-other : (a : List ℕ) (s : ℕ) (q : List ℕ) (t : ℕ) → ends_once (a ++ s ∷ q) ≡ true → ends_once (a ++ t ∷ []) ≡ true
+ends_once-other [] s q t h = refl
+ends_once-other (b ∷ []) s q t h = refl
+ends_once-other (b ∷ c ∷ []) s q t h =
+    and_from (not (b == asterisk && c == slash)) true (and_parts (not (b == asterisk && c == slash)) (ends_once (c ∷ s ∷ q)) h).0 refl
+ends_once-other (b ∷ c ∷ d ∷ a) s q t h =
+    let parts = and_parts (not (b == asterisk && c == slash)) (ends_once (c ∷ d ∷ a ++ s ∷ q)) h in
+    and_from (not (b == asterisk && c == slash)) (ends_once (c ∷ d ∷ a ++ t ∷ [])) parts.0
+    (ends_once-other (c ∷ d ∷ a) s q t parts.1)
+
+abbrev is_in_line : List ℕ → Bool
+is_in_line = list_all (λ d. not (d == line_feed))
+
+line-front : (a q : List ℕ) → is_in_line (a ++ q) ≡ true → is_in_line a ≡ true
+line-front [] q h = refl
+line-front (b ∷ a) q h =
+    let parts = and_parts (not (b == line_feed)) (is_in_line (a ++ q)) h in
+    and_from (not (b == line_feed)) (is_in_line a) parts.0 (line-front a q parts.1)
+
+line-space : (a : List ℕ) → is_in_line a ≡ true → is_in_line (a ++ space ∷ []) ≡ true
+line-space [] h = refl
+line-space (b ∷ a) h =
+    let parts = and_parts (not (b == line_feed)) (is_in_line a) h in
+    and_from (not (b == line_feed)) (is_in_line (a ++ space ∷ [])) parts.0 (line-space a parts.1)
+
+comment-from : (x y : ℕ) (a : List ℕ) → (x == slash) ≡ true →
+    ((y == asterisk && ends_once a) ≡ true) ⊎ ((y == slash && is_in_line a) ≡ true) → is_comment (x ∷ y ∷ a) ≡ true
+comment-from x y a first rest =
+    and_from (x == slash) (y == asterisk && ends_once a || y == slash && is_in_line a) first
+    (elim rest [
+      | inl star ↦ or_left (y == asterisk && ends_once a) (y == slash && is_in_line a) star
+      | inr line ↦ or_right (y == asterisk && ends_once a) (y == slash && is_in_line a) line
+    ])
+
+-- a comment that goes on after two bytes or more is a comment without that, and would take a space too
+pub comment-open : (x y : ℕ) (a : List ℕ) (c : ℕ) (q : List ℕ) → is_comment (x ∷ y ∷ a ++ c ∷ q) ≡ true →
+    (is_comment (x ∷ y ∷ a) ≡ true) × (is_comment (x ∷ y ∷ a ++ space ∷ []) ≡ true)
+comment-open x y a c q is =
+    let parts = and_parts (x == slash) (y == asterisk && ends_once (a ++ c ∷ q) || y == slash && is_in_line (a ++ c ∷ q)) is in
+    elim (or_cases (y == asterisk && ends_once (a ++ c ∷ q)) (y == slash && is_in_line (a ++ c ∷ q)) parts.1) [
+      | inl star ↦
+          let block = and_parts (y == asterisk) (ends_once (a ++ c ∷ q)) star in (
+            comment-from x y a parts.0 (inl (and_from (y == asterisk) (ends_once a) block.0 (ends_once-front a (c ∷ q) block.1))),
+            comment-from x y (a ++ space ∷ []) parts.0
+                (inl (and_from (y == asterisk) (ends_once (a ++ space ∷ [])) block.0 (ends_once-other a c q space block.1))),
+          )
+      | inr slashes ↦
+          let line = and_parts (y == slash) (is_in_line (a ++ c ∷ q)) slashes in
+          let front = line-front a (c ∷ q) line.1 in (
+            comment-from x y a parts.0 (inr (and_from (y == slash) (is_in_line a) line.0 front)),
+            comment-from x y (a ++ space ∷ []) parts.0
+                (inr (and_from (y == slash) (is_in_line (a ++ space ∷ [])) line.0 (line-space a front))),
+          )
+    ]
+
+-- a word, and an operator after it
+pub word-longer : (x : ℕ) (a : List ℕ) (o : ℕ) (q : List ℕ) → is_plain_word (x ∷ a) ≡ true → is_operator o ≡ true →
+    is_element (x ∷ a ++ o ∷ q) ≡ false
+word-longer x a o q word h = false_from_ne_true (is_element (x ∷ a ++ o ∷ q)) λ is.
+    let parts = and_parts (not (is_digit x)) (list_all is_word_byte (x ∷ a)) word in
+    let first : is_word_byte x ≡ true = (and_parts (is_word_byte x) (list_all is_word_byte a) parts.1).0 in
+    element-cases (x ∷ a ++ o ∷ q) (two-white x a o q) (two-other x a o q) is
+    (λ comment. both_ways (is_word_byte x) (ap is_word_byte (eqb-true x slash (comment-first x (a ++ o ∷ q) comment))) first)
+    (λ identifier. both_ways (is_identifier_byte o) (operator-not is_identifier_byte refl o h)
+    (all-last is_identifier_byte (x ∷ a) o q (identifier-bytes (x ∷ a ++ o ∷ q) identifier)))
+    (λ number. elim (or_cases (is_digit x) (x == full_stop) (number-first x (a ++ o ∷ q) number)) [
+      | inl digit ↦ both_ways (is_digit x) (not-true (is_digit x) parts.0) digit
+      | inr stop ↦ both_ways (is_word_byte x) (ap is_word_byte (eqb-true x full_stop stop)) first
+    ])
+    (λ literal. both_ways (is_quote o) (operator-not is_quote refl o h)
+    (literal-word (x ∷ a) o q parts.1 (operator-not is_word_byte refl o h) literal).0)
+    (λ punctuator. both_ways (is_plain_byte x) (not-true (is_plain_byte x)
+    (all-last (λ b. not (is_plain_byte b)) [] x (a ++ o ∷ q) (punctuator-bytes (x ∷ a ++ o ∷ q) punctuator)))
+    (or_left (is_word_byte x) (is_quote x) first))
+
+-- a quoted text, and anything after it
+
+pub quote-not : (test : ℕ → Bool) → test double_quote ≡ false → test apostrophe ≡ false → (b : ℕ) → is_quote b ≡ true → test b ≡ false
+quote-not test double single b h =
+    elim (or_cases (b == double_quote) (b == apostrophe) h) [
+      | inl same ↦ ap test (eqb-true b double_quote same) ∙ double
+      | inr same ↦ ap test (eqb-true b apostrophe same) ∙ single
+    ]
+
+quoted-literal : (x : ℕ) (a : List ℕ) (c : ℕ) (q : List ℕ) → is_quote x ≡ true → ends_quoted x a ≡ true →
+    IsLiteral (x ∷ a ++ c ∷ q) → ⊥
+quoted-literal x a c q quote ends l = go l.prefix l.begins l.has
+  where
+    go : (prefix : List ℕ) → begins_prefix prefix ≡ true → has_prefix prefix (is_quoted l.quote) (x ∷ a ++ c ∷ q) ≡ true → ⊥
+    go [] begins has =
+        let parts = and_parts (x == l.quote) (ends_quoted l.quote (a ++ c ∷ q)) has in
+        both_ways (ends_quoted x (a ++ c ∷ q)) (ends-once x a c q (quote-not (λ b. b == backslash) refl refl x quote) ends)
+        (ap (λ k. ends_quoted k (a ++ c ∷ q)) (eqb-true x l.quote parts.0) ∙ parts.1)
+    go (p ∷ ps) begins has =
+        let same : x ≡ p = eqb-true x p (and_parts (x == p) (has_prefix ps (is_quoted l.quote) (a ++ c ∷ q)) has).0 in
+        both_ways (is_prefix_byte x) (quote-not is_prefix_byte refl refl x quote) (ap is_prefix_byte same ∙ begins)
+
+pub quoted-longer : (x : ℕ) (a : List ℕ) (c : ℕ) (q : List ℕ) → is_quote x ≡ true → ends_quoted x a ≡ true →
+    is_element (x ∷ a ++ c ∷ q) ≡ false
+quoted-longer x a c q quote ends = false_from_ne_true (is_element (x ∷ a ++ c ∷ q)) λ is.
+    element-cases (x ∷ a ++ c ∷ q) (two-white x a c q) (two-other x a c q) is
+    (λ comment. both_ways (x == slash) (quote-not (λ b. b == slash) refl refl x quote) (comment-first x (a ++ c ∷ q) comment))
+    (λ identifier. both_ways (is_identifier_byte x) (quote-not is_identifier_byte refl refl x quote)
+    (all-last is_identifier_byte [] x (a ++ c ∷ q) (identifier-bytes (x ∷ a ++ c ∷ q) identifier)))
+    (λ number. both_ways (is_number_byte x) (quote-not is_number_byte refl refl x quote)
+    (all-last is_number_byte [] x (a ++ c ∷ q) (number-bytes (x ∷ a ++ c ∷ q) number)))
+    (quoted-literal x a c q quote ends)
+    (λ punctuator. both_ways (is_plain_byte x) (not-true (is_plain_byte x)
+    (all-last (λ b. not (is_plain_byte b)) [] x (a ++ c ∷ q) (punctuator-bytes (x ∷ a ++ c ∷ q) punctuator)))
+    (or_right (is_word_byte x) (is_quote x) quote))
+
+-- an operator, and a word byte or a quote after it
+pub operator-longer : (o p : ℕ) (q : List ℕ) → is_operator o ≡ true → is_plain_byte p ≡ true → is_element (o ∷ p ∷ q) ≡ false
+operator-longer o p q h plain = false_from_ne_true (is_element (o ∷ p ∷ q)) λ is.
+    element-cases (o ∷ p ∷ q) refl refl is
+    (λ comment. elim (or_cases (p == asterisk) (p == slash) (comment-second o p q comment)) [
+      | inl same ↦ both_ways (is_plain_byte p) (ap is_plain_byte (eqb-true p asterisk same)) plain
+      | inr same ↦ both_ways (is_plain_byte p) (ap is_plain_byte (eqb-true p slash same)) plain
+    ])
+    (λ identifier. both_ways (is_identifier_byte o) (operator-not is_identifier_byte refl o h)
+    (all-last is_identifier_byte [] o (p ∷ q) (identifier-bytes (o ∷ p ∷ q) identifier)))
+    (λ number. both_ways (is_digit o || o == full_stop) (operator-not (λ b. is_digit b || b == full_stop) refl o h)
+    (number-first o (p ∷ q) number))
+    (λ literal. both_ways (is_quote o || is_prefix_byte o) (operator-not (λ b. is_quote b || is_prefix_byte b) refl o h)
+    (literal-first o (p ∷ q) literal))
+    (λ punctuator. both_ways (is_plain_byte p) (not-true (is_plain_byte p)
+    (all-last (λ b. not (is_plain_byte b)) (o ∷ []) p q (punctuator-bytes (o ∷ p ∷ q) punctuator))) plain)

@@ -1,0 +1,56 @@
+-- The longest front is the longest, and the elements are the whole text.
+use Rattle.std.proofs.Common.{◌≡◌, ℕ, ◌-◌, ◌<◌, ◌≤◌, zero, suc, Bool, true, false, List, [], ◌∷◌, ◌++◌, length, take, drop}
+use Rattle.std.proofs.Common.{refl, ap, ◌∙◌, arith}
+use Rattle.std.specs.Prelude.{if◌then◌else◌}
+use Rattle.std.specs.List.{concat}
+use Rattle.std.proofs.lemmas.List.{take-append-drop}
+use Rattle.c_tokens.specs.Grammar.{is_element}
+use Rattle.c_tokens.specs.Reading.{longest, elements_from}
+use Rattle.c_tokens.proofs.ReadingLemmas.{counted, longer}
+use Rattle.c_tokens.proofs.TouchingLemmas.{single-element}
+
+pub longest-most : (test : List ℕ → Bool) (b : List ℕ) (n : ℕ) → n ≤ length b → test (take n b) ≡ true → n ≤ longest test b
+longest-most test b zero within h = omega arith
+longest-most test [] (suc n) within h = absurd (omega (arith, within))
+longest-most test (x ∷ b) (suc zero) within h = one (longest (λ t. test (x ∷ t)) b)
+  where
+    one : (more : ℕ) → 1 ≤ counted test x more
+    one more = rw h (grind arith)
+longest-most test (x ∷ b) (suc (suc n)) within h =
+    more (longest (λ t. test (x ∷ t)) b) (longest-most (λ t. test (x ∷ t)) b (suc n) (omega (arith, within)) h)
+  where
+    more : (m : ℕ) → suc n ≤ m → suc (suc n) ≤ counted test x m
+    more m h = rw (longer test x m (omega (arith, h))) (omega (arith, h))
+
+longest-passes : (test : List ℕ → Bool) (b : List ℕ) → 0 < longest test b → test (take (longest test b) b) ≡ true
+longest-passes test [] h = absurd (omega (arith, h))
+longest-passes test (x ∷ b) h = go (longest (λ t. test (x ∷ t)) b) h (longest-passes (λ t. test (x ∷ t)) b)
+  where
+    go : (more : ℕ) → 0 < counted test x more → (0 < more → test (x ∷ take more b) ≡ true) →
+        test (take (counted test x more) (x ∷ b)) ≡ true
+    go zero h rest = alone (test (x ∷ [])) refl h
+      where
+        alone : (t : Bool) → test (x ∷ []) ≡ t → 0 < (if t then 1 else 0) → test (take (if t then 1 else 0) (x ∷ b)) ≡ true
+        alone true is h = is
+        alone false is h = absurd (omega (arith, h))
+    go (suc more) h rest = rw (longer test x (suc more) (omega arith)) (rest (omega arith))
+
+longest-one : (b : ℕ) (rest : List ℕ) → 1 ≤ longest is_element (b ∷ rest)
+longest-one b rest = longest-most is_element (b ∷ rest) 1 (omega arith) (single-element b)
+
+pub longest-is : (b : ℕ) (rest : List ℕ) → is_element (take (longest is_element (b ∷ rest)) (b ∷ rest)) ≡ true
+longest-is b rest = longest-passes is_element (b ∷ rest) (longest-one b rest)
+
+pub elements-all : (n : ℕ) (a : List ℕ) → concat (elements_from n a) ≡ drop n a
+elements-all zero [] = refl
+elements-all (suc n) [] = refl
+elements-all (suc n) (x ∷ a) = elements-all n a
+elements-all zero (x ∷ a) =
+    go (longest is_element (x ∷ a)) (longest-one x a) (elements-all (longest is_element (x ∷ a) - 1) a)
+  where
+    go : (k : ℕ) → 1 ≤ k → concat (elements_from (k - 1) a) ≡ drop (k - 1) a →
+        take k (x ∷ a) ++ concat (elements_from (k - 1) a) ≡ x ∷ a
+    go zero h rest = absurd (omega (arith, h))
+    go (suc k) h rest =
+        let one : suc k - 1 ≡ k = omega arith in
+        ap (λ t. x ∷ (take k a ++ t)) (rest ∙ ap (λ m. drop m a) one) ∙ ap (λ t. x ∷ t) (take-append-drop k a)
