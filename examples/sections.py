@@ -83,7 +83,11 @@ CODE = re.compile(rb'@(.)', re.S)
 STARTS = frozenset((b'*', b' ', b'\t', b'\r', b'\v', b'\f', b'\n'))
 MACRO_ENDS = frozenset(b'd f s c p < ('.split())
 NAME = re.compile(rb'@[<(]((?:[^@]+|@[^<(>* \t\r\v\f\n])*)(?:@>)?')
-HEAD = re.compile(rb'[ \t\r\v\f]*(?:\+[ \t\r\v\f]*)?==?')
+WHITE = rb'''(?x: [ \t\r\v\f]                                 # white space of a head
+    | /\*(?:[^*@\n]|\*(?!/)|@[^*\ \t\r\v\f\n])*\*/
+    | @[\^.:tTqQ](?:[^@\n]|@@)*@>
+    | @[^@*\ \t\r\v\f\ndDfFsScCpP<(\^.:tTqQ=&hH'])*'''
+HEAD = re.compile(WHITE + rb'(?:\+' + WHITE + rb')?==?')
 C_TEXT = re.compile(rb'''
     /\*(?:[^*@]+|\*(?!/)|@[^* \t\r\v\f\n])*(?:\*/)?            # comments
     | //(?:[^@\n]+|@[^* \t\r\v\f\n])*

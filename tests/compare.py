@@ -61,19 +61,18 @@ def tangled(arguments, folder):
     faults = b''.join(map(fault_line, tangling.faults))
     created = {}
     for name, text in tangling.files:
-        if not is_utf_8(name):
+        if not is_file_name(name):
             return 3, faults + b'ctangle: cannot write %s\n' % name, created
         created[name] = text
     return status_of(tangling.faults), faults, created
 
 
-def is_utf_8(name):
+def is_file_name(name):
     """Whether a file can be created with this name."""
     try:
-        name.decode()
+        return name.decode() != ''
     except UnicodeDecodeError:
         return False
-    return True
 
 
 def make_folder(folder, files):

@@ -46,6 +46,12 @@ WILD = [(.30, WORDS), (.45, SIGNS), (.62, SPACES), (.72, None), (.77, QUOTED), (
 DENSE = [(.30, WORDS), (.40, SIGNS), (.56, SPACES), (.70, [b'@&', b' @&', b'@& ']), (.84, CONSTANTS), (.87, b'@h'),
          (.90, QUOTED), (.93, CONTROL_TEXTS), (.98, [b'@,', b'@/', b'@;', b'@^i@>', b'/* c */']), (1, None)]
 
+# What may be white space of a head, or almost.
+HEAD_SPACES = [b' ', b'\t', b'@,', b'@;', b'@/ ', b'@|', b'@^i@>', b'@q=@@@>', b'@t', b'@:x@,@>', b'/* = */', b'/*@<=*/', b'/*@',
+               b'//', b'/*', b'/', b'@&', b'@h', b'@@', b"@'a'", b'@=v@>', b'@d', b'@<u@>', b'"+"', b'+', b'@']
+
+LIMBO = [b'limbo', b'% top', b'@q x@>', b'@@', b'', b'@s a b', b'@<no@>', b'@i', b'@l d @L', b'@d N 1 @F x int', b' @i b.w',
+         b'@(x@>=@c', b'@Q@D @> @^']
 DOCUMENTATION = [b'', b'A.', b'Text @<In it@> more', b'Doc @, @@ @^i@>', b'P.']
 MACROS = [b'N 10', b'F(x) x', b'M', b'3', b'N@&x', b'N"s"', b'N  ', b'N-1', b"N@'a'", b'', b'G(a)\\', b'N@^i@>5']
 
@@ -68,7 +74,7 @@ def wild_text(chance, most, kinds=WILD):
         drawn = chance.random()
         parts = next(parts for bound, parts in kinds if drawn < bound)
         if parts is None:
-            made += used_name(chance)
+            made += used_name(chance) + (equals_sign(chance) if chance.random() < .1 else b'')
         else:
             made += chance.choice(parts) if isinstance(parts, list) else parts
     return made
@@ -90,13 +96,22 @@ def tame_text(chance, most):
     return made
 
 
+def equals_sign(chance):
+    """An equals sign as it follows the name of a definition, or almost one."""
+    sign = chance.choice([b'=', b'=', b'=', b'+=', b'==', b' =', b' + =', b'+==', b'+'])
+    if chance.random() < .25:
+        at = chance.randint(0, len(sign))
+        sign = sign[:at] + b''.join(chance.choices(HEAD_SPACES, k=chance.randint(1, 2))) + sign[at:]
+    return sign
+
+
 def head(chance, is_wild):
     if chance.random() < .5:
         code = chance.choice([b'@c', b'@c', b'@p', b'@C'])
     else:
         name = chance.choice(NAMES if chance.random() < .85 else ABBREVIATIONS)
         opener = b'@(' if chance.random() < .15 else b'@<'
-        code = opener + name + b'@>' + chance.choice([b'=', b'=', b'=', b'+=', b'==', b' =', b' + =', b'+==', b'+'])
+        code = opener + name + b'@>' + equals_sign(chance)
     return code + (wild_text(chance, 4) if is_wild and chance.random() < .3 else b'')
 
 
@@ -140,7 +155,7 @@ def inclusion(chance, included):
 def web_lines(chance, included):
     lines = []
     for _ in range(chance.choice([0, 0, 1, 2])):
-        lines.append(chance.choice([b'limbo', b'% top', b'@q x@>', b'@@', b'', b'@s a b', b'@<no@>', b'@i']))
+        lines.append(chance.choice(LIMBO))
     is_dense = chance.random() < 1 / 3
     is_wild = is_dense or chance.random() < .6
     for _ in range(chance.randint(1, 6)):

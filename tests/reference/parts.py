@@ -10,7 +10,12 @@ Token.__new__.__defaults__ = (None,)
 
 WORD = re.compile(rb'[A-Za-z0-9_$\x80-\xff]+')
 WHITE = re.compile(rb'[ \t\r\v\f]+')
-SINGLE_EQUALS = re.compile(rb'[ \t\r\v\f]*\+?[ \t\r\v\f]*=(?!=)')
+# White space that ends on its line and without a fault: bytes, comments, control texts, other codes.
+WHITE_ON_LINE = rb'''(?x: [ \t\r\v\f]
+    | /\* (?: [^*@\n] | \*(?!/) | @[^\ \t\r\v\f\n*] )* \*/
+    | @[\^.:tTqQ] (?: [^@\n] | @@ )* @>
+    | @[^@\ \t\r\v\f\n*dDfFsScCpP<(\^.:tTqQ=&hH'] )*'''
+SINGLE_EQUALS = re.compile(WHITE_ON_LINE + rb'\+?' + WHITE_ON_LINE + rb'=(?!=)')
 IN_COMMENT = {b'/*': re.compile(rb'@|\*/'), b'//': re.compile(rb'@|\n')}
 OCTAL = re.compile(rb'\\([0-7]{1,3})')
 ESCAPES = dict(zip(b'abtnvfr"\'?\\', (7, 8, 9, 10, 11, 12, 13, 34, 39, 63, 92)))

@@ -4,14 +4,14 @@ from bisect import bisect_right
 from collections import namedtuple
 
 from faults import Fault
-from parts import Part, is_section_start, lower
+from parts import Part, WHITE_ON_LINE, is_section_start, lower
 from spacing import macro_items, part_items
 
 Piece = namedtuple('Piece', 'section place occurrence items')
 # role: definition, use or mention
 Occurrence = namedtuple('Occurrence', 'text is_abbreviated is_file role place')
 
-HEAD = re.compile(rb'[ \t\r\v\f]*(?:\+[ \t\r\v\f]*)?==?')
+HEAD = re.compile(WHITE_ON_LINE + rb'(?:\+' + WHITE_ON_LINE + rb')?==?')
 LIMBO_CODES = b'@fslq>'                         # what may stand before the first section
 
 

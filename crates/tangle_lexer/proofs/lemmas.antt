@@ -15,3 +15,4 @@ pub mod RunTokens
 pub mod SimpleLemmas
 pub mod StepLemmas
 pub mod DotLemmas
+pub mod WhiteLemmas

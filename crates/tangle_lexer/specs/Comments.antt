@@ -1,5 +1,6 @@
 -- Comments and control texts, which count as white space.
-use Rattle.std.specs.Prelude.{ℕ, ◌+◌, Bool, not, List, [], ◌∷◌, flat_map, drop, if◌then◌else◌}
+use Rattle.std.specs.Prelude.{ℕ, ◌+◌, Bool, true, false, not, ◌&&◌, List, [], ◌∷◌, flat_map, drop}
+use Rattle.std.specs.Prelude.{if◌then◌else◌}
 use Rattle.tangle_faults.specs.declared.faults.FaultKind.{FaultKind}
 use Rattle.tangle_faults.specs.declared.faults.FaultKind.TheVariants as fault
 use Rattle.tangle_text.specs.declared.regions.Region.{Region}
@@ -8,7 +9,7 @@ use Rattle.tangle_lexer.specs.declared.modes.LexerState.{LexerState}
 use Rattle.tangle_lexer.specs.declared.tokens.Token.{Token}
 use Rattle.tangle_text.specs.Bytes.{asterisk, slash, are_bytes, is_section_start, is_end_code}
 use Rattle.tangle_text.specs.Text.{Cell, byte_at, front_line}
-use Rattle.tangle_text.specs.Regions.{units, count_before}
+use Rattle.tangle_text.specs.Regions.{units, count_before, region_end}
 use Rattle.tangle_lexer.specs.Lexemes.{Lexeme, white_lexeme, fault_if, line_end_by}
 
 -- the line end that a unit begins with, if it begins with one
@@ -40,6 +41,15 @@ two_if b = if b then 2 else 0
 abbrev pub ends_region : Region → List Cell → Bool
 ends_region region.BlockComment text = ends_comment text
 ends_region _ text = has_end_code text
+
+-- a region with these line ends is on one line
+abbrev pub is_on_line : List Token → Bool
+is_on_line [] = true
+is_on_line (t ∷ ts) = false
+
+-- a region ends on its first line, by what has to end it
+abbrev pub ends_on_line : Region → List Cell → Bool
+ends_on_line r text = is_on_line (line_ends r text) && ends_region r (region_end r text)
 
 -- A block comment or a control text, with the two cells that open it and the two that end it. If
 -- its end is missing, it has a fault of this kind.

@@ -3,6 +3,8 @@ pub mod Lexemes
 pub mod Comments
 pub mod Quoted
 pub mod Constants
+pub mod CText
+pub mod White
 pub mod Names
 pub mod Occurrences
 pub mod Steps

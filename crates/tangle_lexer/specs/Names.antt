@@ -22,6 +22,7 @@ use Rattle.tangle_text.specs.Text.{Cell, byte_at, front_line}
 use Rattle.tangle_text.specs.Regions.{count_before}
 use Rattle.tangle_lexer.specs.Lexemes.{OccurrenceOnLine, Lexeme, fault_if, in_mode, elsewhere}
 use Rattle.tangle_lexer.specs.Comments.{has_end_code, two_if}
+use Rattle.tangle_lexer.specs.White.{white_count}
 use Rattle.tangle_text.specs.NameBytes.{name_bytes}
 
 -- the text of a name
@@ -87,12 +88,13 @@ name_faults last text =
 
 -- what makes a name a definition
 
--- the number of cells before the equals sign: of white space, and of + with white space after it
+-- The number of cells before the equals sign: of white space, and of + with white space after it.
+-- White space is what C text has as such, as far as it ends on the line and without a fault.
 abbrev pub count_before_equals : List Cell → ℕ
 count_before_equals text =
-    let first : ℕ = count_before region.White text in
+    let first : ℕ = white_count 0 text in
     if holds plus_sign (byte_at first text)
-    then first + 1 + count_before region.White (drop (first + 1) text)
+    then first + 1 + white_count 0 (drop (first + 1) text)
     else first
 
 -- the equals sign that these two cells begin with: none, = or ==

@@ -20,7 +20,8 @@ use Rattle.tangle_text.specs.Bytes.{holds_white, are_bytes, is_name_start}
 use Rattle.tangle_text.specs.Text.{Cell, byte_at, text_from}
 use Rattle.tangle_text.specs.Regions.{count_before}
 use Rattle.tangle_lexer.specs.Comments.{has_end_code, starts_section}
-use Rattle.tangle_lexer.specs.Steps.{LexemeStart, lexeme_starts, code_at, kind_at, lexeme}
+use Rattle.tangle_lexer.specs.CText.{code_at, kind_at}
+use Rattle.tangle_lexer.specs.Steps.{LexemeStart, lexeme_starts, lexeme}
 use Rattle.tangle_lexer.specs.Steps.{first_state}
 
 -- where bytes are: a point is a line and a column of it, both from 0

@@ -13,7 +13,7 @@ use Rattle.tangle_lexer.specs.declared.lexeme_kinds.LexemeKind.TheVariants as le
 use Rattle.tangle_text.specs.Bytes.{number_sign, holds, is_opener, is_word_byte}
 use Rattle.tangle_text.specs.Text.{Cell, byte_at}
 use Rattle.tangle_text.specs.Runs.{holds_plain}
-use Rattle.tangle_lexer.specs.Steps.{kind_at}
+use Rattle.tangle_lexer.specs.CText.{kind_at}
 
 -- the simple lexeme that begins with a byte, unless the byte may open something longer
 abbrev pub simple_of : ℕ → Option SimpleLexeme

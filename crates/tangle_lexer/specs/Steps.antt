@@ -1,16 +1,14 @@
--- The four modes: what begins at a position, and what is read there.
-use Rattle.std.specs.Prelude.{ℕ, zero, suc, ◌+◌, ◌-◌, Bool, ◌==◌, ◌&&◌, ◌||◌, List, [], ◌∷◌, length}
-use Rattle.std.specs.Prelude.{map, flat_map, take, drop, if◌then◌else◌, Option, Some, None}
+-- The four modes: what is read at a position.
+use Rattle.std.specs.Prelude.{ℕ, zero, suc, ◌-◌, Bool, ◌==◌, List, [], ◌∷◌, length}
+use Rattle.std.specs.Prelude.{map, flat_map, drop, if◌then◌else◌, Option, Some, None}
 use Rattle.std.specs.Prelude.{option_to_list, codes, not, false}
 use Rattle.std.specs.List.{list_any}
-use Rattle.tangle_lines.specs.Bytes.{at_sign, double_quote, is_white}
+use Rattle.tangle_lines.specs.Bytes.{at_sign}
 use Rattle.tangle_lines.specs.Reading.{SourceLine}
-use Rattle.tangle_faults.specs.declared.faults.FaultKind.{FaultKind}
 use Rattle.tangle_faults.specs.declared.faults.FaultKind.TheVariants as fault
 use Rattle.tangle_text.specs.declared.regions.Region.TheVariants as region
 use Rattle.tangle_lexer.specs.declared.modes.Mode.{Mode}
 use Rattle.tangle_lexer.specs.declared.modes.Mode.TheVariants as mode
-use Rattle.tangle_lexer.specs.declared.modes.IncludeState.{IncludeState}
 use Rattle.tangle_lexer.specs.declared.modes.IncludeState.TheVariants as include
 use Rattle.tangle_lexer.specs.declared.modes.LexerState.{LexerState}
 use Rattle.tangle_lexer.specs.declared.lexeme_kinds.ControlCode.{ControlCode}
@@ -18,101 +16,15 @@ use Rattle.tangle_lexer.specs.declared.lexeme_kinds.ControlCode.TheVariants as c
 use Rattle.tangle_lexer.specs.declared.lexeme_kinds.LexemeKind.{LexemeKind}
 use Rattle.tangle_lexer.specs.declared.lexeme_kinds.LexemeKind.TheVariants as lexeme_kind
 use Rattle.tangle_lexer.specs.declared.tokens.Token.{Token}
-use Rattle.tangle_lexer.specs.declared.tokens.SpanKind.TheVariants as span_kind
 use Rattle.tangle_lexer.specs.declared.tokens.Token.TheVariants as token
-use Rattle.tangle_text.specs.Bytes.{asterisk, slash, less_sign, left_parenthesis, equals_sign}
-use Rattle.tangle_text.specs.Bytes.{greater_sign, number_sign, apostrophe, holds, is_word_byte}
-use Rattle.tangle_text.specs.Bytes.{lower}
-use Rattle.tangle_text.specs.Text.{Cell, byte_at, bytes_of, front_line, span_at, text_from}
+use Rattle.tangle_text.specs.Bytes.{holds, lower}
+use Rattle.tangle_text.specs.Text.{Cell, byte_at, front_line, text_from}
 use Rattle.tangle_text.specs.Regions.{count_before}
-use Rattle.tangle_lexer.specs.Lexemes.{OccurrenceOnLine, Lexeme, lexeme_of, in_mode, with_include}
-use Rattle.tangle_lexer.specs.Lexemes.{elsewhere, white_lexeme, fault_if}
-use Rattle.tangle_lexer.specs.Comments.{block_comment, line_comment, control_text, starts_section}
-use Rattle.tangle_lexer.specs.Quoted.{quoted_text, verbatim_text}
-use Rattle.tangle_lexer.specs.Constants.{ascii_constant}
+use Rattle.tangle_lexer.specs.Lexemes.{OccurrenceOnLine, Lexeme, lexeme_of, in_mode, fault_if}
+use Rattle.tangle_lexer.specs.Comments.{starts_section}
+use Rattle.tangle_lexer.specs.CText.{code_at, kind_at, section_start, code_fault, code_lexeme}
+use Rattle.tangle_lexer.specs.CText.{kind_lexeme}
 use Rattle.tangle_lexer.specs.Names.{use_of_name, name_in_documentation}
-use Rattle.tangle_text.specs.Words.{is_include_word, word_more}
-
--- what begins at a position
-
--- the control code that @ makes with this byte, which is not a capital letter
-abbrev pub code_of : ℕ → ControlCode
-code_of b =
-    if is_white b || b == asterisk then code.SectionStart else
-    if b == at_sign then code.DoubleAt else
-    if b == 100 then code.Macro else  -- @d
-    if b == 102 || b == 115 then code.Format else  -- @f @s
-    if b == 99 || b == 112 then code.UnnamedPart else  -- @c @p
-    if b == less_sign || b == left_parenthesis then code.Name else  -- @< @(
-    if b == 94 || b == 46 || b == 58 || b == 116 || b == 113
-    then code.ControlText else  -- @^ @. @: @t @q
-    if b == equals_sign then code.Verbatim else  -- @=
-    if b == 38 then code.Join else  -- @&
-    if b == 104 then code.AllMacros else  -- @h
-    if b == apostrophe then code.AsciiConstant else code.Other  -- @'
-
--- the control code that @ makes with the next cell; a capital letter counts as its small letter
-abbrev pub code_at : Option ℕ → ControlCode
-code_at None = code.SectionStart
-code_at (Some b) = code_of (lower b)
-
--- < opens a quoted text only after #include
-abbrev pub less_kind : IncludeState → LexemeKind
-less_kind include.AfterInclude = lexeme_kind.HeaderName
-less_kind _ = lexeme_kind.Other
-
--- what begins with the byte `b`, which is not @, before the cell `next`
-abbrev pub byte_kind : IncludeState → ℕ → Option ℕ → LexemeKind
-byte_kind inc b next =
-    if b == slash && holds asterisk next then lexeme_kind.BlockComment else
-    if b == slash && holds slash next then lexeme_kind.LineComment else
-    if b == double_quote then lexeme_kind.DoubleQuote else
-    if b == apostrophe then lexeme_kind.Apostrophe else
-    if b == less_sign then less_kind inc else
-    if is_white b then lexeme_kind.White else
-    if is_word_byte b then lexeme_kind.Word else lexeme_kind.Other
-
--- what begins in C text with these two cells
-abbrev pub kind_by : IncludeState → Option ℕ → Option ℕ → LexemeKind
-kind_by inc None next = lexeme_kind.LineEnd
-kind_by inc (Some b) next =
-    if b == at_sign then lexeme_kind.Control (code_at next) else byte_kind inc b next
-
-abbrev pub kind_at : IncludeState → List Cell → LexemeKind
-kind_at inc text = kind_by inc (byte_at 0 text) (byte_at 1 text)
-
--- words and signs
-
--- after a sign: # can only begin #include if nothing but white space is before it on the line
-abbrev pub include_after_sign : Option ℕ → IncludeState → IncludeState
-include_after_sign b include.AtStart =
-    if holds number_sign b then include.AfterNumberSign else include.Elsewhere
-include_after_sign b _ = include.Elsewhere
-
--- after a word: include completes #include if only white space is between # and this word
-abbrev pub include_after_word : Bool → IncludeState → IncludeState
-include_after_word is_include include.AfterNumberSign =
-    if is_include then include.AfterInclude else include.Elsewhere
-include_after_word is_include _ = include.Elsewhere
-
--- a word: the cells up to the first without a word byte
-abbrev pub word : LexerState → List Cell → Lexeme
-word s text =
-    lexeme_of (token.Span span_kind.Word (span_at (1 + word_more text) text) ∷ []) (word_more text)
-    (with_include
-    (include_after_word (is_include_word (bytes_of (take (1 + word_more text) text))) s.include) s)
-
--- white space: the cells up to the first without white space
-abbrev pub white_space : LexerState → List Cell → Lexeme
-white_space s text = lexeme_of (token.White ∷ []) (count_before region.White (drop 1 text)) s
-
--- a control code that is a fault of this kind, and white space
-abbrev pub code_fault : FaultKind → LexerState → List Cell → Lexeme
-code_fault kind s text = white_lexeme [] (token.Fault kind (front_line s.last_line text) ∷ []) 1 s
-
--- A section start. Only the @ is read: the byte after it is skipped as documentation.
-abbrev pub section_start : LexerState → Lexeme
-section_start s = lexeme_of (token.Section ∷ []) 0 (in_mode mode.Documentation s)
 
 -- skips the first cell and the text after it up to an @
 abbrev pub prose : LexerState → List Cell → Lexeme
@@ -123,7 +35,7 @@ abbrev pub is_limbo_code : Option ℕ → Bool
 is_limbo_code None = false
 is_limbo_code (Some b) = list_any (λ code. lower b == code) (codes "@fslq>")
 
--- a control code before the first section, which is skipped as two bytes, as far as it is a fault
+-- a control code before the first section: it is skipped as two bytes, and may be a fault
 abbrev pub limbo_code : Bool → LexerState → List Cell → Lexeme
 limbo_code is_fault s text =
     lexeme_of (fault_if is_fault fault.LimboCode (front_line s.last_line text)) 1 s
@@ -156,48 +68,13 @@ documentation_lexeme s text =
     if holds at_sign (byte_at 0 text) then documentation_code (code_at (byte_at 1 text)) s text
     else prose s text
 
--- A control code in C text.
+-- a control code in C text
 abbrev pub c_code : ControlCode → LexerState → List Cell → Lexeme
-c_code code.SectionStart s text = section_start s
--- @@ is the sign @
-c_code code.DoubleAt s text =
-    lexeme_of (token.Span span_kind.Sign (span_at 1 text) ∷ []) 1 (elsewhere s)
--- @d @f @s @c @p
-c_code code.Macro s text = code_fault fault.CodeInC s text
-c_code code.Format s text = code_fault fault.CodeInC s text
-c_code code.UnnamedPart s text = code_fault fault.CodeInC s text
--- @< @(
-c_code code.Name s text = use_of_name s text
--- @^ @. @: @t @q
-c_code code.ControlText s text = control_text s text
--- @=
-c_code code.Verbatim s text = verbatim_text s text
--- @&
-c_code code.Join s text = lexeme_of (token.Join ∷ []) 1 (elsewhere s)
--- @h
-c_code code.AllMacros s text =
-    lexeme_of (token.AllMacros (front_line s.last_line text) ∷ []) 1 (elsewhere s)
--- @'
-c_code code.AsciiConstant s text = ascii_constant s text
--- other control codes are white space
-c_code code.Other s text = lexeme_of (token.White ∷ []) 1 s
+c_code code s text = code_lexeme (use_of_name s text) code s text
 
--- A lexeme of C text, by its kind.
+-- a lexeme of C text, by its kind
 abbrev pub c_lexeme : LexemeKind → LexerState → List Cell → Lexeme
-c_lexeme (lexeme_kind.Control code) s text = c_code code s text
-c_lexeme lexeme_kind.BlockComment s text = block_comment s text
-c_lexeme lexeme_kind.LineComment s text = line_comment s text
-c_lexeme lexeme_kind.DoubleQuote s text = quoted_text region.DoubleQuote double_quote s text
-c_lexeme lexeme_kind.Apostrophe s text = quoted_text region.Apostrophe apostrophe s text
-c_lexeme lexeme_kind.HeaderName s text = quoted_text region.HeaderName greater_sign s text
-c_lexeme lexeme_kind.LineEnd s text =
-    lexeme_of (token.LineEnd (front_line s.last_line text) ∷ []) 0 (with_include include.AtStart s)
-c_lexeme lexeme_kind.White s text = white_space s text
-c_lexeme lexeme_kind.Word s text = word s text
--- any other byte is a sign
-c_lexeme lexeme_kind.Other s text =
-    lexeme_of (token.Span span_kind.Sign (span_at 1 text) ∷ []) 0
-    (with_include (include_after_sign (byte_at 0 text) s.include) s)
+c_lexeme kind s text = kind_lexeme (use_of_name s text) kind s text
 
 -- A macro is read as C text, except for @h and for the control codes that end the macro and then
 -- act as in documentation.

@@ -81,7 +81,7 @@ fn has_end_code(reader: &Reader) -> bool
 }
 
 /// Whether the text ahead begins with a section start.
-fn starts_section(reader: &Reader) -> bool
+pub fn starts_section(reader: &Reader) -> bool
     ensures { result ≡ spec.starts_section reader.now }
 {
     match reader.front() {

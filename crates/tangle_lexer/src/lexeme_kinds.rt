@@ -1,6 +1,6 @@
 //! The kind of the lexeme that begins at a position, by the two bytes or line ends there.
 ghost use Rattle.std.specs.Prelude.{◌≡◌};
-ghost use Rattle.tangle_lexer.specs.Steps as spec;
+ghost use Rattle.tangle_lexer.specs.CText as spec;
 
 use crate::modes::IncludeState;
 use tangle_text::{holds, is_white, is_word_byte, lower};

@@ -12,6 +12,7 @@ mod quoted;
 mod simple;
 mod steps;
 mod tokens;
+mod white;
 
 pub use lexer::{first_state, next_block};
 pub use modes::{IncludeState, LexerState, Mode};

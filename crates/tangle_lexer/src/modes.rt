@@ -1,7 +1,7 @@
 //! The state of the lexer at a position of the text.
 ghost use Rattle.std.specs.Prelude.{◌≡◌};
 ghost use Rattle.tangle_lexer.specs.Lexemes as lexemes;
-ghost use Rattle.tangle_lexer.specs.Steps as steps;
+ghost use Rattle.tangle_lexer.specs.CText as c_text;
 
 use tangle_text::holds;
 
@@ -72,7 +72,7 @@ impl LexerState {
 
     /// This state after a sign, of which `byte` is the first byte.
     pub fn after_sign(self, byte: Option<u8>) -> Self
-        ensures { result ≡ lexemes.with_include (steps.include_after_sign byte self.include) self }
+        ensures { result ≡ lexemes.with_include (c_text.include_after_sign byte self.include) self }
     {
         match self.include {
             IncludeState::AtStart if holds(b'#', byte) => {
@@ -84,7 +84,7 @@ impl LexerState {
 
     /// This state after a word. `is_include` is whether the word is `include`.
     pub fn after_word(self, is_include: bool) -> Self
-        ensures { result ≡ lexemes.with_include (steps.include_after_word is_include self.include)
+        ensures { result ≡ lexemes.with_include (c_text.include_after_word is_include self.include)
             self }
     {
         match self.include {

@@ -21,6 +21,7 @@ use crate::comments::pass_end;
 use crate::modes::{LexerState, Mode};
 use crate::occurrences::{Occurrence, OccurrenceRole};
 use crate::tokens::{LexerBuffers, Token, push_fault_if};
+use crate::white::skip_white;
 use bstr::ByteSlice;
 use std::alloc::{AllocError, Global};
 use tangle_lines::{FaultKind, Source};
@@ -237,14 +238,15 @@ fn push_occurrence(
 }
 
 /// Advances over optional white space, an optional `+` and optional white space, to where the
-/// equals sign of a definition may be.
+/// equals sign of a definition may be. All that is white space in C text is white space here, if it
+/// ends on the line and without a fault.
 fn skip_to_equals(reader: &mut Reader)
     ensures { reader.new ≡ drop (spec.count_before_equals reader.old) reader.old }
 {
-    reader.skip_to_end(Region::White);
+    skip_white(reader);
     if holds(b'+', reader.byte()) {
         reader.advance();
-        reader.skip_to_end(Region::White);
+        skip_white(reader);
     }
 }
 

@@ -10,6 +10,7 @@ ghost use Rattle.tangle_lexer.specs.declared.tokens.SpanKind.TheVariants as span
 ghost use Rattle.tangle_lexer.specs.declared.tokens.Token.TheVariants as token;
 ghost use Rattle.tangle_lexer.specs.declared.lexeme_kinds.ControlCode.TheVariants as control_code;
 ghost use Rattle.tangle_lexer.specs.declared.lexeme_kinds.LexemeKind.TheVariants as lexeme_kinds;
+ghost use Rattle.tangle_lexer.specs.CText as c_text;
 ghost use Rattle.tangle_lexer.specs.Steps as spec;
 
 use crate::comments::{block_comment, control_text, line_comment};
@@ -30,7 +31,7 @@ fn section_start(
     state: LexerState,
 ) -> Result<LexerState, AllocError>
     ensures { IfOk result (λ after. IsRead tokens.old.items tokens.new.items reader.old reader.new
-        after (spec.section_start state)) }
+        after (c_text.section_start state)) }
 {
     tokens.push(Token::Section)?;
     reader.advance();
@@ -159,7 +160,7 @@ fn code_fault(
     state: LexerState,
 ) -> Result<LexerState, AllocError>
     ensures { IfOk result (λ after. IsRead tokens.old.items tokens.new.items reader.old reader.new
-        after (spec.code_fault kind state reader.old)) }
+        after (c_text.code_fault kind state reader.old)) }
 {
     tokens.push(Token::White)?;
     tokens.push(Token::Fault(kind, reader.line(state.last_line)))?;
@@ -209,7 +210,7 @@ pub fn word(
 ) -> Result<LexerState, AllocError>
     requires { IsSome (byte_at 0 reader.old) }
     ensures { IfOk result (λ after. IsRead tokens.old.items tokens.new.items reader.old reader.new
-        after (spec.word state reader.old)) }
+        after (c_text.word state reader.old)) }
 {
     let after = match state.include {
         IncludeState::AfterNumberSign => state.after_word(reader.begins_include()),
@@ -227,7 +228,7 @@ pub fn white_space(
 ) -> Result<LexerState, AllocError>
     requires { IsSome (byte_at 0 reader.old) }
     ensures { IfOk result (λ after. IsRead tokens.old.items tokens.new.items reader.old reader.new
-        after (spec.white_space state reader.old)) }
+        after (c_text.white_space state reader.old)) }
 {
     tokens.push(Token::White)?;
     reader.skip_white();

@@ -22,13 +22,14 @@ use Rattle.tangle_lines.specs.Bytes.{at_sign, double_quote}
 use Rattle.tangle_text.specs.Bytes.{apostrophe, greater_sign, is_line_end}
 use Rattle.tangle_text.specs.Text.{Cell, byte_at, front_line, span_at}
 use Rattle.tangle_text.specs.Regions.{count_before, units}
-use Rattle.tangle_lexer.specs.Lexemes.{Lexeme, fault_if, in_mode}
+use Rattle.tangle_lexer.specs.Lexemes.{Lexeme, fault_if}
 use Rattle.tangle_lexer.specs.Comments.{unit_line_end, line_ends, ends_comment, starts_section, has_end_code}
 use Rattle.tangle_lexer.specs.Constants.{constant_at, constant_lexeme}
 use Rattle.tangle_lexer.specs.Names.{name_end, is_ended, name_faults, after_name, has_single_equals}
 use Rattle.tangle_lexer.specs.Names.{definition_or_mention, definition_count, mention_faults}
 use Rattle.tangle_lexer.specs.Simple.{is_c_part}
-use Rattle.tangle_lexer.specs.Steps.{kind_at, c_lexeme, lexeme, lexemes}
+use Rattle.tangle_lexer.specs.CText.{kind_at}
+use Rattle.tangle_lexer.specs.Steps.{c_lexeme, lexeme, lexemes}
 use Rattle.tangle_lexer.specs.Segments.{Segment, segment, span_points, byte_points, kept_points}
 use Rattle.tangle_lexer.specs.Segments.{c_segments, segments_in, segments, text_segments, verbatim_segments}
 use Rattle.tangle_lexer.specs.Segments.SegmentKind.{ControlBytes}

@@ -1,10 +1,9 @@
 -- The tokens of a source lie in its text.
 use Rattle.std.proofs.Common.{◌≡◌, ℕ, zero, suc, ◌+◌, ◌-◌, ◌≤◌, Bool, true, false, List, [], ◌∷◌, flat_map}
-use Rattle.std.proofs.Common.{Option, Some, None, inl, inr, refl, ap, sym, ◌∙◌, arith, subst, append-nil, ◌||◌}
+use Rattle.std.proofs.Common.{Option, Some, None, inl, inr, refl, ap, sym, ◌∙◌, arith, subst, append-nil}
 use Rattle.std.specs.Prelude.{is_some}
 use Rattle.tangle_faults.specs.declared.faults.FaultKind.TheVariants as fault
 use Rattle.tangle_lexer.specs.declared.tokens.Token.{Token}
-use Rattle.tangle_lexer.specs.declared.modes.Mode.TheVariants as mode
 use Rattle.tangle_lexer.specs.declared.modes.LexerState.{LexerState}
 use Rattle.tangle_lexer.specs.declared.lexeme_kinds.ControlCode.TheVariants as code
 use Rattle.tangle_lexer.specs.declared.lexeme_kinds.LexemeKind.{LexemeKind}
@@ -14,10 +13,11 @@ use Rattle.tangle_lines.specs.Bytes.{double_quote}
 use Rattle.tangle_text.specs.Bytes.{asterisk, slash, apostrophe, greater_sign, holds_white, is_line_end}
 use Rattle.tangle_text.specs.Text.{Cell}
 use Rattle.tangle_text.specs.Regions.{count_before}
-use Rattle.tangle_lexer.specs.Lexemes.{Lexeme, in_mode}
+use Rattle.tangle_lexer.specs.Lexemes.{Lexeme}
 use Rattle.tangle_lexer.specs.Names.{use_of_name, definition_count, definition_or_mention, name_in_documentation}
 use Rattle.tangle_lexer.specs.Simple.{is_c_text}
-use Rattle.tangle_lexer.specs.Steps.{code_fault, c_lexeme, lexeme, lexemes}
+use Rattle.tangle_lexer.specs.CText.{code_fault}
+use Rattle.tangle_lexer.specs.Steps.{c_lexeme, lexeme, lexemes}
 use Rattle.tangle_lexer.proofs.lemmas.LexemeCases.{OpensLexeme, IsPlainKind, lexeme-by}
 use Rattle.tangle_lexer.proofs.lemmas.PlainLexemes.{kind-plain}
 use Rattle.tangle_lexer.proofs.lemmas.StepLemmas.{lexemes-drop}

@@ -17,7 +17,7 @@ use Rattle.tangle_lexer.specs.Lexemes.{fault_if, line_end_by}
 use Rattle.tangle_lexer.specs.declared.lexeme_kinds.ControlCode.{ControlCode}
 use Rattle.tangle_lexer.specs.declared.lexeme_kinds.ControlCode.TheVariants as code
 use Rattle.tangle_lexer.specs.Segments.{OpensWith}
-use Rattle.tangle_lexer.specs.Steps.{code_at}
+use Rattle.tangle_lexer.specs.CText.{code_at}
 use Rattle.tangle_lexer.specs.Comments.{line_ends, two_if}
 use Rattle.tangle_lexer.proofs.laws.Points.{Point, point_at, PrecedesOnLine, IsByte, after_by, after_cell, after_cells}
 use Rattle.tangle_lexer.proofs.laws.Points.{HoldsBytes, IsCellAt, IsTextAt, after-byte, after_cells-bytes}

@@ -27,7 +27,8 @@ use Rattle.tangle_lexer.specs.Lexemes.{Lexeme}
 use Rattle.tangle_lexer.specs.Comments.{has_end_code, two_if, ends_comment, block_comment, line_comment, control_text}
 use Rattle.tangle_lexer.specs.Constants.{constant_at, constant_lexeme, ascii_constant}
 use Rattle.tangle_lexer.specs.Names.{name_count, is_ended, name_more}
-use Rattle.tangle_lexer.specs.Steps.{code_at, kind_at, c_code, c_lexeme, lexeme_in}
+use Rattle.tangle_lexer.specs.CText.{code_at, kind_at}
+use Rattle.tangle_lexer.specs.Steps.{c_code, c_lexeme, lexeme_in}
 use Rattle.tangle_lexer.specs.Steps.{lexeme}
 use Rattle.tangle_lexer.specs.Segments.{Segment, segment, ShowsKind, OpensWith, text_segments, verbatim_segments}
 use Rattle.tangle_lexer.specs.Segments.{code_segments, c_segments, segments_in, segments, HasNoSection, IsBlockComment}

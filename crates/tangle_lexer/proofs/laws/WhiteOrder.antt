@@ -16,7 +16,7 @@ use Rattle.tangle_lexer.specs.Lexemes.{fault_if}
 use Rattle.tangle_lexer.specs.Comments.{line_ends, ends_comment, has_end_code, two_if, block_comment, line_comment}
 use Rattle.tangle_lexer.specs.Comments.{control_text}
 use Rattle.tangle_lexer.specs.Constants.{bad_constant}
-use Rattle.tangle_lexer.specs.Steps.{word}
+use Rattle.tangle_lexer.specs.CText.{word}
 use Rattle.tangle_lexer.proofs.laws.Points.{Point, point_at, PrecedesOnLine, IsByte, after_cells, HoldsBytes, IsTextAt}
 use Rattle.tangle_lexer.proofs.laws.Points.{text-after_cells, text-within, after_cells-bytes}
 use Rattle.tangle_lexer.proofs.laws.TokenOrder.{AreInOrder, IsFrom, in_order-append}

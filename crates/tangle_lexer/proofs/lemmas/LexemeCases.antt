@@ -20,7 +20,8 @@ use Rattle.tangle_lexer.specs.Comments.{starts_section}
 use Rattle.tangle_lexer.specs.Names.{use_of_name, name_in_documentation}
 use Rattle.tangle_lexer.specs.Segments.{OpensWith}
 use Rattle.tangle_lexer.specs.Simple.{is_c_text, is_c_part}
-use Rattle.tangle_lexer.specs.Steps.{code_at, less_kind, kind_by, kind_at, section_start, code_fault, documentation_code}
+use Rattle.tangle_lexer.specs.CText.{code_at, less_kind, kind_by, kind_at, section_start, code_fault}
+use Rattle.tangle_lexer.specs.Steps.{documentation_code}
 use Rattle.tangle_lexer.specs.Steps.{limbo_code, c_code, c_lexeme, macro_code, macro_lexeme, lexeme_in, lexeme}
 
 -- what the first two cells of a lexeme of this kind are

@@ -8,11 +8,11 @@ use Rattle.tangle_lexer.specs.Reads.{PassesEquals}
 use Rattle.tangle_text.specs.declared.regions.Region.TheVariants as region
 use Rattle.tangle_text.specs.Bytes.{holds, plus_sign}
 use Rattle.tangle_text.specs.Text.{Cell, byte_at, front_line}
-use Rattle.tangle_text.specs.Regions.{count_before, region_end}
+use Rattle.tangle_text.specs.Regions.{region_end}
+use Rattle.tangle_lexer.specs.White.{white_count, white_end}
 use Rattle.tangle_lexer.specs.Comments.{two_if, has_end_code}
 use Rattle.tangle_lexer.specs.Names.{name_end, is_ended, after_name, name_count, count_before_equals, equals_by}
 use Rattle.tangle_lexer.specs.Names.{equals_in, definition_count, name_more, equals_count, count_through}
-use Rattle.tangle_text.proofs.RegionLemmas.{region_end-is}
 use Rattle.tangle_lexer.proofs.lemmas.OpenedRegions.{after-two, mid-is}
 use Rattle.tangle_text.proofs.AheadLemmas.{byte_at-drop}
 
@@ -42,27 +42,20 @@ after-is text mid rest h go =
     ∙ drop-drop (two_if (is_ended text)) (1 + name_count text) (drop 1 text)))
 
 -- the text after white space, + and white space
-pub plus-further : (text : List Cell) → holds plus_sign (byte_at 0 (region_end region.White text)) ≡ true →
-    region_end region.White (drop 1 (region_end region.White text)) ≡ drop (count_before_equals text) text
+pub plus-further : (text : List Cell) → holds plus_sign (byte_at 0 (white_end text)) ≡ true →
+    white_end (drop 1 (white_end text)) ≡ drop (count_before_equals text) text
 plus-further text h =
-    let first = count_before region.White text in
-    let is = region_end-is region.White text in
-    let plus : holds plus_sign (byte_at first text) ≡ true =
-    ap (holds plus_sign) (byte_at-drop first text ∙ sym (ap (byte_at 0) is)) ∙ h in
-    let next : drop 1 (region_end region.White text) ≡ drop (first + 1) text =
-    ap (drop 1) is ∙ (drop-drop 1 first text) in
-    region_end-is region.White (drop 1 (region_end region.White text))
-    ∙ (ap (λ t. drop (count_before region.White t) t) next
-    ∙ (drop-drop (count_before region.White (drop (first + 1) text)) (first + 1) text ∙ rw plus refl))
+    let first = white_count 0 text in
+    let plus : holds plus_sign (byte_at first text) ≡ true = ap (holds plus_sign) (byte_at-drop first text) ∙ h in
+    ap white_end (drop-drop 1 first text)
+    ∙ (drop-drop (white_count 0 (drop (first + 1) text)) (first + 1) text ∙ rw plus refl)
 
-pub no_plus-further : (text : List Cell) → holds plus_sign (byte_at 0 (region_end region.White text)) ≡ false →
-    region_end region.White text ≡ drop (count_before_equals text) text
+pub no_plus-further : (text : List Cell) → holds plus_sign (byte_at 0 (white_end text)) ≡ false →
+    white_end text ≡ drop (count_before_equals text) text
 no_plus-further text h =
-    let first = count_before region.White text in
-    let is = region_end-is region.White text in
-    let plus : holds plus_sign (byte_at first text) ≡ false =
-    ap (holds plus_sign) (byte_at-drop first text ∙ sym (ap (byte_at 0) is)) ∙ h in
-    is ∙ rw plus refl
+    let first = white_count 0 text in
+    let plus : holds plus_sign (byte_at first text) ≡ false = ap (holds plus_sign) (byte_at-drop first text) ∙ h in
+    rw plus refl
 
 -- a name whose equals sign was read is a definition
 pub definition-read : (last line : ℕ) (text rest : List Cell) (e : Equals)
@@ -104,3 +97,24 @@ definition-found last line found text after rest ended is some takes =
     definition-read last line text rest (equals_in (after_name text)) ended refl
     (subst (λ t. PassesEquals (equals_in t) (count_before_equals t) last t rest (Some line)) is
     (subst (λ f. PassesEquals (equals_in after) (count_before_equals after) last after rest f) some takes))
+
+-- a name is no definition if `pass_equals` found no equals sign after it
+pub definition-not-found : (last : ℕ) (found : Option ℕ) (text after rest : List Cell)
+    → is_ended text ≡ true → after ≡ after_name text → found ≡ None
+    → PassesEquals (equals_in after) (count_before_equals after) last after rest found
+    → (definition_count text ≡ None) × (rest ≡ drop (name_more text) (drop 1 text))
+definition-not-found last found text after rest ended is none takes =
+    by (equals_in (after_name text)) refl
+    (subst (λ t. PassesEquals (equals_in t) (count_before_equals t) last t rest None) is
+    (subst (λ f. PassesEquals (equals_in after) (count_before_equals after) last after rest f) none takes))
+  where
+    by : (e : Equals) → equals_in (after_name text) ≡ e
+        → PassesEquals e (count_before_equals (after_name text)) last (after_name text) rest None
+        → (definition_count text ≡ None) × (rest ≡ drop (name_more text) (drop 1 text))
+    by equals.Absent absent takes = (
+      ap (λ b. if b then equals_count (after_name text) else None) ended
+          ∙ ap (λ e. count_through e (count_before_equals (after_name text))) absent,
+      takes.0,
+    )
+    by equals.Single single takes = absurd (none-some _ takes.1)
+    by equals.Double double takes = absurd (none-some _ takes.1)

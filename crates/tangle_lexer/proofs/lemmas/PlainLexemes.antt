@@ -14,11 +14,12 @@ use Rattle.tangle_lexer.specs.Constants.{constant_at, constant_lexeme}
 use Rattle.tangle_lexer.specs.Lexemes.{Lexeme, fault_if}
 use Rattle.tangle_lexer.specs.Names.{name_faults, mention_faults, has_single_equals, after_name, is_macro}
 use Rattle.tangle_lexer.specs.Quoted.{quote_end, quoted_text}
-use Rattle.tangle_lexer.specs.Steps.{code_fault, c_lexeme}
+use Rattle.tangle_lexer.specs.CText.{code_fault}
+use Rattle.tangle_lexer.specs.Steps.{c_lexeme}
 use Rattle.tangle_lexer.proofs.lemmas.LexemeCases.{IsPlainKind}
 use Rattle.tangle_lexer.proofs.lemmas.PlainTokens.{ArePlain, seen, plain-append, fault_if-plain, white-plain}
-use Rattle.tangle_lexer.proofs.lemmas.PlainTokens.{line_ends-plain, verbatim_tokens-plain, cut_tokens-plain}
-use Rattle.tangle_lexer.proofs.lemmas.PlainTokens.{quote_end-plain}
+use Rattle.tangle_lexer.proofs.lemmas.PlainTokens.{line_ends-plain, verbatim_tokens-text, cut_tokens-text}
+use Rattle.tangle_lexer.proofs.lemmas.PlainTokens.{quote_end-text, text-plain, AreText}
 
 pub record IsPlainLexeme (s : LexerState) (here : Lexeme) : Type 0 where
   pub tokens : ArePlain here.tokens
@@ -49,12 +50,16 @@ constant-plain : (constant : Option AsciiConstant) (s : LexerState) (text : List
 constant-plain None s text = plain s _ (seen _ refl) refl refl refl refl
 constant-plain (Some constant) s text = plain s _ (seen _ refl) refl refl refl refl
 
+pub quoted-text : (r : Region) (close : ℕ) (s : LexerState) (text : List Cell)
+    → AreText (quoted_text r close s text).tokens
+quoted-text r close s text =
+    cut_tokens-text (quote_end r close s.last_line) r 0 (front_column text) (drop 1 text)
+    (quote_end-text r close s.last_line)
+
 quoted-plain : (r : Region) (close : ℕ) (s : LexerState) (text : List Cell)
     → IsPlainLexeme s (quoted_text r close s text)
 quoted-plain r close s text =
-    plain s _
-    (cut_tokens-plain (quote_end r close s.last_line) r 0 (front_column text) (drop 1 text)
-    (quote_end-plain r close s.last_line)) refl refl refl refl
+    plain s _ (text-plain _ (quoted-text r close s text)) refl refl refl refl
 
 pub fault-plain : (kind : FaultKind) (s : LexerState) (text : List Cell) → IsPlainLexeme s (code_fault kind s text)
 fault-plain kind s text = plain s _ (seen _ refl) refl refl refl refl
@@ -67,7 +72,7 @@ kind-plain (lexeme_kind.Control code.ControlText) s text h = plain s _
     (white-plain _ _ (line_ends-plain region.ControlText (drop 2 text)) (fault_if-plain _ fault.ControlText _))
     refl refl refl refl
 kind-plain (lexeme_kind.Control code.Verbatim) s text h =
-    plain s _ (verbatim_tokens-plain (drop 2 text)) refl refl refl refl
+    plain s _ (text-plain _ (verbatim_tokens-text (drop 2 text))) refl refl refl refl
 kind-plain (lexeme_kind.Control code.AsciiConstant) s text h = constant-plain (constant_at (drop 2 text)) s text
 kind-plain lexeme_kind.BlockComment s text h = plain s _
     (white-plain _ _ (line_ends-plain region.BlockComment (drop 2 text)) (fault_if-plain _ fault.CommentEnd _))

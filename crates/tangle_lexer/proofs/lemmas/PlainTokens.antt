@@ -79,58 +79,88 @@ white-plain ends faults h k = seen _ (none-append is_not_plain ends faults h.non
 
 -- ranges of quoted and verbatim texts
 
-range-plain : (r : Region) (s : Span) → ArePlain (range_token r s ∷ [])
-range-plain region.Verbatim s = seen _ refl
-range-plain _ s = seen _ refl
+-- a token that is no part of such a text
+abbrev pub is_not_text : Token → Bool
+is_not_text (token.Span kind s) = false
+is_not_text token.QuoteBreak = false
+is_not_text (token.Fault kind line) = false
+is_not_text _ = true
 
-cut_range-plain : (r : Region) (line start end : ℕ) → ArePlain (cut_range r line start end)
-cut_range-plain r line start end =
-    cond_both (nat_lt start end) _ [] ArePlain
-    (λ e. range-plain r (record { line = line; start = start; end = end })) (λ e. seen [] refl)
+-- the tokens of a text
+pub record AreText (ts : List Token) : Type 0 where
+  pub none : HasNone is_not_text ts
 
-unit_tokens-plain : (r : Region) (u : Unit-of) (start : ℕ) (c : Cell) (next : Option ℕ)
-    → ArePlain (unit_tokens r u start c next)
-unit_tokens-plain r unit.Two start c next =
-    cond_both (holds at_sign c.byte) _ _ ArePlain (λ e. cut_range-plain r c.line start (c.column + 1))
-    (λ e. cond_both (holds backslash c.byte && is_line_end next) _ _ ArePlain
-    (λ k. plain-append _ _ (cut_range-plain r c.line start (c.column + 1)) (seen _ refl)) (λ k. seen [] refl))
-unit_tokens-plain r _ start c next = fault_if-plain (holds at_sign c.byte) fault.StringAt c.line
+are-text : (ts : List Token) → HasNone is_not_text ts → AreText ts
+are-text ts h = record { none = h }
 
-at_stop-plain : (u : Unit-of) (ending others : List Token)
-    → ArePlain ending → ArePlain others → ArePlain (at_stop u ending others)
-at_stop-plain unit.Stop ending others h k = h
-at_stop-plain _ ending others h k = k
+text-append : (xs ys : List Token) → AreText xs → AreText ys → AreText (xs ++ ys)
+text-append xs ys h k = are-text (xs ++ ys) (none-append is_not_text xs ys h.none k.none)
 
-pub cut_tokens-plain : (ends : ℕ → List Cell → List Token) (r : Region) (k start : ℕ) (text : List Cell)
-    → ((start : ℕ) (text : List Cell) → ArePlain (ends start text))
-    → ArePlain (cut_tokens ends r k start text)
-cut_tokens-plain ends r zero start [] h = h start []
-cut_tokens-plain ends r (suc k) start [] h = h start []
-cut_tokens-plain ends r (suc k) start (c ∷ cs) h = cut_tokens-plain ends r k start cs h
-cut_tokens-plain ends r zero start (c ∷ cs) h =
-    at_stop-plain (unit_at r (c ∷ cs)) _ _ (h start (c ∷ cs))
-    (plain-append _ _ (unit_tokens-plain r (unit_at r (c ∷ cs)) start c (byte_at 0 cs))
-    (cut_tokens-plain ends r (more_by (unit_at r (c ∷ cs)))
+pub text-plain : (ts : List Token) → AreText ts → ArePlain ts
+text-plain ts h = seen ts (none-by is_not_text is_not_plain one ts h.none)
+  where
+    one : (t : Token) → is_not_text t ≡ false → is_not_plain t ≡ false
+    one (token.Span kind s) h = refl
+    one token.QuoteBreak h = refl
+    one (token.Fault kind line) h = refl
+    one _ h = cc
+
+fault_if-text : (b : Bool) (kind : FaultKind) (line : ℕ) → AreText (fault_if b kind line)
+fault_if-text true kind line = are-text _ refl
+fault_if-text false kind line = are-text _ refl
+
+range-text : (r : Region) (s : Span) → AreText (range_token r s ∷ [])
+range-text region.Verbatim s = are-text _ refl
+range-text _ s = are-text _ refl
+
+cut_range-text : (r : Region) (line start end : ℕ) → AreText (cut_range r line start end)
+cut_range-text r line start end =
+    cond_both (nat_lt start end) _ [] AreText
+    (λ e. range-text r (record { line = line; start = start; end = end })) (λ e. are-text [] refl)
+
+unit_tokens-text : (r : Region) (u : Unit-of) (start : ℕ) (c : Cell) (next : Option ℕ)
+    → AreText (unit_tokens r u start c next)
+unit_tokens-text r unit.Two start c next =
+    cond_both (holds at_sign c.byte) _ _ AreText (λ e. cut_range-text r c.line start (c.column + 1))
+    (λ e. cond_both (holds backslash c.byte && is_line_end next) _ _ AreText
+    (λ k. text-append _ _ (cut_range-text r c.line start (c.column + 1)) (are-text _ refl)) (λ k. are-text [] refl))
+unit_tokens-text r _ start c next = fault_if-text (holds at_sign c.byte) fault.StringAt c.line
+
+at_stop-text : (u : Unit-of) (ending others : List Token)
+    → AreText ending → AreText others → AreText (at_stop u ending others)
+at_stop-text unit.Stop ending others h k = h
+at_stop-text _ ending others h k = k
+
+pub cut_tokens-text : (ends : ℕ → List Cell → List Token) (r : Region) (k start : ℕ) (text : List Cell)
+    → ((start : ℕ) (text : List Cell) → AreText (ends start text))
+    → AreText (cut_tokens ends r k start text)
+cut_tokens-text ends r zero start [] h = h start []
+cut_tokens-text ends r (suc k) start [] h = h start []
+cut_tokens-text ends r (suc k) start (c ∷ cs) h = cut_tokens-text ends r k start cs h
+cut_tokens-text ends r zero start (c ∷ cs) h =
+    at_stop-text (unit_at r (c ∷ cs)) _ _ (h start (c ∷ cs))
+    (text-append _ _ (unit_tokens-text r (unit_at r (c ∷ cs)) start c (byte_at 0 cs))
+    (cut_tokens-text ends r (more_by (unit_at r (c ∷ cs)))
     (next_start (unit_at r (c ∷ cs)) start c (byte_at 0 cs)) cs h))
 
-pub quote_end-plain : (r : Region) (close last start : ℕ) (text : List Cell)
-    → ArePlain (quote_end r close last start text)
-quote_end-plain r close last start [] = seen _ refl
-quote_end-plain r close last start (c ∷ cs) =
-    cond_both (holds close c.byte) _ _ ArePlain (λ e. cut_range-plain r c.line start (c.column + 1))
-    (λ e. plain-append _ _ (cut_range-plain r c.line start c.column) (seen _ refl))
+pub quote_end-text : (r : Region) (close last start : ℕ) (text : List Cell)
+    → AreText (quote_end r close last start text)
+quote_end-text r close last start [] = are-text _ refl
+quote_end-text r close last start (c ∷ cs) =
+    cond_both (holds close c.byte) _ _ AreText (λ e. cut_range-text r c.line start (c.column + 1))
+    (λ e. text-append _ _ (cut_range-text r c.line start c.column) (are-text _ refl))
 
-verbatim_end-plain : (start : ℕ) (text : List Cell) → ArePlain (verbatim_end start text)
-verbatim_end-plain start [] = seen [] refl
-verbatim_end-plain start (c ∷ cs) =
-    plain-append _ _ (cut_range-plain region.Verbatim c.line start c.column)
-    (fault_if-plain (is_line_end c.byte) fault.VerbatimEnd c.line)
+verbatim_end-text : (start : ℕ) (text : List Cell) → AreText (verbatim_end start text)
+verbatim_end-text start [] = are-text [] refl
+verbatim_end-text start (c ∷ cs) =
+    text-append _ _ (cut_range-text region.Verbatim c.line start c.column)
+    (fault_if-text (is_line_end c.byte) fault.VerbatimEnd c.line)
 
-empty_end-plain : (text : List Cell) → ArePlain (empty_end text)
-empty_end-plain [] = seen [] refl
-empty_end-plain (c ∷ cs) = fault_if-plain (is_line_end c.byte) fault.VerbatimEnd c.line
+empty_end-text : (text : List Cell) → AreText (empty_end text)
+empty_end-text [] = are-text [] refl
+empty_end-text (c ∷ cs) = fault_if-text (is_line_end c.byte) fault.VerbatimEnd c.line
 
-pub verbatim_tokens-plain : (text : List Cell) → ArePlain (verbatim_tokens text)
-verbatim_tokens-plain text =
-    cond_both (ends_at_once region.Verbatim text) _ _ ArePlain (λ e. seen _ (empty_end-plain text).none)
-    (λ e. cut_tokens-plain verbatim_end region.Verbatim 0 (front_column text) text verbatim_end-plain)
+pub verbatim_tokens-text : (text : List Cell) → AreText (verbatim_tokens text)
+verbatim_tokens-text text =
+    cond_both (ends_at_once region.Verbatim text) _ _ AreText (λ e. are-text _ (empty_end-text text).none)
+    (λ e. cut_tokens-text verbatim_end region.Verbatim 0 (front_column text) text verbatim_end-text)

@@ -27,7 +27,8 @@ use Rattle.tangle_lexer.specs.Reads.{ReadsOn}
 use Rattle.tangle_lexer.specs.Runs.{part_token, unfolded, IsRunOf, IsRunIn}
 use Rattle.tangle_lexer.specs.Simple.{IsSimple, simple_kind, is_c_text, is_c_part, is_word_or_sign, begins_run}
 use Rattle.tangle_lexer.specs.Simple.{is_apart_from_include}
-use Rattle.tangle_lexer.specs.Steps.{include_after_word, include_after_sign, c_lexeme, lexeme, tokens_from}
+use Rattle.tangle_lexer.specs.CText.{include_after_word, include_after_sign}
+use Rattle.tangle_lexer.specs.Steps.{c_lexeme, lexeme, tokens_from}
 use Rattle.tangle_lexer.specs.Steps.{occurrences_from}
 use Rattle.tangle_lexer.proofs.lemmas.BlockLemmas.{unfolded-append, rest-drop}
 use Rattle.tangle_lexer.proofs.lemmas.RunTokens.{in_part, Reads, front-byte, run-goes, BeginsRun, plain-begins}

@@ -26,7 +26,8 @@ use Rattle.tangle_lexer.specs.declared.tokens.Token.{Token}
 use Rattle.tangle_lexer.specs.declared.tokens.Token.TheVariants as token
 use Rattle.tangle_lexer.specs.Lexemes.{Lexeme}
 use Rattle.tangle_lexer.specs.Runs.{part_token}
-use Rattle.tangle_lexer.specs.Steps.{kind_by, kind_at, lexeme, c_lexeme, tokens_from, occurrences_from}
+use Rattle.tangle_lexer.specs.CText.{kind_by, kind_at}
+use Rattle.tangle_lexer.specs.Steps.{lexeme, c_lexeme, tokens_from, occurrences_from}
 use Rattle.tangle_lexer.proofs.lemmas.StepLemmas.{lexeme-here, tokens_from-step, occurrences_from-step}
 
 -- bytes of a run

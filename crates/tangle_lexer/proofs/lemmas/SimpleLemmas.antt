@@ -16,7 +16,8 @@ use Rattle.tangle_lexer.specs.declared.simple.SimpleLexeme.TheVariants as simple
 use Rattle.tangle_text.specs.Text.{Cell, byte_at}
 use Rattle.tangle_text.specs.Runs.{is_plain}
 use Rattle.tangle_lexer.specs.Lexemes.{Lexeme, with_include}
-use Rattle.tangle_lexer.specs.Steps.{kind_by, occurrences_from, lexeme, lexeme_in, c_lexeme, macro_lexeme}
+use Rattle.tangle_lexer.specs.CText.{kind_by}
+use Rattle.tangle_lexer.specs.Steps.{occurrences_from, lexeme, lexeme_in, c_lexeme, macro_lexeme}
 use Rattle.tangle_lexer.specs.Simple.{IsSimple, simple_of, simple_kind, is_word_or_sign, is_c_text}
 use Rattle.tangle_lexer.specs.declared.tokens.Token.{Token}
 use Rattle.tangle_lexer.specs.Reads.{IsRead}

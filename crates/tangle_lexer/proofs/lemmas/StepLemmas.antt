@@ -9,7 +9,8 @@ use Rattle.tangle_lexer.specs.declared.lexeme_kinds.LexemeKind.{LexemeKind}
 use Rattle.tangle_lexer.specs.declared.tokens.Token.{Token}
 use Rattle.tangle_text.specs.Text.{Cell}
 use Rattle.tangle_lexer.specs.Lexemes.{Lexeme, OccurrenceOnLine}
-use Rattle.tangle_lexer.specs.Steps.{kind_at, c_lexeme, lexeme_in, lexeme, lexemes, tokens_from, occurrences_from}
+use Rattle.tangle_lexer.specs.CText.{kind_at}
+use Rattle.tangle_lexer.specs.Steps.{c_lexeme, lexeme_in, lexeme, lexemes, tokens_from, occurrences_from}
 use Rattle.tangle_lexer.specs.Occurrences.{OccurrenceRead, occurrence_of}
 use Rattle.tangle_lexer.specs.Reads.{IsRead, AddsOccurrence}
 use Rattle.tangle_lexer.proofs.lemmas.OccurrencesCounted.{lexeme-keeps}

@@ -231,6 +231,17 @@ pub names_in_macros :
 unfolding lexeme tokens_from occurrences_from
 names_in_macros = refl
 
+-- heads with white space of each kind, and mentions before what is none
+pub white_space_in_heads :
+    shown (codes "@ @<n@>@&= @<n@>@^x@,@>= @<n@>/*" ∷ codes "*/= @<n@>@^x@>=u" ∷ codes "@ @<n@> /*@=*/+@;@t y@@@> ==z" ∷ [])
+    ≡ record plain {
+      sections = 2;
+      pieces = codes "1:2u\n\n2:3z\n\n";
+      names = codes "n" ∷ codes "n" ∷ codes "n" ∷ codes "n" ∷ codes "n" ∷ [];
+    }
+unfolding lexeme tokens_from occurrences_from
+white_space_in_heads = refl
+
 -- an empty verbatim text, and one that ends in @@
 pub empty_verbatim : shown (codes "@ A." ∷ codes "@c" ∷ codes "a@=@>b@=x@@@>c" ∷ [])
     ≡ record plain { pieces = codes "1:2\nabx@c\n\n" }

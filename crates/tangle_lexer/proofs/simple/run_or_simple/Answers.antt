@@ -1,7 +1,7 @@
-use Rattle.std.proofs.Common.{◌≡◌, true, refl, ap, sym, ◌∙◌}
+use Rattle.std.proofs.Common.{◌≡◌, true, length, drop, refl, ap, sym, ◌∙◌, arith, length-drop}
 use Rattle.tangle_text.specs.Text.{byte_at}
-use Rattle.tangle_lexer.specs.Simple.{begins_run}
-use Rattle.tangle_lexer.specs.Steps.{lexeme}
+use Rattle.tangle_lexer.specs.Simple.{begins_run, simple_kind}
+use Rattle.tangle_lexer.specs.Steps.{c_lexeme, lexeme}
 use Rattle.tangle_lexer.proofs.lemmas.BlockLemmas.{no-run, plain-reads-on}
 use Rattle.tangle_lexer.proofs.lemmas.RunLemmas.{run-read, run-reads-on}
 use Rattle.tangle_lexer.proofs.lemmas.SimpleLemmas.{simple-again, simple-read, simple-occurrences_from, simple-special}
@@ -27,3 +27,15 @@ returns-clause-read c = λ lines ours.
     (simple-special state c.args.reader.now c.args.simple c.requires.simple c.requires.mode))
     (simple-occurrences_from _ _ state _ c.args.reader.now _ c.args.simple c.requires.simple c.requires.mode again)
     ours
+
+pub returns-clause-shorter : goal.returns-clause-shorter
+returns-clause-shorter c =
+    let text = c.args.reader.now in
+    let here = c_lexeme (simple_kind c.args.simple) c.args.state text in
+    omega (
+      arith,
+      c.requires.simple.inside,
+      ap length c.in_ok-simple_step.ensures.ahead,
+      length-drop here.more (drop 1 text),
+      length-drop 1 text,
+    )
