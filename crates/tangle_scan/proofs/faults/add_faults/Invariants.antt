@@ -1,7 +1,7 @@
 use Rattle.std.proofs.Common.{◌≡◌, ◌++◌, take}
 use Rattle.std.specs.List.{flat_map}
 use Rattle.tangle_scan.specs.WebBuilder.{own_fault}
-use Rattle.tangle_scan.proofs.web_builder.add_faults.Given as goal
+use Rattle.tangle_scan.proofs.faults.add_faults.Given as goal
 
 abbrev pub invariant-loop-token : goal.invariant-loop-token
 invariant-loop-token l =
