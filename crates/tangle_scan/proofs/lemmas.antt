@@ -6,8 +6,7 @@ pub mod ItemsByOrigin
 pub mod KeptTokens
 pub mod MacroItemLemmas
 pub mod PartLemmas
-pub mod PlainPartLemmas
-pub mod RarePartLemmas
+pub mod EntryLemmas
 pub mod RuleLemmas
 pub mod RunItems
 pub mod ScanLemmas

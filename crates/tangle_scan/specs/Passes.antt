@@ -2,10 +2,11 @@
 use Rattle.std.specs.Prelude.{◌≡◌, ◌≤◌, ℕ, ◌+◌, max, Bool, true, false, ◌==◌, ◌&&◌, ◌||◌, not}
 use Rattle.std.specs.Prelude.{if◌then◌else◌}
 use Rattle.std.specs.Prelude.{List, [], ◌∷◌, ◌++◌, length, take, drop, slice_get, ◌-◌}
-use Rattle.std.specs.Prelude.{Option, Some, None, option_to_list}
+use Rattle.std.specs.Prelude.{Option, Some, None, is_some, option_to_list}
 use Rattle.tangle_lines.specs.declared.origin.Origin.{Origin}
 use Rattle.tangle_lexer.specs.declared.tokens.Token.{Token}
 use Rattle.tangle_lexer.specs.declared.tokens.Token.TheVariants as token
+use Rattle.tangle_text.specs.declared.spans.Span.{Span}
 use Rattle.tangle_scan.specs.declared.items.Item.{Item}
 use Rattle.tangle_scan.specs.declared.items.Item.TheVariants as item
 use Rattle.tangle_scan.specs.declared.items.Entry.{Entry}
@@ -14,20 +15,20 @@ use Rattle.tangle_scan.specs.declared.spacing.Gap.{Gap}
 use Rattle.tangle_scan.specs.declared.spacing.Stage.{Stage}
 use Rattle.tangle_scan.specs.declared.spacing.Spacing.{Spacing}
 use Rattle.tangle_scan.specs.declared.macro_items.MacroState.{MacroState}
-use Rattle.tangle_scan.specs.declared.plain_parts.CountedOrigin.{CountedOrigin}
-use Rattle.tangle_scan.specs.declared.plain_parts.PartState.{PartState}
-use Rattle.tangle_scan.specs.declared.rare_parts.Last.{Last}
-use Rattle.tangle_scan.specs.declared.rare_parts.Last.TheVariants as last
-use Rattle.tangle_scan.specs.declared.rare_parts.RarePartState.{RarePartState}
-use Rattle.tangle_lexer.specs.declared.tokens.SpanKind.TheVariants as span_kind
+use Rattle.tangle_scan.specs.declared.parts.CountedOrigin.{CountedOrigin}
+use Rattle.tangle_scan.specs.declared.parts.PartState.{PartState}
+use Rattle.tangle_scan.specs.declared.parts.Start.{Start}
+use Rattle.tangle_scan.specs.declared.parts.Last.{Last}
+use Rattle.tangle_scan.specs.declared.parts.Last.TheVariants as last
 use Rattle.tangle_scan.specs.declared.spacing.Stage.TheVariants as stage
-use Rattle.tangle_text.specs.Bytes.{backslash}
+use Rattle.tangle_text.specs.Bytes.{backslash, is_word_byte}
 use Rattle.tangle_lines.specs.Reading.{SourceLine, origin_at}
 use Rattle.tangle_scan.specs.Rules.{without_faults, without_front_gaps, may_follow_name, is_gap}
 use Rattle.tangle_scan.specs.Rules.{would_merge, is_constant, is_word_token, has_join}
-use Rattle.tangle_scan.specs.Rules.{without_joins}
-use Rattle.tangle_scan.specs.Rules.{texts_of, first_byte, last_byte, ends_in_backslash, span_item}
-use Rattle.tangle_scan.specs.Rules.{next_line}
+use Rattle.tangle_scan.specs.Rules.{without_joins, left_of_run, blanks, is_continued, at_line_front}
+use Rattle.tangle_scan.specs.Rules.{texts_of, first_byte, last_byte, span_item, next_line}
+use Rattle.tangle_scan.specs.Entries.{items_of, entry_is_mark}
+use Rattle.std.specs.List.{list_any}
 use Rattle.tangle_scan.specs.LineTruth.{is_expected, counted_after_line_end}
 use Rattle.tangle_scan.specs.Rules.{macro_blanks, unmarked_items}
 
@@ -94,7 +95,7 @@ is_name_spaced texts [] = true
 is_name_spaced texts (e ∷ []) = true
 is_name_spaced texts (e ∷ f ∷ es) = may_follow_name texts f
 
--- rules 3 to 5 for a C part without rare tokens
+-- a C part
 
 abbrev pub origin_of : CountedOrigin → Origin
 origin_of counted = record { file = counted.file; line = counted.line }
@@ -143,72 +144,57 @@ abbrev pub last_continues : List (List ℕ) → Option Entry → Bool
 last_continues texts None = false
 last_continues texts (Some x) = entry_continues texts x
 
+abbrev pub last_entry : List Entry → Option Entry
+last_entry entries = slice_get entries (length entries - 1)
+
 abbrev pub entries_continue : List (List ℕ) → List Entry → Bool
-entries_continue texts entries = last_continues texts (slice_get entries (length entries - 1))
+entries_continue texts entries = last_continues texts (last_entry entries)
 
--- The items for tokens that were not read yet. `keeps`: white space before an item is a blank.
--- `continues`: the next line continues this one if it ends here. `white`: white space is directly
--- before. `counted`: the counted origin.
-abbrev pub plain_items_ahead : List SourceLine → Bool → Bool → Bool → Origin → List Token
-    → List Item
-plain_items_ahead lines keeps continues white counted [] = []
-plain_items_ahead lines keeps continues white counted (token.White ∷ es) =
-    plain_items_ahead lines keeps continues true counted es
-plain_items_ahead lines keeps continues white counted (token.LineEnd line ∷ es) =
-    line_item lines continues counted line
-    ∷ plain_items_ahead lines continues false false
-    (counted_after_line_end lines continues counted line) es
-plain_items_ahead lines keeps continues white counted (e ∷ es) =
-    (if keeps && white then item.Blank ∷ [] else [])
-    ++ (items_at lines e
-    ++ plain_items_ahead lines true (ends_in_backslash (texts_of lines) e)
-    false (counted_after_token lines counted e) es)
+-- rule 1 puts white space between the last entry and this token
 
--- the items for tokens that were not read yet, after these entries
-unfoldable pub items_ahead : List SourceLine → PartState → List Entry → List Token → List Item
-items_ahead lines at entries es =
-    plain_items_ahead lines at.keeps_white
-    (entries_continue (texts_of lines) entries) at.has_white (origin_of at.counted) es
+abbrev pub is_code : Option Entry → Bool
+is_code (Some (entry.Item (item.Code b))) = true
+is_code _ = false
 
--- all rules in one pass over a C part that has rare tokens
+abbrev pub is_word_end : List (List ℕ) → Option Entry → Bool
+is_word_end texts (Some (entry.Item (item.Word s))) = true
+is_word_end texts (Some (entry.Run s)) = is_word_byte (last_byte texts s)
+is_word_end texts _ = false
 
--- the run of joins, white space and line ends at the front has a join
-abbrev pub joins_ahead : List Token → Bool
-joins_ahead [] = false
-joins_ahead (token.Join ∷ es) = true
-joins_ahead (token.White ∷ es) = joins_ahead es
-joins_ahead (token.LineEnd line ∷ es) = joins_ahead es
-joins_ahead (token.Fault kind line ∷ es) = joins_ahead es
-joins_ahead (e ∷ es) = false
+abbrev pub entries_merge : List (List ℕ) → List Entry → Token → Bool
+entries_merge texts entries e =
+    is_code (last_entry entries) && (is_constant e || is_word_token e)
+    || is_word_end texts (last_entry entries) && is_constant e
 
--- rule 1 puts white space between `last` and this token
-abbrev pub touches : Last → Token → Bool
-touches last.Word e = is_constant e
-touches last.AsciiConstant e = is_constant e || is_word_token e
-touches _ e = false
+-- rule 4 and rule 5 in one pass: the items of tokens that rule 3 made, by the token before them on
+-- the line and by the counted origin
+abbrev pub items_by_origin : List SourceLine → Option Token → Origin → List Token → List Item
+items_by_origin lines before counted [] = []
+items_by_origin lines before counted (token.LineEnd line ∷ es) =
+    let continued : Bool = is_continued (texts_of lines) before in
+    line_item lines continued counted line
+    ∷ items_by_origin lines (at_line_front (texts_of lines) before line)
+    (counted_after_line_end lines continued counted line) es
+items_by_origin lines before counted (token.White ∷ es) =
+    item.Blank ∷ items_by_origin lines before counted es
+items_by_origin lines before counted (e ∷ es) =
+    items_at lines e ++ items_by_origin lines (Some e) (counted_after_token lines counted e) es
 
--- a blank goes before the item of this token
-abbrev pub needs_blank : Last → Token → Bool
-needs_blank last.White e = true
-needs_blank last.ContinuedWhite e = true
-needs_blank at e = touches at e
+-- rules 3 to 5 for the tokens after a token `before`; `white`: white space is directly before them
+abbrev pub items_after : List SourceLine → Option Token → Origin → Bool → List Token → List Item
+items_after lines before counted white es =
+    items_by_origin lines before counted (blanks (texts_of lines) before white es)
 
--- what `Last` is after white space, after the end of a line and after a token that is an item
+-- the tokens that rule 1 makes of those after a token
+abbrev pub spaced_after : Token → List Token → List Token
+spaced_after before es = with_white_space [] stage.Inside before (without_faults es)
 
-abbrev pub last_after_white : Last → Last
-last_after_white last.Front = last.Front
-last_after_white last.Joined = last.Joined
-last_after_white last.Continued = last.ContinuedWhite
-last_after_white last.ContinuedWhite = last.ContinuedWhite
-last_after_white _ = last.White
+-- what is known of `Last`
 
-abbrev pub last_after_line_end : Bool → Last
-last_after_line_end continued = if continued then last.Continued else last.Front
-
-abbrev pub last_of : Token → Last
-last_of (token.Span span_kind.Word s) = last.Word
-last_of (token.AsciiConstant value line) = last.AsciiConstant
-last_of _ = last.Other
+abbrev pub keeps_white : Last → Bool
+keeps_white last.Continued = true
+keeps_white last.Item = true
+keeps_white _ = false
 
 abbrev pub is_joined : Last → Bool
 is_joined last.Joined = true
@@ -218,58 +204,84 @@ is_joined _ = false
 abbrev pub is_after_line_end : Last → Bool
 is_after_line_end last.Front = true
 is_after_line_end last.Continued = true
-is_after_line_end last.ContinuedWhite = true
 is_after_line_end _ = false
 
--- nothing but white space was read since the last item
-abbrev pub is_after_item : Last → Bool
-is_after_item last.Other = true
-is_after_item last.Word = true
-is_after_item last.AsciiConstant = true
-is_after_item last.White = true
-is_after_item _ = false
+abbrev pub last_after_line_end : Bool → Last
+last_after_line_end continued = if continued then last.Continued else last.Front
 
--- the next line continues a line that ends here: the line has items, and the last one ends in a
--- backslash
-abbrev pub continues_after : List (List ℕ) → Last → Token → Bool
-continues_after texts at e = is_after_item at && ends_in_backslash texts e
+abbrev pub is_item : Last → Bool
+is_item last.Item = true
+is_item _ = false
 
--- The items that all rules give for tokens that were not read yet: `at` is what is directly before
--- them, `before` the token of the last item, and `counted` the counted origin.
-abbrev pub rare_items_ahead : List SourceLine → Last → Token → Origin → List Token → List Item
-rare_items_ahead lines at before counted [] = []
-rare_items_ahead lines at before counted (token.Fault kind line ∷ es) =
-    rare_items_ahead lines at before counted es
-rare_items_ahead lines at before counted (token.Join ∷ es) =
-    rare_items_ahead lines last.Joined before counted es
-rare_items_ahead lines at before counted (token.White ∷ es) =
-    rare_items_ahead lines (last_after_white at) before counted es
-rare_items_ahead lines at before counted (token.LineEnd line ∷ es) =
-    if is_joined at || joins_ahead es then rare_items_ahead lines last.Joined before counted es
-    else (let continued : Bool = continues_after (texts_of lines) at before in
-    line_item lines continued counted line
-    ∷ rare_items_ahead lines (last_after_line_end continued) before
-    (counted_after_line_end lines continued counted line) es)
-rare_items_ahead lines at before counted (e ∷ es) =
-    (if needs_blank at e then item.Blank ∷ [] else [])
-    ++ (items_at lines e
-    ++ rare_items_ahead lines (last_of e) e (counted_after_token lines counted e) es)
+-- the last item is directly before the next token
+abbrev pub is_touching : PartState → Bool
+is_touching at = is_item at.last && not at.has_white
 
--- line ends were added that a later join of the same run removes
-abbrev pub takes_back : Last → List Token → Bool
-takes_back at es = is_after_line_end at && joins_ahead es
+-- where the current gap of joins, white space and line ends begins: the number of entries before
+-- it, and the counted origin
+abbrev pub start_of_gap : List Entry → PartState → Start
+start_of_gap entries at =
+    if is_after_line_end at.last then at.start
+    else record { entries = length entries; counted = at.counted }
 
--- all items of a part: those made so far, without line ends that a later join removes, and those
--- for the tokens not read yet
-unfoldable pub all_items : List SourceLine → List Item → RarePartState → List Token → List Item
-all_items lines items at es =
-    if takes_back at.last es
-    then take at.start.items items
-    ++ rare_items_ahead lines last.Joined at.item (origin_of at.start.counted) es
-    else items ++ rare_items_ahead lines at.last at.item (origin_of at.counted) es
+-- the items of the entries before the current gap, then those of the gap and the tokens after it;
+-- `front`: the token before the gap
+abbrev pub from_gap : List SourceLine → List Entry → PartState → Option Token → List Token
+    → List Item
+from_gap lines entries at front es =
+    items_of (texts_of lines) (take (start_of_gap entries at).entries entries)
+    ++ items_after lines front (origin_of (start_of_gap entries at).counted) false es
+
+-- The entries so far and the state are those of the tokens so far, which end with the gap `gap`.
+-- `front` is the token before the gap, `before` the last token on the current line, and `prev` the
+-- last token.
+pub record IsRead (lines : List SourceLine) (entries : List Entry) (at : PartState) : Type 0 where
+  pub gap : List Token
+  pub front : Option Token
+  pub before : Option Token
+  pub prev : Token
+  pub start : at.start.entries ≤ length entries
+  pub joined : has_join gap ≡ is_joined at.last
+  pub made : (es : List Token) → from_gap lines entries at front (left_of_run gap ++ es)
+      ≡ items_of (texts_of lines) entries
+      ++ items_after lines before (origin_of at.counted) (keeps_white at.last && at.has_white) es
+  pub keeps : is_joined at.last ≡ false → is_some before ≡ keeps_white at.last
+  pub continues : is_joined at.last ≡ false
+      → is_continued (texts_of lines) before ≡ entries_continue (texts_of lines) entries
+  pub merges : (e : Token)
+      → would_merge prev e ≡ (is_touching at && entries_merge (texts_of lines) entries e)
+
+-- The items `whole` of a C part are those of the entries so far, then those of the tokens `es` that
+-- were not read yet.
+pub record IsPassed (lines : List SourceLine) (whole : List Item) (entries : List Entry)
+    (at : PartState) (es : List Token) : Type 0 where
+  pub read : IsRead lines entries at
+  pub left : whole
+      ≡ from_gap lines entries at read.front (without_joins read.gap (spaced_after read.prev es))
+
+-- a blank goes before the item of a token
+abbrev pub blank_before : List SourceLine → List Entry → PartState → Token → Bool
+blank_before lines entries at e =
+    is_touching at && entries_merge (texts_of lines) entries e
+    || keeps_white at.last && at.has_white
+
+-- a blank goes before a run, by the first byte of the run
+abbrev pub blank_before_run : List SourceLine → List Entry → PartState → Span → Bool
+blank_before_run lines entries at s =
+    is_touching at && (is_code (last_entry entries) && is_word_byte (first_byte (texts_of lines) s))
+    || keeps_white at.last && at.has_white
+
+abbrev pub blank_if : Bool → List Item
+blank_if blank = if blank then item.Blank ∷ [] else []
+
+-- whether there is a mark among the entries so far, and among those before the current gap
+pub record IsMarked (entries : List Entry) (at : PartState) : Type 0 where
+  pub start : at.start.entries ≤ length entries
+  pub now : list_any entry_is_mark entries ≡ at.counted.has_mark
+  pub before : list_any entry_is_mark (take at.start.entries entries) ≡ at.start.counted.has_mark
 
 -- the higher of the two counted lines of the state, for which a limit is proved
-abbrev pub highest : RarePartState → ℕ
+abbrev pub highest : PartState → ℕ
 highest at = max at.counted.line at.start.counted.line
 
 -- the last item of the current line, if it has one

@@ -2,13 +2,13 @@
 #![tactic(auto)]
 
 mod apart;
+mod faults;
 mod items;
 mod kept_bytes;
 mod line_truth;
 mod macro_items;
+mod parts;
 mod pieces;
-mod plain_parts;
-mod rare_parts;
 mod scanning;
 mod spacing;
 mod touching;

@@ -9,7 +9,7 @@ ghost use Rattle.tangle_scan.specs.Passes.{item_before, unmarked_from};
 ghost use Rattle.tangle_scan.specs.declared.items.Item.TheVariants as item;
 
 use crate::items::Item;
-use crate::plain_parts::{blank, item_of, push_some, span_item};
+use crate::parts::{blank, item_of, push_some, span_item};
 use crate::touching::may_touch;
 use tangle_lexer::{SpanKind, Token};
 use tangle_lines::{NoMemory, Source};

@@ -211,7 +211,7 @@ fn space(source: &Source, spaced: &mut Vec<Token>, tokens: &[Token]) -> Result<(
 /// Whether a token is one that most blocks do not have: a fault, a join, an ASCII constant or `@h`.
 /// Without such tokens there is no fault to add, and spacing changes at most the front of a macro. A
 /// head, which no block has, counts as one.
-pub(crate) fn is_rare(token: Token) -> bool
+fn is_rare(token: Token) -> bool
     ensures { result ≡ passes.is_rare token }
 {
     matches!(
@@ -227,7 +227,7 @@ pub(crate) fn is_rare(token: Token) -> bool
     )
 }
 
-pub(crate) fn has_rare(tokens: &[Token]) -> bool
+fn has_rare(tokens: &[Token]) -> bool
     ensures { result ≡ list_any passes.is_rare tokens.now }
 {
     tokens.iter().any(|token| is_rare(*token))
@@ -270,14 +270,12 @@ pub(crate) fn macro_tokens<'e>(
     source: &Source,
     spaced: &'e mut Vec<Token>,
     tokens: &'e [Token],
-    has_rare: bool,
 ) -> Result<&'e [Token], NoMemory>
-    requires { has_rare ≡ list_any passes.is_rare tokens.now }
     ensures { IfOk result (λ left. left.now
         ≡ rules.macro_tokens (texts_of source.now.lines) tokens.entry.now) }
 {
     let rest = after_front(tokens);
-    if !has_rare && is_name_spaced(source, rest) {
+    if !has_rare(tokens) && is_name_spaced(source, rest) {
         return Ok(rest);
     }
     space(source, spaced, tokens)?;

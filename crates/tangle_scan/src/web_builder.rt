@@ -17,167 +17,46 @@ ghost use Rattle.tangle_scan.specs.Rules.{texts_of};
 ghost use Rattle.tangle_scan.specs.WebBuilder.{own_fault, nothing_stored, builder_read};
 ghost use Rattle.tangle_scan.specs.WebBuilder.{builder_with, with_head};
 
+use crate::faults::{add_fault, add_faults};
 use crate::items::{Entry, Item, OccurrenceNumber};
 use crate::macro_items::fill_macro;
+use crate::parts::{PartNotes, fill_part};
 use crate::pieces::{Macro, Piece};
-use crate::plain_parts::{PartFlags, fill_plain_part};
-use crate::rare_parts::fill_rare_part;
-use crate::spacing::{has_rare, macro_tokens};
+use crate::spacing::macro_tokens;
 use crate::touching::first_byte;
 use std::alloc::Global;
 use std::marker::Model;
 use tangle_lexer::Token;
 use tangle_lines::{Fault, FaultKind, NoMemory, Source};
 
-/// Whether some token is `@h`.
-fn has_all_macros(tokens: &[Token], has_rare: bool) -> bool
-    requires { has_rare ≡ list_any passes.is_rare tokens.now }
-    ensures { result ≡ list_any web.is_all_macros tokens.now }
-{
-    has_rare
-        && tokens
-            .iter()
-            .any(|token| matches!(token, Token::AllMacros(_)))
-}
-
-/// Adds a fault on a source line.
-fn add_scan_fault(
-    alloc: Global,
-    source: &Source,
-    faults: &mut Vec<Fault>,
-    kind: FaultKind,
-    line: u32,
-) -> Result<(), NoMemory>
-    ensures { OnOk result (faults.new.items
-        ≡ faults.old.items ++ web.fault_on source.now.files source.now.lines kind line ∷ []) }
-{
-    let origin = source.origin(line as usize);
-    let fault = Fault::at(alloc, kind, source.file_name(origin), origin.line)?;
-    faults.push(fault)?;
-    Ok(())
-}
-
-/// Adds the fault of a token, if the token is a fault.
-fn add_own_fault(
-    alloc: Global,
-    source: &Source,
-    faults: &mut Vec<Fault>,
-    token: Token,
-) -> Result<(), NoMemory>
-    ensures { OnOk result (faults.new.items ≡ faults.old.items
-        ++ own_fault source.now.files source.now.lines token) }
-{
-    if let Token::Fault(kind, line) = token {
-        add_scan_fault(alloc, source, faults, kind, line)?;
-    }
-    Ok(())
-}
-
-/// Adds the faults among some tokens.
-fn add_faults(
-    alloc: Global,
-    source: &Source,
-    faults: &mut Vec<Fault>,
-    tokens: &[Token],
-    has_rare: bool,
-) -> Result<(), NoMemory>
-    requires { has_rare ≡ list_any passes.is_rare tokens.now }
-    ensures { OnOk result (faults.new.items
-        ≡ faults.old.items ++ flat_map (own_fault source.now.files source.now.lines) tokens.now) }
-{
-    if !has_rare {
-        return Ok(());
-    }
-    for token in tokens {
-        add_own_fault(alloc, source, faults, *token)?;
-    }
-    Ok(())
-}
-
-/// Replaces `entries` by these items.
-fn replace_entries(entries: &mut Vec<Entry>, items: &[Item]) -> Result<(), NoMemory>
-    ensures { OnOk result (entries.new.items ≡ map entry.Item items.now) }
-{
-    entries.clear();
-    entries.reserve(items.len())?;
-    for item in items {
-        entries.push(Entry::Item(*item))?;
-    }
-    Ok(())
-}
-
-/// Replaces `entries` by those of a C part whose head ends on this line, which has rare tokens.
-// It is not inlined into the long function that adds a piece, since most parts have no rare token.
-#[inline(never)]
-fn fill_part_with_rare(
-    alloc: Global,
-    source: &Source,
-    entries: &mut Vec<Entry>,
-    line: u32,
-    tokens: &[Token],
-) -> Result<(), NoMemory>
-    requires { All (IsRunIn (texts_of source.now.lines)) tokens.now }
-    ensures { OnOk result (entries.new.items ≡ map entry.Item (rules.part_items source.now.lines
-        line (unfolded (texts_of source.now.lines) tokens.now))) }
-{
-    let mut items = Vec::with_capacity(alloc, tokens.len())?;
-    fill_rare_part(source, &mut items, line, tokens)?;
-    replace_entries(entries, &items)
-}
-
-/// Replaces `entries` by those of a C part whose head ends on this line. Most parts have no rare
-/// token. If a part has one, the entries before that token are made a second time.
-fn fill_part(
-    alloc: Global,
-    source: &Source,
-    entries: &mut Vec<Entry>,
-    line: u32,
-    tokens: &[Token],
-) -> Result<PartFlags, NoMemory>
-    requires { All (IsRunIn (texts_of source.now.lines)) tokens.now }
-    ensures items { OnOk result (items_of (texts_of source.now.lines) entries.new.items
-        ≡ rules.part_items source.now.lines line
-        (unfolded (texts_of source.now.lines) tokens.now)) }
-    ensures runs { OnOk result
-        (All (IsEntryInRange (texts_of source.now.lines)) entries.new.items) }
-    ensures rare { IfOk result (λ flags. flags.has_rare ≡ list_any passes.is_rare tokens.now) }
-    ensures mark { IfOk result (λ flags. flags.may_have_mark ≡ false →
-        list_any entry_is_mark entries.new.items ≡ false) }
-{
-    let flags = fill_plain_part(source, entries, line, tokens)?;
-    if !flags.has_rare {
-        return Ok(flags);
-    }
-    fill_part_with_rare(alloc, source, entries, line, tokens)?;
-    Ok(PartFlags {
-        has_rare: true,
-        may_have_mark: true,
-    })
-}
-
-/// The entries of a C part whose head ends on this line, with their flags.
+/// The entries of a C part whose head ends on this line, and what was noted of it. Adds the faults
+/// among its tokens.
 // The vector has capacity for one entry for each token. A part has at most a few entries more, and
 // capacity that is left is freed.
-fn part_items(
+fn part_entries(
     alloc: Global,
     source: &Source,
+    faults: &mut Vec<Fault>,
     line: u32,
     tokens: &[Token],
-) -> Result<(Vec<Entry>, PartFlags), NoMemory>
+) -> Result<(Vec<Entry>, PartNotes), NoMemory>
+    requires no_head { list_any is_head tokens.now ≡ false }
     requires runs { All (IsRunIn (texts_of source.now.lines)) tokens.now }
     ensures items { IfOk result (λ r. items_of (texts_of source.now.lines) r.0.items
         ≡ rules.part_items source.now.lines line
         (unfolded (texts_of source.now.lines) tokens.now)) }
     ensures runs { IfOk result
         (λ r. All (IsEntryInRange (texts_of source.now.lines)) r.0.items) }
-    ensures rare { IfOk result (λ r. r.1.has_rare ≡ list_any passes.is_rare tokens.now) }
-    ensures mark { IfOk result (λ r. r.1.may_have_mark ≡ false →
-        list_any entry_is_mark r.0.items ≡ false) }
+    ensures mark { IfOk result (λ r. r.1.has_mark ≡ list_any entry_is_mark r.0.items) }
+    ensures all_macros { IfOk result
+        (λ r. r.1.has_all_macros ≡ list_any web.is_all_macros tokens.now) }
+    ensures faults { OnOk result (faults.new.items
+        ≡ faults.old.items ++ flat_map (own_fault source.now.files source.now.lines) tokens.now) }
 {
     let mut entries = Vec::with_capacity(alloc, tokens.len())?;
-    let flags = fill_part(alloc, source, &mut entries, line, tokens)?;
+    let notes = fill_part(alloc, source, faults, &mut entries, line, tokens)?;
     entries.shrink_to_fit();
-    Ok((entries, flags))
+    Ok((entries, notes))
 }
 
 /// A buffer that holds the tokens of one macro at a time.
@@ -199,13 +78,11 @@ impl MacroBuffer {
         alloc: Global,
         source: &Source,
         tokens: &[Token],
-        has_rare: bool,
     ) -> Result<Vec<Item>, NoMemory>
-        requires { has_rare ≡ list_any passes.is_rare tokens.now }
         ensures { IfOk result (λ items. items.items
             ≡ rules.macro_items (texts_of source.now.lines) tokens.now) }
     {
-        let left = macro_tokens(source, &mut self.tokens, tokens, has_rare)?;
+        let left = macro_tokens(source, &mut self.tokens, tokens)?;
         let mut items = Vec::with_capacity(alloc, left.len())?;
         fill_macro(source, &mut items, left)?;
         items.shrink_to_fit();
@@ -275,12 +152,30 @@ impl WebBuilder {
         ensures pieces { OnOk result (self.new.pieces ≡ self.old.pieces) }
         ensures sections { OnOk result (self.new.sections ≡ self.old.sections) }
     {
-        add_faults(alloc, source, &mut self.faults, tokens, has_rare(tokens))?;
+        add_faults(alloc, source, &mut self.faults, tokens)?;
         Ok(())
     }
 
-    /// Adds the piece of a C part whose head ends on this line. Returns whether some of its tokens
-    /// are rare.
+    /// Adds a section, and the faults among the tokens before its first macro or C part.
+    fn add_section(
+        &mut self,
+        alloc: Global,
+        source: &Source,
+        tokens: &[Token],
+    ) -> Result<(), NoMemory>
+        requires { self.old.sections + 1 < 2 ^ 64 }
+        ensures { OnOk result (self.new ≡ record self.old {
+          sections = self.old.sections + 1;
+          faults = self.old.faults
+              ++ flat_map (own_fault source.now.files source.now.lines) tokens.now;
+        }) }
+    {
+        self.sections += 1;
+        add_faults(alloc, source, &mut self.faults, tokens)?;
+        Ok(())
+    }
+
+    /// Adds the piece of a C part whose head ends on this line, and the faults among its tokens.
     fn add_piece(
         &mut self,
         alloc: Global,
@@ -288,7 +183,8 @@ impl WebBuilder {
         occurrence: Option<OccurrenceNumber>,
         line: u32,
         tokens: &[Token],
-    ) -> Result<bool, NoMemory>
+    ) -> Result<(), NoMemory>
+        requires no_head { list_any is_head tokens.now ≡ false }
         requires runs { All (IsRunIn (texts_of source.now.lines)) tokens.now }
         requires kept { RunsAreInRange (texts_of source.now.lines) self.old.pieces }
         ensures piece { OnOk result (let texts = texts_of source.now.lines in
@@ -301,26 +197,22 @@ impl WebBuilder {
               } ∷ [];
               has_all_macros =
                   self.old.has_all_macros || list_any web.is_all_macros (unfolded texts tokens.now);
+              faults = self.old.faults
+                  ++ flat_map (own_fault source.now.files source.now.lines)
+                  (unfolded texts tokens.now);
             }) }
         ensures kept { OnOk result (RunsAreInRange (texts_of source.now.lines) self.new.pieces) }
-        ensures rare { IfOk result (λ rare. rare ≡ list_any passes.is_rare tokens.now) }
     {
-        let (entries, flags) = part_items(alloc, source, line, tokens)?;
+        let (entries, notes) = part_entries(alloc, source, &mut self.faults, line, tokens)?;
         let origin = source.origin(line as usize);
-        let piece = Piece::new(
-            self.sections,
-            origin,
-            occurrence,
-            entries,
-            flags.may_have_mark,
-        );
+        let piece = Piece::new(self.sections, origin, occurrence, entries, notes.has_mark);
         self.pieces.push(piece)?;
-        self.has_all_macros = self.has_all_macros || has_all_macros(tokens, flags.has_rare);
-        Ok(flags.has_rare)
+        self.has_all_macros = self.has_all_macros | notes.has_all_macros;
+        Ok(())
     }
 
     /// Adds a macro, or a fault on the line of its `@d` if the macro does not begin with an
-    /// identifier. Returns whether some of its tokens are rare.
+    /// identifier, and then the faults among its tokens.
     fn add_macro(
         &mut self,
         alloc: Global,
@@ -328,64 +220,25 @@ impl WebBuilder {
         macro_buffer: &mut MacroBuffer,
         line: u32,
         tokens: &[Token],
-    ) -> Result<bool, NoMemory>
-        ensures added { OnOk result
+    ) -> Result<(), NoMemory>
+        ensures { OnOk result
             (let items = rules.macro_items (texts_of source.now.lines) tokens.now in
             let is_macro = rules.is_macro (texts_of source.now.lines) items in
             self.new ≡ record self.old {
               macros = self.old.macros ++ (if is_macro then items ∷ [] else []);
-              faults = self.old.faults ++ (if is_macro then []
-                  else web.fault_on source.now.files source.now.lines fault.MacroName line ∷ []);
+              faults = (self.old.faults ++ (if is_macro then []
+                  else web.fault_on source.now.files source.now.lines fault.MacroName line ∷ []))
+                  ++ flat_map (own_fault source.now.files source.now.lines) tokens.now;
             }) }
-        ensures rare { IfOk result (λ rare. rare ≡ list_any passes.is_rare tokens.now) }
     {
-        let rare = has_rare(tokens);
-        let items = macro_buffer.macro_items(alloc, source, tokens, rare)?;
+        let items = macro_buffer.macro_items(alloc, source, tokens)?;
         if is_macro(source, &items) {
             self.macros.push(Macro::new(items))?;
-            return Ok(rare);
+        } else {
+            add_fault(alloc, source, &mut self.faults, FaultKind::MacroName, line)?;
         }
-        add_scan_fault(alloc, source, &mut self.faults, FaultKind::MacroName, line)?;
-        Ok(rare)
-    }
-
-    /// Adds the section, the macro or the piece that a head begins, without the faults among its
-    /// tokens. Returns whether some of these tokens are rare.
-    fn add_head(
-        &mut self,
-        alloc: Global,
-        source: &Source,
-        macro_buffer: &mut MacroBuffer,
-        head: Token,
-        tokens: &[Token],
-    ) -> Result<bool, NoMemory>
-        requires limit { self.old.sections + 1 < 2 ^ 64 }
-        requires head { is_head head ≡ true }
-        requires whole { let texts = texts_of source.now.lines in
-            web.body (unfolded texts tokens.now) ≡ unfolded texts tokens.now }
-        requires runs { All (IsRunIn (texts_of source.now.lines)) tokens.now }
-        requires no_run { (line : ℕ) → head ≡ token.MacroStart line → HasNoRun tokens.now }
-        requires kept { RunsAreInRange (texts_of source.now.lines) self.old.pieces }
-        ensures head { OnOk result (let texts = texts_of source.now.lines in
-            builder_read texts self.new
-            ≡ with_head source.now (builder_read texts self.old) head
-            (unfolded texts tokens.now)) }
-        ensures kept { OnOk result (RunsAreInRange (texts_of source.now.lines) self.new.pieces) }
-        ensures rare { IfOk result (λ rare. rare ≡ list_any passes.is_rare tokens.now) }
-    {
-        match head {
-            Token::Section => {
-                self.sections += 1;
-                Ok(has_rare(tokens))
-            }
-            Token::MacroStart(line) => self.add_macro(alloc, source, macro_buffer, line, tokens),
-            Token::UnnamedPart(line) => self.add_piece(alloc, source, None, line, tokens),
-            Token::NamedPart(line, occurrence) => {
-                let occurrence = OccurrenceNumber::new(occurrence);
-                self.add_piece(alloc, source, Some(occurrence), line, tokens)
-            }
-            _ => Ok(has_rare(tokens)),
-        }
+        add_faults(alloc, source, &mut self.faults, tokens)?;
+        Ok(())
     }
 
     /// Adds a block: a head and the tokens up to the next head.
@@ -410,8 +263,15 @@ impl WebBuilder {
         ensures kept { OnOk result (RunsAreInRange (texts_of source.now.lines) self.new.pieces) }
         ensures sections { OnOk result (self.new.sections ≤ self.old.sections + 1) }
     {
-        let rare = self.add_head(alloc, source, macro_buffer, head, tokens)?;
-        add_faults(alloc, source, &mut self.faults, tokens, rare)?;
-        Ok(())
+        match head {
+            Token::Section => self.add_section(alloc, source, tokens),
+            Token::MacroStart(line) => self.add_macro(alloc, source, macro_buffer, line, tokens),
+            Token::UnnamedPart(line) => self.add_piece(alloc, source, None, line, tokens),
+            Token::NamedPart(line, occurrence) => {
+                let occurrence = OccurrenceNumber::new(occurrence);
+                self.add_piece(alloc, source, Some(occurrence), line, tokens)
+            }
+            _ => Ok(()),
+        }
     }
 }

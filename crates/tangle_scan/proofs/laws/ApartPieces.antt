@@ -16,8 +16,8 @@ use Rattle.tangle_scan.specs.declared.items.Item.{Item}
 use Rattle.tangle_scan.specs.Rules.{texts_of, span_text, ends_in_backslash, is_continued}
 use Rattle.tangle_scan.specs.Rules.{is_front_gap, blanks, next_line, part_tokens, part_items}
 use Rattle.tangle_scan.specs.LineTruth.{is_expected}
-use Rattle.tangle_scan.proofs.lemmas.ItemsByOrigin.{items_by_origin, part_items-by_origin}
-use Rattle.tangle_scan.specs.Passes.{counted_after_token}
+use Rattle.tangle_scan.proofs.lemmas.ItemsByOrigin.{part_items-by_origin}
+use Rattle.tangle_scan.specs.Passes.{counted_after_token, items_by_origin}
 use Rattle.tangle_scan.specs.Apart.{read_after, is_gap_read, ends_line, is_backslash, read_tokens, needs_white}
 use Rattle.tangle_scan.specs.Apart.{after_backslash}
 use Rattle.tangle_scan.specs.Apart.{token_bytes, AreReadApart, EndsPiece, piece_item_bytes, IsPieceReadApart}

@@ -12,9 +12,9 @@ use Rattle.tangle_lines.specs.Reading.{SourceLine, origin_at}
 use Rattle.tangle_scan.specs.Rules.{texts_of, span_item, part_tokens, macro_tokens, at_line_front, blanks}
 use Rattle.tangle_scan.specs.Rules.{is_continued, macro_blanks, unmarked_items, part_items, macro_items}
 use Rattle.tangle_scan.specs.LineTruth.{counted_after_line_end}
-use Rattle.tangle_scan.specs.Passes.{counted_after_token}
+use Rattle.tangle_scan.specs.Passes.{counted_after_token, items_by_origin}
 use Rattle.tangle_scan.specs.SourceOrder.{item_spans}
-use Rattle.tangle_scan.proofs.lemmas.ItemsByOrigin.{items_by_origin, by-line_item, part_items-by_origin}
+use Rattle.tangle_scan.proofs.lemmas.ItemsByOrigin.{by-line_item, part_items-by_origin}
 use Rattle.tangle_scan.proofs.lemmas.KeptTokens.{kept, part-kept, macro-kept}
 
 abbrev pub token_spans : List Token → List Span

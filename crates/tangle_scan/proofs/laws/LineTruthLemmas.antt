@@ -21,9 +21,9 @@ use Rattle.tangle_scan.specs.Rules.{is_continued, at_line_front, blanks, next_li
 use Rattle.tangle_scan.specs.LineTruth.{is_expected, counted_after_line_end}
 use Rattle.tangle_scan.specs.LineTruth.{CountedItem, counted_items, has_line_end, left_or_join, locations}
 use Rattle.tangle_scan.specs.LineTruth.{part_locations, IsOwn, IsAtItsLine}
-use Rattle.tangle_scan.specs.Passes.{counted_after_token}
+use Rattle.tangle_scan.specs.Passes.{counted_after_token, items_by_origin}
 use Rattle.tangle_scan.proofs.laws.TokenSteps.{line_past, Flows}
-use Rattle.tangle_scan.proofs.lemmas.ItemsByOrigin.{items_by_origin, part_items-by_origin, same_origin-either}
+use Rattle.tangle_scan.proofs.lemmas.ItemsByOrigin.{part_items-by_origin, same_origin-either}
 
 -- leaving out faults, or adding the white space of rule 1, does not change the lines
 

@@ -18,9 +18,9 @@ use Rattle.tangle_scan.specs.Rules.{texts_of, span_item, part_tokens, macro_toke
 use Rattle.tangle_scan.specs.Rules.{is_continued, at_line_front, blanks, macro_blanks, unmarked_items}
 use Rattle.tangle_scan.specs.Rules.{part_items, macro_items, is_macro}
 use Rattle.tangle_scan.specs.LineTruth.{counted_after_line_end}
-use Rattle.tangle_scan.specs.Passes.{items_at, counted_after_token}
+use Rattle.tangle_scan.specs.Passes.{items_at, counted_after_token, items_by_origin}
 use Rattle.tangle_scan.proofs.lemmas.KeptTokens.{kept, part-kept}
-use Rattle.tangle_scan.proofs.lemmas.ItemsByOrigin.{items_by_origin, by-line_item, part_items-by_origin}
+use Rattle.tangle_scan.proofs.lemmas.ItemsByOrigin.{by-line_item, part_items-by_origin}
 use Rattle.tangle_scan.specs.Web.{PieceRead, body, block_at, blocks, section_after, piece_of, macro_of, web_of}
 use Rattle.tangle_scan.specs.Web.BlockKind.{OfPiece}
 use Rattle.tangle_lexer.specs.Heads.{is_head}

@@ -14,19 +14,7 @@ use Rattle.tangle_scan.specs.declared.items.Item.TheVariants as item
 use Rattle.tangle_scan.specs.Rules.{texts_of, is_continued, at_line_front, blanks, span_item, next_line, same_origin}
 use Rattle.tangle_scan.specs.Rules.{with_all_marks, with_needed_marks, is_front_gap, part_tokens, part_items}
 use Rattle.tangle_scan.specs.LineTruth.{is_expected, counted_after_line_end}
-use Rattle.tangle_scan.specs.Passes.{line_item, items_at, counted_after_token}
-
--- the items of tokens that rule 3 made, by the token before them on the line and by the counted origin
-abbrev pub items_by_origin : List SourceLine → Option Token → Origin → List Token → List Item
-items_by_origin lines before counted [] = []
-items_by_origin lines before counted (token.LineEnd line ∷ es) =
-    let continued : Bool = is_continued (texts_of lines) before in
-    line_item lines continued counted line
-    ∷ items_by_origin lines (at_line_front (texts_of lines) before line)
-    (counted_after_line_end lines continued counted line) es
-items_by_origin lines before counted (token.White ∷ es) = item.Blank ∷ items_by_origin lines before counted es
-items_by_origin lines before counted (e ∷ es) =
-    items_at lines e ++ items_by_origin lines (Some e) (counted_after_token lines counted e) es
+use Rattle.tangle_scan.specs.Passes.{line_item, items_at, counted_after_token, items_by_origin}
 
 pub items_by_origin-item : (lines : List SourceLine) (before : Option Token) (counted : Origin) (e : Token)
     (es : List Token) → is_front_gap e ≡ false

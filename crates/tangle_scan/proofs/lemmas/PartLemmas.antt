@@ -1,321 +1,528 @@
--- Rules 1 to 5 for a C part, in one pass over its tokens.
-use Rattle.std.proofs.Common.{◌≡◌, ℕ, Bool, true, false, ◌||◌, ◌&&◌, not, if◌then◌else◌, refl, ap, Option, None, Some}
-use Rattle.std.proofs.Common.{is_some, List, [], ◌∷◌, ◌++◌, sym, ◌∙◌, append_assoc, append-nil}
+-- What one pass over the tokens of a C part read, and what is left.
+use Rattle.std.proofs.Common.{◌≡◌, ◌≤◌, ℕ, Bool, true, false, ◌&&◌, ◌||◌, not, if◌then◌else◌, refl, ap, Option, None, Some}
+use Rattle.std.proofs.Common.{is_some, List, [], ◌∷◌, ◌++◌, sym, ◌∙◌, append_assoc, append-nil, length, take, map, arith}
+use Rattle.std.proofs.Common.{length-append}
 use Rattle.std.proofs.Math.Bool.{and-false, or-false, or-true}
+use Rattle.std.proofs.lemmas.List.{take_all, take-append-le, length-take-le}
 use Rattle.tangle_lexer.specs.declared.tokens.Token.{Token}
 use Rattle.tangle_lexer.specs.declared.tokens.SpanKind.TheVariants as span_kind
 use Rattle.tangle_lexer.specs.declared.tokens.Token.TheVariants as token
+use Rattle.tangle_faults.specs.declared.faults.FaultKind.{FaultKind}
+use Rattle.tangle_lexer.specs.Heads.{is_head}
+use Rattle.tangle_lexer.specs.Runs.{part_token, unfolded_token, IsRunOf}
+use Rattle.tangle_text.specs.declared.runs.RunPart.{RunPart}
+use Rattle.tangle_text.specs.declared.runs.RunPart.TheVariants as part
+use Rattle.tangle_text.specs.declared.spans.Span.{Span}
+use Rattle.tangle_text.specs.Bytes.{is_word_byte}
+use Rattle.tangle_text.specs.Runs.{run_parts, has_single_spaces}
 use Rattle.tangle_lines.specs.declared.origin.Origin.{Origin}
 use Rattle.tangle_lines.specs.Reading.{SourceLine, origin_at}
 use Rattle.tangle_scan.specs.declared.items.Item.{Item}
 use Rattle.tangle_scan.specs.declared.items.Item.TheVariants as item
-use Rattle.tangle_scan.specs.declared.rare_parts.Last.{Last}
-use Rattle.tangle_scan.specs.declared.rare_parts.Last.TheVariants as last
-use Rattle.tangle_scan.specs.declared.spacing.Stage.TheVariants as stage
-use Rattle.tangle_scan.specs.Rules.{without_faults, would_merge, is_constant}
-use Rattle.tangle_scan.specs.Rules.{is_word_token, without_joins, is_gap}
+use Rattle.tangle_scan.specs.declared.items.Entry.{Entry}
+use Rattle.tangle_scan.specs.declared.items.Entry.TheVariants as entry
+use Rattle.tangle_scan.specs.declared.parts.CountedOrigin.{CountedOrigin}
+use Rattle.tangle_scan.specs.declared.parts.Last.{Last}
+use Rattle.tangle_scan.specs.declared.parts.Last.TheVariants as last
+use Rattle.tangle_scan.specs.declared.parts.PartState.{PartState}
+use Rattle.tangle_scan.specs.declared.parts.Start.{Start}
+use Rattle.tangle_scan.specs.Entries.{items_of, part_item}
+use Rattle.tangle_scan.specs.Rules.{without_faults, would_merge, is_constant, first_byte}
+use Rattle.tangle_scan.specs.Rules.{is_word_token, without_joins, is_gap, left_of_run, ends_in_backslash}
 use Rattle.tangle_scan.specs.Rules.{has_join, texts_of, is_continued, at_line_front}
 use Rattle.tangle_scan.specs.Rules.{blanks, part_items, is_front_gap}
 use Rattle.tangle_scan.specs.LineTruth.{counted_after_line_end}
-use Rattle.tangle_scan.specs.Passes.{joins_ahead, touches, needs_blank, last_after_white, last_after_line_end, last_of}
-use Rattle.tangle_scan.specs.Passes.{is_joined, continues_after, rare_items_ahead, with_white_space}
-use Rattle.tangle_scan.specs.Passes.{line_item, items_at, counted_after_token}
-use Rattle.tangle_scan.proofs.lemmas.ItemsByOrigin.{items_by_origin, items_by_origin-item, part_items-by_origin}
-use Rattle.tangle_scan.proofs.lemmas.RuleLemmas.{without_joins-item, has_join-push, blanks-item}
-use Rattle.tangle_scan.proofs.lemmas.SpacingLemmas.{after-gap, spaced-inside}
-use Rattle.tangle_scan.proofs.lemmas.PlainPartLemmas.{items_by_origin-blank}
+use Rattle.tangle_scan.specs.Passes.{IsPassed, from_gap, start_of_gap, items_after, spaced_after, blank_before, blank_before_run}
+use Rattle.tangle_scan.specs.Passes.{is_joined, is_item, is_touching, is_after_line_end, keeps_white, last_after_line_end}
+use Rattle.tangle_scan.specs.Passes.{line_item, items_at, counted_after_token, items_by_origin, blank_if}
+use Rattle.tangle_scan.specs.Passes.{item_continues, entries_continue, entries_merge, is_code, last_entry, origin_of}
+use Rattle.tangle_scan.proofs.lemmas.ItemsByOrigin.{items_by_origin-item, part_items-by_origin, by-line_item}
+use Rattle.tangle_scan.proofs.lemmas.RuleLemmas.{without_joins-item, has_join-push, blanks-item, is_solid}
+use Rattle.tangle_scan.proofs.lemmas.SpacingLemmas.{spaced-inside}
+use Rattle.tangle_scan.proofs.lemmas.EntryLemmas.{items_by_origin-blank, items-push, items-more, last-continues}
+use Rattle.tangle_scan.proofs.lemmas.EntryLemmas.{last-of-push, item-continues, item-merges, start-within}
+use Rattle.tangle_scan.proofs.lemmas.RunItems.{last_token, run-front, run-continues, run-word}
 
 abbrev white_if : Bool → List Token
 white_if b = if b then token.White ∷ [] else []
 
-abbrev unless : Bool → List Token → List Token
-unless b es = if b then [] else es
-
--- The tokens that rules 1 and 2 leave. `joined`: the current run has a join. `before`: the last token.
-abbrev left : Bool → Token → List Token → List Token
-left joined before [] = []
-left joined before (token.Fault kind line ∷ es) = left joined before es
-left joined before (token.Join ∷ es) = left true token.White es
-left joined before (token.White ∷ es) =
-    unless (joined || joins_ahead es) (token.White ∷ []) ++ left joined token.White es
-left joined before (token.LineEnd line ∷ es) =
-    unless (joined || joins_ahead es) (token.LineEnd line ∷ []) ++ left joined token.White es
-left joined before (e ∷ es) = white_if (would_merge before e) ++ e ∷ left false e es
-
--- rule 1 puts no white space before a gap
+-- rule 1 puts no white space before a gap, which goes on
 
 apart : (a b : Bool) → (a && false || b && false) ≡ false
 apart a b = rw (and-false a, and-false b) refl
 
-gap-apart : (before e : Token) → is_gap e ≡ true → would_merge before e ≡ false
-gap-apart before token.Join h = apart (is_constant before) (is_word_token before)
-gap-apart before token.White h = apart (is_constant before) (is_word_token before)
-gap-apart before (token.LineEnd line) h = apart (is_constant before) (is_word_token before)
-gap-apart before _ h = cc
+spaced-gap : (gap : List Token) (prev e : Token) (es : List Token) → is_gap e ≡ true
+    → without_joins gap (spaced_after prev (e ∷ es)) ≡ without_joins (gap ++ e ∷ []) (spaced_after e es)
+spaced-gap gap prev token.Join es h = rw (apart (is_constant prev) (is_word_token prev)) refl
+spaced-gap gap prev token.White es h = rw (apart (is_constant prev) (is_word_token prev)) refl
+spaced-gap gap prev (token.LineEnd line) es h = rw (apart (is_constant prev) (is_word_token prev)) refl
+spaced-gap gap prev _ es h = cc
 
--- an item, perhaps after white space that rule 1 puts before it
-touch-item : (touching : Bool) (e : Token) (x y : List Token) → is_gap e ≡ false → without_joins [] x ≡ y
-    → without_joins [] (white_if touching ++ e ∷ x) ≡ white_if touching ++ e ∷ y
-touch-item true e x y item is = without_joins-item (token.White ∷ []) e x item ∙ ap (λ t. token.White ∷ e ∷ t) is
-touch-item false e x y item is = without_joins-item [] e x item ∙ ap (λ t. e ∷ t) is
+-- faults are left out
+pub passed-fault : (lines : List SourceLine) (whole : List Item) (entries : List Entry) (at : PartState)
+    (kind : FaultKind) (line : ℕ) (es : List Token)
+    → IsPassed lines whole entries at (token.Fault kind line ∷ es) → IsPassed lines whole entries at es
+passed-fault lines whole entries at kind line es h = record { read = h.read; left = h.left }
 
--- a run with one more token, if no join is in the run
-run-more : (run : List Token) (e : Token) (j : Bool) (x : List Token)
-    → unless j (run ++ e ∷ []) ++ x ≡ unless j run ++ (unless j (e ∷ []) ++ x)
-run-more run e true x = refl
-run-more run e false x = append_assoc run (e ∷ []) x
+-- white space
 
--- rules 1 and 2 for the tokens after a token `before`
-abbrev ruled : List Token → Token → List Token → List Token
-ruled run before es = without_joins run (with_white_space [] stage.Inside before (without_faults es))
-
--- rules 1 and 2 for the tokens after a run that has a join, after another run, and after no run
-record IsLeft (es : List Token) : Type 0 where
-  joined : (run : List Token) → has_join run ≡ true → ruled run token.White es ≡ left true token.White es
-  unjoined : (run : List Token) → has_join run ≡ false
-      → ruled run token.White es ≡ unless (joins_ahead es) run ++ left false token.White es
-  first : (before : Token) → ruled [] before es ≡ left false before es
-
-is_left : (es : List Token) → IsLeft es
-is_left [] = record {
-  joined = λ run h. rw h refl;
-  unjoined = λ run h. rw h (sym (append-nil run));
-  first = λ before. refl;
-}
-is_left (token.Fault kind line ∷ es) =
-    let next = is_left es in record { joined = next.joined; unjoined = next.unjoined; first = next.first }
-is_left (token.Join ∷ es) =
-    let next = is_left es in
-    let join = after-gap [] stage.Inside token.Join (without_faults es) refl in
-    let push = λ (run : List Token). has_join-push run token.Join in
-    record {
-      joined = λ run h. rw join (next.joined (run ++ token.Join ∷ []) (push run ∙ or-true (has_join run)));
-      unjoined = λ run h. rw join (next.joined (run ++ token.Join ∷ []) (push run ∙ or-true (has_join run)));
-      first = λ before. rw (gap-apart before token.Join refl, join) (next.joined (token.Join ∷ []) refl);
-    }
-is_left (token.White ∷ es) =
-    let next = is_left es in
-    let push = λ (run : List Token). has_join-push run token.White ∙ or-false (has_join run) in
-    record {
-      joined = λ run h. next.joined (run ++ token.White ∷ []) (push run ∙ h);
-      unjoined = λ run h. next.unjoined (run ++ token.White ∷ []) (push run ∙ h) ∙ run-more run token.White (joins_ahead es) _;
-      first = λ before. rw (gap-apart before token.White refl) (next.unjoined (token.White ∷ []) refl);
-    }
-is_left (token.LineEnd line ∷ es) =
-    let next = is_left es in
-    let e = token.LineEnd line in
-    let end = after-gap [] stage.Inside e (without_faults es) refl in
-    let push = λ (run : List Token). has_join-push run e ∙ or-false (has_join run) in
-    record {
-      joined = λ run h. rw end (next.joined (run ++ e ∷ []) (push run ∙ h));
-      unjoined = λ run h. rw end (next.unjoined (run ++ e ∷ []) (push run ∙ h) ∙ run-more run e (joins_ahead es) _);
-      first = λ before. rw (gap-apart before e refl, end) (next.unjoined (e ∷ []) refl);
-    }
-is_left (e ∷ es) =
-    let next = is_left es in
-    record {
-      joined = λ run h. rw h (ap (λ x. e ∷ x) (next.first e));
-      unjoined = λ run h. rw h (ap (λ x. run ++ e ∷ x) (next.first e));
-      first = λ before. touch-item (would_merge before e) e _ _ refl (next.first e);
-    }
-
--- a later join of the same run removes the run as an earlier one does
-left-joined : (es : List Token) → joins_ahead es ≡ true →
-    left false token.White es ≡ left true token.White es
-left-joined [] h = cc
-left-joined (token.Fault kind line ∷ es) h = left-joined es h
-left-joined (token.Join ∷ es) h = refl
-left-joined (token.White ∷ es) h = rw h (left-joined es h)
-left-joined (token.LineEnd line ∷ es) h = rw h (left-joined es h)
-left-joined (e ∷ es) h = cc
-
--- rules 3 to 5 after a join: the next item has no blank before it
-after-join-items : (lines : List SourceLine) (b : Option Token) (counted : Origin) (es : List Token) →
-    items_by_origin lines b counted (blanks (texts_of lines) b false (left true token.White es))
-    ≡ items_by_origin lines None counted (blanks (texts_of lines) None false (left true token.White es))
-after-join-items lines None counted es = refl
-after-join-items lines (Some x) counted [] = refl
-after-join-items lines (Some x) counted (token.White ∷ es) = after-join-items lines (Some x) counted es
-after-join-items lines (Some x) counted (e ∷ es) = cc (after-join-items lines (Some x) counted es)
-
--- white space makes no blank if no item is before it
 blanks-at-front : (texts : List (List ℕ)) (b : Option Token) (es : List Token)
-    → is_some b ≡ false → blanks texts b false es ≡ blanks texts b true es
+    → is_some b ≡ false → blanks texts b true es ≡ blanks texts b false es
 blanks-at-front texts None [] h = refl
 blanks-at-front texts None (token.White ∷ es) h = refl
 blanks-at-front texts None (e ∷ es) h = refl
 blanks-at-front texts (Some x) es h = cc
 
--- The arguments of rule 3, by what is last: whether white space before an item is a blank, and whether there is white
--- space that is kept; the flag says whether a join follows in the same run.
+white-made : (lines : List SourceLine) (before : Option Token) (counted : Origin) (at : Last) (has : Bool)
+    (gap : List Token) (made : List Token → List Item) (items : List Item) → has_join gap ≡ is_joined at
+    → (is_joined at ≡ false → is_some before ≡ keeps_white at)
+    → ((es : List Token)
+    → made (left_of_run gap ++ es) ≡ items ++ items_after lines before counted (keeps_white at && has) es)
+    → (es : List Token) → made (left_of_run (gap ++ token.White ∷ []) ++ es)
+    ≡ items ++ items_after lines before counted (keeps_white at && true) es
+white-made lines before counted last.Joined has gap made items joined keeps h es =
+    rw (has_join-push gap token.White, joined) (rw joined at h es)
+white-made lines before counted last.Front has gap made items joined keeps h es =
+    rw (has_join-push gap token.White, joined)
+    (ap made (append_assoc gap (token.White ∷ []) es) ∙ ((rw joined at h (token.White ∷ es))
+    ∙ ap (λ t. items ++ items_by_origin lines before counted t) (blanks-at-front (texts_of lines) before es (keeps refl))))
+white-made lines before counted _ has gap made items joined keeps h es =
+    rw (has_join-push gap token.White, joined)
+    (ap made (append_assoc gap (token.White ∷ []) es) ∙ (rw joined at h (token.White ∷ es)))
 
-abbrev keeps_white : Last → Bool
-keeps_white last.Front = false
-keeps_white last.Joined = false
-keeps_white _ = true
+pub passed-white : (lines : List SourceLine) (whole : List Item) (entries : List Entry) (at : PartState) (es : List Token)
+    → IsPassed lines whole entries at (token.White ∷ es)
+    → IsPassed lines whole entries (record at { has_white = true }) es
+passed-white lines whole entries at es h = record {
+  read = record {
+    gap = h.read.gap ++ token.White ∷ [];
+    front = h.read.front;
+    before = h.read.before;
+    prev = token.White;
+    start = h.read.start;
+    joined = has_join-push h.read.gap token.White ∙ (or-false (has_join h.read.gap) ∙ h.read.joined);
+    made = white-made lines h.read.before (origin_of at.counted) at.last at.has_white h.read.gap
+        (from_gap lines entries at h.read.front) (items_of (texts_of lines) entries) h.read.joined h.read.keeps h.read.made;
+    keeps = h.read.keeps;
+    continues = h.read.continues;
+    merges = λ e. sym (ap (λ b. b && entries_merge (texts_of lines) entries e) (and-false (is_item at.last)));
+  };
+  left = h.left
+      ∙ ap (from_gap lines entries at h.read.front) (spaced-gap h.read.gap h.read.prev token.White es refl);
+}
 
-abbrev is_white : Last → Bool → Bool
-is_white last.White joins = not joins
-is_white last.ContinuedWhite joins = not joins
-is_white _ joins = false
+-- a line end
 
-step-white : (texts : List (List ℕ)) (b : Option Token) (at : Last) (j : Bool) (x : Bool → List Token)
-    → is_some b ≡ keeps_white at
-    → let next = last_after_white at in
-    blanks texts b (is_white next j) (x (is_joined next))
-    ≡ blanks texts b (is_white at j)
-    (unless (is_joined at || j) (token.White ∷ []) ++ x (is_joined at))
-step-white texts b last.Joined j x h = refl
-step-white texts b last.Front true x h = refl
-step-white texts b last.Front false x h = blanks-at-front texts b (x false) h
-step-white texts b _ true x h = refl
-step-white texts b _ false x h = refl
+end-joined : (gap : List Token) (line : ℕ) → has_join (gap ++ token.LineEnd line ∷ []) ≡ has_join gap
+end-joined gap line = has_join-push gap (token.LineEnd line) ∙ or-false (has_join gap)
 
-step-line : (lines : List SourceLine) (b : Option Token) (counted : Origin) (line : ℕ) (at : Last) (j : Bool)
-    (x : Bool → List Token) (joined front : List Item) →
-    let continued : Bool = is_continued (texts_of lines) b in
-    (j ≡ true → x false ≡ x true) →
-    joined ≡ items_by_origin lines b counted (blanks (texts_of lines) b false (x true))
-    → front
-    ≡ items_by_origin lines (at_line_front (texts_of lines) b line)
-    (counted_after_line_end lines continued counted line)
-    (blanks (texts_of lines) (at_line_front (texts_of lines) b line) false (x false)) →
-    (if is_joined at || j then joined else line_item lines continued counted line ∷ front)
-    ≡ items_by_origin lines b counted (blanks (texts_of lines) b (is_white at j)
-    (unless (is_joined at || j) (token.LineEnd line ∷ []) ++ x (is_joined at)))
-step-line lines b counted line last.Joined j x joined front same is is_front = is
-step-line lines b counted line at true x joined front same is is_front =
-    is
-    ∙ (ap (λ es. items_by_origin lines b counted (blanks (texts_of lines) b false es)) (sym (same refl))
-    ∙ after-line at)
+-- after a join it is left out
+pub passed-joined-end : (lines : List SourceLine) (whole : List Item) (entries : List Entry) (at : PartState)
+    (line : ℕ) (es : List Token) → at.last ≡ last.Joined
+    → IsPassed lines whole entries at (token.LineEnd line ∷ es) → IsPassed lines whole entries at es
+passed-joined-end lines whole entries at line es is h =
+    let joined : has_join h.read.gap ≡ true = h.read.joined ∙ ap is_joined is in
+    record {
+      read = record {
+        gap = h.read.gap ++ token.LineEnd line ∷ [];
+        front = h.read.front;
+        before = h.read.before;
+        prev = token.LineEnd line;
+        start = h.read.start;
+        joined = end-joined h.read.gap line ∙ h.read.joined;
+        made = rw (end-joined h.read.gap line, joined) (rw joined at h.read.made);
+        keeps = h.read.keeps;
+        continues = h.read.continues;
+        merges = λ e. rw is refl;
+      };
+      left = h.left
+          ∙ ap (from_gap lines entries at h.read.front) (spaced-gap h.read.gap h.read.prev (token.LineEnd line) es refl);
+    }
+
+after-end : (continued : Bool) → is_after_line_end (last_after_line_end continued) ≡ true
+after-end true = refl
+after-end false = refl
+
+unjoined-end : (continued : Bool) → is_joined (last_after_line_end continued) ≡ false
+unjoined-end true = refl
+unjoined-end false = refl
+
+item-end : (continued : Bool) → is_item (last_after_line_end continued) ≡ false
+item-end true = refl
+item-end false = refl
+
+front-keeps : (line : ℕ) (continued : Bool)
+    → is_some (if continued then Some (token.LineEnd line) else None) ≡ keeps_white (last_after_line_end continued)
+front-keeps line true = refl
+front-keeps line false = refl
+
+front-continues : (texts : List (List ℕ)) (line : ℕ) (continued : Bool)
+    → is_continued texts (if continued then Some (token.LineEnd line) else None) ≡ false
+front-continues texts line true = refl
+front-continues texts line false = refl
+
+unjoined : (at : Last) → (at ≡ last.Joined → ⊥) → is_joined at ≡ false
+unjoined last.Joined h = absurd (h refl)
+unjoined _ h = refl
+
+-- the entries so far with one more, and the state, after a line end
+pub passed-end : (lines : List SourceLine) (whole : List Item) (entries : List Entry) (at : PartState)
+    (line : ℕ) (counted : CountedOrigin) (es : List Token) → (at.last ≡ last.Joined → ⊥) →
+    let continued : Bool = entries_continue (texts_of lines) entries in
+    origin_of counted ≡ counted_after_line_end lines continued (origin_of at.counted) line
+    → IsPassed lines whole entries at (token.LineEnd line ∷ es)
+    → IsPassed lines whole (entries ++ entry.Item (line_item lines continued (origin_of at.counted) line) ∷ [])
+    (record at {
+      last = last_after_line_end continued;
+      has_white = false;
+      start = start_of_gap entries at;
+      counted = counted;
+    }) es
+passed-end lines whole entries at line counted es other is h = record {
+  read = record {
+    gap = gap ++ token.LineEnd line ∷ [];
+    front = h.read.front;
+    before = at_line_front texts before line;
+    prev = token.LineEnd line;
+    start = omega (arith, within, length-append entries (entry.Item made ∷ []));
+    joined = end-joined gap line ∙ (none ∙ sym (unjoined-end continued));
+    made = λ xs.
+        same (left_of_run (gap ++ token.LineEnd line ∷ []) ++ xs)
+        ∙ (ap (from_gap lines entries at h.read.front) (opened xs)
+        ∙ ((rw none at h.read.made (token.LineEnd line ∷ xs))
+        ∙ rw (
+          continues,
+          is,
+          items-push texts entries (entry.Item made),
+          and-false (keeps_white (last_after_line_end continued)),
+          append_assoc (items_of texts entries) (made ∷ []) _,
+        ) refl));
+    keeps = λ _. rw continues (front-keeps line continued);
+    continues = λ _. front-continues texts line (is_continued texts before)
+        ∙ sym (last-continues texts entries (entry.Item made)
+        ∙ by-line_item (λ x. item_continues texts x ≡ false) lines continued (origin_of at.counted) line
+        refl (λ p. refl));
+    merges = λ e. sym (ap (λ b. b && true && entries_merge texts (entries ++ entry.Item made ∷ []) e)
+        (item-end continued));
+  };
+  left = h.left ∙ (ap (from_gap lines entries at h.read.front) (spaced-gap gap h.read.prev (token.LineEnd line) es refl)
+      ∙ sym (same (without_joins (gap ++ token.LineEnd line ∷ []) (spaced_after (token.LineEnd line) es))));
+}
   where
-    after-line : (at : Last) → items_by_origin lines b counted (blanks (texts_of lines) b false (x false))
-        ≡ items_by_origin lines b counted
-        (blanks (texts_of lines) b (is_white at true)
-        (unless (is_joined at || true) (token.LineEnd line ∷ []) ++ x false))
-    after-line last.Front = refl
-    after-line _ = refl
-step-line lines b counted line _ false x joined front same is is_front =
-    ap (λ t. line_item lines (is_continued (texts_of lines) b) counted line ∷ t) is_front
+    texts : List (List ℕ)
+    texts = texts_of lines
 
-step-touch : (texts : List (List ℕ)) (b : Option Token) (e : Token) (x : List Token) (t : Bool)
-    → is_some b ≡ true → is_front_gap e ≡ false
-    → blanks texts b false (white_if t ++ e ∷ x) ≡ white_if t ++ e ∷ blanks texts (Some e) false x
-step-touch texts b e x true some h = blanks-item texts b true e x h ∙ rw some refl
-step-touch texts b e x false some h = blanks-item texts b false e x h ∙ rw some refl
+    gap : List Token
+    gap = h.read.gap
 
-step-blank : (texts : List (List ℕ)) (b : Option Token) (at : Last) (e : Token) (x : List Token)
-    → is_some b ≡ keeps_white at → is_front_gap e ≡ false
-    → blanks texts b (is_white at false) (white_if (touches at e) ++ e ∷ x)
-    ≡ white_if (needs_blank at e) ++ e ∷ blanks texts (Some e) false x
-step-blank texts b last.Word e x some h = step-touch texts b e x (is_constant e) some h
-step-blank texts b last.AsciiConstant e x some h = step-touch texts b e x (is_constant e || is_word_token e) some h
-step-blank texts b at e x some h = blanks-item texts b (is_white at false) e x h ∙ rw some refl
+    before : Option Token
+    before = h.read.before
 
-step-item : (lines : List SourceLine) (b : Option Token) (at : Last) (counted : Origin) (e : Token) (x : List Token)
-    (rest : List Item) (merges : Bool) → is_some b ≡ keeps_white at → is_front_gap e ≡ false → merges ≡ touches at e
-    → rest
-    ≡ items_by_origin lines (Some e) (counted_after_token lines counted e) (blanks (texts_of lines) (Some e) false x)
-    → (if needs_blank at e then item.Blank ∷ [] else []) ++ (items_at lines e ++ rest)
-    ≡ items_by_origin lines b counted
-    (blanks (texts_of lines) b (is_white at false) (white_if merges ++ e ∷ x))
-step-item lines b at counted e x rest merges some h is is_rest =
-    rw (
+    continued : Bool
+    continued = entries_continue texts entries
+
+    made : Item
+    made = line_item lines continued (origin_of at.counted) line
+
+    none : has_join gap ≡ false
+    none = h.read.joined ∙ unjoined at.last other
+
+    continues : is_continued texts before ≡ continued
+    continues = h.read.continues (unjoined at.last other)
+
+    opened : (xs : List Token) → left_of_run (gap ++ token.LineEnd line ∷ []) ++ xs ≡ gap ++ token.LineEnd line ∷ xs
+    opened xs = rw (end-joined gap line, none) (append_assoc gap (token.LineEnd line ∷ []) xs)
+
+    within : (start_of_gap entries at).entries ≤ length entries
+    within = start-within entries at h.read.start
+
+    next : PartState
+    next = record at {
+      last = last_after_line_end continued;
+      has_white = false;
+      start = start_of_gap entries at;
+      counted = counted;
+    }
+
+    same : (xs : List Token)
+        → from_gap lines (entries ++ entry.Item made ∷ []) next h.read.front xs ≡ from_gap lines entries at h.read.front xs
+    same xs =
+        rw (after-end continued, take-append-le (start_of_gap entries at).entries entries (entry.Item made ∷ []) within)
+        refl
+
+-- a join
+
+pub passed-join : (lines : List SourceLine) (whole : List Item) (entries : List Entry) (at : PartState) (es : List Token)
+    → IsPassed lines whole entries at (token.Join ∷ es)
+    → IsPassed lines whole (take (start_of_gap entries at).entries entries)
+    (record at { last = last.Joined; counted = (start_of_gap entries at).counted }) es
+passed-join lines whole entries at es h =
+    let left = take (start_of_gap entries at).entries entries in
+    let all : take (length left) left ≡ left = take_all (length left) left (omega arith) in
+    let joined : has_join (h.read.gap ++ token.Join ∷ []) ≡ true =
+    has_join-push h.read.gap token.Join ∙ or-true (has_join h.read.gap) in
+    record {
+      read = record {
+        gap = h.read.gap ++ token.Join ∷ [];
+        front = h.read.front;
+        before = h.read.front;
+        prev = token.Join;
+        start = within (is_after_line_end at.last);
+        joined = joined;
+        made = λ xs. rw (joined, all) refl;
+        keeps = λ never. cc;
+        continues = λ never. cc;
+        merges = λ e. refl;
+      };
+      left = rw all (h.left ∙ ap (from_gap lines entries at h.read.front) (spaced-gap h.read.gap h.read.prev token.Join es refl));
+    }
+  where
+    within : (b : Bool) → at.start.entries
+        ≤ length (take (if b then at.start else record { entries = length entries; counted = at.counted }).entries entries)
+    within true = omega (arith, length-take-le at.start.entries entries h.read.start)
+    within false = omega (arith, length-take-le (length entries) entries (omega arith), h.read.start)
+
+-- an item
+
+-- the items of the tokens after an item
+abbrev ahead : List SourceLine → Token → Origin → List Token → List Item
+ahead lines e counted es = items_after lines (Some e) counted false (without_joins [] (spaced_after e es))
+
+solid-spaced : (prev e : Token) (es : List Token) → is_solid e ≡ true
+    → spaced_after prev (e ∷ es) ≡ white_if (would_merge prev e) ++ e ∷ spaced_after e es
+solid-spaced prev (token.Fault kind line) es h = cc
+solid-spaced prev _ es h = refl
+
+solid-gap : (e : Token) → is_solid e ≡ true → is_gap e ≡ false
+solid-gap token.White h = cc
+solid-gap _ h = cc
+
+solid-front : (e : Token) → is_solid e ≡ true → is_front_gap e ≡ false
+solid-front token.White h = cc
+solid-front _ h = cc
+
+-- rule 2 at an item, perhaps after white space that rule 1 puts before it
+item-joins : (gap : List Token) (merges : Bool) (e : Token) (es : List Token) → is_gap e ≡ false
+    → (merges ≡ true → has_join gap ≡ false)
+    → without_joins gap (white_if merges ++ e ∷ es) ≡ left_of_run gap ++ (white_if merges ++ e ∷ without_joins [] es)
+item-joins gap false e es solid none = without_joins-item gap e es solid
+item-joins gap true e es solid none =
+    without_joins-item (gap ++ token.White ∷ []) e es solid
+    ∙ rw (has_join-push gap token.White, none refl) (append_assoc gap (token.White ∷ []) (e ∷ without_joins [] es))
+
+touching-item : (at : Last) (white merges : Bool) → (is_item at && not white && merges) ≡ true → is_item at ≡ true
+touching-item last.Item white merges h = refl
+touching-item _ white merges h = h
+
+item-unjoined : (at : Last) → is_item at ≡ true → is_joined at ≡ false
+item-unjoined last.Item h = refl
+item-unjoined _ h = cc
+
+-- rule 3 at an item
+item-blanks : (texts : List (List ℕ)) (at : Last) (white merges : Bool) (before : Option Token) (e : Token)
+    (es : List Token) → is_front_gap e ≡ false → (is_joined at ≡ false → is_some before ≡ keeps_white at)
+    → (merges ≡ true → is_item at ≡ true)
+    → blanks texts before (keeps_white at && white) (white_if merges ++ e ∷ es)
+    ≡ white_if (merges || keeps_white at && white) ++ e ∷ blanks texts (Some e) false es
+item-blanks texts last.Item white true before e es solid keeps item =
+    blanks-item texts before true e es solid ∙ rw (keeps refl) refl
+item-blanks texts _ white true before e es solid keeps item = cc (item refl)
+item-blanks texts last.Item white false before e es solid keeps item =
+    blanks-item texts before white e es solid ∙ rw (keeps refl) refl
+item-blanks texts last.Continued white false before e es solid keeps item =
+    blanks-item texts before white e es solid ∙ rw (keeps refl) refl
+item-blanks texts _ white false before e es solid keeps item =
+    blanks-item texts before false e es solid ∙ rw (and-false (is_some before)) refl
+
+item-ahead : (lines : List SourceLine) (whole : List Item) (entries : List Entry) (at : PartState) (e : Token)
+    (es : List Token) → is_solid e ≡ true → IsPassed lines whole entries at (e ∷ es)
+    → whole ≡ items_of (texts_of lines) entries
+    ++ (blank_if (blank_before lines entries at e)
+    ++ (items_at lines e ++ ahead lines e (counted_after_token lines (origin_of at.counted) e) es))
+item-ahead lines whole entries at e es solid h =
+    h.left
+    ∙ (ap (λ t. from_gap lines entries at h.read.front (without_joins h.read.gap t))
+    (solid-spaced h.read.prev e es solid ∙ ap (λ b. white_if b ++ e ∷ spaced_after e es) (h.read.merges e))
+    ∙ (ap (from_gap lines entries at h.read.front)
+    (item-joins h.read.gap merges e (spaced_after e es) (solid-gap e solid)
+    (λ is. h.read.joined ∙ item-unjoined at.last (item is)))
+    ∙ (h.read.made (white_if merges ++ e ∷ without_joins [] (spaced_after e es))
+    ∙ ap (λ t. items_of (texts_of lines) entries ++ t)
+    (ap (items_by_origin lines h.read.before (origin_of at.counted))
+    (item-blanks (texts_of lines) at.last at.has_white merges h.read.before e _ (solid-front e solid) h.read.keeps item)
+    ∙ (items_by_origin-blank lines h.read.before (origin_of at.counted) (blank_before lines entries at e) _
+    ∙ ap (λ t. blank_if (blank_before lines entries at e) ++ t)
+    (items_by_origin-item lines h.read.before (origin_of at.counted) e _ (solid-front e solid)))))))
+  where
+    merges : Bool
+    merges = is_touching at && entries_merge (texts_of lines) entries e
+
+    item : merges ≡ true → is_item at.last ≡ true
+    item is = touching-item at.last at.has_white (entries_merge (texts_of lines) entries e) is
+
+-- after an item, with which the entries end
+item-passed : (lines : List SourceLine) (whole : List Item) (new : List Entry) (next : PartState)
+    (e : Token) (es : List Token) → next.last ≡ last.Item → next.has_white ≡ false → next.start.entries ≤ length new
+    → ends_in_backslash (texts_of lines) e ≡ entries_continue (texts_of lines) new
+    → ((f : Token) → would_merge e f ≡ entries_merge (texts_of lines) new f)
+    → whole ≡ items_of (texts_of lines) new ++ ahead lines e (origin_of next.counted) es
+    → IsPassed lines whole new next es
+item-passed lines whole new next e es item white within continues merges left =
+    let all : take (length new) new ≡ new = take_all (length new) new (omega arith) in
+    record {
+      read = record {
+        gap = [];
+        front = Some e;
+        before = Some e;
+        prev = e;
+        start = within;
+        joined = rw item refl;
+        made = λ xs. rw (item, white, all) refl;
+        keeps = λ _. rw item refl;
+        continues = λ _. continues;
+        merges = rw (item, white) merges;
+      };
+      left = rw (item, all) left;
+    }
+
+pub passed-item : (lines : List SourceLine) (whole : List Item) (entries new : List Entry) (at next : PartState)
+    (e : Token) (es : List Token)
+    → is_solid e ≡ true → is_head e ≡ false → ((s : Span) → e ≡ token.Run s → ⊥)
+    → new ≡ (entries ++ map entry.Item (blank_if (blank_before lines entries at e))) ++ map entry.Item (items_at lines e)
+    → next.last ≡ last.Item → next.has_white ≡ false → next.start ≡ at.start
+    → origin_of next.counted ≡ counted_after_token lines (origin_of at.counted) e
+    → IsPassed lines whole entries at (e ∷ es) → IsPassed lines whole new next es
+passed-item lines whole entries new at next e es solid head run is_new item white start is h =
+    let blank = blank_if (blank_before lines entries at e) in
+    let middle = entries ++ map entry.Item blank in
+    rw is_new (item-passed lines whole _ next e es item white
+    (omega (
+      arith,
+      h.read.start,
+      ap (λ (s : Start). s.entries) start,
+      length-append entries (map entry.Item blank),
+      length-append middle (map entry.Item (items_at lines e)),
+    ))
+    (sym (item-continues lines middle e solid head run))
+    (λ f. sym (item-merges lines middle e f solid head run))
+    (item-ahead lines whole entries at e es solid h
+    ∙ rw (
       is,
-      step-blank (texts_of lines) b at e x some h,
-      items_by_origin-blank lines b counted (needs_blank at e) (e ∷ blanks (texts_of lines) (Some e) false x),
-      items_by_origin-item lines b counted e (blanks (texts_of lines) (Some e) false x) h,
-      is_rest,
-    ) refl
+      items-more (texts_of lines) middle (items_at lines e),
+      items-more (texts_of lines) entries blank,
+      append_assoc,
+      append_assoc,
+    ) refl))
 
--- The state before some tokens, by the tokens `b` and `before` that rules 3 to 5 and rule 1 have there, and by the
--- fields of the state.
-record Agrees (texts : List (List ℕ)) (b : Option Token) (at : Last) (item before : Token) : Type 0 where
-  keeps : is_some b ≡ keeps_white at
-  continues : is_continued texts b ≡ continues_after texts at item
-  merges : (e : Token) → would_merge before e ≡ touches at e
+-- a run
 
-agrees-joined : (texts : List (List ℕ)) (item : Token) → Agrees texts None last.Joined item token.White
-agrees-joined texts item = record { keeps = refl; continues = refl; merges = λ e. refl }
+plain-part : (p : RunPart) → is_constant (part_token p) ≡ false
+plain-part part.Space = refl
+plain-part _ = refl
 
-agrees-white : (texts : List (List ℕ)) (b : Option Token) (at : Last) (item before : Token)
-    → Agrees texts b at item before → Agrees texts b (last_after_white at) item token.White
-agrees-white texts b last.Front item before h =
-    record { keeps = h.keeps; continues = h.continues; merges = λ e. refl }
-agrees-white texts b _ item before h = record { keeps = h.keeps; continues = h.continues; merges = λ e. refl }
+last-plain : (e : Token) (ps : List RunPart) → is_constant e ≡ false → is_constant (last_token e ps) ≡ false
+last-plain e [] plain = plain
+last-plain e (p ∷ ps) plain = last-plain (part_token p) ps (plain-part p)
 
-agrees-item : (texts : List (List ℕ)) (e : Token) → Agrees texts (Some e) (last_of e) e e
-agrees-item texts (token.AsciiConstant value line) =
-    record { keeps = refl; continues = refl; merges = λ f. or-false (is_constant f || is_word_token f) }
-agrees-item texts (token.Span span_kind.Word s) = record { keeps = refl; continues = refl; merges = λ f. refl }
-agrees-item texts _ = record { keeps = refl; continues = refl; merges = λ f. refl }
+-- the parts of a run after the first one
+parts-ahead : (lines : List SourceLine) (e : Token) (counted : Origin) (ps : List RunPart) (es : List Token)
+    → is_constant e ≡ false → has_single_spaces false ps ≡ true
+    → ahead lines e counted (map part_token ps ++ es)
+    ≡ map part_item ps ++ ahead lines (last_token e ps) counted es
+parts-ahead lines e counted [] es plain h = refl
+parts-ahead lines e counted (part.Word s ∷ ps) es plain h =
+    rw (plain, and-false (is_word_token e))
+    (ap (λ t. item.Word s ∷ t) (parts-ahead lines (token.Span span_kind.Word s) counted ps es refl h))
+parts-ahead lines e counted (part.Sign s ∷ ps) es plain h =
+    rw (plain, and-false (is_word_token e))
+    (ap (λ t. item.Sign s ∷ t) (parts-ahead lines (token.Span span_kind.Sign s) counted ps es refl h))
+parts-ahead lines e counted (part.Space ∷ []) es plain h = cc
+parts-ahead lines e counted (part.Space ∷ part.Space ∷ ps) es plain h = cc
+parts-ahead lines e counted (part.Space ∷ part.Word s ∷ ps) es plain h =
+    rw (plain, and-false (is_word_token e))
+    (ap (λ t. item.Blank ∷ item.Word s ∷ t) (parts-ahead lines (token.Span span_kind.Word s) counted ps es refl h))
+parts-ahead lines e counted (part.Space ∷ part.Sign s ∷ ps) es plain h =
+    rw (plain, and-false (is_word_token e))
+    (ap (λ t. item.Blank ∷ item.Sign s ∷ t) (parts-ahead lines (token.Span span_kind.Sign s) counted ps es refl h))
 
-agrees-end : (texts : List (List ℕ)) (b : Option Token) (line : ℕ) (item : Token)
-    → Agrees texts (at_line_front texts b line) (last_after_line_end (is_continued texts b)) item token.White
-agrees-end texts b line item = by (is_continued texts b)
-  where
-    by : (c : Bool)
-        → Agrees texts (if c then Some (token.LineEnd line) else None) (last_after_line_end c) item token.White
-    by true = record { keeps = refl; continues = refl; merges = λ e. refl }
-    by false = record { keeps = refl; continues = refl; merges = λ e. refl }
-
-end-blanks : (texts : List (List ℕ)) (b : Option Token) (continued j : Bool) (es : List Token)
-    → blanks texts b (is_white (last_after_line_end continued) j)
-    (left (is_joined (last_after_line_end continued)) token.White es)
-    ≡ blanks texts b false (left false token.White es)
-end-blanks texts b true j es = refl
-end-blanks texts b false j es = refl
-
-white-gone : (at : Last) → false ≡ is_white at true
-white-gone last.White = refl
-white-gone _ = refl
-
--- the one pass gives the items of rules 1 to 5
-rare-left : (lines : List SourceLine) (b : Option Token) (at : Last)
-    (item : Token) (counted : Origin) (before : Token) (es : List Token)
-    → Agrees (texts_of lines) b at item before
-    → rare_items_ahead lines at item counted es
-    ≡ items_by_origin lines b counted
-    (blanks (texts_of lines) b (is_white at (joins_ahead es)) (left (is_joined at) before es))
-rare-left lines b at item counted before [] h = refl
-rare-left lines b at item counted before (token.Fault kind line ∷ es) h = rare-left lines b at item counted before es h
-rare-left lines b at item counted before (token.Join ∷ es) h =
-    rare-left lines None last.Joined item counted token.White es (agrees-joined (texts_of lines) item)
-    ∙ (sym (after-join-items lines b counted es)
-    ∙ ap (λ w. items_by_origin lines b counted (blanks (texts_of lines) b w (left true token.White es)))
-    (white-gone at))
-rare-left lines b at item counted before (token.White ∷ es) h =
-    rare-left lines b (last_after_white at) item counted token.White es
-    (agrees-white (texts_of lines) b at item before h)
-    ∙ ap (items_by_origin lines b counted)
-    (step-white (texts_of lines) b at (joins_ahead es) (λ k. left k token.White es) h.keeps)
-rare-left lines b at item counted before (token.LineEnd line ∷ es) h =
-    let texts = texts_of lines in
-    let continued = is_continued texts b in
-    let front = at_line_front texts b line in
-    let after = counted_after_line_end lines continued counted line in
-    rw (← h.continues)
-    (step-line lines b counted line at (joins_ahead es) (λ k. left k token.White es) _ _
-    (left-joined es)
-    (rare-left lines None last.Joined item counted token.White es (agrees-joined texts item)
-    ∙ sym (after-join-items lines b counted es))
-    (rare-left lines front (last_after_line_end continued) item after token.White es (agrees-end texts b line item)
-    ∙ ap (items_by_origin lines front after) (end-blanks texts front continued (joins_ahead es) es)))
-rare-left lines b at item counted before (token.Span span_kind.Word s ∷ es) h =
+-- a part that is no space, before others
+part-ahead : (lines : List SourceLine) (whole : List Item) (entries : List Entry) (at : PartState) (p : RunPart)
+    (ps : List RunPart) (es : List Token) → has_single_spaces true (p ∷ ps) ≡ true
+    → IsPassed lines whole entries at (map part_token (p ∷ ps) ++ es)
+    → whole ≡ items_of (texts_of lines) entries
+    ++ (blank_if (blank_before lines entries at (part_token p))
+    ++ (map part_item (p ∷ ps) ++ ahead lines (last_token (part_token p) ps) (origin_of at.counted) es))
+part-ahead lines whole entries at part.Space ps es spaces h = cc
+part-ahead lines whole entries at (part.Word s) ps es spaces h =
     let e = token.Span span_kind.Word s in
-    step-item lines b at counted e (left false e es) _ (would_merge before e) h.keeps refl (h.merges e)
-    (rare-left lines (Some e) last.Word e counted e es (agrees-item (texts_of lines) e))
-rare-left lines b at item counted before (e ∷ es) h =
-    step-item lines b at counted e (left false e es) _ (would_merge before e) h.keeps refl (h.merges e)
-    (rare-left lines (Some e) (last_of e) e (counted_after_token lines counted e) e es (agrees-item (texts_of lines) e))
+    item-ahead lines whole entries at e (map part_token ps ++ es) refl h
+    ∙ rw (parts-ahead lines e (origin_of at.counted) ps es refl spaces) refl
+part-ahead lines whole entries at (part.Sign s) ps es spaces h =
+    let e = token.Span span_kind.Sign s in
+    item-ahead lines whole entries at e (map part_token ps ++ es) refl h
+    ∙ rw (parts-ahead lines e (origin_of at.counted) ps es refl spaces) refl
 
--- the one pass gives the items of a whole C part
-pub part-rare : (lines : List SourceLine) (line : ℕ) (item : Token) (es : List Token) →
-    rare_items_ahead lines last.Front item (origin_at lines line) es ≡ part_items lines line es
-part-rare lines line item es =
-    let origin = origin_at lines line in
-    rare-left lines None last.Front item origin token.White es
-    (record { keeps = refl; continues = refl; merges = λ e. refl })
-    ∙ (ap (λ t. items_by_origin lines None origin (blanks (texts_of lines) None false t))
-    (sym ((is_left es).first token.White) ∙ ap (without_joins []) (spaced-inside [] (without_faults es)))
-    ∙ sym (part_items-by_origin lines line es))
+-- an item after which no run is written as one with it, and a word or a sign before
+front-merges : (texts : List (List ℕ)) (entries : List Entry) (p : RunPart)
+    → entries_merge texts entries (part_token p) ≡ (is_code (last_entry entries) && is_word_token (part_token p))
+front-merges texts entries p =
+    rw (plain-part p, and-false, or-false) refl
+
+run-passed : (lines : List SourceLine) (whole : List Item) (entries : List Entry) (at : PartState) (s : Span)
+    (parts : List RunPart) (es : List Token) → run_parts (texts_of lines) s ≡ parts → IsRunOf (texts_of lines) s
+    → has_single_spaces true parts ≡ true → IsPassed lines whole entries at (map part_token parts ++ es)
+    → IsPassed lines whole ((entries ++ map entry.Item (blank_if (blank_before_run lines entries at s))) ++ entry.Run s ∷ [])
+    (record at { last = last.Item; has_white = false }) es
+run-passed lines whole entries at s [] es is run spaces h = cc
+run-passed lines whole entries at s (p ∷ ps) es is run spaces h =
+    let texts = texts_of lines in
+    let blank = blank_if (blank_before_run lines entries at s) in
+    let middle = entries ++ map entry.Item blank in
+    let end = last_token (part_token p) ps in
+    let first : blank_before lines entries at (part_token p) ≡ blank_before_run lines entries at s =
+    rw (front-merges texts entries p, run-front texts s p ps is) refl in
+    item-passed lines whole _ _ end es refl refl
+    (omega (arith, h.read.start, length-append entries (map entry.Item blank), length-append middle (entry.Run s ∷ [])))
+    (run-continues texts s p ps is run ∙ sym (last-continues texts middle (entry.Run s)))
+    (λ f. rw (last-of-push middle (entry.Run s), last-plain (part_token p) ps (plain-part p), run-word texts s p ps is run)
+    refl)
+    (part-ahead lines whole entries at p ps es spaces h
+    ∙ rw (first, items-push texts middle (entry.Run s), items-more texts entries blank, append_assoc, append_assoc, is) refl)
+
+pub passed-run : (lines : List SourceLine) (whole : List Item) (entries : List Entry) (at : PartState) (s : Span)
+    (es : List Token) → IsRunOf (texts_of lines) s
+    → IsPassed lines whole entries at (unfolded_token (texts_of lines) (token.Run s) ++ es)
+    → IsPassed lines whole ((entries ++ map entry.Item (blank_if (blank_before_run lines entries at s))) ++ entry.Run s ∷ [])
+    (record at { last = last.Item; has_white = false }) es
+passed-run lines whole entries at s es run h =
+    run-passed lines whole entries at s (run_parts (texts_of lines) s) es refl run run.spaces h
+
+-- the beginning and the end of a part
+
+pub passed-begin : (lines : List SourceLine) (line : ℕ) (at : PartState) (es : List Token)
+    → at.last ≡ last.Front → at.start.entries ≡ 0 → origin_of at.start.counted ≡ origin_at lines line
+    → origin_of at.counted ≡ origin_at lines line → IsPassed lines (part_items lines line es) [] at es
+passed-begin lines line at es front start is_start is = record {
+  read = record {
+    gap = [];
+    front = None;
+    before = None;
+    prev = token.White;
+    start = omega (arith, start);
+    joined = rw front refl;
+    made = λ xs. rw (front, start, is_start, is) refl;
+    keeps = λ _. rw front refl;
+    continues = λ _. refl;
+    merges = λ e. rw front refl;
+  };
+  left = part_items-by_origin lines line es
+      ∙ rw (front, start, is_start, spaced-inside [] (without_faults es)) refl;
+}
+
+pub passed-whole : (lines : List SourceLine) (whole : List Item) (entries : List Entry) (at : PartState) (es : List Token)
+    → es ≡ [] → IsPassed lines whole entries at es → items_of (texts_of lines) entries ≡ whole
+passed-whole lines whole entries at (e ∷ es) none h = cc
+passed-whole lines whole entries at [] none h =
+    sym (h.left
+    ∙ (ap (from_gap lines entries at h.read.front) (sym (append-nil (left_of_run h.read.gap)))
+    ∙ (h.read.made [] ∙ append-nil (items_of (texts_of lines) entries))))

@@ -2,11 +2,30 @@ use Rattle.std.proofs.Common.{◌≡◌, ℕ, ◌≤◌, Bool, true, false, ◌|
 use Rattle.std.proofs.Common.{◌&&◌, not, Option, Some, is_some, sym, ◌∙◌, arith, append_assoc, append-nil, if◌then◌else◌}
 use Rattle.std.proofs.Math.Seq.{drop-length}
 use Rattle.std.proofs.lemmas.List.{take_all, take-append-le, drop-append-le, take-append-drop}
+use Rattle.tangle_faults.specs.declared.faults.FaultKind.{FaultKind}
 use Rattle.tangle_lexer.specs.declared.tokens.Token.{Token}
 use Rattle.tangle_lexer.specs.declared.tokens.Token.TheVariants as token
 use Rattle.tangle_scan.specs.Rules.{without_joins, left_of_run, has_join, is_gap, is_join, is_front_gap}
 use Rattle.tangle_scan.specs.Rules.{blanks, is_name_part, macro_blanks}
 use Rattle.tangle_scan.specs.Passes.{without_joins_from}
+
+-- a token other than white space, a line end, a join and a fault
+
+abbrev pub is_solid : Token → Bool
+is_solid token.White = false
+is_solid (token.LineEnd line) = false
+is_solid token.Join = false
+is_solid (token.Fault kind line) = false
+is_solid e = true
+
+pub solid : (e : Token) → (e ≡ token.White → ⊥) → ((line : ℕ) → e ≡ token.LineEnd line → ⊥) →
+    (e ≡ token.Join → ⊥) → ((kind : FaultKind) (line : ℕ) → e ≡ token.Fault kind line → ⊥) →
+    is_solid e ≡ true
+solid token.White white end join fault = absurd (white refl)
+solid (token.LineEnd line) white end join fault = absurd (end line refl)
+solid token.Join white end join fault = absurd (join refl)
+solid (token.Fault kind line) white end join fault = absurd (fault kind line refl)
+solid _ white end join fault = refl
 
 -- a token other than white space and a line end, and rule 3 at such a token, in a C part and in a macro
 

@@ -150,11 +150,6 @@ unchanged-without_joins gap (token.LineEnd line ∷ es) h k =
 unchanged-without_joins gap (e ∷ es) h k =
     rw h (ap (λ t. gap ++ e ∷ t) (unchanged-without_joins [] es refl (or_parts (is_rare e) (list_any is_rare es) k).1))
 
-pub unchanged-stays : (es : List Token)
-    → list_any is_rare es ≡ false → es ≡ without_joins [] (with_spaces (without_faults es))
-unchanged-stays es h = sym (ap (λ t. without_joins [] (with_spaces t)) (unchanged-faults es h)
-    ∙ (ap (without_joins []) (unchanged-spaces es h) ∙ unchanged-without_joins [] es refl h))
-
 -- a macro without rare tokens, whose name needs no white space after it
 
 after-rare : (es : List Token) → list_any is_rare es ≡ false → list_any is_rare (without_front_gaps es) ≡ false

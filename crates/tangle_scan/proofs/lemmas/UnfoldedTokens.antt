@@ -1,4 +1,5 @@
--- The tokens of runs are no heads, no faults, no @h and not rare.
+-- The tokens of runs are no heads, no faults and no @h.
+use Rattle.std.proofs.Common.{◌<◌, zero, suc, length, get_or, arith}
 use Rattle.std.proofs.Common.{◌≡◌, ℕ, Bool, false, List, [], ◌∷◌, map, refl, ap, sym, ◌∙◌}
 use Rattle.std.specs.List.{list_any, flat_map}
 use Rattle.std.proofs.lemmas.Grind.{flat_map-append}
@@ -17,7 +18,6 @@ use Rattle.tangle_lexer.specs.declared.tokens.SpanKind.{SpanKind}
 use Rattle.tangle_lexer.specs.declared.tokens.SpanKind.TheVariants as span_kind
 use Rattle.tangle_lexer.specs.Heads.{is_head}
 use Rattle.tangle_lexer.specs.Runs.{part_token, unfolded_token, unfolded, is_run, HasNoRun}
-use Rattle.tangle_scan.specs.Passes.{is_rare}
 use Rattle.tangle_scan.specs.Web.{is_all_macros, body}
 use Rattle.tangle_scan.specs.WebBuilder.{own_fault}
 use Rattle.tangle_scan.proofs.lemmas.WebBuilderLemmas.{body-whole}
@@ -45,10 +45,6 @@ any-unfolded test texts white span run [] = refl
 any-unfolded test texts white span run (t ∷ ts) =
     rw (list_any-append, any-token test texts white span run t, any-unfolded test texts white span run ts) refl
 
-pub rare-unfolded : (texts : List (List ℕ)) (ts : List Token)
-    → list_any is_rare (unfolded texts ts) ≡ list_any is_rare ts
-rare-unfolded texts ts = any-unfolded is_rare texts refl (λ kind s. refl) (λ s. refl) ts
-
 pub all_macros-unfolded : (texts : List (List ℕ)) (ts : List Token)
     → list_any is_all_macros (unfolded texts ts) ≡ list_any is_all_macros ts
 all_macros-unfolded texts ts = any-unfolded is_all_macros texts refl (λ kind s. refl) (λ s. refl) ts
@@ -73,6 +69,13 @@ faults-unfolded texts files lines (t ∷ ts) =
     rw (flat_map-append, token-faults texts files lines t, faults-unfolded texts files lines ts) refl
 
 -- tokens without a head
+
+pub no-head-at : (ts : List Token) (i : ℕ) (d : Token) → list_any is_head ts ≡ false → i < length ts
+    → is_head (get_or ts i d) ≡ false
+no-head-at [] i d none low = absurd (omega (arith, low))
+no-head-at (t ∷ ts) zero d none low = (or_parts (is_head t) (list_any is_head ts) none).0
+no-head-at (t ∷ ts) (suc i) d none low =
+    no-head-at ts i d (or_parts (is_head t) (list_any is_head ts) none).1 (omega (arith, low))
 
 pub unfolded-no_head : (texts : List (List ℕ)) (ts : List Token) → list_any is_head ts ≡ false
     → list_any is_head (unfolded texts ts) ≡ false

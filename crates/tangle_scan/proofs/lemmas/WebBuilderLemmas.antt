@@ -1,18 +1,16 @@
 use Rattle.std.proofs.Common.{◌≡◌, ◌≤◌, ℕ, ◌+◌, true, false, List, [], ◌∷◌, ◌++◌, refl, ap, sym, ◌∙◌, arith, if◌then◌else◌}
-use Rattle.std.proofs.Common.{append_assoc, append-nil}
+use Rattle.std.proofs.Common.{append_assoc, append-nil, ◌||◌, Option, None, Some}
 use Rattle.std.specs.List.{list_any, flat_map}
 use Rattle.std.proofs.lemmas.Grind.{flat_map-append}
 use Rattle.std.proofs.lemmas.List.Folds.{list_any-append}
 use Rattle.std.proofs.lemmas.Bool.{or_parts}
 use Rattle.std.proofs.Math.Bool.{or_assoc, or-false}
 use Rattle.tangle_faults.specs.declared.faults.FaultKind.TheVariants as fault
-use Rattle.tangle_files.specs.Lines.{FileTable}
-use Rattle.tangle_lines.specs.Reading.{SourceLine, SourceRead}
+use Rattle.tangle_lines.specs.Reading.{SourceRead, origin_at}
 use Rattle.tangle_lexer.specs.declared.tokens.Token.{Token}
 use Rattle.tangle_lexer.specs.declared.tokens.Token.TheVariants as token
-use Rattle.tangle_scan.specs.Passes.{is_rare}
 use Rattle.tangle_scan.specs.Web.{is_all_macros, body, section_after}
-use Rattle.tangle_scan.specs.Rules.{texts_of, macro_items, is_macro}
+use Rattle.tangle_scan.specs.Rules.{texts_of, macro_items, is_macro, part_items}
 use Rattle.tangle_scan.specs.Web.{fault_on}
 use Rattle.tangle_lexer.specs.Heads.{is_head}
 use Rattle.tangle_scan.specs.WebBuilder.{WebBuilderRead, builder_with, with_head, own_fault}
@@ -70,6 +68,53 @@ pub block-whole : (source : SourceRead) (before : WebBuilderRead) (head : Token)
 block-whole source before head es h =
     front-whole source (with_head source before head es) es h ∙ builder-first source before head es
 
+-- a builder with the faults among these tokens
+abbrev with_faults : SourceRead → List Token → WebBuilderRead → WebBuilderRead
+with_faults source es g = record g { faults = g.faults ++ flat_map (own_fault source.files source.lines) es }
+
+-- a section, and then tokens without a head
+pub section-gathered : (source : SourceRead) (before : WebBuilderRead) (es : List Token) → list_any is_head es ≡ false
+    → with_faults source es (record before { sections = before.sections + 1 })
+    ≡ builder_with source before (token.Section ∷ es)
+section-gathered source before es none =
+    ap (with_faults source es) gathered ∙ block-whole source before token.Section es none
+  where
+    gathered : record before { sections = before.sections + 1 } ≡ with_head source before token.Section es
+    gathered =
+        rw (append-nil before.pieces, append-nil before.macros, append-nil before.faults, or-false before.has_all_macros)
+        refl
+
+-- a C part
+
+abbrev pub part_head : ℕ → Option ℕ → Token
+part_head line None = token.UnnamedPart line
+part_head line (Some occurrence) = token.NamedPart line occurrence
+
+abbrev with_piece : SourceRead → WebBuilderRead → Option ℕ → ℕ → List Token → WebBuilderRead
+with_piece source before occurrence line es = record before {
+  pieces = before.pieces ++ record {
+    section = before.sections;
+    origin = origin_at source.lines line;
+    occurrence = occurrence;
+    items = part_items source.lines line es;
+  } ∷ [];
+  has_all_macros = before.has_all_macros || list_any is_all_macros es;
+}
+
+pub piece-gathered : (source : SourceRead) (before : WebBuilderRead) (occurrence : Option ℕ) (line : ℕ) (es : List Token)
+    → list_any is_head es ≡ false
+    → with_faults source es (with_piece source before occurrence line es)
+    ≡ builder_with source before (part_head line occurrence ∷ es)
+piece-gathered source before occurrence line es none =
+    ap (with_faults source es) (gathered occurrence) ∙ block-whole source before (part_head line occurrence) es none
+  where
+    gathered : (name : Option ℕ)
+        → with_piece source before name line es ≡ with_head source before (part_head line name) es
+    gathered None =
+        rw (body-whole es none, append-nil before.macros, append-nil before.faults, or-false (list_any is_all_macros es)) refl
+    gathered (Some n) =
+        rw (body-whole es none, append-nil before.macros, append-nil before.faults, or-false (list_any is_all_macros es)) refl
+
 -- a head is one of four kinds of tokens
 pub no-other-head : (e : Token)
     → is_head e ≡ true → (e ≡ token.Section → ⊥) → ((line : ℕ) → e ≡ token.MacroStart line → ⊥)
@@ -104,7 +149,7 @@ builder-cut source before (x ∷ xs) es cut =
     ∙ builder-first source before x (xs ++ es)))
 
 -- a macro without a head inside, whose items were added or whose fault
-pub macro-gathered : (source : SourceRead) (before : WebBuilderRead) (line : ℕ) (es : List Token) → body es ≡ es →
+macro-added : (source : SourceRead) (before : WebBuilderRead) (line : ℕ) (es : List Token) → body es ≡ es →
     (let items = macro_items (texts_of source.lines) es in
     let is_macro = is_macro (texts_of source.lines) items in
     record before {
@@ -112,7 +157,7 @@ pub macro-gathered : (source : SourceRead) (before : WebBuilderRead) (line : ℕ
       faults = before.faults
           ++ (if is_macro then [] else fault_on source.files source.lines fault.MacroName line ∷ []);
     } ≡ with_head source before (token.MacroStart line) es)
-macro-gathered source before line es whole =
+macro-added source before line es whole =
     rw (
       whole,
       append-nil before.pieces,
@@ -121,20 +166,20 @@ macro-gathered source before line es whole =
       or-false before.has_all_macros,
     ) refl
 
+pub macro-gathered : (source : SourceRead) (before : WebBuilderRead) (line : ℕ) (es : List Token)
+    → list_any is_head es ≡ false →
+    (let items = macro_items (texts_of source.lines) es in
+    let is_macro = is_macro (texts_of source.lines) items in
+    with_faults source es (record before {
+      macros = before.macros ++ (if is_macro then items ∷ [] else []);
+      faults = before.faults
+          ++ (if is_macro then [] else fault_on source.files source.lines fault.MacroName line ∷ []);
+    }) ≡ builder_with source before (token.MacroStart line ∷ es))
+macro-gathered source before line es none =
+    ap (with_faults source es) (macro-added source before line es (body-whole es none))
+    ∙ block-whole source before (token.MacroStart line) es none
+
 -- a head begins one section at most
 pub section_after-limit : (n : ℕ) (e : Token) → section_after n e ≤ n + 1
 section_after-limit n token.Section = omega arith
 section_after-limit n _ = omega arith
-
--- without rare tokens there is no @h and no fault
-
-pub rare-all_macros : (es : List Token) → list_any is_rare es ≡ false → list_any is_all_macros es ≡ false
-rare-all_macros [] h = refl
-rare-all_macros (token.AllMacros line ∷ es) h = cc
-rare-all_macros (e ∷ es) h = rare-all_macros es (or_parts (is_rare e) (list_any is_rare es) h).1
-
-pub rare-faults : (files : FileTable) (lines : List SourceLine) (es : List Token)
-    → list_any is_rare es ≡ false → flat_map (own_fault files lines) es ≡ []
-rare-faults files lines [] h = refl
-rare-faults files lines (token.Fault kind line ∷ es) h = cc
-rare-faults files lines (e ∷ es) h = rare-faults files lines es (or_parts (is_rare e) (list_any is_rare es) h).1

@@ -1,31 +1,23 @@
-use Rattle.std.proofs.Common.{◌≡◌, ◌||◌, ◌++◌, ◌∷◌, [], ◌∙◌, ap, sym}
-use Rattle.std.specs.List.{list_any}
+use Rattle.std.proofs.Common.{◌||◌, ◌++◌, ◌∷◌, [], ◌∙◌, ap}
+use Rattle.std.specs.List.{list_any, flat_map}
 use Rattle.tangle_lines.specs.declared.origin.Origin.{Origin}
 use Rattle.tangle_lines.specs.Reading.{origin_at}
 use Rattle.tangle_lexer.specs.Runs.{unfolded}
 use Rattle.tangle_scan.specs.Entries.{StoredPiece}
 use Rattle.tangle_scan.specs.Rules.{texts_of, part_items}
 use Rattle.tangle_scan.specs.Web.{is_all_macros}
-use Rattle.tangle_scan.specs.WebBuilder.{StoredBuilder, WebBuilderRead, builder_read}
-use Rattle.tangle_scan.proofs.lemmas.UnfoldedTokens.{all_macros-unfolded}
+use Rattle.tangle_scan.specs.WebBuilder.{StoredBuilder, WebBuilderRead, builder_read, own_fault}
+use Rattle.tangle_scan.proofs.lemmas.UnfoldedTokens.{all_macros-unfolded, faults-unfolded}
 use Rattle.tangle_scan.proofs.lemmas.StoredPieces.{piece-added, runs-added}
 use Rattle.tangle_scan.proofs.web_builder.WebBuilder.add_piece.Goals as goal
-use Rattle.tangle_scan.proofs.web_builder.WebBuilder.add_piece.Goals.{then-self, else-self}
 
 pub returns-clause-piece : goal.returns-clause-piece
 returns-clause-piece c =
-    let lines = c.args.source.now.lines in
+    let source = c.args.source.now in
+    let lines = source.lines in
     let texts = texts_of lines in
     let tokens = c.args.tokens.now in
-    let has_all_macros = list_any is_all_macros (unfolded texts tokens) in
     let items = part_items lines c.args.line (unfolded texts tokens) in
-    let flag : c.if-self.self ≡ (c.self.inside.has_all_macros || has_all_macros) =
-    elim c.if-self.branch [
-      | then-self w ↦ w.self-is ∙ (w.if-self.true ∙ sym (ap (λ b. b || has_all_macros) w.if-self.true))
-      | else-self w ↦
-          w.self-is ∙ (w.has_all_macros-self-inside.ensures ∙ (sym (all_macros-unfolded texts tokens)
-          ∙ sym (ap (λ b. b || has_all_macros) w.if-self.false)))
-    ] in
     let piece : Origin → StoredPiece =
     λ origin. record {
       section = c.self.inside.sections;
@@ -45,9 +37,16 @@ returns-clause-piece c =
         occurrence = c.args.occurrence;
         items = items;
       } ∷ [];
-      has_all_macros = g.has_all_macros || has_all_macros;
+      has_all_macros = g.has_all_macros || list_any is_all_macros (unfolded texts tokens);
+      faults = g.faults ++ flat_map (own_fault source.files lines) (unfolded texts tokens);
     } in
-    rw (read, flag) (ap added c.self.view_is)
+    rw (
+      read,
+      c.in_ok-entries.ensures.all_macros,
+      ← (all_macros-unfolded texts tokens),
+      c.in_ok-entries.ensures.faults,
+      ← (faults-unfolded texts source.files lines tokens),
+    ) (ap added c.self.view_is)
 
 pub returns-clause-kept : goal.returns-clause-kept
 returns-clause-kept c =

@@ -1,0 +1,201 @@
+-- The items of a C part, token by token.
+use Rattle.std.proofs.Common.{◌≡◌, ℕ, ◌-◌, length, slice_get, arith, Bool, true, false, ◌||◌, List, []}
+use Rattle.std.proofs.Common.{◌∷◌, ◌++◌, refl, ap, sym, ◌∙◌, if◌then◌else◌, Option, Some, append_assoc}
+use Rattle.std.proofs.Common.{append-nil, length-append, map, take, ◌≤◌}
+use Rattle.tangle_lexer.specs.declared.tokens.Token.{Token}
+use Rattle.tangle_lexer.specs.declared.tokens.Token.TheVariants as token
+use Rattle.tangle_scan.specs.declared.items.Item.{Item}
+use Rattle.tangle_scan.specs.declared.items.Item.TheVariants as item
+use Rattle.tangle_scan.specs.declared.items.Entry.{Entry}
+use Rattle.tangle_scan.specs.declared.items.Entry.TheVariants as entry
+use Rattle.tangle_lines.specs.declared.origin.Origin.{Origin}
+use Rattle.tangle_lines.specs.Reading.{SourceLine}
+use Rattle.tangle_text.specs.declared.spans.Span.{Span}
+use Rattle.tangle_lexer.specs.declared.tokens.SpanKind.{SpanKind}
+use Rattle.tangle_lexer.specs.declared.tokens.SpanKind.TheVariants as span_kind
+use Rattle.tangle_scan.specs.declared.parts.PartState.{PartState}
+use Rattle.tangle_scan.specs.declared.parts.Start.{Start}
+use Rattle.tangle_scan.specs.Rules.{texts_of, ends_in_backslash, span_item, would_merge}
+use Rattle.std.specs.List.{list_any, All}
+use Rattle.std.proofs.lemmas.List.Elements.{All-append, All-map, All-push}
+use Rattle.std.proofs.lemmas.List.{take_all, take-append-le}
+use Rattle.std.proofs.lemmas.List.Concat.{flat_map-append}
+use Rattle.std.proofs.lemmas.List.Folds.{list_any-append}
+use Rattle.std.proofs.Math.Bool.{or_comm, or-false}
+use Rattle.tangle_scan.specs.Web.{is_line_mark}
+use Rattle.tangle_text.specs.declared.runs.RunPart.{RunPart}
+use Rattle.tangle_text.specs.declared.runs.RunPart.TheVariants as part
+use Rattle.tangle_text.specs.Runs.{run_parts}
+use Rattle.tangle_lexer.specs.Heads.{is_head}
+use Rattle.tangle_scan.specs.Entries.{entry_items, items_of, entry_is_mark, part_item, IsEntryInRange}
+use Rattle.tangle_scan.specs.Passes.{items_at, item_continues, entry_continues, entries_continue, last_continues}
+use Rattle.tangle_scan.specs.Passes.{last_entry, entries_merge, items_by_origin, blank_if, IsMarked}
+use Rattle.tangle_scan.specs.Passes.{start_of_gap, is_after_line_end}
+use Rattle.tangle_scan.proofs.lemmas.RuleLemmas.{is_solid}
+
+pub items_by_origin-blank : (lines : List SourceLine) (before : Option Token)
+    (counted : Origin) (blank : Bool) (es : List Token)
+    → items_by_origin lines before counted ((if blank then token.White ∷ [] else []) ++ es)
+    ≡ (if blank then item.Blank ∷ [] else []) ++ items_by_origin lines before counted es
+items_by_origin-blank lines before counted true es = refl
+items_by_origin-blank lines before counted false es = refl
+
+-- the items of entries that were added
+
+pub items-push : (texts : List (List ℕ)) (entries : List Entry) (x : Entry)
+    → items_of texts (entries ++ x ∷ []) ≡ items_of texts entries ++ entry_items texts x
+items-push texts entries x =
+    flat_map-append (entry_items texts) entries (x ∷ [])
+    ∙ ap (λ t. items_of texts entries ++ t) (append-nil (entry_items texts x))
+
+pub items-of-items : (texts : List (List ℕ)) (items : List Item) → items_of texts (map entry.Item items) ≡ items
+items-of-items texts [] = refl
+items-of-items texts (x ∷ items) = ap (λ t. x ∷ t) (items-of-items texts items)
+
+pub items-more : (texts : List (List ℕ)) (entries : List Entry) (items : List Item)
+    → items_of texts (entries ++ map entry.Item items) ≡ items_of texts entries ++ items
+items-more texts entries items =
+    flat_map-append (entry_items texts) entries (map entry.Item items)
+    ∙ ap (λ t. items_of texts entries ++ t) (items-of-items texts items)
+
+-- the last entry, on which it depends whether the next line continues this one and whether rule 1 puts white space
+
+at-end : (entries : List Entry) (x : Entry) → slice_get (entries ++ x ∷ []) (length entries) ≡ Some x
+at-end [] x = refl
+at-end (y ∷ entries) x = at-end entries x
+
+pub last-of-push : (entries : List Entry) (x : Entry) → last_entry (entries ++ x ∷ []) ≡ Some x
+last-of-push entries x =
+    let end : length (entries ++ x ∷ []) - 1 ≡ length entries = omega (arith, length-append entries (x ∷ [])) in
+    rw (end, at-end entries x) refl
+
+last-of-two : (entries : List Entry) (x y : Entry) → last_entry (entries ++ x ∷ y ∷ []) ≡ Some y
+last-of-two entries x y =
+    ap last_entry (sym (append_assoc entries (x ∷ []) (y ∷ []))) ∙ last-of-push (entries ++ x ∷ []) y
+
+pub last-continues : (texts : List (List ℕ)) (entries : List Entry) (x : Entry)
+    → entries_continue texts (entries ++ x ∷ []) ≡ entry_continues texts x
+last-continues texts entries x = ap (last_continues texts) (last-of-push entries x)
+
+pub span-continues : (texts : List (List ℕ)) (kind : SpanKind) (s : Span)
+    → item_continues texts (span_item kind s) ≡ ends_in_backslash texts (token.Span kind s)
+span-continues texts span_kind.Word s = refl
+span-continues texts _ s = refl
+
+-- an entry and another one, or no other
+pub item-continues : (lines : List SourceLine) (entries : List Entry) (e : Token)
+    → is_solid e ≡ true → is_head e ≡ false → ((s : Span) → e ≡ token.Run s → ⊥)
+    → entries_continue (texts_of lines) (entries ++ map entry.Item (items_at lines e))
+    ≡ ends_in_backslash (texts_of lines) e
+item-continues lines entries (token.Span kind s) solid head run =
+    last-continues (texts_of lines) entries (entry.Item (span_item kind s)) ∙ span-continues (texts_of lines) kind s
+item-continues lines entries token.QuoteBreak solid head run =
+    last-continues (texts_of lines) entries (entry.Item item.QuoteBreak)
+item-continues lines entries (token.AsciiConstant b line) solid head run =
+    last-continues (texts_of lines) entries (entry.Item (item.Code b))
+item-continues lines entries (token.UseOf line occurrence) solid head run =
+    ap (last_continues (texts_of lines)) (last-of-two entries _ _)
+item-continues lines entries (token.AllMacros line) solid head run =
+    ap (last_continues (texts_of lines)) (last-of-two entries _ _)
+item-continues lines entries (token.Run s) solid head run = absurd (run s refl)
+item-continues lines entries _ solid head run = cc
+
+span-merges : (texts : List (List ℕ)) (entries : List Entry) (kind : SpanKind) (s : Span) (f : Token)
+    → entries_merge texts (entries ++ entry.Item (span_item kind s) ∷ []) f ≡ would_merge (token.Span kind s) f
+span-merges texts entries span_kind.Word s f = rw (last-of-push entries (entry.Item (item.Word s))) refl
+span-merges texts entries kind s f = rw (last-of-push entries (entry.Item (span_item kind s))) refl
+
+pub item-merges : (lines : List SourceLine) (entries : List Entry) (e f : Token)
+    → is_solid e ≡ true → is_head e ≡ false → ((s : Span) → e ≡ token.Run s → ⊥)
+    → entries_merge (texts_of lines) (entries ++ map entry.Item (items_at lines e)) f ≡ would_merge e f
+item-merges lines entries (token.Span kind s) f solid head run = span-merges (texts_of lines) entries kind s f
+item-merges lines entries token.QuoteBreak f solid head run =
+    rw (last-of-push entries (entry.Item item.QuoteBreak)) refl
+item-merges lines entries (token.AsciiConstant b line) f solid head run =
+    rw (last-of-push entries (entry.Item (item.Code b))) refl
+item-merges lines entries (token.UseOf line occurrence) f solid head run = rw (last-of-two entries _ _) refl
+item-merges lines entries (token.AllMacros line) f solid head run = rw (last-of-two entries _ _) refl
+item-merges lines entries (token.Run s) f solid head run = absurd (run s refl)
+item-merges lines entries _ f solid head run = cc
+
+-- whether the entries made so far have a mark
+
+marks-of-items : (items : List Item) → list_any entry_is_mark (map entry.Item items) ≡ list_any is_line_mark items
+marks-of-items [] = refl
+marks-of-items (x ∷ items) = ap (λ b. is_line_mark x || b) (marks-of-items items)
+
+no-mark-in-run : (parts : List RunPart) (items : List Item)
+    → list_any is_line_mark (map part_item parts ++ items) ≡ list_any is_line_mark items
+no-mark-in-run [] items = refl
+no-mark-in-run (part.Space ∷ parts) items = no-mark-in-run parts items
+no-mark-in-run (_ ∷ parts) items = no-mark-in-run parts items
+
+pub marks-of-entries : (texts : List (List ℕ)) (entries : List Entry)
+    → list_any is_line_mark (items_of texts entries) ≡ list_any entry_is_mark entries
+marks-of-entries texts [] = refl
+marks-of-entries texts (entry.Item x ∷ entries) = ap (λ b. is_line_mark x || b) (marks-of-entries texts entries)
+marks-of-entries texts (entry.Run s ∷ entries) =
+    no-mark-in-run (run_parts texts s) (items_of texts entries) ∙ marks-of-entries texts entries
+
+-- a blank is no mark
+blank-unmarked : (b : Bool) → list_any entry_is_mark (map entry.Item (if b then item.Blank ∷ [] else [])) ≡ false
+blank-unmarked true = refl
+blank-unmarked false = refl
+
+-- the start of the gap
+
+pub start-within : (entries : List Entry) (at : PartState) → at.start.entries ≤ length entries
+    → (start_of_gap entries at).entries ≤ length entries
+start-within entries at within = by (is_after_line_end at.last)
+  where
+    by : (b : Bool) → (if b then at.start else record { entries = length entries; counted = at.counted }).entries
+        ≤ length entries
+    by true = within
+    by false = omega arith
+
+-- the marks among the entries, and among those before the gap
+
+marked-more : (old new : List Entry) (at next : PartState) (more : List Entry) → IsMarked old at → new ≡ old ++ more
+    → next.start ≡ at.start → next.counted.has_mark ≡ (list_any entry_is_mark more || at.counted.has_mark)
+    → IsMarked new next
+marked-more old new at next more h is start mark = record {
+  start = omega (arith, h.start, ap (λ (s : Start). s.entries) start, ap length is, length-append old more);
+  now = rw (is, mark, list_any-append entry_is_mark old more, h.now) (or_comm at.counted.has_mark _);
+  before = rw (is, start, take-append-le at.start.entries old more h.start) h.before;
+}
+
+pub marked-item : (old new : List Entry) (at next : PartState) (blank : Bool) (items : List Item) → IsMarked old at
+    → new ≡ (old ++ map entry.Item (blank_if blank)) ++ map entry.Item items → next.start ≡ at.start
+    → next.counted.has_mark ≡ (list_any is_line_mark items || at.counted.has_mark) → IsMarked new next
+marked-item old new at next blank items h is start mark =
+    marked-more old new at next (map entry.Item (blank_if blank) ++ map entry.Item items) h
+    (is ∙ append_assoc old (map entry.Item (blank_if blank)) (map entry.Item items)) start
+    (rw (list_any-append entry_is_mark (map entry.Item (blank_if blank)), blank-unmarked blank, marks-of-items items) mark)
+
+pub marked-end : (old new : List Entry) (at next : PartState) (x : Item) → IsMarked old at
+    → new ≡ old ++ entry.Item x ∷ [] → next.start ≡ start_of_gap old at
+    → next.counted.has_mark ≡ (is_line_mark x || at.counted.has_mark) → IsMarked new next
+marked-end old new at next x h is start mark =
+    marked-more old new (record at { start = start_of_gap old at }) next (entry.Item x ∷ [])
+    (record { start = start-within old at h.start; now = h.now; before = by (is_after_line_end at.last) }) is start
+    (rw (or-false (is_line_mark x)) mark)
+  where
+    by : (b : Bool) → let start : Start = if b then at.start else record { entries = length old; counted = at.counted } in
+        list_any entry_is_mark (take start.entries old) ≡ start.counted.has_mark
+    by true = h.before
+    by false = ap (list_any entry_is_mark) (take_all (length old) old (omega arith)) ∙ h.now
+
+-- the runs among the entries are ranges of lines
+
+pub items-in-range : (texts : List (List ℕ)) (items : List Item) → All (IsEntryInRange texts) (map entry.Item items)
+items-in-range texts items = All-map (IsEntryInRange texts) entry.Item items (λ i d low. tt)
+
+pub range-items : (texts : List (List ℕ)) (entries new : List Entry) (items : List Item)
+    → new ≡ entries ++ map entry.Item items → All (IsEntryInRange texts) entries → All (IsEntryInRange texts) new
+range-items texts entries new items is old =
+    rw is (All-append (IsEntryInRange texts) entries (map entry.Item items) old (items-in-range texts items))
+
+pub range-push : (texts : List (List ℕ)) (entries new : List Entry) (x : Entry)
+    → IsEntryInRange texts x → new ≡ entries ++ x ∷ []
+    → All (IsEntryInRange texts) entries → All (IsEntryInRange texts) new
+range-push texts entries new x inside is old = rw is (All-push (IsEntryInRange texts) entries x old inside)

@@ -1,0 +1,64 @@
+use Rattle.std.proofs.Common.{◌||◌, ◌++◌, ◌∷◌, [], append_assoc, append-nil, take, get_or, ap, arith, refl, sym, ◌∙◌, subst, rules}
+use Rattle.std.proofs.lemmas.List.{drop_all, drop_more, take_more}
+use Rattle.std.specs.List.{flat_map}
+use Rattle.tangle_scan.specs.WebBuilder.{own_fault}
+use Rattle.std.proofs.lemmas.List.Concat.{flat_map-append}
+use Rattle.std.proofs.lemmas.List.Folds.{list_any_more}
+use Rattle.tangle_lexer.specs.declared.tokens.Token.TheVariants as token
+use Rattle.tangle_lexer.specs.Runs.{unfolded}
+use Rattle.tangle_scan.specs.Passes.{IsPassed}
+use Rattle.tangle_scan.specs.Rules.{texts_of, part_items}
+use Rattle.tangle_scan.specs.Web.{is_all_macros}
+use Rattle.tangle_scan.proofs.lemmas.PartLemmas.{passed-begin, passed-whole}
+use Rattle.tangle_scan.proofs.lemmas.UnfoldedTokens.{no-head-at}
+use Rattle.tangle_scan.proofs.parts.fill_part.Goals as goal
+
+pub loop-token-init : goal.loop-token-init
+loop-token-init c =
+    let counted = c.counted_on-counted.ensures in
+    record {
+      passed = rw c.clear.ensures.items (passed-begin c.args.source.now.lines c.args.line _ _ refl refl
+          counted.origin counted.origin);
+      limit = omega (arith, counted.limit);
+      mark = rw c.clear.ensures.items (record { start = omega arith; now = sym counted.mark; before = sym counted.mark });
+      runs = rw c.clear.ensures.items (λ k d low. absurd (omega (arith, low)));
+      all_macros = refl;
+      faults = search rules;
+    }
+
+pub add_token-requires-clause-no_head : goal.add_token-requires-clause-no_head
+add_token-requires-clause-no_head c =
+    no-head-at c.args.tokens.now c.loop-token.token-index token.Section c.requires.no_head (omega arith)
+
+pub loop-token-preserved : goal.loop-token-preserved
+loop-token-preserved c =
+    let lines = c.args.source.now.lines in
+    let tokens = c.args.tokens.now in
+    let index = c.loop-token.token-index in
+    let added = c.in_ok-add_token.ensures in
+    let was = c.loop-token.invariant in
+    let e = get_or tokens index token.Section in
+    let own = own_fault c.args.source.now.files lines in
+    record {
+      passed = added.passed _ _ (subst
+          (λ ts. IsPassed lines (part_items lines c.args.line (unfolded (texts_of lines) tokens))
+          c.loop-token.entries.items c.loop-token.at (unfolded (texts_of lines) ts))
+          (drop_more tokens index token.Section (omega arith)) was.passed);
+      limit = omega (arith, added.limit, was.limit);
+      mark = added.mark was.mark;
+      runs = added.runs was.runs;
+      all_macros = added.all_macros
+          ∙ (ap (λ b. b || is_all_macros e) was.all_macros ∙ sym (list_any_more is_all_macros tokens index token.Section (omega arith)));
+      faults = added.faults
+          ∙ (ap (λ t. t ++ own e) was.faults
+          ∙ (append_assoc c.args.faults.now.items (flat_map own (take index tokens)) (own e)
+          ∙ ap (λ t. c.args.faults.now.items ++ t) (sym (ap (flat_map own) (take_more tokens index token.Section (omega arith))
+          ∙ (flat_map-append own (take index tokens) (e ∷ []) ∙ ap (λ t. flat_map own (take index tokens) ++ t) (append-nil (own e)))))));
+    }
+
+pub returns-clause-items : goal.returns-clause-items
+returns-clause-items c =
+    let lines = c.args.source.now.lines in
+    passed-whole lines _ c.loop-token.entries.items c.loop-token.at _
+    (ap (unfolded (texts_of lines)) (drop_all c.loop-token.token-index c.args.tokens.now (omega arith)))
+    c.loop-token.invariant.passed
