@@ -57,14 +57,14 @@ entries_uses texts table entries =
 
 -- slots
 
-pub entry_slots_are : (texts : List (List ℕ)) (table : TableRead) (has_piece : ℕ → Bool)
+pub entry_slots_are : (texts : List (List ℕ)) (table : TableRead)
     (node : Title) (piece marks : ℕ) (e : Entry) (rest : List Item)
-    → items_slots texts table has_piece node piece marks (entry_items texts e ++ rest)
-    ≡ entry_slots texts table has_piece node piece marks e
-    ++ items_slots texts table has_piece node piece (marks_after_entry marks e) rest
-entry_slots_are texts table has_piece node piece marks (entry.Item x) rest = refl
-entry_slots_are texts table has_piece node piece marks (entry.Run s) rest =
-    run_slots texts table has_piece node piece marks s rest
+    → items_slots texts table node piece marks (entry_items texts e ++ rest)
+    ≡ entry_slots texts table node piece marks e
+    ++ items_slots texts table node piece (marks_after_entry marks e) rest
+entry_slots_are texts table node piece marks (entry.Item x) rest = refl
+entry_slots_are texts table node piece marks (entry.Run s) rest =
+    run_slots texts table node piece marks s rest
 
 -- tags
 
