@@ -1,5 +1,5 @@
 -- The entries of a piece, and the pieces of a node, are added one after another.
-use Rattle.std.proofs.Common.{◌≡◌, ◌∙◌, ℕ, ◌+◌, Bool, List, [], ◌∷◌, ◌++◌, fold, refl, ap, sym, append_assoc, append-nil, subst}
+use Rattle.std.proofs.Common.{◌≡◌, ◌∙◌, ℕ, ◌+◌, List, [], ◌∷◌, ◌++◌, fold, refl, ap, sym, append_assoc, append-nil, subst}
 use Rattle.std.specs.Prelude.{flat_map, length, slice_index_or}
 use Rattle.tangle_scan.specs.declared.items.Entry.{Entry}
 use Rattle.tangle_scan.specs.Entries.{items_of}

@@ -1,5 +1,5 @@
 -- The entries of pieces, where a run has one tag, give a body what the items of the pieces give it.
-use Rattle.std.proofs.Common.{◌≡◌, ◌∙◌, ℕ, ◌<◌, zero, suc, Bool, List, [], ◌∷◌, ◌++◌, map, take, drop, length, refl}
+use Rattle.std.proofs.Common.{◌≡◌, ◌∙◌, ℕ, ◌<◌, zero, suc, List, [], ◌∷◌, ◌++◌, map, take, drop, length, refl}
 use Rattle.std.proofs.Common.{ap, sym, subst, append_assoc, append-nil, arith, get_or, All}
 use Rattle.std.specs.Prelude.{flat_map}
 use Rattle.std.proofs.lemmas.List.Elements.{All-nil, All-cons, All-head, All-tail}

@@ -1,6 +1,6 @@
 -- What the entries of a piece give a body: the tags as they are in memory, where a run has one, and
 -- the bytes, names and slots.
-use Rattle.std.specs.Prelude.{◌≡◌, ℕ, ◌-◌, Bool, List, [], ◌∷◌, ◌++◌, map, length, slice_index_or}
+use Rattle.std.specs.Prelude.{◌≡◌, ℕ, ◌-◌, List, [], ◌∷◌, ◌++◌, map, length, slice_index_or}
 use Rattle.std.specs.List.{All}
 use Rattle.tangle_text.specs.declared.spans.Span.{Span}
 use Rattle.tangle_text.specs.Text.{span_text}

@@ -1,11 +1,10 @@
-use Rattle.std.proofs.Common.{◌∙◌, ap, sym}
-use Rattle.std.specs.Prelude.{flat_map, IfOk, Result, Ok, Err}
+use Rattle.std.proofs.Common.{◌∙◌, ap}
+use Rattle.std.specs.Prelude.{IfOk, Result, Ok, Err}
 use Rattle.std.proofs.lemmas.Result.{IfOk-weaker}
 use Rattle.digraph.specs.Graph.{row_at}
 use Rattle.tangle_plans.specs.ItemSlots.{pieces_at}
 use Rattle.tangle_plans.specs.MakingBodies.{AddsPieces, nothing_made}
-use Rattle.tangle_plans.specs.Meaning.{title_of}
-use Rattle.tangle_plans.specs.NodeBodies.{names_at, body_bytes}
+use Rattle.tangle_plans.specs.NodeBodies.{names_at}
 use Rattle.tangle_plans.specs.Nodes.{title_at}
 use Rattle.tangle_plans.proofs.HeldLemmas.{names_held}
 use Rattle.tangle_plans.proofs.AddingEntries.{pieces_unfold}
