@@ -1,21 +1,22 @@
 -- The expansion of one more node is kept, and what is kept at the end.
-use Rattle.std.proofs.Common.{◌≡◌, ◌∙◌, ◌+◌, ◌<◌, ◌≤◌, ℕ, Bool, true, false, List, [], length, take, get_or, refl}
+use Rattle.std.proofs.Common.{◌≡◌, ◌≢◌, ◌∙◌, ◌+◌, ◌<◌, ◌≤◌, ℕ, Bool, true, false, List, [], length, take, get_or, refl}
 use Rattle.std.proofs.Common.{suc, ap, sym, subst, inl, inr, arith, Contains}
-use Rattle.std.specs.Prelude.{Some, None, IsSome}
+use Rattle.std.specs.Prelude.{Some, None, unwrap_or}
 use Rattle.std.specs.List.{filter}
 use Rattle.std.proofs.lemmas.List.{get_or_default, take_all}
-use Rattle.std.proofs.lemmas.Bool.{both_ways, and_parts}
+use Rattle.std.proofs.lemmas.Bool.{both_ways, and_parts, false_from_ne_true}
 use Rattle.std.proofs.Math.Decide.{ℕ_discrete}
 use Rattle.tangle_expansion.proofs.SameShapes.{used_expandable}
-use Rattle.tangle_expansion.specs.Kept.{kept_at, PutsKept}
+use Rattle.tangle_expansion.specs.Kept.{kept_at, used_symbols, PutsKept}
 use Rattle.tangle_expansion.specs.Limits.{levels, heaviest, flat_of, IsExpandableNode}
-use Rattle.tangle_plans.specs.Shapes.{Named, Shapes}
+use Rattle.tangle_plans.specs.Flat.{flat, pieces_flat}
+use Rattle.tangle_plans.specs.Shapes.{Title, Named, Shape, Shapes}
 use Rattle.tangle_expansion.specs.declared.kept.Kept.{Kept}
 use Rattle.digraph.specs.Nodes.{Node, program}
 use Rattle.tangle_graph.specs.Nodes.{UsesTitle}
 use Rattle.tangle_graph.specs.Ordering.{IsOrderIn}
-use Rattle.tangle_graph.specs.Stores.{StoreRead, IsStoreOf, KeepsUsed, UsesPiece, flag_at, is_expandable_at}
-use Rattle.tangle_graph.specs.Stores.{title_in_store}
+use Rattle.tangle_graph.specs.Stores.{StoreRead, IsStoreOf, KeepsUsed, IsNodeIn, flag_at, is_expandable_at}
+use Rattle.tangle_graph.specs.Stores.{has_piece_at, title_in_store}
 use Rattle.tangle_graph.proofs.ExpandLemmas.{expandable_in}
 use Rattle.tangle_graph.proofs.NodeLemmas.{title_inside}
 use Rattle.tangle_affected.specs.Keeping.{IsKeptRight, KeepsJust, KeepsDone, KeepsUnflagged, IsExpandableList}
@@ -24,11 +25,11 @@ use Rattle.tangle_affected.specs.Flags.{is_expandable_and_flagged}
 use Rattle.tangle_names.proofs.ContainsLemmas.{into_filter}
 use Rattle.tangle_affected.proofs.ListLemmas.{expandable_list}
 use Rattle.tangle_affected.proofs.FlagLemmas.{apart, more_cases}
+use Rattle.tangle_affected.proofs.NameLemmas.{empty_unless}
 
--- the expansions that the plan of an expandable node uses are kept
-pub plan_kept : (shapes : Shapes) (store : StoreRead) (kept : Kept) (node : Node) (id : ℕ)
-    → KeepsUsed shapes store kept node → UsesPiece shapes store node id → IsSome (kept_at kept (suc id))
-plan_kept shapes store kept node id keeps u = subst IsSome (sym (keeps id u)) refl
+flat_empty : (all : Shapes) (node : Title) → all node ≡ [] → flat_of all node ≡ []
+unfolding levels
+flat_empty all node e = ap (λ (s : Shape). pieces_flat (λ name. flat 1000 all (Named name)) node 0 s) e
 
 module _ (shapes : Shapes) (store : StoreRead) (list : List Node)
     (is : IsStoreOf shapes store) (lists : IsExpandableList shapes store list) where
@@ -37,23 +38,43 @@ module _ (shapes : Shapes) (store : StoreRead) (list : List Node)
     pub next_expandable : is_expandable_at store node ≡ true
     next_expandable = lists.expandable node (i, h, sym at)
 
-    -- the expansions of the names with a piece that it uses are kept
+    -- the expansion of a used name is kept, if the name has a piece, and else none
     pub next_kept : (kept : Kept) → KeepsDone shapes store list i kept → KeepsUsed shapes store kept node
-    next_kept kept keeps id u =
-        let name = get_or store.names id [] in
-        let title : title_in_store store (suc id) ≡ Named (get_or store.names id []) =
-        title_inside store.names id u.inside in
-        let expandable = (is.expandable node (expandable_in shapes store node is next_expandable)).0 next_expandable in
-        let used : IsExpandableNode shapes (Named (get_or store.names id [])) =
-        used_expandable levels heaviest shapes (title_in_store store node) name expandable u.uses u.has_piece in
-        let is_flagged : is_expandable_at store (suc id) ≡ true =
-        (is.expandable (suc id) (omega (arith, u.inside))).1 (subst (IsExpandableNode shapes) (sym title) used) in
-        let uses : UsesTitle shapes (title_in_store store (get_or list i program)) (title_in_store store (suc id)) =
-        subst (λ n. UsesTitle shapes (title_in_store store n) (title_in_store store (suc id)))
-        (at ∙ get_or_default list i node program h)
-        (subst (UsesTitle shapes (title_in_store store node)) (sym title) u.uses) in
-        keeps.expandable (suc id) is_flagged (λ c. lists.after i (suc id) h c uses)
-        ∙ ap (λ t. Some (flat_of shapes t)) title
+    next_kept kept keeps id u = by (has_piece_at store (suc id)) refl
+      where
+        name : Title
+        name = Named (get_or store.names id [])
+
+        title : title_in_store store (suc id) ≡ name
+        title = title_inside store.names id u.inside
+
+        inside : IsNodeIn store (suc id)
+        inside = omega (arith, u.inside)
+
+        expandable : IsExpandableNode shapes (title_in_store store node)
+        expandable = (is.expandable node (expandable_in shapes store node is next_expandable)).0 next_expandable
+
+        by : (b : Bool) → has_piece_at store (suc id) ≡ b → used_symbols kept id ≡ flat_of shapes name
+        by true e =
+            let some = subst (λ t. shapes t ≢ []) title ((is.has_piece (suc id) inside).0 e) in
+            let used : IsExpandableNode shapes name =
+            used_expandable levels heaviest shapes (title_in_store store node) (get_or store.names id [])
+            expandable u.uses some in
+            let is_flagged : is_expandable_at store (suc id) ≡ true =
+            (is.expandable (suc id) inside).1 (subst (IsExpandableNode shapes) (sym title) used) in
+            let uses : UsesTitle shapes (title_in_store store (get_or list i program)) (title_in_store store (suc id)) =
+            subst (λ n. UsesTitle shapes (title_in_store store n) (title_in_store store (suc id)))
+            (at ∙ get_or_default list i node program h)
+            (subst (UsesTitle shapes (title_in_store store node)) (sym title) u.uses) in
+            ap (λ o. unwrap_or o []) (keeps.expandable (suc id) is_flagged (λ c. lists.after i (suc id) h c uses))
+            ∙ ap (flat_of shapes) title
+        by false e =
+            let none : shapes name ≡ [] = empty_unless (shapes name) (λ some.
+            both_ways (has_piece_at store (suc id)) e
+            ((is.has_piece (suc id) inside).1 (subst (λ t. shapes t ≢ []) (sym title) some))) in
+            let not = false_from_ne_true (is_expandable_at store (suc id))
+            (λ flag. ((is.expandable (suc id) inside).0 flag).has_piece (ap shapes title ∙ none)) in
+            ap (λ o. unwrap_or o []) (keeps.others (suc id) not) ∙ sym (flat_empty shapes name none)
 
     pub done_more : (before after : Kept) → KeepsDone shapes store list i before
         → PutsKept before after node (flat_of shapes (title_in_store store node))

@@ -12,7 +12,7 @@ pub node_with_piece : (shapes : Shapes) (store : StoreRead) (node : Title)
 node_with_piece shapes store title.Program is has = (program, omega arith, refl)
 node_with_piece shapes store (Named name) is has = is.known name has
 
-empty_unless : (s : Shape) → ((e : s ≢ []) → ⊥) → s ≡ []
+pub empty_unless : (s : Shape) → ((e : s ≢ []) → ⊥) → s ≡ []
 empty_unless [] h = refl
 empty_unless (x ∷ xs) h = absurd (h (λ e. let no : x ∷ xs ≡ [] = e in absurd (cc)))
 

@@ -1,7 +1,7 @@
 -- The slots of pieces, filled with the symbols of the used names, are the expansion of the pieces.
-use Rattle.std.proofs.Common.{◌<◌, ◌≡◌, ◌∙◌, ℕ, ◌+◌, Bool, true, false, List, [], ◌∷◌, map, length, refl, ap, sym}
+use Rattle.std.proofs.Common.{◌<◌, ◌≡◌, ◌∙◌, ℕ, ◌+◌, List, [], ◌∷◌, map, length, refl, ap, sym}
 use Rattle.std.proofs.Common.{append-nil, inl, inr}
-use Rattle.std.specs.Prelude.{if◌then◌else◌, slice_index_or}
+use Rattle.std.specs.Prelude.{slice_index_or}
 use Rattle.std.proofs.lemmas.Grind.{flat_map-append}
 use Rattle.tangle_files.specs.Bytes.{space}
 use Rattle.tangle_scan.specs.declared.items.Item.{Item}
@@ -16,34 +16,28 @@ use Rattle.tangle_plans.specs.Flat.{depth, flat, Symbol, Byte, marks_after_shape
 use Rattle.tangle_plans.specs.Flat.{items_flat, pieces_flat}
 use Rattle.tangle_plans.specs.WebShapes.{shapes, pieces_of, resolved_at, use_of, shape_item, IsNameBelow}
 use Rattle.tangle_plans.specs.WebShapes.{ResolvesInside}
-use Rattle.tangle_plans.specs.Slots.{Own, Used, filled_slot, filled}
+use Rattle.tangle_plans.specs.Slots.{filled_slot, filled}
 use Rattle.tangle_plans.specs.ItemSlots.{marks_after_item, name_slots, item_slots, items_slots, pieces_slots}
 use Rattle.tangle_expansion.proofs.UseLemmas.{bytes_filled}
 use Rattle.tangle_expansion.proofs.SameShapes.{flat_by_uses}
 
-module _ (texts : List (List ℕ)) (table : TableRead) (has_piece : ℕ → Bool) (symbols : ℕ → List Symbol)
+module _ (texts : List (List ℕ)) (table : TableRead) (symbols : ℕ → List Symbol)
     (used : List ℕ → List Symbol) (node : Title) (inside : ResolvesInside table) where
-  -- the name with this number has these symbols, if it has a piece, and else none
+  -- the name with this number has these symbols
   abbrev pub Fits : ℕ → Type 0
-  Fits id = (if has_piece id then symbols id else []) ≡ used (slice_index_or table.names id [])
+  Fits id = symbols id ≡ used (slice_index_or table.names id [])
 
   name_filled : (piece marks : ℕ) (r : Resolved) → IsNameBelow (length table.names) r
       → ((id : ℕ) → id < length table.names → IsUseOf (use_of table r) (slice_index_or table.names id []) → Fits id)
-      → filled symbols (name_slots has_piece r) ≡ item_flat used node piece marks (use_of table r)
-  name_filled piece marks (Name id) low fit = by (has_piece id) ∙ ap (λ l. Byte space ∷ l) (fit id low refl)
-    where
-      by : (t : Bool)
-          → filled symbols (if t then Used id ∷ [] else Own (Byte space) ∷ [])
-          ≡ Byte space ∷ (if t then symbols id else [])
-      by true = ap (λ l. Byte space ∷ l) (append-nil (symbols id))
-      by false = refl
+      → filled symbols (name_slots r) ≡ item_flat used node piece marks (use_of table r)
+  name_filled piece marks (Name id) low fit = ap (λ l. Byte space ∷ l) (append-nil (symbols id) ∙ fit id low refl)
   name_filled piece marks NoFullName low fit = refl
   name_filled piece marks Ambiguous low fit = refl
 
   item_filled : (piece marks : ℕ) (x : Item)
       → ((id : ℕ)
       → id < length table.names → IsUseOf (shape_item texts table x) (slice_index_or table.names id []) → Fits id)
-      → filled symbols (item_slots texts table has_piece node piece marks x)
+      → filled symbols (item_slots texts table node piece marks x)
       ≡ item_flat used node piece marks (shape_item texts table x)
   item_filled piece marks (item.LineMark origin) fit = refl
   item_filled piece marks (item.UseOf occurrence) fit =
@@ -64,13 +58,13 @@ module _ (texts : List (List ℕ)) (table : TableRead) (has_piece : ℕ → Bool
   items_filled : (piece marks : ℕ) (items : List Item)
       → ((id : ℕ) → id < length table.names
       → UsesInPiece (map (shape_item texts table) items) (slice_index_or table.names id []) → Fits id)
-      → filled symbols (items_slots texts table has_piece node piece marks items)
+      → filled symbols (items_slots texts table node piece marks items)
       ≡ items_flat used node piece marks (map (shape_item texts table) items)
   items_filled piece marks [] fit = refl
   items_filled piece marks (x ∷ items) fit =
       cc (
-        flat_map-append (filled_slot symbols) (item_slots texts table has_piece node piece marks x)
-            (items_slots texts table has_piece node piece (marks_after_item marks x) items),
+        flat_map-append (filled_slot symbols) (item_slots texts table node piece marks x)
+            (items_slots texts table node piece (marks_after_item marks x) items),
         item_filled piece marks x (λ id low u. fit id low (inl u)),
         items_filled piece (marks_after_item marks x) items (λ id low u. fit id low (inr u)),
         item_marks marks x,
@@ -80,28 +74,27 @@ module _ (texts : List (List ℕ)) (table : TableRead) (has_piece : ℕ → Bool
       → ((id : ℕ) → id < length table.names
       → UsesInShape (map (λ p. map (shape_item texts table) p.items) pieces) (slice_index_or table.names id [])
       → Fits id)
-      → filled symbols (pieces_slots texts table has_piece node piece pieces)
+      → filled symbols (pieces_slots texts table node piece pieces)
       ≡ pieces_flat used node piece (map (λ p. map (shape_item texts table) p.items) pieces)
   pieces_filled piece [] fit = refl
   pieces_filled piece (p ∷ pieces) fit =
       cc (
-        flat_map-append (filled_slot symbols) (items_slots texts table has_piece node piece 0 p.items)
-            (pieces_slots texts table has_piece node (piece + 1) pieces),
+        flat_map-append (filled_slot symbols) (items_slots texts table node piece 0 p.items)
+            (pieces_slots texts table node (piece + 1) pieces),
         items_filled piece 0 p.items (λ id low u. fit id low (inl u)),
         pieces_filled (piece + 1) pieces (λ id low u. fit id low (inr u)),
       )
 
 -- the slots of a node, filled with the expansions of the names that it uses, are its expansion
-pub node_filled : (web : WebRead) (table : TableRead) (has_piece : ℕ → Bool)
+pub node_filled : (web : WebRead) (table : TableRead)
     (symbols : ℕ → List Symbol) (levels : ℕ) (node : Title)
     → ResolvesInside table
     → depth levels (shapes web table) node < levels
     → ((id : ℕ) → id < length table.names → Uses (shapes web table) node (slice_index_or table.names id [])
-    → (if has_piece id then symbols id else [])
-    ≡ flat levels (shapes web table) (Named (slice_index_or table.names id [])))
-    → filled symbols (pieces_slots web.texts table has_piece node 0 (pieces_of web table node))
+    → symbols id ≡ flat levels (shapes web table) (Named (slice_index_or table.names id [])))
+    → filled symbols (pieces_slots web.texts table node 0 (pieces_of web table node))
     ≡ flat levels (shapes web table) node
-node_filled web table has_piece symbols levels node inside shallow fit =
-    pieces_filled web.texts table has_piece symbols
+node_filled web table symbols levels node inside shallow fit =
+    pieces_filled web.texts table symbols
     (λ name. flat levels (shapes web table) (Named name)) node inside 0 (pieces_of web table node) fit
     ∙ sym (flat_by_uses levels (shapes web table) node shallow)

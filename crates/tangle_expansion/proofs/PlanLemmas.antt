@@ -1,6 +1,7 @@
 -- One more step of a plan is written.
 use Rattle.std.proofs.Common.{◌≡◌, ◌∙◌, ℕ, ◌+◌, ◌<◌, ◌≤◌, true, false, List, [], ◌∷◌, ◌++◌, drop, length, get_or}
 use Rattle.std.proofs.Common.{refl, ap, sym, append_assoc}
+use Rattle.std.specs.Prelude.{Option, unwrap_or}
 use Rattle.std.proofs.lemmas.List.{drop_all}
 use Rattle.std.proofs.lemmas.Grind.{flat_map-append}
 use Rattle.tangle_plans.specs.Shapes.{Title}
@@ -69,14 +70,14 @@ plan_none node bytes piece marks start (s ∷ plan) =
     (plan_none node bytes (pieces_after_step piece s) (marks_after_step marks s) (bytes_after_step start s) plan)
 
 -- the symbols of a plan from a position on, and of a plan with one more shared expansion
-abbrev rest_flat : Title → List ℕ → PlanCursor → List (List Symbol) → List Symbol
+abbrev rest_flat : Title → List ℕ → PlanCursor → List (Option (List Symbol)) → List Symbol
 rest_flat node bytes r used = plan_flat node bytes r.piece r.marks r.start r.plan used
 
 plan_some : (node : Title) (bytes : List ℕ) (piece marks start : ℕ)
-    (plan : List Step) (symbols : List Symbol) (used : List (List Symbol))
+    (plan : List Step) (symbols : Option (List Symbol)) (used : List (Option (List Symbol)))
     → plan_flat node bytes piece marks start plan (symbols ∷ used)
     ≡ before_use node bytes piece marks start plan
-    ++ (Byte space ∷ symbols ++ rest_flat node bytes (after_use piece marks start plan) used)
+    ++ (Byte space ∷ unwrap_or symbols [] ++ rest_flat node bytes (after_use piece marks start plan) used)
 plan_some node bytes piece marks start [] symbols used = refl
 plan_some node bytes piece marks start (step.Use id ∷ plan) symbols used = refl
 plan_some node bytes piece marks start (s ∷ plan) symbols used =
@@ -86,19 +87,19 @@ plan_some node bytes piece marks start (s ∷ plan) symbols used =
     let b = bytes_after_step start s in
     ap (λ l. own ++ l) (plan_some node bytes p m b plan symbols used)
     ∙ sym (append_assoc own (before_use node bytes p m b plan)
-    (Byte space ∷ symbols ++ rest_flat node bytes (after_use p m b plan) used))
+    (Byte space ∷ unwrap_or symbols [] ++ rest_flat node bytes (after_use p m b plan) used))
 
-module _ (numbers : NumbersRead) (body : NodeBody) (at : Cursor) (used : List (List Symbol)) (i : ℕ) where
+module _ (numbers : NumbersRead) (body : NodeBody) (at : Cursor) (used : List (Option (List Symbol))) (i : ℕ) where
   -- the bytes of a plan whose next use is one of the shared expansions
-  pub written_with : (symbols : List Symbol) (next : Cursor) → i < length used → symbols ≡ get_or used i symbols
+  pub written_with : (symbols : Option (List Symbol)) (next : Cursor) → i < length used → symbols ≡ get_or used i symbols
       → rest_after_use body at ≡ rest_from body next
       → bytes_from body at numbers (drop i used)
       ≡ bytes_to_use body at numbers
-      ++ ((space ∷ []) ++ (expansion_bytes numbers symbols ++ bytes_from body next numbers (drop (i + 1) used)))
+      ++ ((space ∷ []) ++ (expansion_bytes numbers (unwrap_or symbols []) ++ bytes_from body next numbers (drop (i + 1) used)))
   written_with symbols next h is rest =
       rw (drop_at used i symbols h is, plan_some)
       (simp flat_map-append
-      (ap (λ r. bytes_to_use body at numbers ++ ((space ∷ []) ++ (expansion_bytes numbers symbols
+      (ap (λ r. bytes_to_use body at numbers ++ ((space ∷ []) ++ (expansion_bytes numbers (unwrap_or symbols [])
       ++ expansion_bytes numbers (rest_flat (title_of body.name) body.bytes.items r (drop (i + 1) used))))) rest))
 
   pub written_without : length used ≤ i → bytes_from body at numbers (drop i used) ≡ bytes_to_use body at numbers

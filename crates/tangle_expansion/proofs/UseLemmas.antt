@@ -1,9 +1,8 @@
 -- The uses of a plan, one after another, and the plan filled with their symbols.
 use Rattle.std.proofs.Common.{◌≡◌, ℕ, ◌+◌, ◌<◌, ◌≤◌, zero, suc, List, [], ◌∷◌, ◌++◌, map, drop, length, get_or}
 use Rattle.std.proofs.Common.{refl, ap, append_assoc, append-nil, arith}
-use Rattle.std.specs.Prelude.{Contains}
+use Rattle.std.specs.Prelude.{Option, unwrap_or}
 use Rattle.std.proofs.lemmas.List.{map-append, drop_all}
-use Rattle.std.proofs.lemmas.List.Elements.{Contains-append_left, Contains-append_right}
 use Rattle.std.proofs.lemmas.Grind.{flat_map-append}
 use Rattle.tangle_files.specs.Bytes.{space}
 use Rattle.tangle_plans.specs.Shapes.{Title}
@@ -15,18 +14,7 @@ use Rattle.tangle_plans.specs.declared.steps.Step.{Step}
 use Rattle.tangle_plans.specs.declared.steps.Step.TheVariants as step
 use Rattle.tangle_plans.proofs.DropLemmas.{drop_at}
 
-pub used_in_plan : (plan seen : List Step) (i : ℕ) (d : Step) (id : ℕ)
-    → seen ≡ plan → i < length seen → Contains (step_uses (get_or seen i d)) id → Contains (uses_of plan) id
-used_in_plan plan seen i d id same h c = rw same at (among seen i h c)
-  where
-    among : (xs : List Step) (i : ℕ)
-        → i < length xs → Contains (step_uses (get_or xs i d)) id → Contains (uses_of xs) id
-    among [] i h c = absurd (omega (arith, h))
-    among (x ∷ xs) zero h c = Contains-append_left (step_uses x) (uses_of xs) id c
-    among (x ∷ xs) (suc i) h c =
-        Contains-append_right (step_uses x) (uses_of xs) id (among xs i (omega (arith, h)) c)
-
-pub uses_next : (symbols : ℕ → List Symbol) (plan seen : List Step) (i : ℕ) (s : Step) (done : List (List Symbol))
+pub uses_next : {X : Type 0} (symbols : ℕ → X) (plan seen : List Step) (i : ℕ) (s : Step) (done : List X)
     → seen ≡ plan → i < length seen → s ≡ get_or seen i s
     → done ++ map symbols (uses_of (drop i plan)) ≡ map symbols (uses_of plan)
     → (done ++ map symbols (step_uses s)) ++ map symbols (uses_of (drop (i + 1) plan)) ≡ map symbols (uses_of plan)
@@ -34,7 +22,7 @@ uses_next symbols plan seen i s done same h is e =
     let next : drop i plan ≡ s ∷ drop (i + 1) plan = rw same at (drop_at seen i s h is) in
     rw (append_assoc, ← map-append) (rw next at e)
 
-pub uses_end : (symbols : ℕ → List Symbol) (plan seen : List Step) (i : ℕ) (done : List (List Symbol))
+pub uses_end : {X : Type 0} (symbols : ℕ → X) (plan seen : List Step) (i : ℕ) (done : List X)
     → seen ≡ plan → length seen ≤ i
     → done ++ map symbols (uses_of (drop i plan)) ≡ map symbols (uses_of plan) → done ≡ map symbols (uses_of plan)
 uses_end symbols plan seen i done same h e =
@@ -46,20 +34,20 @@ bytes_filled symbols [] = refl
 bytes_filled symbols (b ∷ bytes) = ap (λ l. Byte b ∷ l) (bytes_filled symbols bytes)
 
 -- if each use has its shared expansion, in order, the meaning of a plan is its filled slots
-pub plan_filled : (symbols : ℕ → List Symbol) (node : Title) (bytes : List ℕ) (piece marks start : ℕ) (plan : List Step)
-    → plan_flat node bytes piece marks start plan (map symbols (uses_of plan))
-    ≡ filled symbols (slots node bytes piece marks start plan)
-plan_filled symbols node bytes piece marks start [] = refl
-plan_filled symbols node bytes piece marks start (step.Bytes end ∷ plan) =
+pub plan_filled : (shared : ℕ → Option (List Symbol)) (node : Title) (bytes : List ℕ) (piece marks start : ℕ) (plan : List Step)
+    → plan_flat node bytes piece marks start plan (map shared (uses_of plan))
+    ≡ filled (λ id. unwrap_or (shared id) []) (slots node bytes piece marks start plan)
+plan_filled shared node bytes piece marks start [] = refl
+plan_filled shared node bytes piece marks start (step.Bytes end ∷ plan) =
     cc (
-      plan_filled symbols node bytes piece marks end plan,
-      bytes_filled symbols (bytes_between bytes start end),
-      flat_map-append (filled_slot symbols) (map (λ b. Own (Byte b)) (bytes_between bytes start end))
+      plan_filled shared node bytes piece marks end plan,
+      bytes_filled (λ id. unwrap_or (shared id) []) (bytes_between bytes start end),
+      flat_map-append (filled_slot (λ id. unwrap_or (shared id) [])) (map (λ b. Own (Byte b)) (bytes_between bytes start end))
           (slots node bytes piece marks end plan),
     )
-plan_filled symbols node bytes piece marks start (step.Use id ∷ plan) =
-    ap (λ l. Byte space ∷ symbols id ++ l) (plan_filled symbols node bytes piece marks start plan)
-plan_filled symbols node bytes piece marks start (s ∷ plan) =
+plan_filled shared node bytes piece marks start (step.Use id ∷ plan) =
+    ap (λ l. Byte space ∷ unwrap_or (shared id) [] ++ l) (plan_filled shared node bytes piece marks start plan)
+plan_filled shared node bytes piece marks start (s ∷ plan) =
     ap (λ l. own_symbols node bytes piece marks start s ++ l)
-    (plan_filled symbols node bytes
+    (plan_filled shared node bytes
     (pieces_after_step piece s) (marks_after_step marks s) (bytes_after_step start s) plan)

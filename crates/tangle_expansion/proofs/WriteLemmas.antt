@@ -38,6 +38,10 @@ wrote_more a b c r s t left xs rest whole w e p = record {
   split = rw append_assoc (rw e at w.split);
 }
 
+pub wrote_same : (a b : Stream) (r s : Result ℕ WriteFault) (left rest whole : List ℕ)
+    → Wrote a b r s left whole → left ≡ rest → Wrote a b r s rest whole
+wrote_same a b r s left rest whole w e = record { done = w.done; writes = w.writes; split = rw e at w.split }
+
 pub wrote_whole : (a b : Stream) (r s : Result ℕ WriteFault) (left whole : List ℕ)
     → Wrote a b r s left whole → left ≡ [] → IsWrittenAfter a b r whole s
 wrote_whole a b r s left whole w e = rw (← w.split, e, append-nil) w.writes

@@ -1,6 +1,6 @@
 -- The symbols of an expansion as it is in memory: there are more of them than in each expansion
 -- that it shares.
-use Rattle.std.specs.Prelude.{ℕ, ◌+◌, ◌≤◌, List, [], ◌∷◌, length}
+use Rattle.std.specs.Prelude.{ℕ, ◌+◌, ◌≤◌, List, [], ◌∷◌, length, Option, unwrap_or}
 use Rattle.std.proofs.Common.{arith, length-append}
 use denote.Param.Weighed.{most}
 use Rattle.tangle_plans.specs.Shapes.{Title}
@@ -16,30 +16,39 @@ expansion_symbols e =
     plan_flat (title_of e.shared.value.body.value.name) e.shared.value.body.value.bytes.items
     0 0 0 e.shared.value.body.value.plan.items e.shared.value.used.items
 
-left_over_is_longer : (used : List (List Symbol))
-    → most (λ symbols. length symbols + 1) used ≤ length (left_over used)
-left_over_is_longer [] = omega arith
-left_over_is_longer (symbols ∷ rest) =
-    omega (arith, left_over_is_longer rest, length-append symbols (left_over rest))
+-- a weight of what is shared, which is at most one more than the number of its symbols
+module _ (weight : Option (List Symbol) → ℕ)
+    (within : (o : Option (List Symbol)) → weight o ≤ length (unwrap_or o []) + 1) where
+  left_over_is_longer : (used : List (Option (List Symbol)))
+      → most weight used ≤ length (left_over used)
+  left_over_is_longer [] = omega arith
+  left_over_is_longer (o ∷ rest) =
+      omega (
+        arith,
+        within o,
+        left_over_is_longer rest,
+        length-append (unwrap_or o []) (left_over rest),
+      )
 
-pub plan_is_longer : (node : Title) (bytes : List ℕ)
-    (piece marks start : ℕ) (plan : List Step) (used : List (List Symbol))
-    → most (λ symbols. length symbols + 1) used
-    ≤ length (plan_flat node bytes piece marks start plan used)
-plan_is_longer node bytes piece marks start [] used = left_over_is_longer used
-plan_is_longer node bytes piece marks start (step.Use id ∷ plan) [] = omega arith
-plan_is_longer node bytes piece marks start (step.Use id ∷ plan) (symbols ∷ rest) =
-    omega (
-      arith,
-      plan_is_longer node bytes piece marks start plan rest,
-      length-append symbols (plan_flat node bytes piece marks start plan rest),
-    )
-plan_is_longer node bytes piece marks start (s ∷ plan) used =
-    let p = pieces_after_step piece s in
-    let m = marks_after_step marks s in
-    let b = bytes_after_step start s in
-    omega (
-      arith,
-      plan_is_longer node bytes p m b plan used,
-      length-append (own_symbols node bytes piece marks start s) (plan_flat node bytes p m b plan used),
-    )
+  pub plan_is_longer : (node : Title) (bytes : List ℕ)
+      (piece marks start : ℕ) (plan : List Step) (used : List (Option (List Symbol)))
+      → most weight used ≤ length (plan_flat node bytes piece marks start plan used)
+  plan_is_longer node bytes piece marks start [] used = left_over_is_longer used
+  plan_is_longer node bytes piece marks start (step.Use id ∷ plan) [] = omega arith
+  plan_is_longer node bytes piece marks start (step.Use id ∷ plan) (o ∷ rest) =
+      omega (
+        arith,
+        within o,
+        plan_is_longer node bytes piece marks start plan rest,
+        length-append (unwrap_or o []) (plan_flat node bytes piece marks start plan rest),
+      )
+  plan_is_longer node bytes piece marks start (s ∷ plan) used =
+      let p = pieces_after_step piece s in
+      let m = marks_after_step marks s in
+      let b = bytes_after_step start s in
+      omega (
+        arith,
+        plan_is_longer node bytes p m b plan used,
+        length-append (own_symbols node bytes piece marks start s)
+            (plan_flat node bytes p m b plan used),
+      )

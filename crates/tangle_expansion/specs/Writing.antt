@@ -1,5 +1,5 @@
 -- What is written from a position in a plan on. Only private contracts cite these definitions.
-use Rattle.std.specs.Prelude.{◌≡◌, ◌+◌, ℕ, List, drop}
+use Rattle.std.specs.Prelude.{◌≡◌, ◌+◌, ℕ, List, drop, Option}
 use Rattle.tangle_plans.specs.Flat.{Symbol}
 use Rattle.tangle_plans.specs.Meaning.{title_of, plan_flat, own_symbols, before_use, after_use}
 use Rattle.tangle_plans.specs.Meaning.{PlanCursor, pieces_after_step, marks_after_step}
@@ -43,7 +43,7 @@ module _ (body : NodeBody) (at : Cursor) where
         at.piece at.marks at.start (drop at.step body.plan.items))
 
     -- the bytes of all remaining steps, with these shared expansions
-    abbrev pub bytes_from : List (List Symbol) → List ℕ
+    abbrev pub bytes_from : List (Option (List Symbol)) → List ℕ
     bytes_from used =
         expansion_bytes numbers (plan_flat (title_of body.name) body.bytes.items
         at.piece at.marks at.start (drop at.step body.plan.items) used)

@@ -1,9 +1,9 @@
 //! Makes the expansion of a node from those of the names that it uses.
-ghost use Rattle.std.specs.Prelude.{◌≡◌, ◌++◌, ◌∷◌, [], ℕ, suc, map, Contains, IsSome};
+ghost use Rattle.std.specs.Prelude.{◌≡◌, ◌++◌, ◌∷◌, [], map};
 ghost use Rattle.std.specs.Prelude.{IfOk, OnOk, OnErr};
-ghost use Rattle.tangle_expansion.specs.Kept.{kept_at, used_symbols};
+ghost use Rattle.tangle_expansion.specs.Kept.{kept_for, used_symbols};
 ghost use Rattle.tangle_plans.specs.Slots.{filled, step_uses};
-ghost use Rattle.tangle_plans.specs.NodeBodies.{plan_uses, plan_slots};
+ghost use Rattle.tangle_plans.specs.NodeBodies.{plan_slots};
 
 use crate::expansion::{Expansion, SharedExpansion};
 use crate::kept::Kept;
@@ -14,17 +14,24 @@ use std::rc::Rc;
 use tangle_lines::NoMemory;
 use tangle_plans::{NodeBody, Step};
 
-/// Shares the expansion of the name that the step uses, if the step is a use.
-fn share_used(used: &mut Vec<Expansion>, step: Step, kept: &Kept) -> Result<(), NoMemory>
-    requires { (id : ℕ) → Contains (step_uses step) id
-        → IsSome (kept_at kept.now (suc id)) }
+/// Shares the kept expansion of the name with this number, if there is one.
+fn share_kept(kept: &Kept, id: usize) -> Result<Option<Expansion>, NoMemory>
+    ensures { IfOk result (λ shared. shared ≡ kept_for kept.now id) }
+{
+    match kept.get(Node::name(id)) {
+        Some(expansion) => Ok(Some(expansion.share()?)),
+        None => Ok(None),
+    }
+}
+
+/// Shares the kept expansion of the name that the step uses, if the step is a use.
+fn share_used(used: &mut Vec<Option<Expansion>>, step: Step, kept: &Kept) -> Result<(), NoMemory>
     ensures { OnOk result (used.new.items ≡ used.old.items
-        ++ map (used_symbols kept.now) (step_uses step)) }
+        ++ map (kept_for kept.now) (step_uses step)) }
 {
     match step {
         Step::Use(id) => {
-            let share = kept.get(Node::name(id)).unwrap().share()?;
-            used.push(share)?;
+            used.push(share_kept(kept, id)?)?;
             Ok(())
         }
         Step::Open | Step::Bytes(_) | Step::Mark => Ok(()),
@@ -35,8 +42,6 @@ fn share_used(used: &mut Vec<Expansion>, step: Step, kept: &Kept) -> Result<(), 
 /// Makes the expansion of a node, which shares the node's body and the kept expansions of the names
 /// that the node uses.
 fn expansion_of(alloc: Global, body: &Rc<NodeBody>, kept: &Kept) -> Result<Expansion, NoMemory>
-    requires { (id : ℕ) → Contains (plan_uses body.now.value) id
-        → IsSome (kept_at kept.now (suc id)) }
     ensures { IfOk result (λ e. e ≡ filled (used_symbols kept.now) (plan_slots body.now.value)) }
 {
     let stored: &NodeBody = body;
@@ -49,8 +54,8 @@ fn expansion_of(alloc: Global, body: &Rc<NodeBody>, kept: &Kept) -> Result<Expan
     Ok(Expansion { shared })
 }
 
-/// Expands a node with this body: its own symbols, with each use of a name with a piece replaced by
-/// that name's kept expansion. The node is added to the end of the work's list.
+/// Expands a node with this body: its own symbols, with the kept expansion of each used name, if
+/// there is one, after a space. The node is added to the end of the work's list.
 ///
 /// # Errors
 ///
@@ -62,8 +67,6 @@ pub fn expand(
     kept: &Kept,
     work: &mut Work,
 ) -> Result<Expansion, NoMemory>
-    requires { (id : ℕ) → Contains (plan_uses body.now.value) id
-        → IsSome (kept_at kept.now (suc id)) }
     ensures right { IfOk result
         (λ e. e ≡ filled (used_symbols kept.now) (plan_slots body.now.value)) }
     ensures listed { OnOk result (work.new ≡ work.old ++ node ∷ []) }

@@ -17,7 +17,8 @@ pub struct Expansion {
 #[derive(Drop)]
 pub(crate) struct SharedExpansion {
     pub(crate) body: Rc<NodeBody>,
-    pub(crate) used: Vec<Expansion>,
+    /// For each use of a name, the expansion of the name, if it has a piece.
+    pub(crate) used: Vec<Option<Expansion>>,
 }
 
 impl Model for Expansion {

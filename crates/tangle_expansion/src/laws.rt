@@ -1,5 +1,5 @@
 //! Laws of the definitions of expansions and of their bytes.
-ghost use Rattle.std.specs.Prelude.{◌*◌, Bool, List, [], if◌then◌else◌, slice_index_or, ◌≡◌, ◌≢◌};
+ghost use Rattle.std.specs.Prelude.{◌*◌, List, [], slice_index_or, ◌≡◌, ◌≢◌};
 ghost use Rattle.std.specs.Prelude.{◌<◌, ◌≤◌, ℕ, min, length, map, flat_map, Option};
 ghost use Rattle.tangle_lines.specs.declared.origin.Origin.{Origin};
 ghost use Rattle.tangle_lines.specs.Reading.{SourceRead};
@@ -113,14 +113,13 @@ pub fn expandable_nodes_are_light()
 
 /// A plan whose uses are replaced by the expansions of the used names is the expansion of its node.
 pub fn filled_plans_are_right()
-    ensures { (web : WebRead) (table : TableRead) (has_piece : ℕ → Bool) (symbols : ℕ → List Symbol)
+    ensures { (web : WebRead) (table : TableRead) (symbols : ℕ → List Symbol)
         (levels : ℕ) (node : Title)
         → ResolvesInside table → depth levels (shapes web table) node < levels
         → ((id : ℕ) → id < length table.names → Uses (shapes web table) node
         (slice_index_or table.names id [])
-        → (if has_piece id then symbols id else [])
-        ≡ flat levels (shapes web table) (Named (slice_index_or table.names id [])))
-        → filled symbols (pieces_slots web.texts table has_piece node 0 (pieces_of web table node))
+        → symbols id ≡ flat levels (shapes web table) (Named (slice_index_or table.names id [])))
+        → filled symbols (pieces_slots web.texts table node 0 (pieces_of web table node))
         ≡ flat levels (shapes web table) node }
 {}
 

@@ -216,8 +216,10 @@ impl Expansion {
         let mut so_far = so_far;
         for used in &shared.used {
             let (next, before) = write_to_use(&text, at, sink, so_far);
-            let spaced = write_after(sink, before, b" ");
-            so_far = used.write_text_after(numbers, sink, spaced);
+            so_far = write_after(sink, before, b" ");
+            if let Some(expansion) = used {
+                so_far = expansion.write_text_after(numbers, sink, so_far);
+            }
             at = next;
         }
         let (_, all) = write_to_use(&text, at, sink, so_far);

@@ -1,5 +1,5 @@
 -- Bodies of nodes, and bodies that are read by their number.
-use Rattle.std.proofs.Common.{◌≡◌, ◌∙◌, ◌<◌, ◌≤◌, ℕ, Bool, true, false, List, length, map, get_or, ap, sym}
+use Rattle.std.proofs.Common.{◌≡◌, ◌∙◌, ◌<◌, ◌≤◌, ℕ, true, false, List, length, map, get_or, ap, sym}
 use Rattle.std.proofs.Common.{subst, arith}
 use Rattle.std.specs.Prelude.{All, nat_lt, slice_get, None, Some, Option, IfSome}
 use Rattle.std.specs.Borrow.{Bor}
@@ -14,7 +14,7 @@ use Rattle.tangle_scan.specs.Web.{WebRead}
 use Rattle.tangle_names.specs.NameTable.{TableRead}
 use Rattle.tangle_plans.specs.Comparing.{IsPlanned}
 use Rattle.tangle_plans.specs.ItemSlots.{pieces_at, pieces_slots}
-use Rattle.tangle_plans.specs.Nodes.{has_piece_in, title_at}
+use Rattle.tangle_plans.specs.Nodes.{title_at}
 use Rattle.tangle_plans.specs.NodeBodies.{body_title, body_uses}
 use Rattle.tangle_plans.specs.WebShapes.{ResolvesInside}
 use Rattle.tangle_plans.specs.declared.nodes.NodeBody.{NodeBody}
@@ -87,7 +87,7 @@ body_given web table rows bodies n body are low same =
 
 -- the body of a node was planned
 pub planned_at : (web : WebRead) (table : TableRead) (rows : List (List ℕ)) (node : ℕ) (body : NodeBody)
-    → IsBodyAt web table rows node body → IsPlanned (has_piece_in rows) body
+    → IsBodyAt web table rows node body → IsPlanned body
 planned_at web table rows node body is =
     let pieces = pieces_at web.pieces (row_at rows node) in
     record {
@@ -95,17 +95,27 @@ planned_at web table rows node body is =
       table = table;
       pieces = pieces;
       items = record { tags = is.shape.tags; bytes = is.shape.bytes; uses = is.uses };
-      plan = is.plan ∙ ap (λ t. pieces_slots web.texts table (has_piece_in rows) t 0 pieces) (sym is.title);
-      plan_uses = is.plan_uses;
+      plan = is.plan ∙ ap (λ t. pieces_slots web.texts table t 0 pieces) (sym is.title);
     }
 
+-- the bodies of a web were planned under its names
+pub bodies_planned : (web : WebRead) (table : TableRead) (rows : List (List ℕ)) (bodies : List NodeBody)
+    → AreBodies web table rows bodies → ArePlanned table.names bodies
+bodies_planned web table rows bodies are = record {
+  titles = λ node body low. (let found = are.each node (omega (arith, low, are.size)) in
+      ap body_title (get_or_from_slice_get bodies node found.0 body found.1) ∙ found.2.title);
+  planned = λ node body low. (let found = are.each node (omega (arith, low, are.size)) in
+      subst IsPlanned (sym (get_or_from_slice_get bodies node found.0 body found.1))
+      (planned_at web table rows node found.0 found.2));
+}
+
 -- the old body of a node has the title of the node, and was planned
-module _ (names : List (List ℕ)) (has : ℕ → Bool) (bodies : List NodeBody) (n : ℕ) (body : NodeBody)
-    (is : ArePlanned names has bodies) (had : slice_get bodies n ≡ Some body) where
+module _ (names : List (List ℕ)) (bodies : List NodeBody) (n : ℕ) (body : NodeBody)
+    (is : ArePlanned names bodies) (had : slice_get bodies n ≡ Some body) where
   pub had_title : body_title body ≡ title_at names n
   had_title = ap body_title (sym (get_or_from_slice_get bodies n body body had))
       ∙ is.titles n body (slice_get_within bodies n body had)
 
-  pub had_plan : IsPlanned has body
-  had_plan = subst (IsPlanned has) (get_or_from_slice_get bodies n body body had)
+  pub had_plan : IsPlanned body
+  had_plan = subst IsPlanned (get_or_from_slice_get bodies n body body had)
       (is.planned n body (slice_get_within bodies n body had))

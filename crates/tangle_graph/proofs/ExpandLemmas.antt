@@ -3,7 +3,6 @@ use Rattle.std.proofs.Common.{◌≡◌, ◌∙◌, ◌<◌, true, List, [], len
 use Rattle.std.specs.Global.{Global}
 use Rattle.std.specs.declared.rc.Rc.{Rc}
 use Rattle.std.proofs.lemmas.List.{get_or-map, length-map}
-use Rattle.std.specs.Prelude.{unwrap_or}
 use Rattle.digraph.specs.Graph.{row_at}
 use Rattle.digraph.specs.Nodes.{Node}
 use Rattle.digraph.proofs.ReachLemmas.{flagged_in}
@@ -29,7 +28,7 @@ pub expanded_right : (shapes : Shapes) (store : StoreRead) (kept : Kept) (node :
 expanded_right shapes store kept node is e keeps =
     let inside = expandable_in shapes store node is e in
     is.plans node (used_symbols kept) inside ((is.expandable node inside).0 e).shallow
-    (λ id u. ap (λ o. unwrap_or o []) (keeps id u))
+    keeps
 
 -- a part of a body, read from the rows of this part of all bodies
 pub part_read : {Y : Type 0} (f : NodeBody → List Y) (bodies : List (Rc NodeBody Global)) (store : StoreRead)

@@ -8,7 +8,6 @@ mod FirstLemmas
 mod GraphLemmas
 pub mod StoreLemmas
 mod LimitLemmas
-mod PlanLemmas
 mod BodyLemmas
 pub mod ShapeLemmas
 mod PushLemmas
@@ -21,5 +20,4 @@ pub mod FaultLemmas
 pub mod WeightLemmas
 pub mod UsesLemmas
 mod NameGraphLemmas
-mod PlannedLemmas
 pub mod StoredLemmas

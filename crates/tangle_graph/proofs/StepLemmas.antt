@@ -15,7 +15,7 @@ use Rattle.tangle_plans.specs.Flat.{pieces_weight, pieces_depth, depth}
 use Rattle.tangle_plans.specs.ItemSlots.{pieces_at}
 use Rattle.tangle_plans.specs.ItemTags.{pieces_uses, shape_of}
 use Rattle.tangle_plans.specs.NodeBodies.{body_uses, plan_slots}
-use Rattle.tangle_plans.specs.Nodes.{has_piece_in, title_at}
+use Rattle.tangle_plans.specs.Nodes.{title_at}
 use Rattle.tangle_plans.specs.WebShapes.{shapes, ResolvesInside, pieces_of}
 use Rattle.tangle_plans.specs.declared.nodes.NodeBody.{NodeBody}
 use Rattle.tangle_expansion.specs.Limits.{weight_cap, levels, weight_of, depth_of}
@@ -79,7 +79,7 @@ module _ (web : WebRead) (table : TableRead) (rows : List (List ℕ)) (uses : Gr
       e ∙ ap (λ s. min weight_cap (length (plan_slots body) + s))
       (sum_by_same known (λ id. by_name (get_or table.names id [])) (body_uses body) same)
       ∙ (λ i. min weight_cap (length (is.plan i) + sum_by (λ id. by_name (get_or table.names id [])) (is.uses i)))
-      ∙ ap (min weight_cap) (sym (weight_counted web.texts table (has_piece_in rows) by_name
+      ∙ ap (min weight_cap) (sym (weight_counted web.texts table by_name
       (title_at table.names n) 0 (pieces_at web.pieces (row_at rows n))))
       ∙ ap (λ ps. min weight_cap (pieces_weight by_name (shape_of web.texts table ps))) grouped
       ∙ sym (weight_by_uses weight_cap (shapes web table) (title_at table.names n))

@@ -1,7 +1,7 @@
 -- A store with the pieces, the graph, the measures and the bodies of a web is that of the web's shapes.
-use Rattle.std.proofs.Common.{◌≡◌, ◌≢◌, ◌∙◌, ◌<◌, ◌≤◌, ◌↔◌, ℕ, suc, true, false, List, [], length, map, filter, get_or}
+use Rattle.std.proofs.Common.{◌≡◌, ◌≢◌, ◌∙◌, ◌<◌, ◌≤◌, ◌↔◌, ℕ, suc, true, false, List, [], length, map, get_or}
 use Rattle.std.proofs.Common.{ap, sym, subst, arith}
-use Rattle.std.specs.Prelude.{AllPairs, Contains, Some, slice_get}
+use Rattle.std.specs.Prelude.{AllPairs, Some, slice_get}
 use Rattle.std.specs.List.Sorted.{IsStrictlyIncreasing}
 use Rattle.std.proofs.lemmas.List.{get_or-map}
 use Rattle.std.proofs.lemmas.List.Kept.{AllPairs-from_increasing}
@@ -10,9 +10,9 @@ use Rattle.tangle_scan.specs.Web.{WebRead, PieceRead}
 use Rattle.tangle_names.specs.NameTable.{TableRead}
 use Rattle.tangle_plans.specs.Shapes.{Title, Named, Uses, ContainsItself}
 use Rattle.tangle_plans.specs.Flat.{Symbol}
-use Rattle.tangle_plans.specs.ItemTags.{pieces_uses, shape_of}
-use Rattle.tangle_plans.specs.NodeBodies.{HoldsShape, plan_slots, plan_uses}
-use Rattle.tangle_plans.specs.Nodes.{has_piece_in, title_at}
+use Rattle.tangle_plans.specs.ItemTags.{shape_of}
+use Rattle.tangle_plans.specs.NodeBodies.{HoldsShape, plan_slots}
+use Rattle.tangle_plans.specs.Nodes.{title_at}
 use Rattle.tangle_plans.specs.Slots.{filled}
 use Rattle.tangle_plans.specs.ItemSlots.{pieces_at, pieces_slots}
 use Rattle.tangle_plans.specs.WebShapes.{ResolvesInside, pieces_of, shapes, shape_item}
@@ -29,10 +29,9 @@ use Rattle.tangle_graph.specs.Groups.{IsGraphOf}
 use Rattle.tangle_graph.specs.Nodes.{UsesTitle}
 use Rattle.tangle_graph.specs.Outputs.{is_expandable}
 use Rattle.tangle_graph.specs.Plans.{AreBodies, IsBodyAt}
-use Rattle.tangle_graph.specs.Stores.{StoreRead, IsStoreOf}
+use Rattle.tangle_graph.specs.Stores.{StoreRead, IsStoreOf, UsesNumber}
 use Rattle.tangle_graph.proofs.LimitLemmas.{shape_size}
 use Rattle.tangle_graph.proofs.NodeLemmas.{title_inside}
-use Rattle.tangle_graph.proofs.PlanLemmas.{UsesWithPiece, plan_uses_pieces, symbols_fit}
 use Rattle.tangle_graph.proofs.ReachLemmas.{contains_by_titles}
 use Rattle.tangle_graph.proofs.StoreLemmas.{piece_of_row, there, expandable_is}
 
@@ -117,28 +116,19 @@ module _ (web : WebRead) (table : TableRead) (made : StoreRead) (inside : Resolv
       get_or-map part made.bodies a body [] (omega (arith, ha, shaped.size, is.rows_size))
       ∙ ap part (get_or_from_slice_get made.bodies a body body (body_is a ha).1)
 
-  plan_uses_are : (a id : ℕ) → a ≤ length table.names
-      → Contains (row_at (map plan_uses made.bodies) a) id → UsesWithPiece web table made is inside a id
-  plan_uses_are a id ha c =
-      let row : row_at (map plan_uses made.bodies) a
-      ≡ filter (has_piece_in made.pieces) (pieces_uses table (pieces_of web table (title a))) =
-      part_is plan_uses a ha ∙ (body_is a ha).2.plan_uses
-      ∙ ap (λ ps. filter (has_piece_in made.pieces) (pieces_uses table ps)) (pieces_are a ha) in
-      plan_uses_pieces web table made is inside a id (subst (λ l. Contains l id) row c)
-
   plans_are : (a : ℕ) (symbols : ℕ → List Symbol) → a ≤ length table.names
       → depth_of (shapes web table) (title a) < levels
-      → ((id : ℕ) → UsesWithPiece web table made is inside a id
+      → ((id : ℕ) → UsesNumber (shapes web table) (record made { names = table.names }) a id
       → symbols id ≡ flat_of (shapes web table) (Named (get_or table.names id [])))
       → filled symbols (row_at (map plan_slots made.bodies) a) ≡ flat_of (shapes web table) (title a)
   plans_are a symbols ha shallow right =
       let row : row_at (map plan_slots made.bodies) a
-      ≡ pieces_slots web.texts table (has_piece_in made.pieces) (title a) 0 (pieces_of web table (title a)) =
+      ≡ pieces_slots web.texts table (title a) 0 (pieces_of web table (title a)) =
       part_is plan_slots a ha ∙ (body_is a ha).2.plan
-      ∙ ap (pieces_slots web.texts table (has_piece_in made.pieces) (title a) 0) (pieces_are a ha) in
+      ∙ ap (pieces_slots web.texts table (title a) 0) (pieces_are a ha) in
       ap (filled symbols) row
-      ∙ node_filled web table (has_piece_in made.pieces) symbols levels (title a) inside shallow
-      (symbols_fit web table made is inside symbols a right)
+      ∙ node_filled web table symbols levels (title a) inside shallow
+      (λ id low u. right id (record { inside = low; uses = u }))
 
   shapes_are : (a : ℕ) → a ≤ length table.names
       → (body : NodeBody) × (slice_get made.bodies a ≡ Some body)
@@ -170,7 +160,6 @@ module _ (web : WebRead) (table : TableRead) (made : StoreRead) (inside : Resolv
         weights = λ a ha. weighed a (here a ha);
         depths = λ a ha. measured a (here a ha);
         expandable = expandable_at;
-        plan_uses = plan_uses_are;
         plans = plans_are;
         shape_held = shapes_are;
       })

@@ -1,6 +1,6 @@
 -- The bodies of the nodes of a web.
 use Rattle.std.specs.Prelude.{◌≡◌, ◌<◌, ◌≤◌, ℕ, Bool, true, false, List, length, map}
-use Rattle.std.specs.Prelude.{filter, All, slice_get, slice_index_or, Some}
+use Rattle.std.specs.Prelude.{All, slice_get, slice_index_or, Some}
 use Rattle.std.specs.Global.{Global}
 use Rattle.std.specs.declared.rc.Rc.{Rc}
 use Rattle.digraph.specs.Graph.{row_at}
@@ -10,9 +10,9 @@ use Rattle.tangle_names.specs.NameTable.{TableRead}
 use Rattle.tangle_plans.specs.ItemTags.{pieces_uses, shape_of}
 use Rattle.tangle_plans.specs.ItemSlots.{pieces_at, pieces_slots}
 use Rattle.tangle_plans.specs.Comparing.{IsPlanned}
-use Rattle.tangle_plans.specs.NodeBodies.{HoldsShape, body_title, body_uses, plan_slots, plan_uses}
+use Rattle.tangle_plans.specs.NodeBodies.{HoldsShape, body_title, body_uses, plan_slots}
 use Rattle.tangle_plans.specs.NodeBodies.{names_at}
-use Rattle.tangle_plans.specs.Nodes.{has_piece_in, row_has_piece, title_at}
+use Rattle.tangle_plans.specs.Nodes.{title_at}
 use Rattle.tangle_plans.specs.declared.nodes.NodeBody.{NodeBody}
 use Rattle.tangle_graph.specs.declared.bodies.OldBodies.{OldBodies}
 
@@ -25,13 +25,10 @@ pub record IsBodyAt (web : WebRead) (table : TableRead)
     (rows : List (List ℕ)) (node : Node) (body : NodeBody) : Type 0 where
   pub title : body_title body ≡ title_at table.names node
   pub plan : plan_slots body
-      ≡ pieces_slots web.texts table (has_piece_in rows)
-      (title_at table.names node) 0 (pieces_at web.pieces (row_at rows node))
+      ≡ pieces_slots web.texts table (title_at table.names node) 0 (pieces_at web.pieces (row_at rows node))
   pub shape : HoldsShape table.names
       (shape_of web.texts table (pieces_at web.pieces (row_at rows node))) body
   pub uses : body_uses body ≡ pieces_uses table (pieces_at web.pieces (row_at rows node))
-  pub plan_uses : plan_uses body
-      ≡ filter (has_piece_in rows) (pieces_uses table (pieces_at web.pieces (row_at rows node)))
 
 -- each node has such a body
 pub record AreBodies (web : WebRead) (table : TableRead)
@@ -41,25 +38,16 @@ pub record AreBodies (web : WebRead) (table : TableRead)
       → (body : NodeBody) × (slice_get bodies node ≡ Some body)
       × IsBodyAt web table rows node body
 
--- the body of each node was planned under the node's name, where `has_piece` says which names have
--- a piece
-pub record ArePlanned (names : List (List ℕ))
-    (has_piece : ℕ → Bool) (bodies : List NodeBody) : Type 0 where
+-- the body of each node was planned under the node's name
+pub record ArePlanned (names : List (List ℕ)) (bodies : List NodeBody) : Type 0 where
   pub titles : (node : Node) (body : NodeBody)
       → node < length bodies → body_title (slice_index_or bodies node body) ≡ title_at names node
-  pub planned : All (IsPlanned has_piece) bodies
+  pub planned : All IsPlanned bodies
 
--- the bodies of a store were planned under its names, where its rows say which names have a piece
+-- the bodies of a store were planned under its names
 abbrev pub AreBodiesBefore : OldBodies → Type 0
 AreBodiesBefore old =
-    ArePlanned old.names.now (has_piece_in old.pieces.now) (node_bodies old.bodies.now)
-
--- the old store has these names, and the nodes with a piece are those with one by these rows
-pub record HaveSameNodes (old : OldBodies)
-    (new_names : List (List ℕ)) (rows : List (List ℕ)) : Type 0 where
-  pub names : old.names.now ≡ new_names
-  pub pieces : (node : Node)
-      → row_has_piece (row_at old.pieces.now node) ≡ row_has_piece (row_at rows node)
+    ArePlanned old.names.now (node_bodies old.bodies.now)
 
 -- the body is the one that the old node with the same title had; `names` are the new names
 pub record IsBodyOfBefore (old : OldBodies) (names : List (List ℕ))

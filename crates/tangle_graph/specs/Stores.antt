@@ -6,9 +6,9 @@ use Rattle.std.specs.Prelude.{slice_get, slice_index, slice_index_or, List, [], 
 use Rattle.std.specs.Prelude.{AllPairs, Contains, Option, Some}
 use Rattle.tangle_plans.specs.Shapes.{Title, Named, Shape, Shapes, Uses, ContainsItself}
 use Rattle.tangle_plans.specs.Flat.{Symbol}
-use Rattle.tangle_expansion.specs.Kept.{kept_at}
+use Rattle.tangle_expansion.specs.Kept.{used_symbols}
 use Rattle.tangle_plans.specs.NodeBodies.{HoldsShape, body_uses, names_at}
-use Rattle.tangle_plans.specs.NodeBodies.{plan_slots, plan_uses}
+use Rattle.tangle_plans.specs.NodeBodies.{plan_slots}
 use Rattle.tangle_plans.specs.Slots.{Slot, filled}
 use Rattle.tangle_expansion.specs.Limits.{levels, heaviest, flat_of, weight_of, depth_of}
 use Rattle.tangle_expansion.specs.Limits.{IsExpandableNode}
@@ -66,12 +66,9 @@ module _ (store : StoreRead) where
   abbrev pub body_at : Node → Option NodeBody
   body_at node = slice_get store.bodies node
 
-  -- the node's own symbols and the uses between them, and the names with a piece that its plan uses
+  -- the node's own symbols and the uses between them
   abbrev pub slots_at : Node → List Slot
   slots_at node = row_at (map plan_slots store.bodies) node
-
-  abbrev pub plan_uses_at : Node → List ℕ
-  plan_uses_at node = row_at (map plan_uses store.bodies) node
 
   abbrev pub title_in_store : Node → Title
   title_in_store node = title_at store.names node
@@ -83,18 +80,17 @@ module _ (store : StoreRead) where
   abbrev pub IsNodeIn : Node → Type 0
   IsNodeIn node = IsNodeOf store.names node
 
--- the node uses the name with this number, which has a piece
-pub record UsesPiece (shapes : Shapes) (store : StoreRead) (node : Node) (id : ℕ) : Type 0 where
+-- the node uses the name with this number
+pub record UsesNumber (shapes : Shapes) (store : StoreRead) (node : Node) (id : ℕ) : Type 0 where
   pub inside : id < length store.names
   pub uses : Uses shapes (title_in_store store node) (slice_index_or store.names id [])
-  pub has_piece : shapes (Named (slice_index_or store.names id [])) ≢ []
 
--- for each name with a piece that the node uses, the kept expansion is the name's own
+-- for each name that the node uses, the symbols that are kept are the name's own; a name without a
+-- piece has none
 abbrev pub KeepsUsed : Shapes → StoreRead → Kept → Node → Type 0
 KeepsUsed shapes store kept node =
-    (id : ℕ) → UsesPiece shapes store node id
-    → kept_at kept (suc id)
-    ≡ Some (flat_of shapes (Named (slice_index_or store.names id [])))
+    (id : ℕ) → UsesNumber shapes store node id
+    → used_symbols kept id ≡ flat_of shapes (Named (slice_index_or store.names id []))
 
 -- The store is that of the shapes: what it records of each node holds for the node's title. For a
 -- node that it does not have it gives what holds for a node without a piece.
@@ -129,13 +125,10 @@ pub record IsStoreOf (shapes : Shapes) (store : StoreRead) : Type 0 where
       → IsNodeIn store a → depth_at store a ≡ depth_of shapes (title_in_store store a)
   pub expandable : (a : Node) → IsNodeIn store a
       → ((is_expandable_at store a ≡ true) ↔ IsExpandableNode shapes (title_in_store store a))
-  -- a plan uses only names with a piece; if each of them is replaced by its own expansion, the plan
-  -- gives the expansion of the node
-  pub plan_uses : (a : Node) (id : ℕ)
-      → IsNodeIn store a → Contains (plan_uses_at store a) id → UsesPiece shapes store a id
+  -- if each used name is replaced by its own expansion, the plan gives the expansion of the node
   pub plans : (a : Node) (symbols : ℕ → List Symbol)
       → IsNodeIn store a → depth_of shapes (title_in_store store a) < levels
-      → ((id : ℕ) → UsesPiece shapes store a id
+      → ((id : ℕ) → UsesNumber shapes store a id
       → symbols id ≡ flat_of shapes (Named (slice_index_or store.names id [])))
       → filled symbols (slots_at store a) ≡ flat_of shapes (title_in_store store a)
   -- the body of a node determines its shape

@@ -1,10 +1,10 @@
 //! The store of a web's graph of names.
-ghost use Rattle.std.specs.Prelude.{◌≡◌, ◌++◌, ◌∷◌, [], ℕ, suc, IfOk, OnOk, OnErr, IfSome, IsSome};
-ghost use Rattle.std.specs.Prelude.{Contains, All, true, ◌<◌, ◌+◌, length, map};
+ghost use Rattle.std.specs.Prelude.{◌≡◌, ◌++◌, ◌∷◌, [], IfOk, OnOk, OnErr, IfSome};
+ghost use Rattle.std.specs.Prelude.{All, true, ◌<◌, ◌+◌, length, map};
 ghost use Rattle.std.specs.Option.{option_copied};
 ghost use Rattle.digraph.specs.Rows.{IsRowsOf};
 ghost use Rattle.tangle_names.specs.NameTable.{table_of};
-ghost use Rattle.tangle_expansion.specs.Kept.{kept_at, used_symbols};
+ghost use Rattle.tangle_expansion.specs.Kept.{used_symbols};
 ghost use Rattle.tangle_expansion.specs.Limits.{flat_of};
 ghost use Rattle.tangle_plans.specs.NodeBodies.{body_uses};
 ghost use Rattle.tangle_plans.specs.Shapes.{Shapes};
@@ -14,13 +14,13 @@ ghost use Rattle.tangle_graph.specs.Grouping.{positions_of};
 ghost use Rattle.tangle_graph.specs.NameGraphs.{IsNameGraphOf};
 ghost use Rattle.tangle_graph.specs.Ordering.{IsOrderIn};
 ghost use Rattle.tangle_graph.specs.Plans.{AreBodies, AreBodiesBefore, node_bodies};
-ghost use Rattle.tangle_graph.specs.Stores.{IsStoreOf, KeepsBodies, KeepsUsed, plan_uses_at};
+ghost use Rattle.tangle_graph.specs.Stores.{IsStoreOf, KeepsBodies, KeepsUsed};
 ghost use Rattle.tangle_graph.specs.Stores.{body_at, flag_at, slots_at, title_in_store};
 ghost use Rattle.tangle_graph.specs.Stores.{contains_itself_at, is_expandable_at};
 ghost use Rattle.tangle_graph.specs.Stores.{weight_at, depth_at, uses_at, users_at, has_piece_at};
 ghost use Rattle.tangle_graph.specs.WebStores.{IsStoreOfWeb};
 
-use crate::bodies::{GroupedWeb, OldBodies, bodies_by_node, have_same_pieces, no_bodies};
+use crate::bodies::{GroupedWeb, OldBodies, bodies_by_node, no_bodies};
 use crate::faults::FaultSearch;
 use crate::measures::Measures;
 use crate::name_graph::{NameGraph, are_same_names, have_same_uses};
@@ -99,7 +99,7 @@ impl Store {
             table,
             pieces: rows,
         };
-        let none = no_bodies(&names, rows);
+        let none = no_bodies(&names);
         let made = bodies_by_node(alloc, grouped, &names, none, true)?;
         let bodies = made.bodies;
         let name_graph = NameGraph::shared(alloc, names, &bodies)?;
@@ -133,14 +133,13 @@ impl Store {
         let names = table.names()?;
         let rows: &Rows<usize> = &pieces;
         let same_names = are_same_names(old.names(), &names);
-        let same_nodes = same_names && have_same_pieces(old.pieces(), rows);
         let grouped = GroupedWeb {
             web,
             table,
             pieces: rows,
         };
         let before = old.bodies();
-        let made = bodies_by_node(alloc, grouped, &names, before, same_nodes)?;
+        let made = bodies_by_node(alloc, grouped, &names, before, same_names)?;
         let are_kept = made.are_kept;
         let bodies = made.bodies;
         let name_graph = old.name_graph_for(alloc, names, same_names, &bodies)?;
@@ -153,17 +152,15 @@ impl Store {
         Ok(Rebuilt { store, are_kept })
     }
 
-    /// The bodies of the nodes, with the names and rows on which their plans depend.
+    /// The bodies of the nodes, with their names.
     fn bodies(&self) -> OldBodies<'_>
         ensures planned { AreBodiesBefore result }
         ensures names { result.names.now ≡ self.now.names }
-        ensures pieces { result.pieces.now ≡ self.now.pieces }
         ensures bodies { node_bodies result.bodies.now ≡ self.now.bodies }
     {
         let bodies: &[Rc<NodeBody>] = &self.bodies;
         OldBodies {
             names: self.names(),
-            pieces: self.pieces(),
             bodies,
         }
     }
@@ -388,9 +385,8 @@ impl Store {
         self.name_graph.order.as_slice()
     }
 
-    /// Expands a node: the expansion has the node's own symbols, with each use of a name with a
-    /// piece replaced by the kept expansion of that name. The node is added to the end of the
-    /// work's list.
+    /// Expands a node: the expansion has the node's own symbols, with the kept expansion of each
+    /// used name, if there is one, after a space. The node is added to the end of the work's list.
     ///
     /// # Errors
     ///
@@ -403,8 +399,6 @@ impl Store {
         work: &mut Work,
     ) -> Result<Expansion, NoMemory>
         requires expandable { is_expandable_at self.now node ≡ true }
-        requires kept { (id : ℕ) → Contains (plan_uses_at self.now node) id
-            → IsSome (kept_at kept.now (suc id)) }
         ensures symbols { IfOk result
             (λ e. e ≡ filled (used_symbols kept.now) (slots_at self.now node)) }
         ensures right { (shapes : Shapes) → IsStoreOf shapes self.now

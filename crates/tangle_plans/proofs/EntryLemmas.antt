@@ -1,5 +1,5 @@
 -- The entries of pieces, where a run has one tag, give a body what the items of the pieces give it.
-use Rattle.std.proofs.Common.{◌≡◌, ◌∙◌, ℕ, ◌<◌, zero, suc, Bool, List, [], ◌∷◌, ◌++◌, map, take, drop, length, refl}
+use Rattle.std.proofs.Common.{◌≡◌, ◌∙◌, ℕ, ◌<◌, zero, suc, List, [], ◌∷◌, ◌++◌, map, take, drop, length, refl}
 use Rattle.std.proofs.Common.{ap, sym, subst, append_assoc, append-nil, arith, get_or, All}
 use Rattle.std.specs.Prelude.{flat_map}
 use Rattle.std.proofs.lemmas.List.Elements.{All-nil, All-cons, All-head, All-tail}
@@ -57,14 +57,14 @@ entries_uses texts table entries =
 
 -- slots
 
-pub entry_slots_are : (texts : List (List ℕ)) (table : TableRead) (has_piece : ℕ → Bool)
+pub entry_slots_are : (texts : List (List ℕ)) (table : TableRead)
     (node : Title) (piece marks : ℕ) (e : Entry) (rest : List Item)
-    → items_slots texts table has_piece node piece marks (entry_items texts e ++ rest)
-    ≡ entry_slots texts table has_piece node piece marks e
-    ++ items_slots texts table has_piece node piece (marks_after_entry marks e) rest
-entry_slots_are texts table has_piece node piece marks (entry.Item x) rest = refl
-entry_slots_are texts table has_piece node piece marks (entry.Run s) rest =
-    run_slots texts table has_piece node piece marks s rest
+    → items_slots texts table node piece marks (entry_items texts e ++ rest)
+    ≡ entry_slots texts table node piece marks e
+    ++ items_slots texts table node piece (marks_after_entry marks e) rest
+entry_slots_are texts table node piece marks (entry.Item x) rest = refl
+entry_slots_are texts table node piece marks (entry.Run s) rest =
+    run_slots texts table node piece marks s rest
 
 -- tags
 

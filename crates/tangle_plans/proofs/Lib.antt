@@ -1,5 +1,4 @@
 pub mod InsideLemmas
-pub mod SlotIds
 pub mod ShapeLemmas
 pub mod SameNames
 pub mod DropLemmas

@@ -1,6 +1,6 @@
 -- The tags, bytes and uses of pieces determine their slots.
-use Rattle.std.proofs.Common.{◌≡◌, ◌∙◌, ℕ, ◌+◌, Bool, List, [], ◌∷◌, ◌++◌, map, refl, ap, sym}
-use Rattle.std.specs.Prelude.{flat_map, if◌then◌else◌}
+use Rattle.std.proofs.Common.{◌≡◌, ◌∙◌, ℕ, ◌+◌, List, [], ◌∷◌, ◌++◌, map, refl, ap, sym}
+use Rattle.std.specs.Prelude.{flat_map}
 use Rattle.std.proofs.lemmas.Simd.{map-map}
 use Rattle.tangle_files.specs.Bytes.{space}
 use Rattle.tangle_scan.specs.declared.items.Item.{Item}
@@ -70,13 +70,12 @@ number_of (id ∷ rest) = id
 
 -- the slots of such a shape
 
-module _ (has_piece : ℕ → Bool) (node : Title) where
+module _ (node : Title) where
   abbrev shape_item_slots : ℕ → ℕ → ShapeItem → List Slot
   shape_item_slots piece marks (Written kind bytes) = byte_slots bytes
   shape_item_slots piece marks Mark = Own (MarkOf node piece (marks + 1)) ∷ []
   shape_item_slots piece marks shape.AllMacros = Own AllMacros ∷ []
-  shape_item_slots piece marks (Use name) =
-      if has_piece (number_of name) then Used (number_of name) ∷ [] else Own (Byte space) ∷ []
+  shape_item_slots piece marks (Use name) = Used (number_of name) ∷ []
   shape_item_slots piece marks NoUse = Own (Byte space) ∷ []
 
   abbrev shape_items_slots : ℕ → ℕ → List ShapeItem → List Slot
@@ -92,20 +91,20 @@ module _ (has_piece : ℕ → Bool) (node : Title) where
 
   module _ (texts : List (List ℕ)) (table : TableRead) where
     use_numbered : (piece marks : ℕ) (r : Resolved)
-        → (name_slots has_piece r ≡ shape_item_slots piece marks (named_use as_name r))
+        → (name_slots r ≡ shape_item_slots piece marks (named_use as_name r))
         × (marks ≡ marks_after_shape_item marks (named_use as_name r))
     use_numbered piece marks (Name id) = (refl, refl)
     use_numbered piece marks _ = (refl, refl)
 
     item_numbered : (piece marks : ℕ) (x : Item)
-        → (item_slots texts table has_piece node piece marks x
+        → (item_slots texts table node piece marks x
         ≡ shape_item_slots piece marks (named_item as_name texts table x))
         × (marks_after_item marks x ≡ marks_after_shape_item marks (named_item as_name texts table x))
     item_numbered piece marks (item.UseOf occurrence) = use_numbered piece marks (resolved_at table occurrence)
     item_numbered piece marks _ = (refl, refl)
 
     items_numbered : (piece marks : ℕ) (items : List Item)
-        → items_slots texts table has_piece node piece marks items
+        → items_slots texts table node piece marks items
         ≡ shape_items_slots piece marks (map (named_item as_name texts table) items)
     items_numbered piece marks [] = refl
     items_numbered piece marks (x ∷ items) =
@@ -116,7 +115,7 @@ module _ (has_piece : ℕ → Bool) (node : Title) where
         ++ shape_items_slots piece m (map (named_item as_name texts table) items)) first.1
 
     slots_numbered : (piece : ℕ) (pieces : List PieceRead)
-        → pieces_slots texts table has_piece node piece pieces
+        → pieces_slots texts table node piece pieces
         ≡ shape_slots piece (named_shape as_name texts table pieces)
     slots_numbered piece [] = refl
     slots_numbered piece (p ∷ pieces) = λ i.
@@ -140,12 +139,12 @@ holds_numbered texts table pieces body h = record {
 -- two lists of pieces with the same tags, bytes and uses
 pub slots_same : (texts texts' : List (List ℕ)) (table table' : TableRead) (pieces pieces' : List PieceRead)
     (body : NodeBody) → HasItemsOf texts table pieces body → HasItemsOf texts' table' pieces' body
-    → (has_piece : ℕ → Bool) (title : Title) (piece : ℕ)
-    → pieces_slots texts table has_piece title piece pieces ≡ pieces_slots texts' table' has_piece title piece pieces'
-slots_same texts texts' table table' pieces pieces' body h k has_piece title piece =
+    → (title : Title) (piece : ℕ)
+    → pieces_slots texts table title piece pieces ≡ pieces_slots texts' table' title piece pieces'
+slots_same texts texts' table table' pieces pieces' body h k title piece =
     let a = holds_numbered texts table pieces body h in
     let b = holds_numbered texts' table' pieces' body k in
-    slots_numbered has_piece title texts table piece pieces
-    ∙ ap (shape_slots has_piece title piece)
+    slots_numbered title texts table piece pieces
+    ∙ ap (shape_slots title piece)
     (same_by_tags _ _ (a.tags ∙ sym b.tags) (a.bytes ∙ sym b.bytes) (a.names ∙ sym b.names))
-    ∙ sym (slots_numbered has_piece title texts' table' piece pieces')
+    ∙ sym (slots_numbered title texts' table' piece pieces')

@@ -1,12 +1,11 @@
 -- When a body belongs to pieces of a web.
-use Rattle.std.specs.Prelude.{◌≡◌, ℕ, Bool, List, filter}
+use Rattle.std.specs.Prelude.{◌≡◌, ℕ, List}
 use Rattle.tangle_scan.specs.Web.{PieceRead}
 use Rattle.tangle_names.specs.NameTable.{TableRead}
 use Rattle.tangle_plans.specs.Tags.{shape_tags, shape_bytes}
 use Rattle.tangle_plans.specs.ItemTags.{pieces_uses, shape_of}
 use Rattle.tangle_plans.specs.ItemSlots.{pieces_slots}
 use Rattle.tangle_plans.specs.NodeBodies.{body_title, body_bytes, body_tags, body_uses, plan_slots}
-use Rattle.tangle_plans.specs.NodeBodies.{plan_uses}
 use Rattle.tangle_plans.specs.declared.nodes.NodeBody.{NodeBody}
 
 -- the tags, bytes and uses of the body are those of the items of these pieces
@@ -16,12 +15,10 @@ pub record HasItemsOf (texts : List (List ℕ)) (table : TableRead)
   pub bytes : body_bytes body ≡ shape_bytes (shape_of texts table pieces)
   pub uses : body_uses body ≡ pieces_uses table pieces
 
--- the body was planned from some pieces of some web, where `has_piece` says which names have a
--- piece
-pub record IsPlanned (has_piece : ℕ → Bool) (body : NodeBody) : Type 0 where
+-- the body was planned from some pieces of some web
+pub record IsPlanned (body : NodeBody) : Type 0 where
   pub texts : List (List ℕ)
   pub table : TableRead
   pub pieces : List PieceRead
   pub items : HasItemsOf texts table pieces body
-  pub plan : plan_slots body ≡ pieces_slots texts table has_piece (body_title body) 0 pieces
-  pub plan_uses : plan_uses body ≡ filter has_piece (pieces_uses table pieces)
+  pub plan : plan_slots body ≡ pieces_slots texts table (body_title body) 0 pieces

@@ -1,6 +1,6 @@
 -- What the entries of a piece give a body: the tags as they are in memory, where a run has one, and
 -- the bytes, names and slots.
-use Rattle.std.specs.Prelude.{◌≡◌, ℕ, ◌-◌, Bool, List, [], ◌∷◌, ◌++◌, map, length, slice_index_or}
+use Rattle.std.specs.Prelude.{◌≡◌, ℕ, ◌-◌, List, [], ◌∷◌, ◌++◌, map, length, slice_index_or}
 use Rattle.std.specs.List.{All}
 use Rattle.tangle_text.specs.declared.spans.Span.{Span}
 use Rattle.tangle_text.specs.Text.{span_text}
@@ -52,9 +52,9 @@ abbrev pub marks_after_entry : ℕ → Entry → ℕ
 marks_after_entry marks (entry.Item x) = marks_after_item marks x
 marks_after_entry marks (entry.Run s) = marks
 
-module _ (texts : List (List ℕ)) (table : TableRead) (has_piece : ℕ → Bool) (node : Title) where
+module _ (texts : List (List ℕ)) (table : TableRead) (node : Title) where
   abbrev pub entry_slots : ℕ → ℕ → Entry → List Slot
-  entry_slots piece marks (entry.Item x) = item_slots texts table has_piece node piece marks x
+  entry_slots piece marks (entry.Item x) = item_slots texts table node piece marks x
   entry_slots piece marks (entry.Run s) = byte_slots (span_text texts s)
 
 -- the entries are those of the piece with this number

@@ -1,5 +1,5 @@
 -- The slots that the pieces of a web give a plan.
-use Rattle.std.specs.Prelude.{ℕ, ◌+◌, Bool, if◌then◌else◌, List, [], ◌∷◌, ◌++◌, map}
+use Rattle.std.specs.Prelude.{ℕ, ◌+◌, List, [], ◌∷◌, ◌++◌, map}
 use Rattle.std.specs.Prelude.{slice_index_or, None}
 use Rattle.tangle_files.specs.Bytes.{space}
 use Rattle.tangle_scan.specs.declared.items.Item.{Item}
@@ -19,16 +19,16 @@ abbrev pub marks_after_item : ℕ → Item → ℕ
 marks_after_item marks (item.LineMark origin) = marks + 1
 marks_after_item marks _ = marks
 
--- a use of a name with a piece has the name's number; any other use is a space
-abbrev pub name_slots : (ℕ → Bool) → Resolved → List Slot
-name_slots has_piece (Name id) = if has_piece id then Used id ∷ [] else Own (Byte space) ∷ []
-name_slots has_piece _ = Own (Byte space) ∷ []
+-- a use that resolves to a name has the name's number; any other use is a space
+abbrev pub name_slots : Resolved → List Slot
+name_slots (Name id) = Used id ∷ []
+name_slots _ = Own (Byte space) ∷ []
 
-module _ (texts : List (List ℕ)) (table : TableRead) (has_piece : ℕ → Bool) (node : Title) where
+module _ (texts : List (List ℕ)) (table : TableRead) (node : Title) where
   abbrev pub item_slots : ℕ → ℕ → Item → List Slot
   item_slots piece marks (item.LineMark origin) = Own (MarkOf node piece (marks + 1)) ∷ []
   item_slots piece marks (item.UseOf occurrence) =
-      name_slots has_piece (resolved_at table occurrence)
+      name_slots (resolved_at table occurrence)
   item_slots piece marks item.Defs = Own AllMacros ∷ []
   item_slots piece marks x = byte_slots (bytes_in texts x)
 

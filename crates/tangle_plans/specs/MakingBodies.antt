@@ -1,5 +1,5 @@
 -- The body of a node while it is made, as it is in memory.
-use Rattle.std.specs.Prelude.{◌≡◌, ℕ, ◌+◌, Bool, List, [], ◌∷◌, ◌++◌, drop, flat_map}
+use Rattle.std.specs.Prelude.{◌≡◌, ℕ, ◌+◌, List, [], ◌∷◌, ◌++◌, drop, flat_map}
 use Rattle.tangle_scan.specs.declared.items.Entry.{Entry}
 use Rattle.tangle_scan.specs.Entries.{items_of}
 use Rattle.tangle_scan.specs.ItemBytes.{bytes_in}
@@ -41,12 +41,12 @@ making p = record {
   uses = p.uses.items;
 }
 
-module _ (texts : List (List ℕ)) (table : TableRead) (has_piece : ℕ → Bool) where
+module _ (texts : List (List ℕ)) (table : TableRead) where
   -- what is made with one more entry
   abbrev pub with_entry : Making → Entry → Making
   with_entry old e = record old {
     marks = marks_after_entry old.marks e;
-    made = old.made ++ entry_slots texts table has_piece old.node old.piece old.marks e;
+    made = old.made ++ entry_slots texts table old.node old.piece old.marks e;
     bytes = old.bytes ++ entry_bytes texts e;
     tags = old.tags ++ entry_tag table e ∷ [];
     uses = old.uses ++ entry_uses table e;
@@ -58,7 +58,7 @@ module _ (texts : List (List ℕ)) (table : TableRead) (has_piece : ℕ → Bool
     piece = old.piece + 1;
     marks = 0;
     made = old.made
-        ++ piece_slots texts table has_piece old.node old.piece (items_of texts entries);
+        ++ piece_slots texts table old.node old.piece (items_of texts entries);
     bytes = old.bytes ++ flat_map (bytes_in texts) (items_of texts entries);
     tags = old.tags ++ entries_tags table entries;
     uses = old.uses ++ flat_map (uses_in table) (items_of texts entries);
@@ -68,7 +68,7 @@ module _ (texts : List (List ℕ)) (table : TableRead) (has_piece : ℕ → Bool
   pub record AddsPieces (old new : Making) (pieces : List PieceRead) : Type 0 where
     pub node : new.node ≡ old.node
     pub made : new.made
-        ≡ old.made ++ pieces_slots texts table has_piece old.node old.piece pieces
+        ≡ old.made ++ pieces_slots texts table old.node old.piece pieces
     pub bytes : new.bytes ≡ old.bytes ++ shape_bytes (shape_of texts table pieces)
     pub tags : (before : List ItemTag) → StandFor old.tags old.bytes before
         → StandFor new.tags new.bytes (before ++ shape_tags (shape_of texts table pieces))

@@ -1,7 +1,7 @@
 -- The meaning of an expansion: the symbols of its plan and its bytes, with the symbols of the
 -- shared expansions at the uses.
 use Rattle.std.specs.Prelude.{ℕ, ◌+◌, ◌-◌, Bool, true, false, if◌then◌else◌, List, [], ◌∷◌, ◌++◌}
-use Rattle.std.specs.Prelude.{map, take, drop, Option, None, Some, Vec}
+use Rattle.std.specs.Prelude.{map, flat_map, take, drop, unwrap_or, Option, None, Some, Vec}
 use Rattle.std.specs.Global.{Global}
 use Rattle.tangle_files.specs.Bytes.{space}
 use Rattle.tangle_plans.specs.Shapes.{Title, Program, Named}
@@ -18,18 +18,20 @@ title_of (Some name) = Named name.items
 abbrev pub bytes_between : List ℕ → ℕ → ℕ → List ℕ
 bytes_between bytes start end = take (end - start) (drop start bytes)
 
--- a shared expansion that no step uses comes at the end, after a space; no expansion that is made
--- has one
-abbrev pub left_over : List (List Symbol) → List Symbol
-left_over [] = []
-left_over (symbols ∷ rest) = Byte space ∷ symbols ++ left_over rest
+-- the symbols of a used name, after a space; there are none where nothing is shared for it
+abbrev pub use_flat : Option (List Symbol) → List Symbol
+use_flat used = Byte space ∷ unwrap_or used []
+
+-- what is shared and no step uses comes at the end; no expansion that is made has such
+abbrev pub left_over : List (Option (List Symbol)) → List Symbol
+left_over used = flat_map use_flat used
 
 module _ (node : Title) (bytes : List ℕ) where
   -- The symbols of the remaining steps of a plan: `piece` pieces are before the current one,
   -- `marks` marks were in it and `start` bytes of the body were used, and `used` has the remaining
-  -- shared expansions. The plan ends at a use without a shared expansion; an expansion that is made
+  -- shared expansions. The plan ends at a use for which there is no entry; an expansion that is made
   -- has one for each use.
-  abbrev pub plan_flat : ℕ → ℕ → ℕ → List Step → List (List Symbol) → List Symbol
+  abbrev pub plan_flat : ℕ → ℕ → ℕ → List Step → List (Option (List Symbol)) → List Symbol
   plan_flat piece marks start [] used = left_over used
   plan_flat piece marks start (step.Open ∷ plan) used =
       Opening node piece ∷ MarkOf node piece 0 ∷ plan_flat piece 0 start plan used
@@ -43,7 +45,7 @@ module _ (node : Title) (bytes : List ℕ) where
       Byte space ∷ plan_flat piece marks start plan used
   plan_flat piece marks start (step.Use id ∷ plan) [] = []
   plan_flat piece marks start (step.Use id ∷ plan) (symbols ∷ used) =
-      Byte space ∷ symbols ++ plan_flat piece marks start plan used
+      use_flat symbols ++ plan_flat piece marks start plan used
   plan_flat piece marks start (step.Close ∷ plan) used =
       Closing node piece ∷ plan_flat (piece + 1) 0 start plan used
 

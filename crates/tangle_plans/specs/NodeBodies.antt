@@ -3,7 +3,7 @@ use Rattle.std.specs.Prelude.{◌≡◌, ℕ, List, [], map, slice_index_or}
 use Rattle.tangle_plans.specs.Shapes.{Title, Shape}
 use Rattle.tangle_plans.specs.Tags.{shape_tags, shape_bytes, shape_names}
 use Rattle.tangle_plans.specs.Meaning.{title_of}
-use Rattle.tangle_plans.specs.Slots.{Slot, slots, uses_of}
+use Rattle.tangle_plans.specs.Slots.{Slot, slots}
 use Rattle.tangle_plans.specs.declared.tags.ItemTag.{ItemTag}
 use Rattle.tangle_plans.specs.UnfoldedTags.{unfolded_tags}
 use Rattle.tangle_plans.specs.declared.nodes.NodeBody.{NodeBody}
@@ -22,10 +22,6 @@ body_bytes body = body.bytes.items
 -- the numbers of the names that the items use: one for each use that resolves to a name
 abbrev pub body_uses : NodeBody → List ℕ
 body_uses body = body.uses.items
-
--- the numbers of the names with a piece that the plan uses
-abbrev pub plan_uses : NodeBody → List ℕ
-plan_uses body = uses_of body.plan.items
 
 -- the node's own symbols, and the uses between them
 abbrev pub plan_slots : NodeBody → List Slot

@@ -2,7 +2,6 @@
 use Rattle.std.specs.Prelude.{◌≡◌, ◌<◌, ℕ, zero, suc, Bool, true, false, List, [], ◌∷◌, length, map}
 use Rattle.std.specs.Prelude.{slice_get, Option, Some, None}
 use Rattle.std.specs.List.{All}
-use Rattle.digraph.specs.Graph.{row_at}
 use Rattle.digraph.specs.Nodes.{Node}
 use Rattle.tangle_scan.specs.Web.{WebRead}
 use Rattle.tangle_names.specs.NameTable.{TableRead}
@@ -23,10 +22,6 @@ title_at names (suc id) = title_of_name (slice_get names id)
 abbrev pub row_has_piece : List ℕ → Bool
 row_has_piece [] = false
 row_has_piece (n ∷ ns) = true
-
--- the name with this number has a piece, where the rows have the pieces of each node
-abbrev pub has_piece_in : List (List ℕ) → ℕ → Bool
-has_piece_in rows id = row_has_piece (row_at rows (suc id))
 
 -- the rows have the numbers of the pieces of the program, and then of each name, in the order of
 -- the table

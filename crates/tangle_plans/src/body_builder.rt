@@ -1,6 +1,6 @@
 //! Makes the body of a node, item by item.
 ghost use Rattle.std.specs.Prelude.{◌≡◌, false, length, ◌++◌};
-ghost use Rattle.std.specs.Prelude.{filter, [], IfOk, OnOk, OnErr, ◌+◌, ◌<◌, ◌∷◌};
+ghost use Rattle.std.specs.Prelude.{[], IfOk, OnOk, OnErr, ◌+◌, ◌<◌, ◌∷◌};
 ghost use Rattle.std.specs.List.{All};
 ghost use Rattle.digraph.specs.Graph.{row_at};
 ghost use Rattle.tangle_files.specs.Bytes.{line_feed};
@@ -19,9 +19,9 @@ ghost use Rattle.tangle_plans.specs.MakingBodies.{AddsPieces, nothing_made, with
 ghost use Rattle.tangle_plans.specs.MakingBodies.{with_piece};
 ghost use Rattle.tangle_scan.specs.declared.items.Entry.TheVariants as entry;
 ghost use Rattle.tangle_plans.specs.Shapes.{Program};
-ghost use Rattle.tangle_plans.specs.Nodes.{has_piece_in, title_at};
+ghost use Rattle.tangle_plans.specs.Nodes.{title_at};
 ghost use Rattle.tangle_plans.specs.NodeBodies.{body_title, body_bytes, body_tags, body_uses};
-ghost use Rattle.tangle_plans.specs.NodeBodies.{plan_slots, plan_uses, HoldsShape};
+ghost use Rattle.tangle_plans.specs.NodeBodies.{plan_slots, HoldsShape};
 ghost use Rattle.tangle_plans.specs.UnfoldedTags.{unfolded_tags};
 ghost use Rattle.tangle_plans.specs.ItemSlots.{marks_after_item, name_slots, item_slots};
 ghost use Rattle.tangle_plans.specs.ItemSlots.{pieces_slots, pieces_at};
@@ -204,31 +204,14 @@ fn push_bytes(plan: &mut Vec<Step>, start: usize, end: usize) -> Result<(), NoMe
     Ok(())
 }
 
-/// Whether the name with this number has a piece, by the rows of the pieces of each node.
-pub fn has_piece(rows: &Rows<usize>, id: usize) -> bool
-    ensures { result ≡ has_piece_in rows.now id }
-{
-    id < rows.len() && !rows.row(Node::name(id).number()).is_empty()
-}
-
 /// Adds a use, by what its occurrence resolves to.
-fn add_use(
-    builder: &mut BodyBuilder,
-    resolved: Resolved,
-    rows: &Rows<usize>,
-) -> Result<(), NoMemory>
+fn add_use(builder: &mut BodyBuilder, resolved: Resolved) -> Result<(), NoMemory>
     ensures { OnOk result (builder.new ≡ record builder.old {
-      made = builder.old.made ++ name_slots (has_piece_in rows.now) resolved;
+      made = builder.old.made ++ name_slots resolved;
     }) }
 {
     match resolved {
-        Resolved::Name(id) => {
-            if has_piece(rows, id) {
-                builder.add_step(Step::Use(id))
-            } else {
-                builder.add_step(Step::Space)
-            }
-        }
+        Resolved::Name(id) => builder.add_step(Step::Use(id)),
         Resolved::NoFullName | Resolved::Ambiguous => builder.add_step(Step::Space),
     }
 }
@@ -238,15 +221,13 @@ fn add_symbols(
     builder: &mut BodyBuilder,
     web: &Web,
     table: &NameTable,
-    rows: &Rows<usize>,
     item: Item,
 ) -> Result<(), NoMemory>
     requires span { IsInRange web.now.texts item }
     requires name { IsUseBelow (length table.now.resolved) item }
     ensures { OnOk result (builder.new ≡ record builder.old {
       marks = marks_after_item builder.old.marks item;
-      made = builder.old.made ++ item_slots web.now.texts table.now
-          (has_piece_in rows.now) builder.old.node builder.old.piece
+      made = builder.old.made ++ item_slots web.now.texts table.now builder.old.node builder.old.piece
           builder.old.marks item;
       bytes = builder.old.bytes ++ bytes_in web.now.texts item;
     }) }
@@ -263,7 +244,7 @@ fn add_symbols(
             builder.add_bytes(digits.format(value).as_bytes())
         }
         Item::LineMark(_) => builder.add_step(Step::Mark),
-        Item::UseOf(occurrence) => add_use(builder, table.resolve(occurrence.number()), rows),
+        Item::UseOf(occurrence) => add_use(builder, table.resolve(occurrence.number())),
         Item::Defs => builder.add_step(Step::AllMacros),
     }
 }
@@ -273,17 +254,15 @@ fn add_item(
     builder: &mut BodyBuilder,
     web: &Web,
     table: &NameTable,
-    rows: &Rows<usize>,
     item: &Item,
 ) -> Result<(), NoMemory>
     requires span { IsInRange web.now.texts item.now }
     requires name { IsUseBelow (length table.now.resolved) item.now }
-    ensures { OnOk result (builder.new ≡ with_entry web.now.texts table.now
-        (has_piece_in rows.now) builder.old (entry.Item item.now)) }
+    ensures { OnOk result (builder.new ≡ with_entry web.now.texts table.now builder.old (entry.Item item.now)) }
 {
     builder.add_tag(tag_of(item, table))?;
     builder.add_name(table, item)?;
-    add_symbols(builder, web, table, rows, *item)
+    add_symbols(builder, web, table, *item)
 }
 
 /// Adds a line end. Line ends are frequent, and need no look-up.
@@ -318,17 +297,16 @@ fn add_entry(
     builder: &mut BodyBuilder,
     web: &Web,
     table: &NameTable,
-    rows: &Rows<usize>,
     entry: &Entry,
 ) -> Result<(), NoMemory>
     requires { IsEntryOf web.now.texts table.now entry.now }
     ensures { OnOk result (builder.new
-        ≡ with_entry web.now.texts table.now (has_piece_in rows.now) builder.old entry.now) }
+        ≡ with_entry web.now.texts table.now builder.old entry.now) }
 {
     match entry {
         Entry::Run(span) => add_run(builder, web, *span),
         Entry::Item(Item::LineEnd) => add_line_end(builder),
-        Entry::Item(item) => add_item(builder, web, table, rows, item),
+        Entry::Item(item) => add_item(builder, web, table, item),
     }
 }
 
@@ -337,16 +315,15 @@ fn add_piece(
     builder: &mut BodyBuilder,
     web: &Web,
     table: &NameTable,
-    rows: &Rows<usize>,
     entries: &[Entry],
 ) -> Result<(), NoMemory>
     requires { All (IsEntryOf web.now.texts table.now) entries.now }
     ensures { OnOk result (builder.new
-        ≡ with_piece web.now.texts table.now (has_piece_in rows.now) builder.old entries.now) }
+        ≡ with_piece web.now.texts table.now builder.old entries.now) }
 {
     builder.add_step(Step::Open)?;
     for entry in entries {
-        add_entry(builder, web, table, rows, entry)?;
+        add_entry(builder, web, table, entry)?;
     }
     builder.add_step(Step::Close)?;
     builder.add_tag(piece_end())?;
@@ -358,16 +335,15 @@ fn add_pieces(
     builder: &mut BodyBuilder,
     web: &Web,
     table: &NameTable,
-    rows: &Rows<usize>,
     numbers: &[usize],
 ) -> Result<(), NoMemory>
     requires numbers { All (λ n. n < length web.now.pieces) numbers.now }
     requires ours { length table.now.resolved ≡ length web.now.occurrences }
-    ensures { OnOk result (AddsPieces web.now.texts table.now (has_piece_in rows.now)
+    ensures { OnOk result (AddsPieces web.now.texts table.now
         builder.old builder.new (pieces_at web.now.pieces numbers.now)) }
 {
     for number in numbers {
-        add_piece(builder, web, table, rows, entries_at(web, *number))?;
+        add_piece(builder, web, table, entries_at(web, *number))?;
     }
     Ok(())
 }
@@ -400,7 +376,7 @@ pub fn plan_node(
     requires ours { length table.now.resolved ≡ length web.now.occurrences }
     ensures title { IfOk result (λ body. body_title body ≡ title_at table.now.names node) }
     ensures plan { IfOk result (λ body. plan_slots body
-        ≡ pieces_slots web.now.texts table.now (has_piece_in rows.now)
+        ≡ pieces_slots web.now.texts table.now
         (title_at table.now.names node) 0 (pieces_at web.now.pieces (row_at rows.now node))) }
     ensures shape { IfOk result
         (λ body. HoldsShape table.now.names
@@ -409,13 +385,10 @@ pub fn plan_node(
     ensures uses { IfOk result
         (λ body. body_uses body
         ≡ pieces_uses table.now (pieces_at web.now.pieces (row_at rows.now node))) }
-    ensures plan_uses { IfOk result
-        (λ body. plan_uses body ≡ filter (has_piece_in rows.now)
-        (pieces_uses table.now (pieces_at web.now.pieces (row_at rows.now node)))) }
 {
     let numbers = rows.row(node.number());
     let name = name_of_node(alloc, table, node)?;
     builder.begin(alloc, name, tag_count(web.pieces(), numbers))?;
-    add_pieces(builder, web, table, rows, numbers)?;
+    add_pieces(builder, web, table, numbers)?;
     builder.finish(alloc)
 }

@@ -17,7 +17,7 @@ ghost use Rattle.tangle_plans.specs.Entries.{IsEntryOf};
 ghost use Rattle.tangle_plans.specs.ItemTags.{uses_in, uses_resolved, pieces_uses};
 ghost use Rattle.tangle_plans.specs.ItemTags.{shape_of};
 ghost use Rattle.tangle_plans.specs.ItemSlots.{pieces_at, pieces_slots};
-ghost use Rattle.tangle_plans.specs.NodeBodies.{body_title, plan_slots, plan_uses, HoldsShape};
+ghost use Rattle.tangle_plans.specs.NodeBodies.{body_title, plan_slots, HoldsShape};
 ghost use Rattle.tangle_plans.specs.UnfoldedTags.{run_tags};
 ghost use Rattle.tangle_plans.specs.declared.tags.ItemTag.{ItemTag as TagRead};
 
@@ -244,7 +244,7 @@ fn has_pieces(mut left: Left, web: &Web, table: &NameTable, numbers: &[usize]) -
 }
 
 /// Whether a body has the tags, bytes and uses of these pieces. If so, planning these pieces makes
-/// the same body, under the same name and where the same names have a piece.
+/// the same body, under the same name.
 pub fn has_items_of(old: &NodeBody, web: &Web, table: &NameTable, numbers: &[usize]) -> bool
     requires numbers { All (λ n. n < length web.now.pieces) numbers.now }
     requires ours { length table.now.resolved ≡ length web.now.occurrences }
@@ -252,12 +252,8 @@ pub fn has_items_of(old: &NodeBody, web: &Web, table: &NameTable, numbers: &[usi
         (pieces_at web.now.pieces numbers.now) old.now }
     ensures shape { result ≡ true → HoldsShape table.now.names (shape_of web.now.texts table.now
         (pieces_at web.now.pieces numbers.now)) old.now }
-    ensures plan { result ≡ true → (has_piece : ℕ → Bool) → IsPlanned has_piece old.now
-        → plan_slots old.now ≡ pieces_slots web.now.texts table.now has_piece
-        (body_title old.now) 0 (pieces_at web.now.pieces numbers.now) }
-    ensures plan_uses { result ≡ true → (has_piece : ℕ → Bool) → IsPlanned has_piece old.now
-        → plan_uses old.now ≡ filter has_piece (pieces_uses table.now
-        (pieces_at web.now.pieces numbers.now)) }
+    ensures plan { result ≡ true → IsPlanned old.now
+        → plan_slots old.now ≡ pieces_slots web.now.texts table.now (body_title old.now) 0 (pieces_at web.now.pieces numbers.now) }
 {
     let left = Left {
         tags: TagsLeft::new(&old.tags, &old.bytes),

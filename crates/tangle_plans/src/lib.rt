@@ -15,7 +15,7 @@ mod steps;
 mod tags;
 mod tags_left;
 
-pub use body_builder::{BodyBuilder, has_piece, plan_node};
+pub use body_builder::{BodyBuilder, plan_node};
 pub use comparing::has_items_of;
 pub use laws::{names_resolve_inside, tags_settle_the_shape};
 pub use nodes::NodeBody;

@@ -22,7 +22,7 @@ loop-n-preserved c =
       | then-made w ↦ (λ e. (
         holds_of_old c.body_before-before.result (IsBodyOfBefore old table.names i) body.value
             (c.in_ok-made.ensures.old w.if-made.true) before,
-        ⊎_elim (λ same. ap (λ ns. names_at ns used) (c.requires.same_nodes same).names)
+        ⊎_elim (λ same. ap (λ ns. names_at ns used) (c.requires.same_names same ∙ c.requires.names))
             (λ none. (let no_uses : used ≡ [] = ap body_uses (sym w.deref.ensures) ∙ none in
             ap (names_at old.names.now) no_uses ∙ sym (ap (names_at table.names) no_uses)))
             (w.keeps_uses.ensures (sym w.push-is ∙ e)),

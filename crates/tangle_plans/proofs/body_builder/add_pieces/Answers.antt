@@ -1,7 +1,6 @@
 use Rattle.std.proofs.Common.{drop, ◌+◌}
 use Rattle.std.proofs.lemmas.List.{drop_all, drop_more}
 use Rattle.tangle_plans.specs.ItemSlots.{pieces_at}
-use Rattle.tangle_plans.specs.Nodes.{has_piece_in}
 use Rattle.tangle_plans.proofs.AddingEntries.{no_pieces_added, piece_added}
 use Rattle.tangle_plans.proofs.body_builder.add_pieces.Goals as goal
 
@@ -11,7 +10,7 @@ loop-number-preserved c = λ new rest.
     let numbers = c.args.numbers.now in
     let i = c.loop-number.number-index in
     c.loop-number.invariant new (rw (drop_more numbers i 0 c.loop-number-test.true)
-    (piece_added web c.args.table.now (has_piece_in c.args.rows.now) c.loop-number.builder c.add_piece.new.builder new
+    (piece_added web c.args.table.now c.loop-number.builder c.add_piece.new.builder new
     _ c.entries_at.result.now (pieces_at web.pieces (drop (i + 1) numbers)) c.requires.ours
     c.entries_at.ensures c.in_ok-add_piece.ensures rest))
 
@@ -19,4 +18,4 @@ pub returns : goal.returns
 returns c =
     c.loop-number.invariant c.loop-number.builder
     (rw (drop_all c.loop-number.number-index c.args.numbers.now c.loop-number-test.false)
-    (no_pieces_added c.args.web.now.texts c.args.table.now (has_piece_in c.args.rows.now) c.loop-number.builder))
+    (no_pieces_added c.args.web.now.texts c.args.table.now c.loop-number.builder))

@@ -1,20 +1,18 @@
-use Rattle.std.proofs.Common.{◌∙◌, ap, sym}
-use Rattle.std.specs.Prelude.{flat_map, IfOk, Result, Ok, Err}
+use Rattle.std.proofs.Common.{◌∙◌, ap}
+use Rattle.std.specs.Prelude.{IfOk, Result, Ok, Err}
 use Rattle.std.proofs.lemmas.Result.{IfOk-weaker}
 use Rattle.digraph.specs.Graph.{row_at}
 use Rattle.tangle_plans.specs.ItemSlots.{pieces_at}
 use Rattle.tangle_plans.specs.MakingBodies.{AddsPieces, nothing_made}
-use Rattle.tangle_plans.specs.Meaning.{title_of}
-use Rattle.tangle_plans.specs.NodeBodies.{names_at, body_bytes}
-use Rattle.tangle_plans.specs.Nodes.{has_piece_in, title_at}
+use Rattle.tangle_plans.specs.NodeBodies.{names_at}
+use Rattle.tangle_plans.specs.Nodes.{title_at}
 use Rattle.tangle_plans.proofs.HeldLemmas.{names_held}
 use Rattle.tangle_plans.proofs.AddingEntries.{pieces_unfold}
-use Rattle.tangle_plans.proofs.SlotIds.{slot_ids, plan_ids, pieces_ids}
 use Rattle.tangle_plans.proofs.body_builder.plan_node.Goals as goal
 
 -- the pieces were added to an empty body
 added : (c : goal.After-finish)
-    → AddsPieces c.args.web.now.texts c.args.table.now (has_piece_in c.args.rows.now)
+    → AddsPieces c.args.web.now.texts c.args.table.now
     (nothing_made (title_at c.args.table.now.names c.args.node)) c.add_pieces.new.builder
     (pieces_at c.args.web.now.pieces (row_at c.args.rows.now c.args.node))
 added c =
@@ -36,7 +34,7 @@ returns-clause-shape c =
     let pieces = pieces_at c.args.web.now.pieces (row_at c.args.rows.now c.args.node) in
     of_three c.finish.result
     (λ body tags bytes uses. record {
-      tags = tags ∙ pieces_unfold c.args.web.now.texts table (has_piece_in c.args.rows.now) _
+      tags = tags ∙ pieces_unfold c.args.web.now.texts table _
           c.add_pieces.new.builder pieces all;
       bytes = bytes ∙ all.bytes;
       names_used = ap (names_at table.names) (uses ∙ all.uses) ∙ names_held c.args.web.now.texts table pieces;
@@ -44,15 +42,6 @@ returns-clause-shape c =
 
 pub returns-clause-plan : goal.returns-clause-plan
 returns-clause-plan c = IfOk-weaker c.finish.result _ _ (λ body made. made ∙ (added c).made) c.finish.ensures.made
-
-pub returns-clause-plan_uses : goal.returns-clause-plan_uses
-returns-clause-plan_uses c =
-    IfOk-weaker c.finish.result _ _
-    (λ body made. sym (plan_ids (title_of body.name) (body_bytes body) 0 0 0 body.plan.items)
-    ∙ ap (flat_map slot_ids) (made ∙ (added c).made)
-    ∙ pieces_ids c.args.web.now.texts c.args.table.now (has_piece_in c.args.rows.now)
-    (title_at c.args.table.now.names c.args.node) 0
-    (pieces_at c.args.web.now.pieces (row_at c.args.rows.now c.args.node))) c.finish.ensures.made
 
 pub returns-clause-uses : goal.returns-clause-uses
 returns-clause-uses c = IfOk-weaker c.finish.result _ _ (λ body uses. uses ∙ (added c).uses) c.finish.ensures.uses

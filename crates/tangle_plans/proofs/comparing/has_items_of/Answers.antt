@@ -1,5 +1,4 @@
-use Rattle.std.proofs.Common.{◌≡◌, ◌∙◌, ap, sym, true}
-use Rattle.std.specs.Prelude.{filter}
+use Rattle.std.proofs.Common.{◌≡◌, ◌∙◌, sym, true}
 use Rattle.tangle_plans.specs.Comparing.{HasItemsOf}
 use Rattle.tangle_plans.specs.ItemSlots.{pieces_at}
 use Rattle.tangle_plans.specs.Fronts.{Lists}
@@ -26,9 +25,7 @@ returns c =
     record {
       same = (has, λ h. c.has_pieces.ensures.1 (made ∙ items_had texts table pieces old h));
       shape = λ e. shape_had texts table pieces old (has e);
-      plan = λ e has_piece planned. planned.plan
+      plan = λ e planned. planned.plan
           ∙ slots_same planned.texts texts planned.table table planned.pieces pieces old
-          planned.items (has e) has_piece (body_title old) 0;
-      plan_uses = λ e has_piece planned. planned.plan_uses
-          ∙ ap (filter has_piece) (sym planned.items.uses ∙ (has e).uses);
+          planned.items (has e) (body_title old) 0;
     }

@@ -1,7 +1,12 @@
-use Rattle.std.proofs.Common.{refl, arith}
-use Rattle.tangle_expansion.proofs.WriteLemmas.{wrote_at_first, wrote_more, wrote_all}
+use Rattle.std.proofs.Common.{◌+◌, ◌++◌, List, [], ap, drop, refl, arith}
+use Rattle.std.specs.Prelude.{Option, unwrap_or}
+use Rattle.tangle_plans.specs.Flat.{Symbol}
+use Rattle.tangle_expansion.specs.Numbers.{expansion_bytes}
+use Rattle.tangle_expansion.specs.Writing.{bytes_from}
+use Rattle.tangle_expansion.proofs.WriteLemmas.{wrote_at_first, wrote_more, wrote_same, wrote_all}
 use Rattle.tangle_expansion.proofs.PlanLemmas.{written_with, written_without}
 use Rattle.tangle_expansion.proofs.expansion.Expansion.+write_text_after.Goals as goal
+use Rattle.tangle_expansion.proofs.expansion.Expansion.+write_text_after.Goals.{in-Some, in_default}
 
 pub loop-used-init : goal.loop-used-init
 loop-used-init g t c =
@@ -22,11 +27,18 @@ loop-used-preserved g t c =
     let left = written_with c.args.numbers.now c.deref-body.result.now c.loop-used.at c.deref-used-items.result.now
     c.loop-used.used-index c.used-item.result c.write_to_use-before.result.0
     c.loop-used-test.true c.used-item.is c.write_to_use-before.ensures.rest in
-    wrote_more _ _ _ _ _ _ _ _ _ _
-    (wrote_more _ _ _ _ _ _ _ _ _ _
+    let spaced = wrote_more _ _ _ _ _ _ _ _ _ _
     (wrote_more _ _ _ _ _ _ _ _ _ _ c.loop-used.invariant left c.write_to_use-before.ensures.writes)
-    refl c.write_after-spaced.ensures)
-    refl c.write_text_after-so_far.ensures.writes
+    refl c.write_after-so_far.ensures in
+    let rest = bytes_from c.deref-body.result.now c.write_to_use-before.result.0 c.args.numbers.now
+    (drop (c.loop-used.used-index + 1) c.deref-used-items.result.now) in
+    let shared = λ (o : Option (List Symbol)). expansion_bytes c.args.numbers.now (unwrap_or o []) ++ rest in
+    elim c.match-used.branch [
+      | in-Some w ↦ rw (w.sink-is, w.at-is, w.so_far-is)
+          (wrote_more _ _ _ _ _ _ _ _ _ _ spaced (ap shared w.in-Some.is) w.write_text_after-so_far.ensures.writes)
+      | in_default w ↦ rw (w.sink-is, w.at-is, w.so_far-is)
+          (wrote_same _ _ _ _ _ _ _ spaced (ap shared w.in_default.is))
+    ]
 
 pub returns-clause-writes : goal.returns-clause-writes
 returns-clause-writes g t c =

@@ -1,5 +1,4 @@
 use Rattle.std.proofs.Common.{◌≡◌, ◌∙◌, ap, subst}
-use Rattle.tangle_plans.specs.Nodes.{has_piece_in}
 use Rattle.tangle_graph.specs.Plans.{ArePlanned, node_bodies}
 use Rattle.tangle_graph.specs.Stores.{StoreRead}
 use Rattle.tangle_graph.proofs.store.Store.bodies.Goals as goal
@@ -8,8 +7,8 @@ pub returns-clause-planned : goal.returns-clause-planned
 returns-clause-planned c =
     let bodies : node_bodies c.deref-bodies.result.now ≡ c.args.self.now.bodies =
     ap node_bodies c.deref-bodies.ensures.value ∙ ap (λ (s : StoreRead). s.bodies) c.self.view_is in
-    rw (c.names.ensures, c.pieces.ensures, bodies)
-    (subst (λ (s : StoreRead). ArePlanned s.names (has_piece_in s.pieces) s.bodies)
+    rw (c.names.ensures, bodies)
+    (subst (λ (s : StoreRead). ArePlanned s.names s.bodies)
     c.self.view_is c.self.invariant.planned)
 
 pub returns-clause-bodies : goal.returns-clause-bodies

@@ -1,13 +1,12 @@
-use Rattle.std.proofs.Common.{◌≡◌, ◌∙◌, ◌<◌, ℕ, List, get_or, length, map, ap, sym, subst, arith, true}
+use Rattle.std.proofs.Common.{◌≡◌, ◌∙◌, ◌<◌, ℕ, List, get_or, length, map, ap, sym, arith, true}
 use Rattle.std.specs.Global.{Global}
 use Rattle.std.specs.declared.rc.Rc.{Rc}
-use Rattle.std.specs.Prelude.{Contains}
 use Rattle.std.proofs.lemmas.Result.{IfOk-weaker}
 use Rattle.digraph.specs.Graph.{row_at}
 use Rattle.digraph.specs.Nodes.{Node}
 use Rattle.digraph.proofs.ReachLemmas.{flagged_in}
 use Rattle.tangle_expansion.specs.Kept.{used_symbols}
-use Rattle.tangle_plans.specs.NodeBodies.{plan_slots, plan_uses}
+use Rattle.tangle_plans.specs.NodeBodies.{plan_slots}
 use Rattle.tangle_plans.specs.Slots.{filled}
 use Rattle.tangle_plans.specs.declared.nodes.NodeBody.{NodeBody}
 use Rattle.tangle_graph.specs.Stores.{StoreRead, is_expandable_at}
@@ -37,12 +36,6 @@ index-requires c =
     let below = low c.self.inside c.args.self.now c.args.node c.number.result c.self.view_is c.self.invariant
     c.number.ensures c.requires.expandable in
     omega (arith, below, c.self.inside.bodies.ok)
-
-pub expand-requires : goal.expand-requires
-expand-requires c = λ id h.
-    c.requires.kept id (subst (λ l. Contains l id)
-    (sym (part c.self.inside c.args.self.now c.args.node c.number.result c.self.view_is c.self.invariant
-    c.number.ensures c.requires.expandable plan_uses c.index.result.now c.index.ensures)) h)
 
 pub returns-clause-symbols : goal.returns-clause-symbols
 returns-clause-symbols c =

@@ -24,7 +24,7 @@ use Rattle.tangle_graph.proofs.FaultLemmas.{reaching_flag}
 use Rattle.tangle_graph.proofs.LimitLemmas.{limited, program_has_piece}
 use Rattle.tangle_graph.proofs.NameGraphLemmas.{graph_over, nodes_inside, uses_inside}
 use Rattle.tangle_graph.proofs.OrderingLemmas.{order_is, grouped_by}
-use Rattle.tangle_graph.proofs.PlanLemmas.{bodies_planned}
+use Rattle.tangle_graph.proofs.BodyLemmas.{bodies_planned}
 use Rattle.tangle_graph.proofs.StoreIs.{store_is}
 use Rattle.tangle_graph.proofs.store.Store.over.Goals as goal
 

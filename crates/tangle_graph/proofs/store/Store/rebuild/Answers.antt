@@ -1,16 +1,14 @@
-use Rattle.std.proofs.Common.{◌∙◌, List, arith, length, ap, sym, subst, true, true≢false, ℕ, ◌≡◌}
+use Rattle.std.proofs.Common.{◌∙◌, List, arith, length, ap, sym, subst, ℕ}
 use Rattle.std.specs.Prelude.{slice_get}
-use Rattle.digraph.specs.Graph.{row_at}
 use Rattle.tangle_plans.specs.NodeBodies.{body_uses, names_at}
-use Rattle.tangle_plans.specs.Nodes.{row_has_piece, title_at}
+use Rattle.tangle_plans.specs.Nodes.{title_at}
 use Rattle.tangle_plans.specs.WebShapes.{ResolvesInside}
 use Rattle.tangle_plans.proofs.InsideLemmas.{table_inside}
 use Rattle.tangle_plans.specs.declared.nodes.NodeBody.{NodeBody}
-use Rattle.tangle_graph.specs.Plans.{HaveSameNodes, node_bodies}
+use Rattle.tangle_graph.specs.Plans.{node_bodies}
 use Rattle.tangle_graph.proofs.NameGraphLemmas.{uses_inside}
 use Rattle.tangle_graph.proofs.UsesLemmas.{pieces_inside}
 use Rattle.tangle_graph.proofs.store.Store.rebuild.Goals as goal
-use Rattle.tangle_graph.proofs.store.Store.rebuild.Goals.{then-same_names, else-same_names}
 
 pub bodies_by_node-requires-clause-inside : goal.bodies_by_node-requires-clause-inside
 bodies_by_node-requires-clause-inside c = rw c.deref-rows.ensures
@@ -21,18 +19,9 @@ name_graph_for-requires-clause-inside c = rw (c.in_ok-names.ensures, c.deref.ens
     (uses_inside c.args.web.now c.args.table.now c.deref-rows.result.now (node_bodies c.in_ok-made.made.bodies.items)
     (subst ResolvesInside (sym c.requires) (table_inside c.args.web.now)) c.in_ok-made.ensures.bodies)
 
-pub bodies_by_node-requires-clause-same_nodes : goal.bodies_by_node-requires-clause-same_nodes
-bodies_by_node-requires-clause-same_nodes c =
-    elim c.if-same_names.branch as (λ _. c.if-same_names.same_nodes ≡ true
-    → HaveSameNodes c.bodies-before.result c.args.table.now.names c.deref-rows.result.now) [
-      | then-same_names w ↦ (λ e. record {
-        names = c.bodies-before.ensures.names ∙ sym c.names-2.ensures
-            ∙ c.are_same_names-same_names.ensures w.if-same_names.true ∙ c.in_ok-names.ensures;
-        pieces = λ n. ap (λ rows. row_has_piece (row_at rows n)) (c.bodies-before.ensures.pieces ∙ sym w.pieces.ensures)
-            ∙ w.have_same_pieces-same_nodes.ensures (sym w.same_nodes-is ∙ e) n;
-      })
-      | else-same_names w ↦ (λ e. absurd (true≢false (sym e ∙ w.same_nodes-is ∙ w.if-same_names.false)))
-    ]
+pub bodies_by_node-requires-clause-same_names : goal.bodies_by_node-requires-clause-same_names
+bodies_by_node-requires-clause-same_names c = λ e.
+    c.bodies-before.ensures.names ∙ sym c.names-2.ensures ∙ c.are_same_names-same_names.ensures e
 
 pub returns-clause-bodies : goal.returns-clause-bodies
 returns-clause-bodies c = λ n e.
