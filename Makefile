@@ -21,6 +21,7 @@ PROGRAM_PREFIX =
 
 programs = $(DESTDIR)$(PREFIX)/bin
 pages = $(DESTDIR)$(PREFIX)/share/man/man1
+server = $(DESTDIR)$(PREFIX)/share/$(PROGRAM_PREFIX)retangle-lsp
 
 sources := $(shell find crates crates.txt -name out -prune -o -type f -print)
 
@@ -61,8 +62,15 @@ install: bin/ctangle bin/retangle
 	    install -m 755 bin/$$name "$(programs)/$(PROGRAM_PREFIX)$$name" && \
 	    install -m 644 docs/$$name.1 "$(pages)/$(PROGRAM_PREFIX)$$name.1" || exit 1; \
 	done
+	install -d "$(server)/retangle_lsp"
+	install -m 644 lsp/retangle_lsp/*.py "$(server)/retangle_lsp"
+	-python3 -m compileall -q "$(server)/retangle_lsp"
+	install -m 755 lsp/retangle-lsp "$(programs)/$(PROGRAM_PREFIX)retangle-lsp"
+	install -m 644 docs/retangle-lsp.1 "$(pages)/$(PROGRAM_PREFIX)retangle-lsp.1"
 
 uninstall:
+	rm -rf "$(server)"
+	rm -f "$(programs)/$(PROGRAM_PREFIX)retangle-lsp" "$(pages)/$(PROGRAM_PREFIX)retangle-lsp.1"
 	for name in ctangle retangle; do \
 	    rm -f "$(programs)/$(PROGRAM_PREFIX)$$name" "$(pages)/$(PROGRAM_PREFIX)$$name.1" || exit 1; \
 	done

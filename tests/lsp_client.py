@@ -1,4 +1,4 @@
-"""An editor's side of a conversation with examples/lsp.py over pipes.
+"""An editor's side of a conversation with retangle-lsp over pipes.
 
 usage: lsp_client.py WEB
 
@@ -19,7 +19,7 @@ from checks import folder_with, read, same
 TOP = os.path.dirname(os.path.dirname(os.path.abspath(__file__)))
 
 PATIENCE = 60           # seconds for an answer
-SERVER = [sys.executable, '-B', os.path.join(TOP, 'examples', 'lsp.py')]
+SERVER = [sys.executable, '-B', os.path.join(TOP, 'lsp', 'retangle-lsp')]
 
 
 def framed(body):
@@ -33,17 +33,15 @@ def message(**parts):
 class Client:
     """An editor's side of a conversation with the server."""
 
-    def __init__(self, files, program=None, options=None, capabilities=None, **parts):
+    def __init__(self, files, program=None, capabilities=None, **parts):
         self.folder = folder_with(files)
         arguments = [] if program is None else ['--retangle', program]
         self.process = subprocess.Popen(SERVER + arguments, cwd='/', stdin=subprocess.PIPE,
                                         stdout=subprocess.PIPE)
-        self.read, self.number, self.version = b'', 0, 0
+        self.read, self.number, self.version, self.last = b'', 0, 0, None
         self.diagnostics, self.shown, self.logged, self.asked, self.errors = {}, [], [], [], []
         if parts.get('initialize', True):
             params = {'rootUri': self.uri(''), 'capabilities': capabilities or {}}
-            if options is not None:
-                params['initializationOptions'] = options
             self.capabilities = self.ask('initialize', params)['result']['capabilities']
             self.notify('initialized', {})
 
@@ -113,38 +111,38 @@ class Client:
 
     def settle(self):
         """Reads up to the answer to a request that is sent now."""
-        same(self.ask('no/such')['error']['code'], -32601, 'lsp.py, an unknown request')
+        same(self.ask('no/such')['error']['code'], -32601, 'an unknown request')
 
     # ------------------------------------------------------------------ documents
 
     def open(self, name, text, uri=None):
-        self.version += 1
+        self.version, self.last = self.version + 1, name if uri is None else None
         item = {'uri': uri or self.uri(name), 'languageId': 'cweb', 'version': self.version}
         self.notify('textDocument/didOpen', {'textDocument': dict(item, text=text)})
 
     def change(self, name, *changes):
-        self.version += 1
+        self.version, self.last = self.version + 1, name
         item = {'uri': self.uri(name), 'version': self.version}
         made = [{'text': text} if place is None else {'range': range_of(*place), 'text': text}
                 for place, text in changes]
         self.notify('textDocument/didChange', {'textDocument': item, 'contentChanges': made})
 
     def about(self, method, name):
+        if method == 'didClose':
+            self.last = None
         self.notify('textDocument/' + method, {'textDocument': {'uri': self.uri(name)}})
 
     def faults(self):
-        """The diagnostics as lines, as ctangle reports them but without an order."""
+        """The lines of ctangle that the diagnostics are for, in an order of their own. They are
+        whole after a save: while a name is typed, what follows from it is not shown."""
+        if self.last:
+            self.about('didSave', self.last)
         self.settle()
-        found = []
-        for name, these in self.diagnostics.items():
-            for one in these:
-                kind = {1: 'error', 2: 'warning'}[one['severity']]
-                line = one['range']['start']['line'] + 1
-                found.append('%s:%d: %s: %s' % (name, line, kind, one['message']))
-        return sorted(found)
+        return sorted(line for these in self.diagnostics.values() for one in these
+                      for line in one['data']['faults'])
 
     def has(self, expected, name):
-        same(self.faults(), sorted(expected), 'lsp.py, ' + name)
+        same(self.faults(), sorted(expected), name)
 
     def places(self, method, name, line, character, **parts):
         """What a question on a place is answered by, as FILE:LINE:FROM-TO."""
@@ -163,7 +161,7 @@ class Client:
     def end(self, status=0):
         self.ask('shutdown')
         self.send(message(method='exit'))
-        same(self.process.wait(PATIENCE), status, 'lsp.py, the status')
+        same(self.process.wait(PATIENCE), status, 'the status of the server')
         self.process.stdin.close()
         self.process.stdout.close()
         self.folder.cleanup()
