@@ -9,6 +9,7 @@ from .requests import spots
 from .scanning import NAME, is_abbreviation, plain_name, written_name
 
 MOST_ACTIONS = 10
+MOST_BYTES = 200        # of a line in which the front of a name is sought
 
 
 def inner(names, found):
@@ -60,21 +61,24 @@ def rename(workspace, path, place, new):
     name, new = found[2], plain_name(written_name(encoded(new)))
     if not new or is_abbreviation(new):
         raise Problem(REQUEST_FAILED, 'this is no name of a section')
-    made, paths = {}, {path}
-    for web in webs_with(workspace, paths):
-        check_renaming(web, name, new)
-        for one in web.names().written(name):
-            places = inner(web.names(), one)
-            if places is None:
-                raise Problem(REQUEST_FAILED, 'the name is written in two files at once')
-            made[web.root.folder, places] = decoded(written_name(new))
+    made, paths, seen = {}, {path}, None
+    while paths != seen:                # a web may have one of the files that are changed for another
+        seen = set(paths)
+        for web in webs_with(workspace, seen):
+            check_renaming(web, name, new)
+            for one in web.names().written(name):
+                places = inner(web.names(), one)
+                if places is None:
+                    raise Problem(REQUEST_FAILED, 'the name is written in two files at once')
+                made[web.root.folder, places] = decoded(written_name(new))
+                paths.add(path_in(web.root.folder, places[0].file))
     return edits_by_uri(workspace, made)
 
 
 def webs_with(workspace, paths):
     """The webs that have one of these files, open or not."""
     opened = {document.path for document in workspace.documents.values() if document}
-    for root in list(workspace.roots.values()):
+    for root in workspace.roots.values():
         for roles, members in root.webs(opened).items():
             if members & paths:
                 yield workspace.webs.get((root.folder, roles)) or Other(root, roles)
@@ -178,8 +182,8 @@ def ends_of_name(workspace, web, found):
     names = web.names()
     start = names.place(found.chunk, found.occurrence.start + 2)
     rest = web.line(start.file, start.row)[start.column:]
-    for length in range(min(len(rest), 200), 0, -1):
-        prefix = plain_name(rest[:length])
+    for length in range(min(len(rest), MOST_BYTES), 0, -1):
+        prefix = b'' if rest[:length][-1:].isspace() else plain_name(rest[:length])
         these = names.beginning_with(prefix, (found.occurrence.text,)) if prefix else []
         if these:
             places = start, start._replace(column=start.column + length)

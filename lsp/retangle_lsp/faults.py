@@ -5,9 +5,10 @@ from .marks import Marker
 from .names import alike
 from .protocol import ERROR, WARNING, shown
 from .runs import fault_line
-from .scanning import MENTION, USE, is_abbreviation
+from .scanning import MENTION, USE, is_abbreviation, plain_name
 
 ALIKE = .6              # names that are so alike may be one name that is misspelt
+MUCH_ALIKE = .8         # and if one of them may have other text in it
 MOST_RELATED = 50       # places that a diagnostic leads to
 MOST_NAMES = 5          # names that a message lists
 MOST_SOUGHT = 10        # names for which the nearest are sought, which takes its time
@@ -112,8 +113,8 @@ class Folding:
                 cause.members += group.members
                 group.members = []
         self.groups = [group for group in self.groups if group.members]
-        for cause in suspects:
-            self.put_first(cause)
+        for group in self.by_name.values():
+            self.put_first(group)
         unended = [group for group in suspects if group.members and 'name-end' in group.kinds]
         for group in self.groups if unended else ():
             if group.code == 'no-program' and b'@c' in unended[0].name:
@@ -151,11 +152,18 @@ class Folding:
 
     def is_like(self, name, cause):
         """Whether a cause may be a misspelt name. One that is not finished has more than the name
-        in it, so only its front is compared, and of the name as much as there is on that line."""
+        in it: only what is on its first line is compared."""
         if 'name-end' not in cause.kinds:
             return alike(name, cause.name) >= ALIKE
-        return alike(name, cause.name[:len(name)]) >= ALIKE or (
-            name[:4].lower() == cause.name[:4].lower())
+        front = self.front_of(cause)
+        return bool(front) and (name.startswith(front) or alike(name, front) >= MUCH_ALIKE)
+
+    def front_of(self, cause):
+        """What is on the first line of a name without an end."""
+        one = self.names.by_text[cause.name][0]
+        text = self.names.chunks[one.chunk].text
+        end = min(one.occurrence.end, text.index(b'\n', one.occurrence.start))
+        return plain_name(text[one.occurrence.start + 2:end])
 
     def is_suspect(self, name):
         group = self.by_name.get(name)
@@ -177,9 +185,11 @@ class Folding:
                    for end in ends for one in mentions)
 
     def put_first(self, group):
-        """The fault of a name that is not finished is what is shown of it; a name that is being
-        typed is marked where that is done."""
-        group.members.sort(key=lambda one: one[1].name != 'name-end')
+        """What is shown of a name is a fault of its own, that it is not finished or an error if
+        there is one. A name that is being typed is marked where that is done."""
+        group.members.sort(key=lambda one: (
+            one[1].name != 'name-end', one[1].subject not in (None, group.name),
+            one[0].severity != 'error'))
         if self.typed is not None and group.members and group.name == self.typed.occurrence.text:
             fault, kind, _ = group.members[0]
             group.members[0] = fault, kind, self.names.places(self.typed)

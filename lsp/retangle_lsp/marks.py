@@ -93,35 +93,50 @@ class Marker:
                     yield one
 
     def unended(self, file, row):
-        """The name without an end that stops in a row of a file."""
-        for number, _ in self.names.at([file], row):
+        """The name without an end that stops in a row of a file, or where this begins."""
+        for number, is_before in self.chunks_at(file, row):
+            chunk = self.names.chunks[number]
             for one in self.names.found_in(number):
-                if one not in self.marked and self.names.is_unended(one):
-                    stop = self.names.place(number, one.occurrence.end)
-                    start = self.names.place(number, one.occurrence.start)
-                    if (file, row) in (stop[:2], start[:2]):
-                        return one
+                if one in self.marked or not self.names.is_unended(one):
+                    continue
+                stop, start = (self.names.place(number, at)[:2]
+                               for at in (one.occurrence.end, one.occurrence.start))
+                is_at_end = one.occurrence.end == len(chunk.text)
+                if is_at_end if is_before else (file, row) in (stop, start):
+                    return one
         return None
+
+    def chunks_at(self, file, row):
+        """The chunks that a row is in, and the one before each that begins with the row: what is
+        not finished stops at the section that begins there."""
+        for number, first in self.names.at([file], row):
+            yield number, False
+            if first == 0 and number > 0:
+                yield number - 1, True
 
     # ------------------------------------------------------------------ codes
 
     def token(self, file, row, is_kind, at_end):
-        """The first piece of C in a row that is of a kind and is not marked yet."""
-        for number, first in self.names.at([file], row):
+        """The first piece of C in a row, or before it, that is of a kind and is not marked yet."""
+        for number, is_before in self.chunks_at(file, row):
             chunk = self.names.chunks[number]
-            if number not in self.tokens:
-                self.tokens[number] = []
-                Scan(chunk.text, number == 0, self.tokens[number])
-            start = chunk.offset(first, 0)
-            stop = chunk.text.index(b'\n', start)
-            for one in self.tokens[number]:
-                is_here = start <= one[at_end] <= stop or (
-                    at_end and stop < one[1] == len(chunk.text))
+            for one in self.tokens_of(number):
+                if is_before:
+                    is_here = at_end and one[1] == len(chunk.text)
+                else:
+                    place = self.names.place(number, one[1 if at_end else 0])
+                    is_here = place[:2] == (file, row)
                 key = number, one, is_kind
                 if is_here and key not in self.marked and is_kind(chunk.text[slice(*one)]):
                     self.marked.add(key)
                     return self.token_places(number, *one)
         return None
+
+    def tokens_of(self, number):
+        if number not in self.tokens:
+            self.tokens[number] = []
+            Scan(self.names.chunks[number].text, number == 0, self.tokens[number])
+        return self.tokens[number]
 
     def token_places(self, number, start, end):
         """From where it begins to where it ends, or to the end of its first line."""

@@ -19,13 +19,20 @@ STARTS = frozenset((b'*', b' ', b'\t', b'\r', b'\v', b'\f', b'\n'))
 MACRO_ENDS = frozenset(b'd f s c p < ('.split())
 NAME = re.compile(rb'@[<(]((?:[^@]+|@[^<(>* \t\r\v\f\n])*)(@>)?')
 HEAD = re.compile(rb'[ \t\r\v\f]*(?:\+[ \t\r\v\f]*)?==?')
+# What counts as white space in C on one line, a piece at a time.
+BLANK = rb'''[ \t\r\v\f]
+    | /\*(?:[^*@\n]|\*(?!/)|@[^* \t\r\v\f\n])*\*/
+    | @[\^.:tTqQ](?:[^@\n]|@@)*@>
+    | @[^@<(^.:tTqQ=&hH'dDfFsScCpP* \t\r\v\f\n]'''
+# The same with the codes that would end a macro.
+BEGINNING = re.compile(rb'(?:@[dfscp]|' + BLANK + rb')*', re.S | re.X | re.I)
 # Each alternative begins with a byte of its own, so that the search passes over all others fast.
 C_TEXT = re.compile(rb'''
     /(?:\*(?:[^*@]+|\*(?!/)|@[^* \t\r\v\f\n])*(?:\*/)?         # comments
       | /(?:[^@\n]+|@[^* \t\r\v\f\n])*)
     | "(?:[^"\\\n]+|\\[^@]|\\)*"?                             # quoted texts
     | '(?:[^'\\\n]+|\\[^@]|\\)*'?
-    | \#[ \t\r\v\f]*include[ \t\r\v\f]*<[^>\n]*
+    | \#(?:''' + BLANK + rb''')*include(?:''' + BLANK + rb''')*<[^>\n]*
     | @(?:'(?:(?:@@|\\[0-7]{1,3}|\\["'?\\abtnvfr]|[^\\'@\n])'|[^'\n]*'?)
         | =(?:[^@\n]+|@@|@(?![@>]))*(?:@>)?                   # verbatim texts
         | [\^.:tTqQ](?:[^@]+|@@)*(?:@>)?                      # control texts
@@ -99,6 +106,7 @@ class Scan:
 
     def c_text(self, at, is_macro):
         """Scans a C part or a macro: where it ends."""
+        first, last = at, (at, at)
         while True:
             found = C_TEXT.search(self.text, at)
             if found is None:
@@ -107,7 +115,9 @@ class Scan:
             if self.tokens is not None:
                 self.tokens.append((start, at))
             if code is None:
-                if self.text.startswith(b'#', start) and not self.begins_line(start):
+                if not self.text.startswith(b'#', start):
+                    last = start, at
+                elif not self.begins_line(first, last, start):
                     at = start + 1      # no inclusion of C
                 continue
             if code in STARTS or is_macro and code.lower() in MACRO_ENDS:
@@ -115,8 +125,13 @@ class Scan:
             if code in (b'<', b'('):
                 at = self.name(start, USE)
 
-    def begins_line(self, at):
-        return not self.text[self.text.rfind(b'\n', 0, at) + 1:at].strip(b' \t\r\v\f')
+    def begins_line(self, first, last, at):
+        """Whether a place is the first on its line, or in its part, which begins at `first`. What
+        is before it on the line may also be the end of a comment, which is `last` then."""
+        line = self.text.rfind(b'\n', 0, at) + 1
+        if last[0] < line < last[1] and self.text[last[0]] in b'/@':
+            line = last[1]
+        return BEGINNING.fullmatch(self.text, max(first, line), at) is not None
 
     def name(self, start, role):
         found = NAME.match(self.text, start)
