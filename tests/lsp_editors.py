@@ -251,13 +251,14 @@ def meet_others(emacs, folder):
     emacs.ask('(progn (auto-revert-buffers) (sleep-for 2) t)')
     emacs.holds('a file that another program wrote')
     for whom in ('retangle', 'the server', 'both'):
+        time.sleep(6)           # eglot starts a server again that has run for three seconds
         server = int(emacs.ask('(server-pid)'))
         killed = children(server) if whom != 'the server' else []
         for pid in killed + [server] * (whom != 'retangle'):
             os.kill(pid, signal.SIGKILL)
         if whom != 'retangle':
             emacs.wait('(progn (in-web) (and (eglot-current-server) (/= (server-pid) %d)))' % server, whom)
-        emacs.ask('(progn (in-web) (sleep-for 4) (goto-char (point-max)) (insert "@<Undefined %s@>\\n") t)' % whom)
+        emacs.ask('(progn (in-web) (sleep-for 2) (goto-char (point-max)) (insert "@<Undefined %s@>\\n") t)' % whom)
         emacs.holds(whom + ' killed')
 
 
