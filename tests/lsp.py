@@ -131,13 +131,24 @@ def test_wrong_parameters():
     places = [dict(here, position=place) for place in (
         None, 1, {}, {'line': 0}, {'line': -1, 'character': 0}, {'line': 0, 'character': 'x'},
         {'line': True, 'character': 0}, {'line': 0.5, 'character': 0})]
-    for method in ('definition', 'references'):
+    for method in ('definition', 'references', 'completion', 'hover', 'documentHighlight',
+                   'prepareRename', 'rename'):
         for params in WRONG + [here] + places:
+            params = dict(params, newName='x') if isinstance(params, dict) else params
             answer = client.ask('textDocument/' + method, params)
             same(code_of(answer), -32602, 'lsp, %s, %r' % (method, params))
     for params in WRONG:
-        same(code_of(client.ask('textDocument/documentSymbol', params)), -32602,
-             'lsp, documentSymbol, %r' % params)
+        for method in 'documentSymbol', 'foldingRange', 'codeAction':
+            same(code_of(client.ask('textDocument/' + method, params)), -32602,
+                 'lsp, %s, %r' % (method, params))
+    for new in None, 1, [], {}:
+        same(code_of(client.ask('textDocument/rename', dict(here, position=POSITION, newName=new))),
+             -32602, 'lsp, a new name %r' % new)
+    for params in None, 1, [], {}, {'query': 1}:
+        same(code_of(client.ask('workspace/symbol', params)), -32602, 'lsp, symbol, %r' % params)
+    for place in places:
+        wrong = dict(here, range={'start': place['position'], 'end': POSITION})
+        same(code_of(client.ask('textDocument/codeAction', wrong)), -32602, 'lsp, codeAction, %r' % wrong)
     uri = client.uri('a.w')
     for params in [None, {}, {'command': 1}, {'command': 'x', 'arguments': []}] + [
             {'command': 'retangle.showC', 'arguments': arguments}
@@ -190,12 +201,15 @@ def test_mutated_messages():
     here = {'textDocument': {'uri': client.uri('a.w'), 'version': 1, 'text': WEB.decode()},
             'position': {'line': 2, 'character': 8}, 'context': {'includeDeclaration': True},
             'contentChanges': [{'range': range_of((1, 0), (2, 1)), 'text': 'q'}],
-            'command': 'retangle.showC', 'arguments': [client.uri('a.w'), 2]}
+            'command': 'retangle.showC', 'arguments': [client.uri('a.w'), 2], 'query': 'v',
+            'newName': 'w', 'range': range_of((2, 8), (2, 9))}
     methods = ['textDocument/' + method for method in (
         'didOpen', 'didChange', 'didSave', 'didClose', 'definition', 'references',
-        'documentSymbol')]
-    methods += ['workspace/executeCommand', 'initialized', 'initialize']
-    for number in range(1500):
+        'documentSymbol', 'completion', 'hover', 'documentHighlight', 'foldingRange',
+        'prepareRename', 'rename', 'codeAction')]
+    methods += ['workspace/executeCommand', 'workspace/symbol', 'initialized', 'initialize',
+                'workspace/didChangeWatchedFiles']
+    for number in range(3000):
         parts = {'method': chance.choice(methods), 'params': mutated(chance, here, .04)}
         if chance.random() < .6:
             parts['id'] = 'm%d' % number
@@ -567,7 +581,7 @@ def test_other_programs():
 
 
 def test_lists():
-    """A change is one list of edits, and one that leaves the text as it was is none."""
+    """A change is one list of edits, or an edit alone; one that leaves the text as it was is none."""
     program = b'#!/bin/sh\ntee script | "%s" "$@"\n' % retangle.encode()
     with folder_with({'run': program}) as folder:
         os.chmod(os.path.join(folder, 'run'), 0o755)
@@ -575,13 +589,14 @@ def test_lists():
         client.open('a.w', WEB.decode())
         for count, changes in enumerate((
                 [(((0, 0), (0, 0)), '\n'), (((3, 4), (3, 5)), 'y'), (((1, 0), (2, 0)), '@ B.\n\n')],
-                [(None, '@ B.\n@c\nint z;\n\n@ C.\n')], [(((0, 2), (0, 3)), 'b')]), 1):
+                [(None, '@ B.\n@c\nint z;\n\n@ C.\n')], [(((0, 2), (0, 3)), 'b')])):
             client.change('a.w', *changes)
             client.change('a.w', (((0, 0), (0, 0)), 'x'), (((0, 0), (0, 1)), ''))
             client.settle()
             lines = read(client.path('script')).split(b'\n')
-            same((lines.count(b'begin'), lines.count(b'commit')), (count, count),
-                 'lsp, lists of edits')
+            lists = min(count + 1, 2)
+            same((lines.count(b'begin'), lines.count(b'commit'), lines.count(b'replace 1 a.w')),
+                 (lists, lists, 1 + count // 2), 'lsp, lists of edits')
         client.end()
 
 

@@ -1,9 +1,11 @@
 """An editor's side of a conversation with retangle-lsp over pipes.
 
-usage: lsp_client.py WEB
+usage: lsp_client.py WEB [CHANGES]
 
-As a program it changes a line of the web 100 times, and prints the median and the longest time from
-sending a change to receiving the diagnostics. RETANGLE in the environment names the program.
+As a program it changes a line of the web CHANGES times, 2,000 if that is not said, and prints what
+this takes: the time from sending a change to receiving the diagnostics, of completion and hover
+after a change, of opening the web, and the most memory that the server and retangle have had.
+RETANGLE in the environment names the program.
 """
 import json
 import os
@@ -172,24 +174,74 @@ def range_of(start, end):
     return {'start': start, 'end': end}
 
 
-def times(web):
-    """The seconds from each change to its diagnostics."""
+# ---------------------------------------------------------------------- what it takes
+
+def seconds_of(action):
+    start = time.perf_counter()
+    action()
+    return time.perf_counter() - start
+
+
+def diagnosed(client):
+    """Waits for the diagnostics of the web."""
+    while 'a.w' not in client.diagnostics:
+        client.receive()
+
+
+def times(web, changes):
+    """The seconds of each kind of action on a web, and the memory of both programs at the end in
+    megabytes."""
     text = read(web).decode('utf-8', 'surrogateescape')
-    client, count, found = Client({'a.w': read(web)}), text.count('\n'), []
-    client.open('a.w', text)
-    client.settle()
-    for number in range(100):
+    found = {'opening': [], 'change': [], 'completion': [], 'hover': []}
+    client, count = Client({'a.w': read(web)}), text.count('\n')
+
+    def change(number, new):
         line = number * 347 % count
-        start, client.diagnostics = time.perf_counter(), {}
-        client.change('a.w', (((line, 0), (line, 0)), ['x', '@<a@>', '"', '\n'][number % 4]))
-        while 'a.w' not in client.diagnostics:
-            client.receive()
-        found.append(time.perf_counter() - start)
+        client.diagnostics.clear()
+        client.change('a.w', (((line, 0), (line, 0)), new))
+        diagnosed(client)
+        return line
+
+    def ask(method, line, character):
+        return client.result('textDocument/' + method, {
+            'textDocument': {'uri': client.uri('a.w')},
+            'position': {'line': line, 'character': character}})
+
+    found['opening'].append(seconds_of(lambda: (client.open('a.w', text), diagnosed(client))))
+    names = [at for at, line in enumerate(text.split('\n')) if re.match('@<[^@]*@>', line)]
+    for number in range(changes):
+        new = ['x', '@<a@>', '"', '\n'][number % 4]
+        found['change'].append(seconds_of(lambda: change(number, new)))
+        if number % 20 == 0:
+            line = change(number, '@<\n')
+            found['completion'].append(seconds_of(lambda: ask('completion', line, 2)))
+            line = names[number % len(names)]
+            found['hover'].append(seconds_of(lambda: ask('hover', line, 3)))
+    memory = [memory_of(pid) for pid in [client.process.pid, *children_of(client.process.pid)]]
     client.end()
-    return found
+    return found, memory
+
+
+def memory_of(pid):
+    with open('/proc/%d/status' % pid) as file:
+        return int(re.search(r'VmHWM:\s*(\d+)', file.read())[1]) / 1024
+
+
+def children_of(pid):
+    with open('/proc/%d/task/%d/children' % (pid, pid)) as file:
+        return list(map(int, file.read().split()))
+
+
+def main(web, changes=2000):
+    seconds, memory = times(web, int(changes))
+    print('load %.1f on %d processors' % (os.getloadavg()[0], os.cpu_count()))
+    for kind, these in seconds.items():
+        these = sorted(1000 * one for one in these)
+        print('%-10s median %4.0f ms, 99 of 100 within %4.0f, longest %4.0f (%d)' % (
+            kind, statistics.median(these), these[(99 * len(these) - 1) // 100], these[-1], len(these)))
+    print('most memory: server %.1f MB, retangle %s MB' % (
+        memory[0], ', '.join('%.1f' % one for one in memory[1:])))
 
 
 if __name__ == '__main__':
-    seconds = times(sys.argv[1])
-    print('median %.0f ms' % (1000 * statistics.median(seconds)))
-    print('longest %.0f ms' % (1000 * max(seconds)))
+    main(*sys.argv[1:])

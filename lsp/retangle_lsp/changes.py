@@ -87,7 +87,7 @@ def webs_with(workspace, paths):
 def check_renaming(web, name, new):
     """Refuses what would change the meaning of other names, or the lines of a change."""
     names = web.names()
-    if new != name and new in names.by_name:
+    if new != name and new in names.names:
         raise Problem(REQUEST_FAILED, 'there is a section <%s>' % shown(new))
     for text in names.abbreviations:
         if names.resolved(text) != name and new.startswith(text[:-3]):
@@ -184,8 +184,8 @@ def ends_of_name(workspace, web, found):
     rest = web.line(start.file, start.row)[start.column:]
     for length in range(min(len(rest), MOST_BYTES), 0, -1):
         prefix = b'' if rest[:length][-1:].isspace() else plain_name(rest[:length])
-        these = names.beginning_with(prefix, (found.occurrence.text,)) if prefix else []
-        if these:
+        these = [name for name in names.beginning_with(prefix) if name != found.occurrence.text]
+        if prefix and these:
             places = start, start._replace(column=start.column + length)
             for name in these[:MOST_ACTIONS]:
                 made = {(web.root.folder, places): decoded(written_name(name)) + '@>'}

@@ -160,7 +160,7 @@ class Folding:
 
     def front_of(self, cause):
         """What is on the first line of a name without an end."""
-        one = self.names.by_text[cause.name][0]
+        one = self.names.found_as(cause.name)[0]
         text = self.names.chunks[one.chunk].text
         end = min(one.occurrence.end, text.index(b'\n', one.occurrence.start))
         return plain_name(text[one.occurrence.start + 2:end])
@@ -178,7 +178,7 @@ class Folding:
     def is_swallowed(self, group, cause):
         """Whether a name that is never used is written after a name without an end, in its section:
         there it is no use any more."""
-        ends = [one for one in self.names.by_text.get(cause.name, ())
+        ends = [one for one in self.names.found_as(cause.name)
                 if self.names.is_unended(one)]
         mentions = self.names.written(group.name, {MENTION})
         return any(one.chunk == end.chunk and one.occurrence.start > end.occurrence.start

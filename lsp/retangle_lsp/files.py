@@ -1,4 +1,5 @@
 """Files as retangle takes them: lists of lines, and where these include files or begin sections."""
+import bisect
 import collections
 import os
 import re
@@ -18,10 +19,11 @@ class Unreadable(Exception):
         return '%s: %s' % (os.fsdecode(self.name), self.reason)
 
 
-Text = collections.namedtuple('Text', 'stamp lines inclusions starts')
+Text = collections.namedtuple('Text', 'stamp lines inclusions starts pieces')
 Text.__doc__ = """A file as retangle takes it: its lines, the inclusions as a list of their rows and
-of the names, and the rows at which a section begins whatever is before them. The stamp of a file on
-the disk is another one when the file was written, or moved there."""
+of the names, the rows at which a section begins whatever is before them, and the text before each
+of these rows, and after the last one, up to the next. The stamp of a file on the disk is another
+one when the file was written, or moved there."""
 
 INCLUSION = re.compile(rb'@[iI][ \t\r\v\f]*(?:"([^"]*)|([^ \t\r\v\f"]*))')
 SECTION = re.compile(rb'@(?:[* \t\r\v\f]|$)')
@@ -45,7 +47,8 @@ def lines_of(text):
 def text_of(lines, stamp=None, before=None):
     """The text of these lines. Only what differs from the text before is looked at."""
     if before is None:
-        return Text(stamp, lines, *marked_rows(lines, 0, len(lines)))
+        inclusions, starts = marked_rows(lines, 0, len(lines))
+        return Text(stamp, lines, inclusions, starts, pieces_of(lines, [0, *starts, len(lines)]))
     front = common_front(before.lines, lines)
     back = common_back(before.lines, lines, front)
     # a line begins a section, or does not, also by the end of the line above it
@@ -54,9 +57,22 @@ def text_of(lines, stamp=None, before=None):
     inclusions, starts = marked_rows(lines, front, end)
     kept_front = [one for one in before.inclusions if one[0] < front]
     kept_back = [(row + moved, name) for row, name in before.inclusions if row >= old_end]
-    starts = ([row for row in before.starts if row < front] + starts
-              + [row + moved for row in before.starts if row >= old_end])
-    return Text(stamp, lines, kept_front + inclusions + kept_back, starts)
+    first = bisect.bisect_left(before.starts, front)
+    last = bisect.bisect_left(before.starts, old_end)
+    rest = [row + moved for row in before.starts[last:]]
+    cuts = [before.starts[first - 1] if first else 0, *starts, rest[0] if rest else len(lines)]
+    return Text(stamp, lines, kept_front + inclusions + kept_back,
+                before.starts[:first] + starts + rest,
+                before.pieces[:first] + pieces_of(lines, cuts) + before.pieces[last + 1:])
+
+
+def pieces_of(lines, cuts):
+    """The text from each of these rows to the next."""
+    return [text_between(lines, start, end) for start, end in zip(cuts, cuts[1:])]
+
+
+def text_between(lines, start, end):
+    return b'\n'.join(lines[start:end]) + b'\n' if end > start else b''
 
 
 def marked_rows(lines, start, end):

@@ -73,12 +73,12 @@ class Marker:
             return self.unended(file, row)
         if kind.subject is None:
             found = self.in_row(file, row)
-        elif kind.subject in self.names.by_name:
+        elif kind.subject in self.names.names:
             found = self.names.written(kind.subject, {USE} if kind.name == 'undefined' else None)
         else:
-            found = self.names.by_text.get(kind.subject, [])
+            found = self.names.found_as(kind.subject)
         for one in found:
-            if one not in self.marked or kind.subject in self.names.by_name:
+            if one not in self.marked or kind.subject in self.names.names:
                 start = self.names.place(one.chunk, one.occurrence.start)
                 end = self.names.place(one.chunk, one.occurrence.end)
                 if (start.file, start.row) == (file, row) or (end.file, end.row) == (file, row):

@@ -3,9 +3,10 @@ import bisect
 import collections
 import functools
 import itertools
+import operator
 import re
 
-from .scanning import (DEFINITION, NAME, Scan, is_abbreviation, is_unended, plain_name)
+from .scanning import DEFINITION, NAME, USE, Scan, is_abbreviation, is_unended, plain_name
 from .source import chunks_of
 
 Place = collections.namedtuple('Place', 'file row column')
@@ -15,26 +16,46 @@ Found = collections.namedtuple('Found', 'chunk occurrence')
 Found.__doc__ = """An occurrence of a name, and the number of the chunk that it is in."""
 
 NEAREST, NEAR = 3, .5           # how many near names are offered, and how near they have to be
+MOST_COMPARED = 50              # names for which the near ones are kept
+
+
+class Meanings:
+    """What the names of a web resolve to, which stays while these are the same."""
+
+    def __init__(self, names, abbreviations):
+        self.names, self.abbreviations = names, abbreviations
+        self.ordered = sorted(names)
+        self.shorts = {}                # the abbreviations of a full name
+        self.by_short = {}
+        for text in abbreviations:
+            at = bisect.bisect_left(self.ordered, text[:-3])
+            found = [one for one in self.ordered[at:at + 2] if one.startswith(text[:-3])]
+            if len(found) == 1:
+                self.shorts.setdefault(found[0], []).append(text)
+                self.by_short[text] = found[0]
 
 
 class Names:
-    """The names of a web. `files` gives the text of a file by its name, or None."""
+    """The names of a web. `files` gives the text of a file by its name, or None. What is the same
+    as before is taken from there."""
 
     def __init__(self, files, web, change, before=None):
         self.chunks = chunks_of(files, web, change)
-        known, self.scans, scans = before.scans if before else {}, [], {}
+        known, self.scans, self.ordered = before.scans if before else {}, {}, []
         for number, chunk in enumerate(self.chunks):
-            key = chunk.text, number == 0
-            scan = scans.get(key) or known.get(key) or Scan(*key)
-            scans[key] = scan
-            self.scans.append(scan)
-        self.scans, self.ordered = scans, self.scans
-        self.by_text = {}               # the text of a name: where it is written so
-        for number, scan in enumerate(self.ordered):
-            for one in scan.occurrences:
-                self.by_text.setdefault(one.text, []).append(Found(number, one))
-        self.full_names = sorted(name for name in self.by_text if not is_abbreviation(name))
-        self.abbreviations = [name for name in self.by_text if is_abbreviation(name)]
+            key = chunk.text if number else (chunk.text,)
+            scan = self.scans.get(key) or known.get(key) or Scan(chunk.text, number == 0)
+            self.scans[key] = scan
+            self.ordered.append(scan)
+        scans = self.scans.values()
+        self.names = set().union(*(scan.full_names for scan in scans))
+        self.abbreviations = set().union(*(scan.abbreviations for scan in scans))
+        if before and (self.names, self.abbreviations) == (before.names, before.abbreviations):
+            self.meanings = before.meanings
+        else:
+            self.meanings = Meanings(self.names, self.abbreviations)
+        self.full_names = self.meanings.ordered
+        self.places_of_text = {}
 
     @functools.cached_property
     def first_numbers(self):
@@ -48,66 +69,77 @@ class Names:
         found = {}
         for number, chunk in enumerate(self.chunks):
             row = 0
-            for part in chunk.parts:
-                here = found.setdefault(part.file, [])
-                here.append((part.start, part.end, number, row))
-                row += part.end - part.start
+            for file, _, start, end in chunk.parts:
+                found.setdefault(file, []).append((start, end, number, row))
+                row += end - start
         return found
+
+    @functools.cached_property
+    def read_once(self):
+        """The files of which each line is at most once among the source lines, in their order."""
+        return {file for file, parts in self.parts.items()
+                if all(map(operator.lt, parts, parts[1:]))}
 
     # ------------------------------------------------------------------ full names
 
-    def beginning_with(self, prefix, without=()):
+    def beginning_with(self, prefix):
         """The full names that begin with some bytes."""
-        at, found = bisect.bisect_left(self.full_names, prefix), []
-        while at < len(self.full_names) and self.full_names[at].startswith(prefix):
-            if self.full_names[at] not in without:
-                found.append(self.full_names[at])
-            at += 1
-        return found
+        at = bisect.bisect_left(self.full_names, prefix)
+        return list(itertools.takewhile(lambda name: name.startswith(prefix),
+                                        itertools.islice(self.full_names, at, None)))
 
-    def resolved(self, name, without=()):
+    def resolved(self, name):
         """The full name that a name resolves to; None if there is none or several."""
         if not is_abbreviation(name):
             return name
-        found = self.beginning_with(name[:-3], without)
-        return found[0] if len(found) == 1 else None
+        return self.meanings.by_short.get(name)
 
-    @functools.cached_property
-    def by_name(self):
-        """For each full name where it is written, in full or abbreviated, in the order of the web."""
-        found = {name: self.by_text[name] for name in self.full_names}
-        for text in self.abbreviations:
-            name = self.resolved(text)
-            if name is not None:
-                found[name] = sorted(found[name] + self.by_text[text],
-                                     key=lambda one: (one.chunk, one.occurrence.start))
-        return found
+    def found_as(self, text):
+        """Where a name is written so, in the order of the web."""
+        if text not in self.places_of_text:
+            self.places_of_text[text] = [
+                Found(number, one) for number, scan in enumerate(self.ordered)
+                if text in scan.full_names or text in scan.abbreviations
+                for one in scan.occurrences if one.text == text]
+        return self.places_of_text[text]
 
     def written(self, name, roles=None):
-        """Where a full name is written in these roles."""
-        return [one for one in self.by_name.get(name, ())
-                if roles is None or one.occurrence.role in roles]
+        """Where a full name is written in these roles, in full or abbreviated."""
+        found = list(self.found_as(name))
+        short = self.meanings.shorts.get(name, ())
+        for text in short:
+            found += self.found_as(text)
+        if short:
+            found.sort(key=lambda one: (one.chunk, one.occurrence.start))
+        return [one for one in found if roles is None or one.occurrence.role in roles]
 
     def found_in(self, chunk, role=None):
         """The occurrences in a chunk, in one role or in all."""
         return [Found(chunk, one) for one in self.ordered[chunk].occurrences
                 if role in (None, one.role)]
 
+    def counts(self):
+        """How often each full name is used."""
+        uses = collections.Counter(one.text for scan in self.ordered for one in scan.occurrences
+                                   if one.role == USE)
+        found = collections.Counter()
+        for text, count in uses.items():
+            found[self.resolved(text)] += count
+        return found
+
     def is_defined(self, name):
         return bool(self.written(name, {DEFINITION}))
 
-    def nearest(self, name, without=()):
+    def nearest(self, name):
         """The full names that are most like a name, which may be an abbreviation: it is compared
         with as much of them as it has."""
-        is_short = is_abbreviation(name)
-        wanted = name[:-3] if is_short else name
         found = []
-        for other in self.full_names:
-            if other != name and other not in without and self.is_defined(other):
-                likeness = alike(wanted, other[:len(wanted)] if is_short else other)
-                if likeness >= NEAR:
-                    found.append((-likeness, other))
-        return [other for _, other in sorted(found)[:NEAREST]]
+        for _, other in sorted(likely(name, self.names)):
+            if other in self.names and other != name and self.is_defined(other):
+                found.append(other)
+                if len(found) == NEAREST:
+                    break
+        return found
 
     # ------------------------------------------------------------------ places
 
@@ -115,6 +147,9 @@ class Names:
         """The chunks that a row of a file is in, and the row in each. The file has these names."""
         for file in files:
             parts = self.parts.get(file, [])
+            if file in self.read_once:
+                at = bisect.bisect_left(parts, (row + 1,))
+                parts = parts[max(at - 1, 0):at]
             for start, end, number, first in parts:
                 if start <= row < end:
                     yield number, first + row - start
@@ -199,17 +234,32 @@ class Names:
         return first, Place(first.file, row, 0)
 
 
-def pairs_of(text):
-    return frozenset(zip(text, text[1:]))
-
-
 @functools.lru_cache(1 << 14)
-def pairs_of_name(name):
-    return pairs_of(name.lower())
+def pairs_of(name):
+    text = name.lower()
+    return frozenset(zip(text, text[1:]))
 
 
 def alike(one, other):
     """How alike two names are, from 0 to 1, by the pairs of bytes that they share."""
-    first, second = pairs_of_name(one), pairs_of_name(other)
+    first, second = pairs_of(one), pairs_of(other)
     both = len(first) + len(second)
     return 2 * len(first & second) / both if both else float(one == other)
+
+
+compared = {}                   # name: the names that it was compared with, and those like it
+
+
+def likely(name, names):
+    """The names that are like a name, with how unlike they are. Only those are compared that were
+    not before."""
+    if len(compared) > MOST_COMPARED:
+        compared.clear()
+    seen, found = compared.setdefault(name, (set(), set()))
+    wanted = name[:-3] if is_abbreviation(name) else name
+    for other in names - seen:
+        likeness = alike(wanted, other[:len(wanted)] if wanted is not name else other)
+        if likeness >= NEAR:
+            found.add((1 - likeness, other))
+    seen |= names
+    return found

@@ -221,25 +221,24 @@ def items(spot, line, found):
     here = names.found_at(spot.files, spot.row, found.start())
     rest = REST_OF_NAME.match(line, spot.column)
     place = start, rest.end() if rest else spot.column
-    ranked = []
+    counts, ranked = names.counts(), []
     for name in names.full_names:
         at = name.lower().find(typed.lower())
-        written = names.by_name[name]
-        if at >= 0 and (here is None or written != [here]) and (
-                found[0] == b'@<' or is_file(names, written)):
-            ranked.append((at > 0, -len(written), name))
+        is_this = here is not None and name == here.occurrence.text
+        if at >= 0 and not (is_this and names.written(name) == [here]) and (
+                found[0] == b'@<' or is_file(names, name)):
+            ranked.append((at > 0, -counts[name], name))
     edited = spot.web.range(*((spot.files[0], spot.row, column) for column in place))
-    return [item(names, name, number, edited)
+    return [item(name, counts[name], number, edited)
             for number, (_, _, name) in enumerate(sorted(ranked)[:MOST_ITEMS])]
 
 
-def is_file(names, written):
+def is_file(names, name):
     return any(names.chunks[one.chunk].text.startswith(b'(', one.occurrence.start + 1)
-               for one in written)
+               for one in names.written(name))
 
 
-def item(names, name, number, edited):
-    uses = len(names.written(name, {USE}))
+def item(name, uses, number, edited):
     return {'label': shown(name), 'kind': REFERENCE, 'sortText': '%05d' % number,
             'filterText': shown(name), 'detail': '%d use%s' % (uses, '' if uses == 1 else 's'),
             'textEdit': {'range': edited, 'newText': decoded(written_name(name)) + '@>'}}

@@ -215,13 +215,15 @@ class Retangle:
         if size > runs.LIST_BYTES:
             raise Refused('TooLong', 1, made[0][0])
         self.run.make_room(made[0][0], size)
-        self.run.ask(b'begin')
-        if set(self.run.ask_all(lines)) != {b'held'}:
-            self.run.ask(b'cancel')
-            raise Refused('NoMemory', 0, made[0][0])
-        answer = self.run.ask(b'commit').split(b' ')
+        if len(made) == 1:              # an edit alone is answered sooner than a list
+            answer = self.run.ask(lines[0]).split(b' ') + [b'1']
+        else:
+            if set(self.run.ask_all([b'begin', *lines])[1:]) != {b'held'}:
+                self.run.ask(b'cancel')
+                raise Refused('NoMemory', 0, made[0][0])
+            answer = self.run.ask(b'commit').split(b' ')
         if answer[0] == b'no':
-            number = int(answer[2])
+            number = 0 if answer[1] == b'NoMemory' else int(answer[2])
             raise Refused(answer[1].decode(), number, made[max(number, 1) - 1][0])
 
     # ------------------------------------------------------------------ questions

@@ -6,7 +6,7 @@ the first begins with a section: a chunk is scanned without what is before it.
 import bisect
 import collections
 
-from .files import SECTION
+from .files import SECTION, text_between
 
 LINES_TAKEN, FILES_OPEN = 2000000, 10   # limits of reading, docs/programs.md
 
@@ -20,11 +20,10 @@ Part.__doc__ = """The lines of a file from one row to another, of which the last
 class Chunk:
     """Consecutive source lines, in the parts of files that they come from."""
 
-    def __init__(self, parts):
-        self.parts, lines = parts, []
-        for part in parts:
-            lines += part.lines[part.start:part.end]
-        self.text = b'\n'.join(lines) + b'\n' if lines else b''
+    __slots__ = 'parts', 'text'
+
+    def __init__(self, parts, text):
+        self.parts, self.text = parts, text
 
     def place(self, at):
         """The file, the row and the column of a place in the text."""
@@ -135,21 +134,31 @@ def parts_of(files, web, change):
 def chunks_of(files, web, change):
     """The source lines of a web as chunks. The first one is what is before the first section."""
     chunks, parts, before = [], [], b''
-    for part in parts_of(files, web, change):
-        starts = files(part.file).starts
-        at = bisect.bisect_right(starts, part.start)
-        cuts = starts[at:bisect.bisect_left(starts, part.end)]
-        if SECTION.match(part.lines[part.start]) and not before.endswith(b'\\'):
-            cuts = [part.start] + cuts
-        row = part.start
-        for cut in cuts:
-            if cut > row:
-                parts.append(part._replace(start=row, end=cut))
-            if parts or not chunks:
-                chunks.append(Chunk(parts))
-            parts, row = [], cut
-        parts.append(part._replace(start=row))
-        before = part.lines[part.end - 1]
+    for file, lines, first, last in parts_of(files, web, change):
+        text = files(file)
+        at = bisect.bisect_right(text.starts, first)
+        end = bisect.bisect_left(text.starts, last)
+        cuts = text.starts[at:end]
+        if SECTION.match(lines[first]) and not before.endswith(b'\\'):
+            close(chunks, parts)
+            parts = []
+        row = first
+        for number, cut in enumerate(cuts, at):
+            if not parts and row == (text.starts[number - 1] if number else 0) and chunks:
+                chunks.append(Chunk([Part(file, lines, row, cut)], text.pieces[number]))
+            else:
+                close(chunks, parts + [Part(file, lines, row, cut)])
+                parts = []
+            row = cut
+        parts = parts + [Part(file, lines, row, last)]
+        before = lines[last - 1]
     if parts:
-        chunks.append(Chunk(parts))
+        close(chunks, parts)
     return chunks
+
+
+def close(chunks, parts):
+    """Adds a chunk of these parts; only the first one may have none."""
+    if parts or not chunks:
+        text = b''.join(text_between(part.lines, part.start, part.end) for part in parts)
+        chunks.append(Chunk(parts, text))
