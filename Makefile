@@ -25,11 +25,13 @@ CHANGE =
 programs = $(DESTDIR)$(PREFIX)/bin
 pages = $(DESTDIR)$(PREFIX)/share/man/man1
 shared = $(DESTDIR)$(PREFIX)/share/$(PROGRAM_PREFIX)ctangle
+server = $(DESTDIR)$(PREFIX)/share/$(PROGRAM_PREFIX)retangle-lsp
 
 # what make install copies into these
-program_files = bin/ctangle bin/retangle
-page_files = docs/ctangle.1 docs/retangle.1
+program_files = bin/ctangle bin/retangle lsp/retangle-lsp
+page_files = docs/ctangle.1 docs/retangle.1 docs/retangle-lsp.1
 shared_files = examples/webs.mk
+server_files = lsp/retangle_lsp/*.py
 
 sources := $(shell find crates crates.txt -name out -prune -o -type f -print)
 
@@ -69,7 +71,7 @@ try:
 
 # Where strip is, the installed programs have no table of symbols. A script stays as it is.
 install: $(program_files)
-	install -d "$(programs)" "$(pages)" "$(shared)"
+	install -d "$(programs)" "$(pages)" "$(shared)" "$(server)/retangle_lsp"
 	for file in $(program_files); do \
 	    to="$(programs)/$(PROGRAM_PREFIX)$${file##*/}" && install -m 755 $$file "$$to" || exit 1; \
 	    strip "$$to" 2>/dev/null || :; \
@@ -78,12 +80,15 @@ install: $(program_files)
 	    install -m 644 $$file "$(pages)/$(PROGRAM_PREFIX)$${file##*/}" || exit 1; \
 	done
 	install -m 644 $(shared_files) "$(shared)"
+	install -m 644 $(server_files) "$(server)/retangle_lsp"
+	-python3 -m compileall -q "$(server)/retangle_lsp"
 
 uninstall:
 	for file in $(notdir $(program_files)); do rm -f "$(programs)/$(PROGRAM_PREFIX)$$file" || exit 1; done
 	for file in $(notdir $(page_files)); do rm -f "$(pages)/$(PROGRAM_PREFIX)$$file" || exit 1; done
 	for file in $(notdir $(shared_files)); do rm -f "$(shared)/$$file" || exit 1; done
 	[ ! -d "$(shared)" ] || rmdir "$(shared)"
+	rm -rf "$(server)"
 
 example: bin/ctangle bin/retangle
 	$(MAKE) -C examples run CTANGLE=../bin/ctangle RETANGLE=../bin/retangle

@@ -19,11 +19,13 @@ import sys
 import tempfile
 
 ctangle, retangle, top = (os.path.abspath(path) for path in sys.argv[1:4])
-sys.path[:0] = [os.path.join(top, below) for below in ('examples', 'tests', 'tests/reference')]
-import editor
+sys.path[:0] = [os.path.join(top, below) for below in ('lsp', 'tests', 'tests/reference')]
 from checks import check, lay, new_folder, read, run_all, same, write
 from limits import LINE_BYTES
 from running import SECONDS, run
+from retangle_lsp import edits, runs
+from retangle_lsp.files import Unreadable, lines_of
+from retangle_lsp.session import Retangle
 from sessions import edited_lines
 
 os.environ['RETANGLE'] = retangle
@@ -306,20 +308,20 @@ def test_edits(_):
     for at in range(900):
         old, new = ([chance.choice([b'', b'a', b'b', b'c']) for _ in range(chance.randrange(9))]
                     for _ in range(2))
-        editor.LARGEST = 4 if at % 3 == 0 else 1000000
+        edits.LARGEST = 4 if at % 3 == 0 else 1000000
         lines = old
-        for request, text in editor.edits(b'f', old, new):
+        for request, text in edits.edits(b'f', old, new):
             kind, line, _ = request.decode().split(' ')
             lines = edited_lines(lines, kind, int(line), text or b'')
         same(lines, new, name)
-    editor.LARGEST = 1000000
-    same(editor.edits(b'f', [b'a', b'b', b'c'], [b'a', b'x', b'c']), [(b'replace 2 f', b'x')], name)
+    edits.LARGEST = 1000000
+    same(edits.edits(b'f', [b'a', b'b', b'c'], [b'a', b'x', b'c']), [(b'replace 2 f', b'x')], name)
 
 
 # ---------------------------------------------------------------------- the class
 
 def open_client(folder, *arguments, program=retangle):
-    return editor.Retangle(*arguments, cwd=folder, program=program)
+    return Retangle(*arguments, cwd=folder, program=program)
 
 
 def check_shown(client, folder, files):
@@ -329,7 +331,7 @@ def check_shown(client, folder, files):
         errors = run([ctangle, 'a'] + ['a'] * ('a.ch' in files), other)[1]
         made = {os.fsencode(name): read(other, name) for name in os.listdir(other)
                 if name not in files and name != 'below'}
-    lines = [editor.fault_line(fault) for fault in client.faults()]
+    lines = [runs.fault_line(fault) for fault in client.faults()]
     same(lines, errors.split(b'\n')[:-1], 'the faults of the class')
     same({name: client.show(name) for name in client.outputs()}, made, 'the outputs of the class')
     for output in made:
@@ -348,7 +350,7 @@ def check_origins(client, output, files):
         origin = client.origins(output)[at]
         if origin:
             name = os.path.normpath(os.fsdecode(origin[0]))
-            line = editor.lines_of(files[name])[origin[1] - 1]
+            line = lines_of(files[name])[origin[1] - 1]
             words = set(WORD.findall(re.sub(rb'/\*:?\d+:?\*/', b'', text)))
             check(words <= set(WORD.findall(line)), 'origin', '%s in %s' % (text, line))
             check((output, at + 1) in client.places(*origin), 'places', origin)
@@ -392,7 +394,7 @@ class Tour:
         kind = chance.choice('save save save update update write remove kill'.split())
         if kind == 'update':
             self.unsaved[name] = text
-            self.client.update(os.fsencode(name), editor.lines_of(text))
+            self.client.update(os.fsencode(name), lines_of(text))
         else:
             if kind == 'kill':
                 os.kill(self.client.run.process.pid, signal.SIGKILL)
@@ -412,7 +414,7 @@ class Tour:
 
     def save(self, name):
         self.unsaved.pop(name, None)
-        with contextlib.suppress(editor.Unreadable):
+        with contextlib.suppress(Unreadable):
             self.client.save(os.fsencode(name))
 
 
@@ -468,7 +470,7 @@ def test_files_that_always_change(temporary):
     try:
         open_client(folder, b'a', program=program)
         check(False, 'files that always change', 'retangle is started on them')
-    except editor.Ended as ended:
+    except runs.Ended as ended:
         same(str(ended), 'retangle ended with status 3 (its files change all the time)', 'always')
 
 
@@ -485,7 +487,7 @@ def test_long_scripts(temporary):
         client = open_client(folder, b'a')
         for number in range(60):
             files['b.w'] = b'x\n' * (number % 7) + b'%d' % number
-            client.update(b'b.w', editor.lines_of(files['b.w']))
+            client.update(b'b.w', lines_of(files['b.w']))
             check_shown(client, folder, files)
             check(client.run.sent <= 2000, 'a script', '%d bytes' % client.run.sent)
         check(len(client.notices) > 1, 'restarts', client.notices)
@@ -496,7 +498,7 @@ def test_long_scripts(temporary):
             try:
                 ask()
                 check(False, 'a list that is too long', 'it was sent')
-            except editor.Refused as refused:
+            except runs.Refused as refused:
                 same(refused.refusal, 'TooLong', 'a list that is too long')
         check_shown(client, folder, files)
         client.close()
@@ -504,12 +506,12 @@ def test_long_scripts(temporary):
 
 @contextlib.contextmanager
 def limits_of(script_bytes, list_bytes):
-    before = editor.SCRIPT_BYTES, editor.LIST_BYTES
-    editor.SCRIPT_BYTES, editor.LIST_BYTES = script_bytes, list_bytes
+    before = runs.SCRIPT_BYTES, runs.LIST_BYTES
+    runs.SCRIPT_BYTES, runs.LIST_BYTES = script_bytes, list_bytes
     try:
         yield
     finally:
-        editor.SCRIPT_BYTES, editor.LIST_BYTES = before
+        runs.SCRIPT_BYTES, runs.LIST_BYTES = before
 
 
 def test_the_longest_script(temporary):
@@ -521,7 +523,7 @@ def test_the_longest_script(temporary):
         web[4:] = [b'%d' % number + b'x' * 60000] * 200
         client.update(b'a.w', web)
         total += sum(map(len, web))
-    same((client.notices, total > editor.SCRIPT_BYTES), ([FULL], True), 'the longest script')
+    same((client.notices, total > runs.SCRIPT_BYTES), ([FULL], True), 'the longest script')
     same((client.close(), client.run.errors.read()), (0, b''), 'the longest script, the end')
 
 

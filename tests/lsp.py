@@ -1,34 +1,28 @@
-"""The language server of examples/, by a client over pipes.
+"""The language server, by a client over pipes: messages, texts, webs, files and faults.
 
 usage: lsp.py CTANGLE RETANGLE TOP         TOP is the folder of the repository
 
 - Messages: split at every byte, no JSON, wrong headers, wrong parameters, at the wrong time.
 - Texts: random changes of ranges and of whole texts, in which characters have one to four bytes
   and some bytes are no UTF-8. The diagnostics and the C are those of ctangle on the same files.
-- Files: included ones, a change file, files that are open, saved, closed, written by others, and
-  outside of the root; options; a retangle that ends or is not there.
-- Names: definitions, references and sections over files; the scanner against the reference's.
+- Files: included ones, change files, files that are open, saved, closed, written by others, and
+  without a web; several webs; settings; a retangle that ends or is not there.
+- Faults: where they are marked, and which of them are one.
 
 The last line is 'N passed, M failed'.
 """
 import json
 import os
 import random
-import re
 import sys
 import time
 
 ctangle, retangle, top = (os.path.abspath(path) for path in sys.argv[1:4])
-sys.path[:0] = [os.path.join(top, below) for below in ('examples', 'tests', 'tests/reference')]
+sys.path[:0] = [os.path.join(top, below) for below in ('lsp', 'tests', 'tests/reference')]
 import generator
-import sections
-import short_webs
 from checks import check, folder_with, read, run_all, same, write
 from lsp_client import PATIENCE, Client, framed, message, range_of
-from names import Names
-from reading import Reading
 from running import run
-from scanning import Web
 
 os.environ['RETANGLE'] = retangle
 
@@ -52,7 +46,7 @@ def test_splits():
                  'uri': uri, 'languageId': 'cweb', 'version': 1, 'text': WEB.decode()}})]
     for byte in b''.join(texts):
         client.send(bytes([byte]))
-    check('result' in client.answer('first'), 'lsp.py, byte by byte', 'no result')
+    check('result' in client.answer('first'), 'lsp, byte by byte', 'no result')
     client.has([NO_V], 'byte by byte')
     text = message(id='é', method='textDocument/documentSymbol',
                    params={'textDocument': {'uri': uri}})
@@ -60,7 +54,7 @@ def test_splits():
         client.send(text[:at])
         time.sleep(.001)
         client.send(text[at:])
-        same(len(client.answer('é')['result']), 1, 'lsp.py, split at byte %d' % at)
+        same(len(client.answer('é')['result']), 1, 'lsp, split at byte %d' % at)
     client.send(text * 50)
     for _ in range(50):
         client.answer('é')
@@ -97,23 +91,23 @@ def test_bad_messages():
     client.has([NO_V], 'before bad messages')
     for body, code in BAD.items():
         client.send(framed(body))
-        same(code_of(client.receive()), code, 'lsp.py, %r' % body[:60])
+        same(code_of(client.receive()), code, 'lsp, %r' % body[:60])
         client.has([NO_V], 'after a bad message')
     for header in HEADERS:
         client.send(header)
-        same(code_of(client.receive()), -32700, 'lsp.py, %r' % header[:60])
+        same(code_of(client.receive()), -32700, 'lsp, %r' % header[:60])
         client.has([NO_V], 'after a wrong header')
     for header in (b'content-length:%d\r\n\r\n', b'Content-Type: x\r\nContent-Length: %d\r\n\r\n',
                    b'Content-Length: %d\r\nContent-Type: x\r\n\r\n',
                    b'\r\n\r\nContent-Length: %d\n\n'):
         body = b'{"jsonrpc":"2.0","id":"h","method":"x"}'
         client.send(header % len(body) + body)
-        same(client.receive()['id'], 'h', 'lsp.py, %r' % header)
+        same(client.receive()['id'], 'h', 'lsp, %r' % header)
     whole = b'{"jsonrpc":"2.0","method":"exit"}'
     for length in range(1, len(whole) + 30):
         if length != len(whole):
             client.send(b'Content-Length: %d\r\n\r\n' % length + whole + message(method='x'))
-            same(code_of(client.receive()), -32700, 'lsp.py, length %d' % length)
+            same(code_of(client.receive()), -32700, 'lsp, length %d' % length)
             client.send(message(method='x'))
             client.has([NO_V], 'after a wrong length')
     client.send(framed(b'{"jsonrpc":"2.0","id":"show-1","result":{"success":true}}'))
@@ -137,20 +131,31 @@ def test_wrong_parameters():
     places = [dict(here, position=place) for place in (
         None, 1, {}, {'line': 0}, {'line': -1, 'character': 0}, {'line': 0, 'character': 'x'},
         {'line': True, 'character': 0}, {'line': 0.5, 'character': 0})]
-    for method in ('definition', 'references'):
+    for method in ('definition', 'references', 'completion', 'hover', 'documentHighlight',
+                   'prepareRename', 'rename'):
         for params in WRONG + [here] + places:
+            params = dict(params, newName='x') if isinstance(params, dict) else params
             answer = client.ask('textDocument/' + method, params)
-            same(code_of(answer), -32602, 'lsp.py, %s, %r' % (method, params))
+            same(code_of(answer), -32602, 'lsp, %s, %r' % (method, params))
     for params in WRONG:
-        same(code_of(client.ask('textDocument/documentSymbol', params)), -32602,
-             'lsp.py, documentSymbol, %r' % params)
+        for method in 'documentSymbol', 'foldingRange', 'codeAction':
+            same(code_of(client.ask('textDocument/' + method, params)), -32602,
+                 'lsp, %s, %r' % (method, params))
+    for new in None, 1, [], {}:
+        same(code_of(client.ask('textDocument/rename', dict(here, position=POSITION, newName=new))),
+             -32602, 'lsp, a new name %r' % new)
+    for params in None, 1, [], {}, {'query': 1}:
+        same(code_of(client.ask('workspace/symbol', params)), -32602, 'lsp, symbol, %r' % params)
+    for place in places:
+        wrong = dict(here, range={'start': place['position'], 'end': POSITION})
+        same(code_of(client.ask('textDocument/codeAction', wrong)), -32602, 'lsp, codeAction, %r' % wrong)
     uri = client.uri('a.w')
     for params in [None, {}, {'command': 1}, {'command': 'x', 'arguments': []}] + [
             {'command': 'retangle.showC', 'arguments': arguments}
             for arguments in (None, [], [uri], [uri, -1], [uri, 'x'], [1, 1], [uri, 1, 1], {})]:
         same(code_of(client.ask('workspace/executeCommand', params)), -32602,
-             'lsp.py, executeCommand, %r' % params)
-    same(code_of(client.c_of('none.w', 1)), -32803, 'lsp.py, the C of a file that is not there')
+             'lsp, executeCommand, %r' % params)
+    same(code_of(client.c_of('none.w', 1)), -32803, 'lsp, the C of a file that is not there')
     check_wrong_notices(client, uri)
     client.end()
 
@@ -171,7 +176,7 @@ def check_wrong_notices(client, uri):
     for method, params in wrong:
         client.notify('textDocument/' + method, params)
     client.has([NO_V], 'after wrong notices')
-    same(len(client.logged), len(wrong), 'lsp.py, wrong notices')
+    same(len(client.logged), len(wrong), 'lsp, wrong notices')
 
 
 VALUES = [None, 1, -1, 1.5, True, 'x', '', [], {}, [1], 10 ** 9, '\udce9', '\ud800', POSITION,
@@ -196,12 +201,15 @@ def test_mutated_messages():
     here = {'textDocument': {'uri': client.uri('a.w'), 'version': 1, 'text': WEB.decode()},
             'position': {'line': 2, 'character': 8}, 'context': {'includeDeclaration': True},
             'contentChanges': [{'range': range_of((1, 0), (2, 1)), 'text': 'q'}],
-            'command': 'retangle.showC', 'arguments': [client.uri('a.w'), 2]}
+            'command': 'retangle.showC', 'arguments': [client.uri('a.w'), 2], 'query': 'v',
+            'newName': 'w', 'range': range_of((2, 8), (2, 9))}
     methods = ['textDocument/' + method for method in (
         'didOpen', 'didChange', 'didSave', 'didClose', 'definition', 'references',
-        'documentSymbol')]
-    methods += ['workspace/executeCommand', 'initialized', 'initialize']
-    for number in range(1500):
+        'documentSymbol', 'completion', 'hover', 'documentHighlight', 'foldingRange',
+        'prepareRename', 'rename', 'codeAction')]
+    methods += ['workspace/executeCommand', 'workspace/symbol', 'initialized', 'initialize',
+                'workspace/didChangeWatchedFiles']
+    for number in range(3000):
         parts = {'method': chance.choice(methods), 'params': mutated(chance, here, .04)}
         if chance.random() < .6:
             parts['id'] = 'm%d' % number
@@ -212,30 +220,31 @@ def test_mutated_messages():
         client.settle()
     failed = [one for one in client.errors if one['code'] == -32603]
     failed += [line for line in client.logged if 'Error(' in line]
-    check(len(client.errors) > 500 and not failed, 'lsp.py, mutated messages', failed)
+    check(len(client.errors) > 500 and not failed, 'lsp, mutated messages', failed)
     client.end()
 
 
 def test_order():
     client = Client({'a.w': WEB}, initialize=False)
-    same(code_of(client.ask('shutdown')), -32002, 'lsp.py, before initialize')
+    same(code_of(client.ask('shutdown')), -32002, 'lsp, before initialize')
     client.open('a.w', WEB.decode())
     client.number += 1
     client.ask('initialize', {'rootUri': client.uri('')})
     client.notify('initialized', {})
+    client.last = None
     client.has([], 'a notice before initialize is dropped')
-    same(client.ask('shutdown')['result'], None, 'lsp.py, shutdown')
-    same(code_of(client.ask('shutdown')), -32600, 'lsp.py, after shutdown')
+    same(client.ask('shutdown')['result'], None, 'lsp, shutdown')
+    same(code_of(client.ask('shutdown')), -32600, 'lsp, after shutdown')
     client.open('a.w', WEB.decode())
-    same(code_of(client.ask('x')), -32600, 'lsp.py, after shutdown')
+    same(code_of(client.ask('x')), -32600, 'lsp, after shutdown')
     client.send(message(method='exit'))
-    same(client.process.wait(PATIENCE), 0, 'lsp.py, exit')
+    same(client.process.wait(PATIENCE), 0, 'lsp, exit')
     for last in (message(method='exit'), b'', b'Content-Length: 9\r\n\r\n{}', b'Content-Len'):
         client = Client({'a.w': WEB})
         client.open('a.w', WEB.decode())
         client.send(last)
         client.process.stdin.close()
-        same(client.process.wait(PATIENCE), 1, 'lsp.py, an end without shutdown')
+        same(client.process.wait(PATIENCE), 1, 'lsp, an end without shutdown')
 
 
 # ---------------------------------------------------------------------- texts
@@ -248,8 +257,7 @@ def tangled(files, *arguments):
     """What ctangle reports of these files, as Client.faults gives it, and the outputs."""
     with folder_with(files) as folder:
         lines = run([ctangle, *arguments], folder).errors.decode(errors='replace').split('\n')[:-1]
-        faults = sorted(re.sub('^(?=error: |warning: )', 'a.w:1: ', line) for line in lines)
-        return faults, {name: read(folder, name) for name in os.listdir(folder)
+        return sorted(lines), {name: read(folder, name) for name in os.listdir(folder)
                         if os.path.isfile(os.path.join(folder, name))}
 
 
@@ -282,7 +290,7 @@ def random_change(chance, text):
 
 def test_texts():
     """After each change the diagnostics and the C are those of ctangle on the same text."""
-    chance, name = random.Random(3), 'lsp.py, a change of a text'
+    chance, name = random.Random(3), 'lsp, a change of a text'
     client = Client({'a.w': b''})
     text = some_text(chance, 30)
     client.open('a.w', text)
@@ -301,8 +309,10 @@ def test_texts():
         if shown:
             same(read(shown['file']), outputs[shown['output']], name + ', the C')
         for one in client.diagnostics.get('a.w', []):
-            line = text.split('\n')[one['range']['end']['line']].rstrip(' ')
-            same(one['range']['end']['character'], units(line), name + ', the end of a line')
+            start, end = ((one['range'][key]['line'], one['range'][key]['character'])
+                          for key in ('start', 'end'))
+            lines = [line.rstrip(' ') for line in text.split('\n')]
+            check(start <= end and end[1] <= units(lines[end[0]]), name + ', the range', one)
     client.end()
 
 
@@ -324,7 +334,7 @@ def test_positions():
         client.settle()
         found = [one['message'] for one in client.diagnostics['a.w']]
         same(sorted(found), ['undefined: <%s>' % name for name in sorted(names)],
-             'lsp.py, positions, %r' % (place,))
+             'lsp, positions, %r' % (place,))
     item = {'textDocument': {'uri': client.uri('a.w'), 'version': 2},
             'contentChanges': [{'text': '@ @c\n@<\udce9\udcff@>@<v@> '}]}
     raw = json.dumps({'jsonrpc': '2.0', 'method': 'textDocument/didChange', 'params': item},
@@ -333,7 +343,7 @@ def test_positions():
     client.change('a.w', (((1, 6), (1, 9)), '@<a'))
     client.has(['a.w:2: error: undefined: <\ufffd\ufffd>', 'a.w:2: error: undefined: <a>'],
                'bytes that are no UTF-8')
-    same(client.places('references', 'a.w', 2, 7), ['a.w:2:6-11'], 'lsp.py, after such bytes')
+    same(client.places('references', 'a.w', 2, 7), ['a.w:2:6-11'], 'lsp, after such bytes')
     client.change('a.w', (None, '@ @c\nx \ud800 \udfff "\n'))
     client.has(['a.w:2: error: quoted text did not end'], 'surrogates that are alone')
     client.end()
@@ -346,21 +356,22 @@ def test_generated():
         if not project.is_small():
             continue
         files = {os.fsdecode(name): b'\n'.join(lines) for name, lines in project.files}
-        options = {'web': 'a', 'out': os.fsdecode(project.out)}
-        arguments = ['a', '-', os.fsdecode(project.out)]
-        if project.change:
-            options['change'] = arguments[1] = 'a.ch'
-        client = Client(files, options=options)
+        arguments = ['a', 'a.ch' if project.change else '-', os.fsdecode(project.out)]
+        client = Client({**files, '.retangle': ' '.join(arguments).encode()})
         texts = {name: text.decode('utf-8', 'surrogateescape') for name, text in files.items()}
-        for name in sorted(texts)[:2]:
+        opened = [name for name in ('a.w', 'a.ch') if name in texts]
+        for name in opened:
             client.open(name, texts[name])
         for _ in range(5):
-            name = chance.choice(sorted(texts)[:2])
+            name = chance.choice(sorted(texts)[:3])
             change, texts[name] = random_change(chance, texts[name])
-            client.change(name, change)
+            if name in opened:
+                client.change(name, change)
+            else:                       # an included file, by another program
+                write(bytes_of(texts[name]), client.path(name))
             now = {name: bytes_of(text) for name, text in texts.items()}
             faults, _ = tangled(now, *arguments)
-            same(client.faults(), faults, 'lsp.py, generated web %d' % seed)
+            same(client.faults(), faults, 'lsp, generated web %d' % seed)
         client.end()
 
 
@@ -382,7 +393,7 @@ def test_files():
     client.has([unknown, unused], 'a change of an included file')
     client.about('didClose', 'b.w')
     client.has([NO_B, unknown], 'an included file that was never saved')
-    same(client.diagnostics['b.w'], [], 'lsp.py, a file that had faults')
+    same(client.diagnostics['b.w'], [], 'lsp, a file that had faults')
 
     write(b'@ @<w@>=\n2\n', client.path('b.w'))
     client.about('didSave', 'a.w')
@@ -409,24 +420,24 @@ def test_names_of_files():
     client.open('d/c w.w', 'int x; @<x@>\n', client.uri('d/c%20w.w'))
     client.open('b.w', '@<b@>\n')
     client.settle()
-    same(client.diagnostics.pop('d/c%20w.w')[0]['message'], 'undefined: <x>', 'lsp.py, a URI')
-    client.has(['a.w:2: error: included file not found: d/c', 'b.w:1: error: undefined: <b>'],
+    same(client.diagnostics.pop('d/c%20w.w')[0]['message'], 'undefined: <x>', 'lsp, a URI')
+    client.has(['a.w:2: error: included file not found: d/c', './b.w:1: error: undefined: <b>'],
                'names of files')
     client.change('a.w', (None, '@ @c\n@i café.w\n@i \udce9.w\n'))
     client.open('é', '@<e@>\n', client.uri('caf%C3%A9.w'))
     client.open('é', '@<f@>\n', client.uri('%e9.w'))
-    client.has(['caf%C3%A9.w:1: error: undefined: <e>', '%e9.w:1: error: undefined: <f>'],
+    client.has(['café.w:1: error: undefined: <e>', '\ufffd.w:1: error: undefined: <f>'],
                'names of files beyond ASCII')
     client.end()
 
 
 def test_change_file():
+    """A change file by the settings, and one by its name beside the web alone."""
     web, change = '@ A.\n@c\nint x;\n', 'x\n@x\nint x;\n@y\nint y=@<v@>;\n@z\n'
-    client = Client({'w/a.w': web.encode(), 'a.ch': change.encode()},
-                    options={'web': 'w/a', 'change': 'a', 'out': 'o'})
+    client = Client({'w/a.w': web.encode(), 'a.ch': change.encode(), '.retangle': b'w/a a o\n'})
     unused = 'a.ch:2: error: change never used'
-    client.has(['a.ch:5: error: undefined: <v>'], 'faults before a file is open')
     client.open('w/a.w', web)
+    client.has(['a.ch:5: error: undefined: <v>'], 'a change file')
     client.change('w/a.w', (((2, 4), (2, 5)), 'z'))
     client.has([unused], 'a change that is not used')
     client.open('a.ch', change)
@@ -434,59 +445,143 @@ def test_change_file():
     client.has([], 'a change file that is open')
     shown = client.c_of('a.ch', 5)['result']
     same((shown['output'], read(shown['file']).split(b'\n')[shown['line']]), ('o.c', b'int y=1;'),
-         'lsp.py, the C of a change file')
+         'lsp, the C of a change file')
     client.about('didClose', 'a.ch')
     client.has([unused], 'a change file that was closed')
     client.end()
+    client = Client({'a.w': web.encode(), 'a.ch': change.encode()})
+    client.open('a.w', web)
+    client.has([], 'a web without its change file')
+    client.open('a.ch', change)
+    client.has(['a.ch:5: error: undefined: <v>'], 'a change file that has the name of a web')
+    client.change('a.w', (None, web.replace('\n', '\r\n')))
+    client.has([unused], 'line ends of another system')
+    check('line ends alone' in client.diagnostics['a.ch'][0]['message'], 'lsp, line ends',
+          client.diagnostics)
+    client.about('didClose', 'a.ch')
+    client.has([], 'a change file that is closed')
+    client.end()
 
 
-def test_options():
-    """Options that name no file, and files outside of the root, have one message each."""
-    for options, parts in (
-            ({'web': 'b.w'}, 1), ({'web': 'a', 'change': 'c'}, 1), ({'web': '../a.w'}, 1),
-            ({'web': 1}, 1), ({'web': 'a', 'out': '../x.c'}, 1), ({'web': 'b', 'change': 'c'}, 2),
-            ({'web': ''}, 1), ({'web': 'd'}, 1), ({'web': 'a\0'}, 1), ('a.w', 0)):
-        client = Client({'a.w': WEB, 'd/a.w': WEB}, options=options)
+def test_settings():
+    """The lines of .retangle, right and wrong, and what it is after a change of it."""
+    change = b'@x\nint x=@<v@>;\n@y\nint y=@<w@>;\n@z\n'
+    no_w = 'b.ch:4: error: undefined: <w>'
+    for settings, expected, parts in (
+            (b'', [NO_V], []), (b'# nothing\n\n', [NO_V], []), (b'a\n', [NO_V], []),
+            (b'a b o\n', [no_w], []), (b'  a.w   b.ch\n', [no_w], []), (b'a - o.c\n', [NO_V], []),
+            (b'a\na b\n', [NO_V, no_w], []), (b'a c\n', [NO_V], ['there is no file c.ch']),
+            (b'c\n', [NO_V], ['there is no file c.w']), (b'a b o p\n', [NO_V], ['more than']),
+            (b'a \xff\n', [NO_V], ['there is no file']), (b'/ /\n', [NO_V], ['there is no file'])):
+        client = Client({'a.w': WEB, 'b.ch': change, '.retangle': settings})
         client.open('a.w', WEB.decode())
-        client.change('a.w', (((0, 0), (0, 0)), '\n'))
-        client.has([], 'options that name no file')
-        same(len(client.shown), 1, 'lsp.py, %r' % (options,))
-        same(client.shown[0].count('there is no file'), parts, 'lsp.py, %r' % (options,))
+        client.has(expected, 'settings %r' % settings)
+        same([part in text for part, text in zip(parts, client.shown)], [True] * len(parts),
+             'lsp, what is said of settings %r' % settings)
+        same(len(client.shown), len(parts), 'lsp, settings %r' % settings)
+        write(b'a b\n', client.path('.retangle'))
+        client.notify('workspace/didChangeWatchedFiles', {'changes': []})
+        client.has([no_w], 'settings that are others now')
+        client.open('.retangle', '\n')
+        client.has([NO_V], 'settings that are open')
         client.end()
-    client = Client({'a.w': WEB})
+
+
+def test_webs():
+    """Each .w that no other includes is a web; a file of several has the faults of each."""
+    part = b'@ @<v@>=\n1\n'
+    files = {'a.w': WEB + b'@i p.h\n', 'b.w': b'@ B.\n@c\n@<u@>\n@i p.h\n', 'p.h': part,
+             'c/c.w': WEB, 'd/Makefile': b'', 'd/d.w': WEB, 'd/e.w': b'@i d.w\n@ @<v@>=\n'}
+    client = Client({**files, 'Makefile': b''})
+    client.open('p.h', part.decode())
+    never = 'p.h:1: warning: never used: <v>'
+    client.has(['b.w:3: error: undefined: <u>', never], 'an included file alone')
+    client.open('a.w', files['a.w'].decode())
+    client.about('didClose', 'p.h')
+    client.has([], 'one web of two')
+    client.open('c/c.w', WEB.decode())
+    client.has(['c/c.w:3: error: undefined: <v>'], 'a web in a folder of the root')
+    client.open('d/d.w', WEB.decode())
+    client.has(['c/c.w:3: error: undefined: <v>'], 'a web that another one includes')
+    client.change('d/d.w', (((2, 8), (2, 9)), 'w'))
+    found = client.faults()
+    same(found, ['c/c.w:3: error: undefined: <v>', 'd.w:3: error: undefined: <w>',
+                 'e.w:2: warning: never used: <v>'], 'lsp, a root in a root')
+    same(sorted(name for name, these in client.diagnostics.items() if these),
+         ['c/c.w', 'd/d.w', 'd/e.w'] if len(found) > 2 else [], 'lsp, files of a root in a root')
+    same((client.shown, client.logged), ([], []), 'lsp, several webs')
+    client.end()
+    client = Client({'a.w': b'@i b.w\n@ @c\n1\n', 'b.w': b'@i a.w\n@ @c\n@<v@>\n'})
+    client.open('a.w', '@i b.w\n@ @c\n1\n')
+    check(client.faults(), 'lsp, webs that include each other', 'no faults')
+    client.end()
+
+
+def test_without_webs():
+    """Files that are of no web, or of no folder, have no faults and no message."""
+    client = Client({'a.w': WEB, 'b.h': b'"\n'})
     client.open('a.w', WEB.decode())
-    client.open('b.w', '', 'file:///nowhere/b.w')
+    client.open('b.h', '"\n')
     client.open('c.w', '', 'untitled:c.w')
-    item = {'textDocument': {'uri': 'file:///nowhere/b.w', 'version': 2}}
+    client.open('c.ch', '')
+    item = {'textDocument': {'uri': 'untitled:c.w', 'version': 2}}
     client.notify('textDocument/didChange', dict(item, contentChanges=[{'text': 'x'}]))
     client.notify('textDocument/didSave', item)
     client.notify('textDocument/didClose', item)
-    client.has([NO_V], 'a file outside of the root')
-    same((len(client.shown), client.logged), (2, []), 'lsp.py, files outside of the root')
+    client.last = None
+    client.has([NO_V], 'files of no web')
+    same((client.shown, client.logged), ([], []), 'lsp, files of no web')
     client.end()
-    test_first_web()
 
 
-def test_first_web():
-    """The first .w is the web, also where there is no root, and when it is saved."""
-    client = Client({'d/b.w': WEB}, initialize=False)
-    client.ask('initialize', {})
-    client.open('a.ch', '')
-    client.open('d/b.w', WEB.decode())
-    client.has(['d/b.w:3: error: undefined: <v>'], 'without a root')
-    client.end()
+def test_unsaved_webs():
+    """A web that is not there yet, or not any more, or under another name."""
     client = Client({})
     client.open('a.w', WEB.decode())
     client.has([], 'a web that is not saved')
-    same(len(client.shown), 1, 'lsp.py, a web that is not saved')
+    same(len(client.shown), 1, 'lsp, a web that is not saved')
     write(WEB, client.path('a.w'))
-    client.about('didSave', 'a.w')
     client.has([NO_V], 'a web that is saved now')
+    os.remove(client.path('a.w'))
+    client.has([], 'a web that is gone')
+    write(WEB, client.path('a.w'))
+    client.has([NO_V], 'a web that is there again')
+    write(WEB, client.path('b.w'))
+    client.about('didSave', 'b.w')
+    client.about('didClose', 'a.w')
+    client.has(['b.w:3: error: undefined: <v>'], 'a web that is saved under another name')
+    client.change('b.w', (((2, 8), (2, 9)), 'w'))
+    client.has(['b.w:3: error: undefined: <w>'], 'a change under another name')
+    same(len(client.shown), 1, 'lsp, webs that are not there')
+    client.end()
+
+
+def test_other_programs():
+    """What other programs write is seen by a notification, and without one by its time."""
+    watching = {'workspace': {'didChangeWatchedFiles': {'dynamicRegistration': True}}}
+    client = Client({'a.w': WEB + b'@i p.h\n', 'p.h': b''}, capabilities=watching)
+    client.open('a.w', WEB.decode() + '@i p.h\n')
+    client.settle()
+    same([one['method'] for one in client.asked], ['client/registerCapability'], 'lsp, asked')
+    write(b'@ @<v@>=\n1\n', client.path('p.h'))
+    client.notify('workspace/didChangeWatchedFiles', {'changes': [
+        {'uri': client.uri('p.h'), 'type': 2}]})
+    client.settle()
+    same(client.diagnostics['a.w'], [], 'lsp, a file that is notified')
+    write(b'@ @<w@>=\n1\n', client.path('p.h'))
+    while not client.diagnostics['a.w']:
+        client.receive()
+    same(client.diagnostics['a.w'][0]['message'][:14], 'undefined: <v>', 'lsp, a file by its time')
+    os.remove(client.path('p.h'))
+    client.last = None
+    while len(client.faults()) < 2 or 'p.h:1' in str(client.faults()):
+        client.receive()
+    client.has([NO_V, 'a.w:4: error: included file not found: p.h'], 'a file that is removed')
     client.end()
 
 
 def test_lists():
-    """A change is one list of edits, and one that leaves the text as it was is none."""
+    """A change is one list of edits, or an edit alone; one that leaves the text as it was is none."""
     program = b'#!/bin/sh\ntee script | "%s" "$@"\n' % retangle.encode()
     with folder_with({'run': program}) as folder:
         os.chmod(os.path.join(folder, 'run'), 0o755)
@@ -494,13 +589,14 @@ def test_lists():
         client.open('a.w', WEB.decode())
         for count, changes in enumerate((
                 [(((0, 0), (0, 0)), '\n'), (((3, 4), (3, 5)), 'y'), (((1, 0), (2, 0)), '@ B.\n\n')],
-                [(None, '@ B.\n@c\nint z;\n\n@ C.\n')], [(((0, 2), (0, 3)), 'b')]), 1):
+                [(None, '@ B.\n@c\nint z;\n\n@ C.\n')], [(((0, 2), (0, 3)), 'b')])):
             client.change('a.w', *changes)
             client.change('a.w', (((0, 0), (0, 0)), 'x'), (((0, 0), (0, 1)), ''))
             client.settle()
             lines = read(client.path('script')).split(b'\n')
-            same((lines.count(b'begin'), lines.count(b'commit')), (count, count),
-                 'lsp.py, lists of edits')
+            lists = min(count + 1, 2)
+            same((lines.count(b'begin'), lines.count(b'commit'), lines.count(b'replace 1 a.w')),
+                 (lists, lists, 1 + count // 2), 'lsp, lists of edits')
         client.end()
 
 
@@ -510,7 +606,7 @@ def test_refusals():
     client.open('a.w', WEB.decode())
     client.change('a.w', (((0, 0), (0, 0)), 'x' * 65536 + '\n'))
     found = client.faults()
-    check(len(found) == 2 and '65,535' in found[0], 'lsp.py, a refused text', found)
+    check(len(found) == 2 and '65,535' in found[0], 'lsp, a refused text', found)
     client.change('a.w', (((0, 0), (0, 1)), ''))
     client.has(['a.w:4: error: undefined: <v>'], 'a text that is taken again')
     client.end()
@@ -531,7 +627,7 @@ def test_ends():
         os.kill(int(read(client.path('pid'))), 9)
         client.change('a.w', (((2, 8), (2, 9)), 'w'))
         client.has(['a.w:3: error: undefined: <w>'], 'after retangle was ended')
-        same(len(client.shown), 1, 'lsp.py, what is shown of that')
+        same(len(client.shown), 1, 'lsp, what is shown of that')
         os.remove(program)
         os.kill(int(read(client.path('pid'))), 9)
         for text in 'xyz':
@@ -546,143 +642,12 @@ def test_ends():
     client.open('a.w', WEB.decode())
     client.change('a.w', (((2, 8), (2, 9)), 'w'))
     client.has([], 'no retangle')
-    same(len(client.shown), 1, 'lsp.py, no retangle')
+    same(len(client.shown), 1, 'lsp, no retangle')
     client.end()
-
-
-# ---------------------------------------------------------------------- names and C
-
-A = '''\
-@<limbo@>
-@* The program. More.
-See @<Value of é😀@>.
-@c
-int x=@<Value...@>; /* @<no name@> */
-char *s="@@<Value...@@>";
-@i b.w
-@ Last, @<Not
-  there@>.
-'''
-B = '''\
-@ @<Value
-  of é😀@>=
-1 @<Other@>
-@
-@d N 1
-@<Value of é😀@>+=
-+2
-@ @(x/b.h@>=
-@<Other@>
-'''
-CHANGE = '''\
-@x
-@<Other@>
-@y
-@<Value of é😀@>@<Not there@>
-@z
-'''
-
-
-def test_names():
-    client = Client({'a.w': A.encode(), 'b.w': B.encode(), 'a.ch': CHANGE.encode()},
-                    options={'web': 'a.w', 'change': 'a.ch'})
-    pieces = ['b.w:1:2-10', 'b.w:6:0-16']
-    uses = ['a.w:3:4-20', 'a.w:5:6-18', 'a.ch:4:0-16']
-    for name, line, character in (('a.w', 5, 6), ('a.w', 5, 17), ('a.w', 3, 10), ('b.w', 1, 4),
-                                  ('b.w', 2, 0), ('b.w', 6, 15), ('a.ch', 4, 0)):
-        at = 'lsp.py, a name at %s:%d:%d' % (name, line, character)
-        same(client.places('definition', name, line, character), pieces, at)
-        same(client.places('references', name, line, character), uses, at)
-        same(sorted(client.places('references', name, line, character,
-                                  context={'includeDeclaration': True})), sorted(uses + pieces), at)
-    for name, line, character in (('a.w', 5, 5), ('a.w', 5, 18), ('a.w', 1, 3), ('a.w', 5, 30),
-                                  ('a.w', 6, 12), ('b.w', 4, 0), ('a.w', 99, 0), ('c.w', 1, 0)):
-        at = 'lsp.py, no name at %s:%d:%d' % (name, line, character)
-        same(client.places('definition', name, line, character), [], at)
-        same(client.places('references', name, line, character), [], at)
-    same(client.places('references', 'b.w', 9, 3), ['b.w:3:2-11'], 'lsp.py, a name')
-    same(client.places('references', 'a.ch', 2, 3), ['b.w:3:2-11'], 'lsp.py, a name in an old line')
-    client.open('b.w', B)
-    client.change('b.w', (((0, 0), (0, 0)), '\n😀 '))
-    same(client.places('definition', 'a.w', 5, 6), ['b.w:2:5-10', 'b.w:7:0-16'],
-         'lsp.py, a definition in a text that is not saved')
-    client.end()
-
-
-TITLES = {'a.w': ['1. The program', '5. Last, @<Not'],
-          'b.w': ['2. <Value of é😀>', '3. <Value of é😀>', '4. <x/b.h>'], 'a.ch': [], 'c.w': []}
-
-
-def test_symbols():
-    files = {'a.w': A.encode(), 'b.w': B.encode()}
-    capabilities = {'textDocument': {'documentSymbol': {'hierarchicalDocumentSymbolSupport': True}}}
-    for given in ({}, capabilities):
-        client = Client(files, options={'web': 'a.w'}, capabilities=given)
-        for name, titles in TITLES.items():
-            item = {'textDocument': {'uri': client.uri(name)}}
-            found = client.result('textDocument/documentSymbol', item)
-            same([one['name'] for one in found], titles, 'lsp.py, the sections of ' + name)
-        found = client.result('textDocument/documentSymbol',
-                              {'textDocument': {'uri': client.uri('b.w')}})
-        ranges = [(one if given else one['location'])['range'] for one in found]
-        expected = ((0, 0), (2, 11)), ((3, 0), (6, 2)), ((7, 0), (8, 9))
-        same(ranges, [range_of(*one) for one in expected], 'lsp.py, the lines of sections')
-        client.end()
-
-
-def test_c():
-    """The file that is shown has the C as it is now, whatever is on the disk."""
-    capabilities = {'window': {'showDocument': {'support': True}}}
-    web = '@ A.\n@c\nint x;\n\nint z;\n@ D.\n@ @(b.h@>=\nint b;\n'
-    client = Client({'a.w': web.encode()}, capabilities=capabilities)
-    client.open('a.w', web)
-    for line, output, text in ((3, 'a.c', b'int x;'), (4, 'a.c', b'int z;'), (1, 'a.c', b'int x;'),
-                               (6, 'b.h', b'int b;'), (8, 'b.h', b'int b;')):
-        shown = client.c_of('a.w', line)['result']
-        found = shown['output'], read(shown['file']).split(b'\n')[shown['line']]
-        same(found, (output, text), 'lsp.py, the C of line %d' % line)
-        asked = client.asked.pop()
-        line = asked['params']['selection']['start']['line']
-        same((asked['method'], asked['params']['uri'], line),
-             ('window/showDocument', shown['uri'], shown['line']), 'lsp.py, showDocument')
-    same(shown['file'].startswith(client.folder.name), False, 'lsp.py, an output that is not there')
-    run([ctangle, 'a'], client.folder.name)
-    shown = client.c_of('a.w', 8)['result']
-    same(shown['file'], client.path('b.h'), 'lsp.py, an output that is there')
-    client.change('a.w', (((0, 0), (0, 0)), '\n'))
-    old, shown = shown, client.c_of('a.w', 9)['result']
-    check(shown['file'] != old['file'], 'lsp.py, an output that is old', shown)
-    client.end()
-    check(not os.path.exists(shown['file']), 'lsp.py, a copy', 'it is there after the end')
-
-
-def test_scanner():
-    """Where names are, and what they resolve to, as the reference has it."""
-    for kind in short_webs.KINDS:
-        for number in short_webs.some(kind, 150):
-            lines = [line.rstrip(b' ') for line in short_webs.web(kind, number).split(b'\n')]
-            files = [(b'a.w', lines if lines[-1] else lines[:-1])]
-            compare(files, generator.Roles(b'a.w', None, b'a.c'), '%s %d' % (kind, number))
-    for seed in range(300):
-        compare(*generator.Project(seed).loaded(), 'project %d' % seed)
-
-
-def compare(files, roles, name):
-    reading = Reading(files, roles)
-    source = sections.source_lines(dict(files).get, roles.web, roles.change)
-    expected = [(one.line, tuple(one.place)) for one in reading.source]
-    same([(one.text, (one.file, one.number)) for one in source], expected, name + ', lines')
-    web, found = Web(reading.source), sections.Names(source)
-    resolved = Names(web.occurrences).resolved
-    expected = [(one.text, one.role, tuple(one.place), full)
-                for one, full in zip(web.occurrences, resolved)]
-    same([(one.text, one.role, (found.place(one.start)[0].file, found.place(one.start)[0].number),
-           found.resolved(one.text)) for one in found.occurrences], expected, name + ', names')
-    same(len(found.sections), web.section_count, name + ', sections')
 
 
 if __name__ == '__main__':
     sys.exit(run_all([test_splits, test_bad_messages, test_wrong_parameters, test_mutated_messages,
                       test_order, test_texts, test_positions, test_generated, test_files,
-                      test_change_file, test_options, test_lists, test_refusals, test_ends,
-                      test_names, test_symbols, test_c, test_scanner]))
+                      test_change_file, test_settings, test_webs, test_without_webs,
+                      test_unsaved_webs, test_other_programs, test_lists, test_refusals, test_ends]))

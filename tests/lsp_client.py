@@ -1,9 +1,11 @@
-"""An editor's side of a conversation with examples/lsp.py over pipes.
+"""An editor's side of a conversation with retangle-lsp over pipes.
 
-usage: lsp_client.py WEB
+usage: lsp_client.py WEB [CHANGES]
 
-As a program it changes a line of the web 100 times, and prints the median and the longest time from
-sending a change to receiving the diagnostics. RETANGLE in the environment names the program.
+As a program it changes a line of the web CHANGES times, 2,000 if that is not said, and prints what
+this takes: the time from sending a change to receiving the diagnostics, of completion and hover
+after a change, of opening the web, and the most memory that the server and retangle have had.
+RETANGLE in the environment names the program.
 """
 import json
 import os
@@ -19,7 +21,7 @@ from checks import folder_with, read, same
 TOP = os.path.dirname(os.path.dirname(os.path.abspath(__file__)))
 
 PATIENCE = 60           # seconds for an answer
-SERVER = [sys.executable, '-B', os.path.join(TOP, 'examples', 'lsp.py')]
+SERVER = [sys.executable, '-B', os.path.join(TOP, 'lsp', 'retangle-lsp')]
 
 
 def framed(body):
@@ -33,17 +35,15 @@ def message(**parts):
 class Client:
     """An editor's side of a conversation with the server."""
 
-    def __init__(self, files, program=None, options=None, capabilities=None, **parts):
+    def __init__(self, files, program=None, capabilities=None, **parts):
         self.folder = folder_with(files)
         arguments = [] if program is None else ['--retangle', program]
         self.process = subprocess.Popen(SERVER + arguments, cwd='/', stdin=subprocess.PIPE,
                                         stdout=subprocess.PIPE)
-        self.read, self.number, self.version = b'', 0, 0
+        self.read, self.number, self.version, self.last = b'', 0, 0, None
         self.diagnostics, self.shown, self.logged, self.asked, self.errors = {}, [], [], [], []
         if parts.get('initialize', True):
             params = {'rootUri': self.uri(''), 'capabilities': capabilities or {}}
-            if options is not None:
-                params['initializationOptions'] = options
             self.capabilities = self.ask('initialize', params)['result']['capabilities']
             self.notify('initialized', {})
 
@@ -113,38 +113,38 @@ class Client:
 
     def settle(self):
         """Reads up to the answer to a request that is sent now."""
-        same(self.ask('no/such')['error']['code'], -32601, 'lsp.py, an unknown request')
+        same(self.ask('no/such')['error']['code'], -32601, 'an unknown request')
 
     # ------------------------------------------------------------------ documents
 
     def open(self, name, text, uri=None):
-        self.version += 1
+        self.version, self.last = self.version + 1, name if uri is None else None
         item = {'uri': uri or self.uri(name), 'languageId': 'cweb', 'version': self.version}
         self.notify('textDocument/didOpen', {'textDocument': dict(item, text=text)})
 
     def change(self, name, *changes):
-        self.version += 1
+        self.version, self.last = self.version + 1, name
         item = {'uri': self.uri(name), 'version': self.version}
         made = [{'text': text} if place is None else {'range': range_of(*place), 'text': text}
                 for place, text in changes]
         self.notify('textDocument/didChange', {'textDocument': item, 'contentChanges': made})
 
     def about(self, method, name):
+        if method == 'didClose':
+            self.last = None
         self.notify('textDocument/' + method, {'textDocument': {'uri': self.uri(name)}})
 
     def faults(self):
-        """The diagnostics as lines, as ctangle reports them but without an order."""
+        """The lines of ctangle that the diagnostics are for, in an order of their own. They are
+        whole after a save: while a name is typed, what follows from it is not shown."""
+        if self.last:
+            self.about('didSave', self.last)
         self.settle()
-        found = []
-        for name, these in self.diagnostics.items():
-            for one in these:
-                kind = {1: 'error', 2: 'warning'}[one['severity']]
-                line = one['range']['start']['line'] + 1
-                found.append('%s:%d: %s: %s' % (name, line, kind, one['message']))
-        return sorted(found)
+        return sorted(line for these in self.diagnostics.values() for one in these
+                      for line in one['data']['faults'])
 
     def has(self, expected, name):
-        same(self.faults(), sorted(expected), 'lsp.py, ' + name)
+        same(self.faults(), sorted(expected), name)
 
     def places(self, method, name, line, character, **parts):
         """What a question on a place is answered by, as FILE:LINE:FROM-TO."""
@@ -163,7 +163,7 @@ class Client:
     def end(self, status=0):
         self.ask('shutdown')
         self.send(message(method='exit'))
-        same(self.process.wait(PATIENCE), status, 'lsp.py, the status')
+        same(self.process.wait(PATIENCE), status, 'the status of the server')
         self.process.stdin.close()
         self.process.stdout.close()
         self.folder.cleanup()
@@ -174,24 +174,74 @@ def range_of(start, end):
     return {'start': start, 'end': end}
 
 
-def times(web):
-    """The seconds from each change to its diagnostics."""
+# ---------------------------------------------------------------------- what it takes
+
+def seconds_of(action):
+    start = time.perf_counter()
+    action()
+    return time.perf_counter() - start
+
+
+def diagnosed(client):
+    """Waits for the diagnostics of the web."""
+    while 'a.w' not in client.diagnostics:
+        client.receive()
+
+
+def times(web, changes):
+    """The seconds of each kind of action on a web, and the memory of both programs at the end in
+    megabytes."""
     text = read(web).decode('utf-8', 'surrogateescape')
-    client, count, found = Client({'a.w': read(web)}), text.count('\n'), []
-    client.open('a.w', text)
-    client.settle()
-    for number in range(100):
+    found = {'opening': [], 'change': [], 'completion': [], 'hover': []}
+    client, count = Client({'a.w': read(web)}), text.count('\n')
+
+    def change(number, new):
         line = number * 347 % count
-        start, client.diagnostics = time.perf_counter(), {}
-        client.change('a.w', (((line, 0), (line, 0)), ['x', '@<a@>', '"', '\n'][number % 4]))
-        while 'a.w' not in client.diagnostics:
-            client.receive()
-        found.append(time.perf_counter() - start)
+        client.diagnostics.clear()
+        client.change('a.w', (((line, 0), (line, 0)), new))
+        diagnosed(client)
+        return line
+
+    def ask(method, line, character):
+        return client.result('textDocument/' + method, {
+            'textDocument': {'uri': client.uri('a.w')},
+            'position': {'line': line, 'character': character}})
+
+    found['opening'].append(seconds_of(lambda: (client.open('a.w', text), diagnosed(client))))
+    names = [at for at, line in enumerate(text.split('\n')) if re.match('@<[^@]*@>', line)]
+    for number in range(changes):
+        new = ['x', '@<a@>', '"', '\n'][number % 4]
+        found['change'].append(seconds_of(lambda: change(number, new)))
+        if number % 20 == 0:
+            line = change(number, '@<\n')
+            found['completion'].append(seconds_of(lambda: ask('completion', line, 2)))
+            line = names[number % len(names)]
+            found['hover'].append(seconds_of(lambda: ask('hover', line, 3)))
+    memory = [memory_of(pid) for pid in [client.process.pid, *children_of(client.process.pid)]]
     client.end()
-    return found
+    return found, memory
+
+
+def memory_of(pid):
+    with open('/proc/%d/status' % pid) as file:
+        return int(re.search(r'VmHWM:\s*(\d+)', file.read())[1]) / 1024
+
+
+def children_of(pid):
+    with open('/proc/%d/task/%d/children' % (pid, pid)) as file:
+        return list(map(int, file.read().split()))
+
+
+def main(web, changes=2000):
+    seconds, memory = times(web, int(changes))
+    print('load %.1f on %d processors' % (os.getloadavg()[0], os.cpu_count()))
+    for kind, these in seconds.items():
+        these = sorted(1000 * one for one in these)
+        print('%-10s median %4.0f ms, 99 of 100 within %4.0f, longest %4.0f (%d)' % (
+            kind, statistics.median(these), these[(99 * len(these) - 1) // 100], these[-1], len(these)))
+    print('most memory: server %.1f MB, retangle %s MB' % (
+        memory[0], ', '.join('%.1f' % one for one in memory[1:])))
 
 
 if __name__ == '__main__':
-    seconds = times(sys.argv[1])
-    print('median %.0f ms' % (1000 * statistics.median(seconds)))
-    print('longest %.0f ms' % (1000 * max(seconds)))
+    main(*sys.argv[1:])

@@ -15,7 +15,7 @@ def copy_of_top(top, programs, temporary, name):
     retangle, as what it builds."""
     source = os.path.join(temporary, name)
     os.makedirs(os.path.join(source, 'crates', 'ctangle'))
-    for folder in ('docs', 'examples'):
+    for folder in ('docs', 'examples', 'lsp'):
         shutil.copytree(os.path.join(top, folder), os.path.join(source, folder))
     for file in ('Makefile', 'crates.txt'):
         shutil.copy(os.path.join(top, file), source)

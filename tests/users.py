@@ -36,9 +36,15 @@ def test_install(temporary):
     root, prefix = os.path.join(temporary, 'an empty root'), installed(temporary)
     _, errors, status = run(make + ['install', 'PREFIX=/usr', 'DESTDIR=' + root], source)
     check(status == 0, 'make install', errors)
-    pages = ['usr/share/man/man1/ctangle.1', 'usr/share/man/man1/retangle.1']
-    same(files_below(root), ['usr/bin/ctangle', 'usr/bin/retangle', 'usr/share/ctangle/webs.mk'] + pages,
+    programs = ['ctangle', 'retangle', 'retangle-lsp']
+    pages = ['usr/share/man/man1/%s.1' % name for name in programs]
+    modules = 'usr/share/retangle-lsp/retangle_lsp/'
+    found = [name for name in files_below(root) if not name.startswith(modules)]
+    same(found, sorted(['usr/bin/' + name for name in programs] + ['usr/share/ctangle/webs.mk'] + pages),
          'make install')
+    same(sorted(name for name in os.listdir(os.path.join(root, modules)) if name.endswith('.py')),
+         sorted(name for name in os.listdir(os.path.join(top, 'lsp', 'retangle_lsp'))
+                if name.endswith('.py')), 'the modules of the language server')
     for page in pages:
         same(read_if_there(root, page), read(top, 'docs', os.path.basename(page)), page)
         check_page(os.path.join(root, page))
@@ -48,7 +54,25 @@ def test_install(temporary):
     run(make + ['install', 'PREFIX=' + prefix], source)
     same(run([os.path.join(prefix, 'bin', 'ctangle')], temporary),
          (b'', b'usage: ctangle [flags] web [change [out]]\n', 2), 'an installed program')
+    check_server(make, source, prefix, temporary)
     check_man(os.path.join(prefix, 'share', 'man'))
+
+
+def check_server(make, source, prefix, temporary):
+    """An installed language server is started by its name, also under another one and by a link."""
+    run(make + ['install', 'PROGRAM_PREFIX=proved-', 'PREFIX=' + prefix], source)
+    link = os.path.join(temporary, 'server')
+    os.symlink(os.path.join(prefix, 'bin', 'retangle-lsp'), link)
+    for path, name in ((os.path.join(prefix, 'bin', 'retangle-lsp'), b'retangle-lsp'),
+                       (os.path.join(prefix, 'bin', 'proved-retangle-lsp'), b'proved-retangle-lsp'),
+                       (link, b'retangle-lsp')):
+        output, errors, status = run([path, '--stdio', '--version'], '/')
+        same((output.split()[:1], errors, status), ([name], b'', 0), 'an installed server')
+        output, errors, status = run([path, '--help'], '/')
+        same((output.startswith(b'usage: ' + name), errors, status), (True, b'', 0),
+             'the help of an installed server')
+    run(make + ['uninstall', 'PROGRAM_PREFIX=proved-', 'PREFIX=' + prefix], source)
+    check(not is_there(prefix, 'share', 'proved-retangle-lsp'), 'make uninstall', 'modules are left')
 
 
 def check_page(page):

@@ -1,0 +1,44 @@
+"""The program: its arguments, and the retangle that it starts."""
+import argparse
+import os
+import shutil
+import sys
+
+from .protocol import Messages
+from .server import Server
+
+VERSION = '1.0'
+
+
+def find_retangle(program):
+    """The retangle beside this program, else that on the path; its name is that of this program
+    without `-lsp`, or `retangle`. None where there is none."""
+    folder, name = os.path.split(program)
+    names = dict.fromkeys([name.removesuffix('-lsp'), 'retangle'])
+    beside = [os.path.join(folder, name) for name in names]
+    found = [path for path in beside if os.path.isfile(path) and os.access(path, os.X_OK)
+             and os.path.realpath(path) != os.path.realpath(program)]
+    found += filter(None, map(shutil.which, names))
+    return found[0] if found else None
+
+
+def main(program):
+    parser = argparse.ArgumentParser(
+        prog=os.path.basename(program),
+        description='A language server for webs, which an editor starts. It speaks the language '
+                    'server protocol on standard input and output, and has retangle find the '
+                    'faults of the webs.')
+    parser.add_argument('--stdio', action='store_true', help='the only way to speak, also without')
+    parser.add_argument('--retangle', metavar='PATH', help='the program to use')
+    parser.add_argument('--version', action='version', version='%(prog)s ' + VERSION)
+    arguments = parser.parse_args()
+    named = arguments.retangle or os.environ.get('RETANGLE')
+    server = Server(Messages(sys.stdin.fileno(), sys.stdout.buffer),
+                    lambda: named or find_retangle(program), VERSION)
+    try:
+        return server.serve()
+    except BrokenPipeError:             # the client has ended
+        os.dup2(os.open(os.devnull, os.O_WRONLY), sys.stdout.fileno())
+        return 1
+    finally:
+        server.end()

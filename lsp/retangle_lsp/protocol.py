@@ -1,0 +1,188 @@
+"""Messages of the language server protocol, over two streams of bytes, and their parameters."""
+import json
+import os
+import re
+import select
+
+LONGEST_MESSAGE = 1 << 28       # bytes
+AT_ONCE = 1 << 20               # bytes that are read at a time
+
+PARSE_ERROR, INVALID_REQUEST, NO_METHOD, INVALID_PARAMS = -32700, -32600, -32601, -32602
+INTERNAL, NOT_INITIALIZED, REQUEST_FAILED = -32603, -32002, -32803
+ERROR, WARNING, INFORMATION = 1, 2, 3           # of a diagnostic and of a message alike
+
+
+class Problem(Exception):
+    """What is answered to a message that cannot be obeyed: a code of the protocol and a text."""
+
+    def __init__(self, code, text):
+        Exception.__init__(self, code, text)
+        self.code, self.text = code, text
+
+
+def encoded(text):
+    """The bytes of a text. A byte that is no UTF-8 is a lone surrogate in it."""
+    try:
+        return text.encode('utf-8', 'surrogateescape')
+    except UnicodeEncodeError:          # a surrogate that is no byte
+        return text.encode('utf-8', 'surrogatepass')
+
+
+def decoded(line):
+    return line.decode('utf-8', 'surrogateescape')
+
+
+def shown(text):
+    """Bytes as a text that every client can read."""
+    return text.decode('utf-8', 'replace')
+
+
+# ---------------------------------------------------------------------- messages
+
+LENGTH = re.compile(rb'Content-Length[ \t]*:[ \t]*([0-9]{1,18})[ \t]*\r?\n$', re.I)
+WHOLE_HEADER = re.compile(rb'(?:[^\r\n]+\r?\n)*?Content-Length[ \t]*:[ \t]*(\d{1,18})[ \t]*\r?\n'
+                          rb'(?:[^\r\n]+\r?\n)*?\r?\n', re.I)
+
+
+class Input:
+    """What a descriptor gives. Whether there is more can be asked without waiting for it."""
+
+    def __init__(self, descriptor):
+        self.descriptor, self.buffer = descriptor, bytearray()
+
+    def fill(self):
+        some = os.read(self.descriptor, AT_ONCE)
+        if not some:
+            raise EOFError
+        self.buffer += some
+
+    def has_more(self, seconds):
+        """Whether something can be read within these seconds; None is for ever."""
+        return bool(select.select([self.descriptor], [], [], seconds)[0])
+
+    def line(self):
+        at = 0
+        while True:
+            end = self.buffer.find(b'\n', at)
+            if end >= 0:
+                return self.taken(end + 1)
+            at = len(self.buffer)
+            self.fill()
+
+    def bytes(self, length):
+        while len(self.buffer) < length:
+            self.fill()
+        return self.taken(length)
+
+    def taken(self, length):
+        found = bytes(self.buffer[:length])
+        del self.buffer[:length]
+        return found
+
+
+class Messages:
+    """Messages of the protocol, from a descriptor and to a stream of bytes."""
+
+    def __init__(self, descriptor, sink):
+        self.input, self.sink = Input(descriptor), sink
+
+    def wait(self, seconds):
+        """Whether there is something to read within these seconds."""
+        return bool(self.input.buffer) or self.input.has_more(seconds)
+
+    def is_ready(self):
+        """Whether a whole message is there, so that what it asks can be done with what was asked
+        before. The end of the input is one, too."""
+        try:
+            while self.input.has_more(0):
+                self.input.fill()
+        except EOFError:
+            return True
+        head = WHOLE_HEADER.match(self.input.buffer)
+        return bool(head) and len(self.input.buffer) - head.end() >= int(head[1])
+
+    def read(self):
+        """The next message. EOFError at the end of the input."""
+        body = self.input.bytes(self.length())
+        try:
+            return json.loads(decoded(body), parse_constant=self.refuse)
+        except (ValueError, RecursionError) as error:
+            raise Problem(PARSE_ERROR, 'no JSON: %s' % error) from None
+
+    def length(self):
+        """The length in the next header.
+
+        Where a header has none, its body is read as lines of the next header, whose length may be
+        on the same line as the end of that body.
+        """
+        length, is_empty = None, True
+        while True:
+            line = self.input.line()
+            found = LENGTH.search(line)
+            if found:
+                length = int(found[1])
+            if line.strip(b'\r\n'):
+                is_empty = False
+            elif length is not None and length <= LONGEST_MESSAGE:
+                return length
+            elif not is_empty:
+                raise Problem(PARSE_ERROR, 'a header without a length that can be taken')
+
+    @staticmethod
+    def refuse(constant):
+        raise ValueError('%s is no number' % constant)
+
+    def write(self, **message):
+        body = json.dumps(dict(message, jsonrpc='2.0'), separators=(',', ':')).encode()
+        self.sink.write(b'Content-Length: %d\r\n\r\n%s' % (len(body), body))
+        self.sink.flush()
+
+    def show(self, kind, text, method='window/showMessage'):
+        """Has the client show a line to its user, or by another method write it into its log."""
+        self.write(method=method, params={'type': kind, 'message': shown(encoded(text))})
+
+    def log(self, text):
+        self.show(ERROR, text, 'window/logMessage')
+
+    def fail(self, number, problem):
+        """Answers a request by an error."""
+        error = {'code': problem.code, 'message': shown(encoded(problem.text))}
+        self.write(id=number, error=error)
+
+
+def is_number(number):
+    """Whether it may be the id of a message; None where it has none."""
+    return number is None or isinstance(number, (int, str)) and not isinstance(number, bool)
+
+
+# ---------------------------------------------------------------------- parameters
+
+def part(value, *keys, kind=object):
+    """What is in the parameters under these keys."""
+    for key in keys:
+        if not isinstance(value, dict) or key not in value:
+            raise Problem(INVALID_PARAMS, 'no %s' % '.'.join(keys))
+        value = value[key]
+    if not isinstance(value, kind) or kind is int and (isinstance(value, bool) or value < 0):
+        raise Problem(INVALID_PARAMS, 'a wrong %s' % '.'.join(keys))
+    return value
+
+
+def part_or_none(value, *keys):
+    """The same, or None where it is not there."""
+    for key in keys:
+        value = value.get(key) if isinstance(value, dict) else None
+    return value
+
+
+def place_in(params, *keys):
+    """The line and the character of a position."""
+    return tuple(part(params, *keys, key, kind=int) for key in ('line', 'character'))
+
+
+def change_in(change):
+    """The start, the end and the text of a change; the start is None for the whole text."""
+    text = part(change, 'text', kind=str)
+    if part_or_none(change, 'range') is None:
+        return None, None, text
+    return place_in(change, 'range', 'start'), place_in(change, 'range', 'end'), text

@@ -1,0 +1,194 @@
+"""A web of which a file is open: retangle over it, its names, and its faults."""
+from .documents import position
+from .faults import Folding
+from .files import Unreadable, path_in
+from .names import Names
+from .protocol import ERROR, shown
+from .runs import Ended, Refused
+from .session import Retangle
+
+SOURCE = 'retangle'
+
+
+class Web:
+    """A web, by its roles in a folder. What its user has to know is passed to `say`."""
+
+    def __init__(self, root, roles, find_retangle, say):
+        self.root, self.roles, self.find_retangle, self.say = root, roles, find_retangle, say
+        self.retangle = None
+        self.members = set()            # the paths of its files
+        self.faults = []
+        self.trouble = None             # why retangle did not answer last
+        self.known = self.known_of = None
+        self.groups = []
+        self.typed_at = None            # where the name that is being typed begins
+        self.usual = self.before = set()        # the faults before it was typed, and the last ones
+
+    # ------------------------------------------------------------------ retangle
+
+    def start(self):
+        try:
+            self.retangle = Retangle(*self.roles, cwd=self.root.folder, program=self.program(),
+                                     buffers=self.root.buffers)
+            self.trouble = None
+        except Ended as ended:
+            self.stumble(ended)
+
+    def program(self):
+        """The retangle that is there now: it may be installed while this runs."""
+        found = self.find_retangle()
+        if found is None:
+            raise Ended(127, 'there is none beside retangle-lsp and none on the path: '
+                             'install it, or pass --retangle PATH')
+        return found
+
+    def stumble(self, ended):
+        """Says why retangle does not answer, unless that was said."""
+        if str(ended) != self.trouble:
+            self.trouble = str(ended)
+            self.say('%s: %s' % (shown(self.roles.web), ended))
+
+    def asked(self, question):
+        """The answer of retangle, or None where there is none; then the user is shown why."""
+        try:
+            answer = question()
+            self.trouble = None
+            return answer
+        except (Refused, Unreadable):
+            pass                        # a fault of its file, or one that was never saved
+        except Ended as ended:
+            self.stumble(ended)
+        finally:
+            for notice in self.retangle.notices:
+                self.say(notice, again=True)
+            self.retangle.notices = []
+        return None
+
+    def refresh(self):
+        """Brings retangle to the files as they are now, and takes the faults that it finds."""
+        if self.retangle is None:
+            self.start()
+        if self.retangle is None:
+            self.faults = []
+            return
+        self.asked(self.retangle.refresh)
+        self.faults = self.asked(self.retangle.faults) or []
+
+    def refusals(self):
+        """The files whose texts were not taken and are still the same, each with the reason."""
+        refused = self.retangle.refused if self.retangle else {}
+        return [(name, self.retangle.reasons[name]) for name, text in refused.items()
+                if text is not None and self.root.text(name) is text]
+
+    def is_over(self):
+        """Whether retangle has ended, so that it has to be started again."""
+        run = self.retangle and self.retangle.run
+        return bool(run) and (run.is_over or run.process.poll() is not None)
+
+    def end(self):
+        if self.retangle:
+            self.retangle.close()
+        self.retangle = None
+
+    # ------------------------------------------------------------------ files and names
+
+    def file(self, name):
+        """The text of a file: as retangle has it, or else as it is open or on the disk."""
+        return self.retangle.held.get(name) if self.retangle else self.root.text(name)
+
+    def line(self, name, row):
+        text = self.file(name)
+        return text.lines[row] if text and 0 <= row < len(text.lines) else b''
+
+    def path(self, name):
+        return path_in(self.root.folder, name)
+
+    def files_at(self, path):
+        """The names by which the web has a file."""
+        if self.retangle:
+            return self.retangle.names(path)
+        return [name for name in self.names().parts if self.path(name) == path]
+
+    def names(self):
+        """The names of the web, which are found again where a file is another one."""
+        now = dict(self.retangle.held) if self.retangle else None
+        if self.known is None or now is None or not is_same(now, self.known_of):
+            self.known = Names(self.file, self.roles.web, self.roles.change, self.known)
+            self.known_of = now
+        return self.known
+
+    # ------------------------------------------------------------------ faults
+
+    def fold(self, typed=None):
+        """The faults as groups. `typed` is the path, the row and the column after what was typed
+        last: while that is in a name, what follows from it is not shown."""
+        now = {(fault.severity, fault.text) for fault in self.faults}
+        found = self.typed_name(*typed) if typed and self.faults else None
+        begins = found and (typed[0], self.names().places(found)[0])
+        if begins is None or begins != self.typed_at:
+            self.usual = self.before if begins else now
+        self.typed_at, self.before = begins, now
+        if not self.faults:
+            self.groups = []
+            return
+        folding = Folding(self.names(), self.roles_there(), self.line, found)
+        self.groups = folding.fold(self.faults)
+        for group in self.groups:
+            group.text = folding.message(group)
+        if found:
+            self.groups = [group for group in self.groups
+                           if group.name == found.occurrence.text or self.is_usual(group)]
+            for group in self.groups:
+                group.is_typed = group.name == found.occurrence.text
+
+    def is_usual(self, group):
+        return any((fault.severity, fault.text) in self.usual for fault, _, _ in group.members)
+
+    def typed_name(self, path, row, column):
+        """The name in which or after which something was typed."""
+        files = self.files_at(path)
+        names = self.names()
+        return (names.found_at(files, row, column)
+                or (column and names.found_at(files, row, column - 1)) or None)
+
+    def roles_there(self):
+        return [self.roles.web] + [self.roles.change] * (self.roles.change is not None)
+
+    def diagnostics(self, uri_of):
+        """The diagnostics of each file that has some, by its URI."""
+        found = {}
+        for group in self.groups:
+            found.setdefault(uri_of(self.path(group.file)), []).append(
+                self.diagnostic(group, uri_of))
+        for name, why in self.refusals():
+            found.setdefault(uri_of(self.path(name)), []).append({
+                'range': self.range((name, 0, 0), (name, 0, len(self.line(name, 0)))),
+                'severity': ERROR, 'source': SOURCE, 'code': 'not-taken', 'message': why,
+                'data': {'faults': ['%s:1: error: %s' % (shown(name), why)]}})
+        return found
+
+    def diagnostic(self, group, uri_of):
+        made = {'range': self.range(*group.places), 'severity': group.severity, 'source': SOURCE,
+                'code': group.code, 'message': group.text, 'data': {'faults': group.lines()}}
+        related = [] if group.is_typed else group.related()
+        if related:
+            made['relatedInformation'] = [
+                {'location': self.location(places, uri_of), 'message': text}
+                for places, text in related]
+        return made
+
+    def range(self, start, end):
+        """The range between two places of a file."""
+        return {'start': self.position(*start), 'end': self.position(*end)}
+
+    def position(self, name, row, column):
+        return position(self.line(name, row), row + 1, column)
+
+    def location(self, places, uri_of):
+        return {'uri': uri_of(self.path(places[0].file)), 'range': self.range(*places)}
+
+
+def is_same(one, other):
+    """Whether two tables of files have the same texts, which are not compared by their lines."""
+    return other is not None and len(one) == len(other) and all(
+        name in other and other[name] is text for name, text in one.items())
