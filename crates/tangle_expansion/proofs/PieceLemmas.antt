@@ -17,7 +17,7 @@ use Rattle.tangle_plans.specs.Flat.{Symbol, Byte, MarkOf, items_flat, pieces_fla
 use Rattle.tangle_plans.specs.WebShapes.{resolved_at, shape_item, use_of}
 use Rattle.tangle_files.specs.declared.marks.MarkMode.{MarkMode}
 use Rattle.tangle_files.specs.declared.marks.MarkMode.TheVariants.{Full, Bare}
-use Rattle.tangle_expansion.specs.Numbers.{NumbersRead, symbol_bytes, closing_bytes, expansion_bytes, item_origins, mark_bytes}
+use Rattle.tangle_expansion.specs.Numbers.{NumbersRead, symbol_bytes, closing_bytes, expansion_bytes, item_origins, mark_bytes, mark_end}
 use Rattle.tangle_expansion.specs.Numbers.{mark_bytes_at, no_origin, no_numbers, node_numbers, numbers_at, numbers_of_piece}
 use Rattle.tangle_expansion.specs.Numbers.{opening_bytes, origin_of_mark}
 use Rattle.tangle_expansion.specs.PieceBytes.{bytes_after_mark, items_bytes, piece_bytes, resolved_bytes, used_bytes}
@@ -57,7 +57,7 @@ module _ (numbers : NumbersRead) where
   mark_then node piece mark origin rest is =
       ap (λ o. mark_bytes_at numbers o ++ expansion_bytes numbers rest) is
       ∙ ap (λ l. l ++ expansion_bytes numbers rest)
-      (line_feed_first numbers.marks (get_or numbers.file_names origin.file []) origin.line)
+      (line_feed_first numbers.marks (get_or numbers.mark_ends origin.file (mark_end [])) origin.line)
 
   module _ (texts : List (List ℕ)) (table : TableRead) (used : List ℕ → List Symbol) (node : Title) where
     use_then : (piece marks : ℕ) (items : List ShapeItem) (r : Resolved)

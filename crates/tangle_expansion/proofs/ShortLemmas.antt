@@ -1,5 +1,5 @@
 -- Few bytes are written for each symbol.
-use Rattle.std.proofs.Common.{ℕ, ◌+◌, ◌^◌, ◌<◌, ◌≤◌, zero, suc, Bool, true, false, List, [], ◌∷◌, ◌++◌}
+use Rattle.std.proofs.Common.{ℕ, ◌^◌, ◌<◌, ◌≤◌, zero, suc, Bool, true, false, List, [], ◌∷◌, ◌++◌}
 use Rattle.std.proofs.Common.{length, arith, length-append, get_or, All, Some}
 use Rattle.std.specs.Prelude.{Option, None, IfSome, codes, decimal, unwrap_or}
 use Rattle.std.proofs.lemmas.List.Elements.{All-nil}
@@ -15,7 +15,7 @@ use Rattle.tangle_expansion.specs.Limits.{heaviest}
 use Rattle.tangle_expansion.specs.Numbers.{PieceNumbersRead, NumbersRead, no_numbers, no_origin, node_numbers}
 use Rattle.tangle_expansion.specs.Numbers.{numbers_at, origin_of_mark}
 use Rattle.tangle_expansion.specs.Outputs.{front_bytes}
-use Rattle.tangle_expansion.specs.Numbers.{mark_bytes, symbol_bytes, expansion_bytes}
+use Rattle.tangle_expansion.specs.Numbers.{mark_bytes, mark_end, symbol_bytes, expansion_bytes}
 use Rattle.tangle_files.specs.declared.marks.MarkMode.{MarkMode}
 use Rattle.tangle_files.specs.declared.marks.MarkMode.TheVariants.{Full, Bare}
 use Rattle.tangle_expansion.specs.SymbolLimits.{longest_symbol, SymbolsAreShort, IsLow, IsShort, AreShort}
@@ -24,19 +24,12 @@ use Rattle.tangle_expansion.proofs.WrittenLemmas.{written-short}
 decimal_short : (n : ℕ) → n < 2 ^ 64 → length (decimal n) ≤ 20
 decimal_short n h = length-decimal-le 20 n (omega arith) (omega (arith, h)) h
 
-mark_short : (marks : MarkMode) (file : List ℕ) (line : ℕ)
-    → length file < 2 ^ 64 → line < 2 ^ 32 → length (mark_bytes marks file line) ≤ longest_symbol
+mark_short : (marks : MarkMode) (ending : List ℕ) (line : ℕ)
+    → length ending < 2 ^ 64 → line < 2 ^ 32 → length (mark_bytes marks ending line) ≤ longest_symbol
 unfolding longest_symbol
-mark_short Full file line h low =
-    omega (
-      arith,
-      h,
-      decimal_short line (omega (arith, low)),
-      length-append (decimal line ++ codes " \"" ++ file) (codes "\"\n"),
-      length-append (decimal line ++ codes " \"") file,
-      length-append (decimal line) (codes " \""),
-    )
-mark_short Bare file line h low = omega arith
+mark_short Full ending line h low =
+    omega (arith, h, decimal_short line (omega (arith, low)), length-append (decimal line) ending)
+mark_short Bare ending line h low = omega arith
 
 -- what holds of each item of a list, and of the default, holds of whatever is read from the list
 all_or : {X : Type 0} (P : X → Type 0) (xs : List X) (d : X) → P d → All P xs → (i : ℕ) → P (get_or xs i d)
@@ -68,9 +61,9 @@ module _ (numbers : NumbersRead) (h : AreShort numbers) where
   origin_low node piece mark =
       all_or IsLow (numbers_at numbers node piece).origins no_origin (omega arith) (piece_short node piece).origins mark
 
-  file_short : (file : ℕ) → length (get_or numbers.file_names file []) < 2 ^ 64
-  file_short file =
-      all_or (λ (name : List ℕ). length name < 2 ^ 64) numbers.file_names [] (omega arith) h.file_names file
+  end_short : (file : ℕ) → length (get_or numbers.mark_ends file (mark_end [])) < 2 ^ 64
+  end_short file =
+      all_or (λ (ending : List ℕ). length ending < 2 ^ 64) numbers.mark_ends (mark_end []) (omega arith) h.mark_ends file
 
   pub symbols_short : SymbolsAreShort numbers
   unfolding longest_symbol
@@ -84,8 +77,8 @@ module _ (numbers : NumbersRead) (h : AreShort numbers) where
       )
   symbols_short (MarkOf node piece mark) =
       let origin = origin_of_mark numbers node piece mark in
-      mark_short numbers.marks (get_or numbers.file_names origin.file [])
-      origin.line (file_short origin.file) (origin_low node piece mark)
+      mark_short numbers.marks (get_or numbers.mark_ends origin.file (mark_end []))
+      origin.line (end_short origin.file) (origin_low node piece mark)
   symbols_short (Closing node piece) =
       let section = (numbers_at numbers node piece).section in
       omega (

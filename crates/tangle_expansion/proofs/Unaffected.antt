@@ -1,12 +1,12 @@
 -- A node that is expandable after an edit, and not affected by it, was expandable before, with the same symbols.
-use Rattle.std.proofs.Common.{◌≡◌, ◌∙◌, ℕ, List, length, refl, ap, arith}
+use Rattle.std.proofs.Common.{◌≡◌, ◌∙◌, ℕ, length, refl, ap, arith}
 use mathlib.Core.HLevel.{Discrete, ×_discrete}
 use mathlib.Core.List.{List-discrete}
 use native.Mathlib.Decide.{ℕ_discrete}
 use Rattle.std.proofs.Math.Decide.{map_dec}
 use Rattle.tangle_plans.specs.Shapes.{Title, Kind, Word, Sign, Quoted, QuoteBreak, Verbatim, AsciiConstant, Blank}
 use Rattle.tangle_plans.specs.Shapes.{LineEnd, ShapeItem, Written, Mark, AllMacros, Use, NoUse, Shape, Shapes, here}
-use Rattle.tangle_plans.specs.Flat.{flat, weight}
+use Rattle.tangle_plans.specs.Flat.{flat}
 use Rattle.tangle_expansion.specs.Affected.{IsExpandable, IsAffected}
 use Rattle.tangle_expansion.proofs.SameShapes.{SameReached, flat-same, depth-same, ReachesCycle, cycle_deep_and_heavy}
 use Rattle.tangle_expansion.proofs.Weights.{weight-length}

@@ -26,8 +26,8 @@ pub record PieceNumbersRead : Type 0 where
 
 -- what the bytes of a web's expansions depend on, besides the symbols
 pub record NumbersRead : Type 0 where
-  -- escaped, as line marks have them
-  pub file_names : List (List ℕ)
+  -- for each file, what comes after the number in its line marks
+  pub mark_ends : List (List ℕ)
   pub program : List PieceNumbersRead
   pub names : List (List ℕ × List PieceNumbersRead)
   pub macros : List ℕ
@@ -41,6 +41,10 @@ escaped_byte b = if b == backslash || b == double_quote then backslash ∷ b ∷
 -- the escaped name of a file, as a line mark has it
 abbrev pub escaped : List ℕ → List ℕ
 escaped name = flat_map escaped_byte name
+
+-- what comes after the number in the line marks of a file with this name
+abbrev pub mark_end : List ℕ → List ℕ
+mark_end name = codes " \"" ++ escaped name ++ codes "\"\n"
 
 abbrev pub item_origins : Item → List Origin
 item_origins (item.LineMark origin) = origin ∷ []
@@ -57,7 +61,7 @@ module _ (web : WebRead) (table : TableRead) where
 
   abbrev pub numbers_of : MarkMode → NumbersRead
   numbers_of marks = record {
-    file_names = map escaped web.file_names;
+    mark_ends = map mark_end web.file_names;
     program = map numbers_of_piece (pieces_of web table Program);
     names = name_numbers;
     macros = flat_map (macro_bytes web.texts) web.macros;
@@ -74,12 +78,12 @@ closing_bytes section = codes "/*:" ++ decimal section ++ codes "*/"
 
 -- a line mark that is written in full
 abbrev pub full_mark_bytes : List ℕ → ℕ → List ℕ
-full_mark_bytes file line = codes "\n#line " ++ decimal line ++ codes " \"" ++ file ++ codes "\"\n"
+full_mark_bytes ending line = codes "\n#line " ++ decimal line ++ ending
 
 -- the bytes of a line mark; a bare one is a line feed
 abbrev pub mark_bytes : MarkMode → List ℕ → ℕ → List ℕ
-mark_bytes Full file line = full_mark_bytes file line
-mark_bytes Bare file line = line_feed ∷ []
+mark_bytes Full ending line = full_mark_bytes ending line
+mark_bytes Bare ending line = line_feed ∷ []
 
 abbrev pub no_numbers : PieceNumbersRead
 no_numbers = record { section = 0; origins = [] }
@@ -102,7 +106,7 @@ module _ (numbers : NumbersRead) where
   -- the bytes of a line mark with this origin
   abbrev pub mark_bytes_at : Origin → List ℕ
   mark_bytes_at origin =
-      mark_bytes numbers.marks (get_or numbers.file_names origin.file []) origin.line
+      mark_bytes numbers.marks (get_or numbers.mark_ends origin.file (mark_end [])) origin.line
 
   abbrev pub symbol_bytes : Symbol → List ℕ
   symbol_bytes (Byte b) = b ∷ []

@@ -8,7 +8,7 @@ use Rattle.tangle_expansion.specs.declared.numbers.Numbers.TheInside.{Inside}
 
 abbrev pub numbers_read : Inside → NumbersRead
 numbers_read n = record {
-  file_names = map (λ f. f.items) n.file_names.items;
+  mark_ends = map (λ ending. ending.items) n.mark_ends.items;
   program = slice_index_or n.nodes.items 0 [];
   names = zip n.names (drop 1 n.nodes.items);
   macros = n.macros.items;

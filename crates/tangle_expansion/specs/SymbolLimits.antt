@@ -5,7 +5,7 @@ use Rattle.tangle_lines.specs.declared.origin.Origin.{Origin}
 use Rattle.tangle_plans.specs.Flat.{Symbol}
 use Rattle.tangle_expansion.specs.Numbers.{PieceNumbersRead, NumbersRead, symbol_bytes}
 
--- no more bytes than this are written for one symbol: a file name and the macros have fewer than 2
+-- no more bytes than this are written for one symbol: what ends a mark and the macros have fewer than 2
 -- ^ 64
 unfoldable pub longest_symbol : ℕ
 longest_symbol = 2 ^ 66
@@ -25,7 +25,7 @@ EntryIsShort e = All IsShort e.1
 
 -- the lengths and the numbers from which the bytes of a symbol are made are bounded
 pub record AreShort (numbers : NumbersRead) : Type 0 where
-  pub file_names : All (λ (name : List ℕ). length name < 2 ^ 64) numbers.file_names
+  pub mark_ends : All (λ (ending : List ℕ). length ending < 2 ^ 64) numbers.mark_ends
   pub program : All IsShort numbers.program
   pub names : All EntryIsShort numbers.names
   pub macros : length numbers.macros < 2 ^ 64

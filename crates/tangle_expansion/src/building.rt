@@ -7,7 +7,7 @@ ghost use Rattle.tangle_scan.specs.Entries.{entry_items, items_of, piece_read};
 ghost use Rattle.tangle_names.specs.NameTable.{table_of};
 ghost use Rattle.tangle_plans.specs.ItemSlots.{pieces_at};
 ghost use Rattle.tangle_plans.specs.Nodes.{IsGroupedBy};
-ghost use Rattle.tangle_expansion.specs.Numbers.{escaped, escaped_byte, item_origins, numbers_of};
+ghost use Rattle.tangle_expansion.specs.Numbers.{escaped_byte, mark_end, item_origins, numbers_of};
 ghost use Rattle.tangle_expansion.specs.Numbers.{numbers_of_piece};
 ghost use Rattle.tangle_expansion.specs.SymbolLimits.{IsShort, IsLow};
 
@@ -101,32 +101,35 @@ fn push_escaped(bytes: &mut Vec<u8>, byte: u8) -> Result<(), NoMemory>
     Ok(())
 }
 
-/// Escapes backslashes and double quotes in the name of a file, as its line marks need.
-fn escaped_name(alloc: Global, name: &[u8]) -> Result<Vec<u8>, NoMemory>
-    ensures { IfOk result (λ bytes. bytes.items ≡ escaped name.now) }
+/// What comes after the number in the line marks of a file: its name in quotes, with backslashes and
+/// double quotes escaped, and the line feed.
+fn mark_end(alloc: Global, name: &[u8]) -> Result<Vec<u8>, NoMemory>
+    ensures { IfOk result (λ bytes. bytes.items ≡ mark_end name.now) }
 {
-    let mut bytes = Vec::with_capacity(alloc, name.len())?;
+    let mut bytes = Vec::with_capacity(alloc, name.len().saturating_add(4))?;
+    bytes.extend_from_slice(b" \"")?;
     for byte in name {
         push_escaped(&mut bytes, *byte)?;
     }
+    bytes.extend_from_slice(b"\"\n")?;
     Ok(bytes)
 }
 
-/// The escaped names of all files of the web.
-fn escaped_names(alloc: Global, web: &Web) -> Result<Vec<Vec<u8>>, NoMemory>
-    ensures names { IfOk result
-        (λ names. map (λ n. n.items) names.items ≡ map escaped web.now.file_names) }
-    ensures short { IfOk result (λ names. All (λ n. vec_len n < 2 ^ 64) names.items) }
+/// What comes after the number in the line marks of each file of the web.
+fn mark_ends(alloc: Global, web: &Web) -> Result<Vec<Vec<u8>>, NoMemory>
+    ensures ends { IfOk result
+        (λ ends. map (λ e. e.items) ends.items ≡ map mark_end web.now.file_names) }
+    ensures short { IfOk result (λ ends. All (λ e. vec_len e < 2 ^ 64) ends.items) }
 {
-    let mut names = Vec::new(alloc);
+    let mut ends = Vec::new(alloc);
     for number in 0..web.file_count() {
         let origin = Origin {
             file: number as u16,
             line: 0,
         };
-        names.push(escaped_name(alloc, web.file_name(origin))?)?;
+        ends.push(mark_end(alloc, web.file_name(origin))?)?;
     }
-    Ok(names)
+    Ok(ends)
 }
 
 /// The numbers of the pieces in each row.
@@ -166,10 +169,10 @@ impl Numbers {
         requires pieces { IsGroupedBy web.now (table_of web.now) pieces.now }
         ensures { IfOk result (λ numbers. numbers ≡ numbers_of web.now (table_of web.now) marks) }
     {
-        let file_names = escaped_names(alloc, web)?;
+        let mark_ends = mark_ends(alloc, web)?;
         let nodes = numbers_of_nodes(alloc, web, pieces)?;
         let names = names.share()?;
         let macros = macros_bytes(alloc, web)?;
-        Ok(Numbers::new(file_names, names, nodes, macros, marks))
+        Ok(Numbers::new(mark_ends, names, nodes, macros, marks))
     }
 }

@@ -3,7 +3,7 @@ ghost use Rattle.std.specs.Prelude.{◌≡◌, ◌<◌, ◌+◌, ◌^◌, [], dr
 ghost use Rattle.std.specs.Prelude.{slice_index_or};
 ghost use Rattle.std.specs.List.{All, zip};
 ghost use Rattle.tangle_plans.specs.Meaning.{title_of};
-ghost use Rattle.tangle_expansion.specs.Numbers.{node_numbers};
+ghost use Rattle.tangle_expansion.specs.Numbers.{node_numbers, mark_end};
 ghost use Rattle.digraph.specs.Graph.{row_at};
 ghost use Rattle.tangle_expansion.specs.SymbolLimits.{IsShort, SymbolsAreShort};
 
@@ -17,7 +17,7 @@ use tangle_names::Names;
 /// of marks and the bytes of the macros.
 #[derive(Drop)]
 pub struct Numbers {
-    file_names: Vec<Vec<u8>>,
+    mark_ends: Vec<Vec<u8>>,
     names: Names,
     // For each node the numbers of its pieces.
     nodes: Vec<NodeNumbers>,
@@ -39,17 +39,17 @@ impl Model for Numbers {
 impl Numbers {
     /// Assembles the numbers from their parts.
     pub(crate) fn new(
-        file_names: Vec<Vec<u8>>,
+        mark_ends: Vec<Vec<u8>>,
         names: Names,
         nodes: Vec<NodeNumbers>,
         macros: Vec<u8>,
         marks: MarkMode,
     ) -> Self
-        requires file_names { All (λ n. vec_len n < 2 ^ 64) file_names.items }
+        requires mark_ends { All (λ e. vec_len e < 2 ^ 64) mark_ends.items }
         requires size { length nodes.items ≡ length names + 1 }
         requires nodes { All (All IsShort) nodes.items }
         ensures { result ≡ record {
-          file_names = map (λ n. n.items) file_names.items;
+          mark_ends = map (λ e. e.items) mark_ends.items;
           program =
               slice_index_or nodes.items 0 [];
           names = zip names (drop 1 nodes.items);
@@ -58,7 +58,7 @@ impl Numbers {
         } }
     {
         Numbers {
-            file_names,
+            mark_ends,
             names,
             nodes,
             macros,
@@ -80,13 +80,13 @@ impl Numbers {
         }
     }
 
-    /// The escaped name of the file at this origin, as line marks have it.
-    pub(crate) fn file_name(&self, origin: Origin) -> &[u8]
-        ensures { result.now ≡ get_or self.now.file_names origin.file [] }
+    /// What comes after the number in the line marks of the file at this origin.
+    pub(crate) fn mark_end(&self, origin: Origin) -> &[u8]
+        ensures { result.now ≡ get_or self.now.mark_ends origin.file (mark_end []) }
     {
-        match self.file_names.get(origin.file as usize) {
-            Some(name) => name.as_slice(),
-            None => &[],
+        match self.mark_ends.get(origin.file as usize) {
+            Some(ending) => ending.as_slice(),
+            None => b" \"\"\n",
         }
     }
 

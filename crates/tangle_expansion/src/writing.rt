@@ -4,7 +4,7 @@ ghost use Rattle.tangle_streams.specs.Streams.{IsWritten, IsWrittenAfter};
 ghost use Rattle.tangle_expansion.specs.Limits.{heaviest};
 ghost use Rattle.tangle_plans.specs.Meaning.{title_of, bytes_between, is_use_step};
 ghost use Rattle.tangle_expansion.specs.Numbers.{node_numbers};
-ghost use Rattle.tangle_expansion.specs.Numbers.{full_mark_bytes, mark_bytes_at, expansion_bytes};
+ghost use Rattle.tangle_expansion.specs.Numbers.{opening_bytes, mark_bytes_at, expansion_bytes};
 ghost use Rattle.tangle_expansion.specs.SymbolLimits.{SymbolsAreShort};
 ghost use Rattle.tangle_expansion.specs.Writing.{IsAfterStep, rest_from, rest_after_use};
 ghost use Rattle.tangle_expansion.specs.Writing.{step_bytes, bytes_to_use};
@@ -44,24 +44,6 @@ fn write_between<S: Sink>(
     write_after(sink, numbered, after)
 }
 
-/// Writes a line mark as a `#line` directive.
-fn write_full_mark<S: Sink>(
-    file: &[u8],
-    line: u32,
-    sink: &mut S,
-    so_far: Result<u128, WriteFault>,
-) -> Result<u128, WriteFault>
-    ensures { IsWrittenAfter (S.stream sink.old) (S.stream sink.new)
-        so_far (full_mark_bytes file.now line) result }
-{
-    let mut digits = Buffer::new();
-    let opened = write_after(sink, so_far, b"\n#line ");
-    let numbered = write_after(sink, opened, digits.format(line).as_bytes());
-    let quoted = write_after(sink, numbered, b" \"");
-    let named = write_after(sink, quoted, file);
-    write_after(sink, named, b"\"\n")
-}
-
 /// Writes a line mark: in full, or as a line feed.
 fn write_mark<S: Sink>(
     numbers: &Numbers,
@@ -73,8 +55,40 @@ fn write_mark<S: Sink>(
         so_far (mark_bytes_at numbers.now origin) result }
 {
     match numbers.marks() {
-        MarkMode::Full => write_full_mark(numbers.file_name(origin), origin.line, sink, so_far),
+        MarkMode::Full => write_between(
+            b"\n#line ",
+            origin.line as usize,
+            numbers.mark_end(origin),
+            sink,
+            so_far,
+        ),
         MarkMode::Bare => write_after(sink, so_far, b"\n"),
+    }
+}
+
+/// Writes the opening of a piece of this section, and its opening mark.
+fn write_opening<S: Sink>(
+    numbers: &Numbers,
+    section: usize,
+    origin: Origin,
+    sink: &mut S,
+    so_far: Result<u128, WriteFault>,
+) -> Result<u128, WriteFault>
+    ensures { IsWrittenAfter (S.stream sink.old) (S.stream sink.new)
+        so_far (opening_bytes section ++ mark_bytes_at numbers.now origin) result }
+{
+    let mut digits = Buffer::new();
+    let opened = write_after(sink, so_far, b"/*");
+    let numbered = write_after(sink, opened, digits.format(section).as_bytes());
+    match numbers.marks() {
+        MarkMode::Full => write_between(
+            b":*/\n#line ",
+            origin.line as usize,
+            numbers.mark_end(origin),
+            sink,
+            numbered,
+        ),
+        MarkMode::Bare => write_after(sink, numbered, b":*/\n"),
     }
 }
 
@@ -111,16 +125,13 @@ fn write_step<S: Sink>(
         so_far (step_bytes text.now.body.now at text.now.numbers.now step) result }
 {
     match step {
-        Step::Open => {
-            let section = section_at(text.pieces, at.piece);
-            let opened = write_between(b"/*", section, b":*/", sink, so_far);
-            write_mark(
-                text.numbers,
-                mark_origin_at(text.pieces, at.piece, 0),
-                sink,
-                opened,
-            )
-        }
+        Step::Open => write_opening(
+            text.numbers,
+            section_at(text.pieces, at.piece),
+            mark_origin_at(text.pieces, at.piece, 0),
+            sink,
+            so_far,
+        ),
         Step::Bytes(end) => write_after(
             sink,
             so_far,

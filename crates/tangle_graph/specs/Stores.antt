@@ -1,6 +1,6 @@
 -- What a store records of a web: for each node its pieces, its uses and users, its weight and
 -- depth, and whether it contains itself or reaches a name that does.
-use Rattle.std.specs.Prelude.{◌≡◌, ◌≢◌, ◌<◌, ◌≤◌, ◌↔◌, ◌+◌, ℕ, suc, Bool, true, false}
+use Rattle.std.specs.Prelude.{◌≡◌, ◌≢◌, ◌<◌, ◌≤◌, ◌↔◌, ◌+◌, ℕ, Bool, true, false}
 use Rattle.std.specs.Prelude.{◌&&◌, nat_lt, nat_le}
 use Rattle.std.specs.Prelude.{slice_get, slice_index, slice_index_or, List, [], length, map}
 use Rattle.std.specs.Prelude.{AllPairs, Contains, Option, Some}

@@ -21,7 +21,7 @@ fn symbols_of_step(step: Step, start: usize, size: usize) -> usize
 }
 
 impl NodeBody {
-    /// The number of the node's own symbols, where each use of a name with a piece counts as one.
+    /// The number of the node's own symbols, where each use counts as one.
     /// At most `usize::MAX` is returned.
     pub fn symbol_count(&self) -> usize
         ensures { (cap : ℕ) → cap < 2 ^ 64 → min cap result

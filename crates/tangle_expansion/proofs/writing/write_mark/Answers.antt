@@ -5,7 +5,7 @@ use Rattle.tangle_expansion.proofs.writing.write_mark.Goals as goal
 pub returns-in-Full : goal.returns-in-Full
 returns-in-Full g c =
     let full : c.args.numbers.now.marks ≡ Full = sym c.marks.ensures ∙ c.in-Full.is in
-    rw (full, ← c.file_name.ensures) c.write_full_mark.ensures
+    rw (full, ← c.mark_end.ensures) c.write_between.ensures
 
 pub returns-in-Bare : goal.returns-in-Bare
 returns-in-Bare g c =

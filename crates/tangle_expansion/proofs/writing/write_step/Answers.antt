@@ -6,8 +6,8 @@ use Rattle.tangle_expansion.proofs.writing.write_step.Goals as goal
 
 pub returns-in-Open : goal.returns-in-Open
 returns-in-Open g c =
-    rw (c.in-Open.is, append-nil, ← c.requires.ours, ← c.section_at-section.ensures, ← c.mark_origin_at.ensures)
-    (writes_then _ _ _ _ _ _ _ _ c.write_between-opened.ensures c.write_mark.ensures)
+    rw (c.in-Open.is, append-nil, ← c.requires.ours, ← c.section_at.ensures, ← c.mark_origin_at.ensures)
+    c.write_opening.ensures
 
 pub returns-in-Bytes : goal.returns-in-Bytes
 returns-in-Bytes g c =
@@ -15,7 +15,7 @@ returns-in-Bytes g c =
 
 pub returns-in-Mark : goal.returns-in-Mark
 returns-in-Mark g c =
-    rw (c.in-Mark.is, append-nil, ← c.requires.ours, ← c.mark_origin_at-in-Mark.ensures) c.write_mark-in-Mark.ensures
+    rw (c.in-Mark.is, append-nil, ← c.requires.ours, ← c.mark_origin_at-in-Mark.ensures) c.write_mark.ensures
 
 pub returns-in-AllMacros : goal.returns-in-AllMacros
 returns-in-AllMacros g c =
@@ -27,8 +27,8 @@ returns-in-Close g c =
     rw (
       c.in-Close.is,
       ← c.requires.ours,
-      ← c.section_at.ensures,
-      append-nil (decimal c.section_at.result ++ codes "*/"),
+      ← c.section_at-in-Close.ensures,
+      append-nil (decimal c.section_at-in-Close.result ++ codes "*/"),
     )
     c.write_between.ensures
 

@@ -23,4 +23,4 @@ returns c =
     = ap (λ l. zip c.in_ok-names.names (drop 1 l)) rows
     ∙ ap (λ ns. zip ns (map of_each (map of_name table.names))) (c.in_ok-names.ensures ∙ c.requires.names)
     ∙ zip_made of_each of_name table.names in
-    c.new.ensures ∙ cc (c.in_ok-file_names.ensures.names, program, zipped, c.in_ok-macros.ensures)
+    c.new.ensures ∙ cc (c.in_ok-mark_ends.ensures.ends, program, zipped, c.in_ok-macros.ensures)

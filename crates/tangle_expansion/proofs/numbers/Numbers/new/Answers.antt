@@ -10,8 +10,8 @@ pub invariant_of-result : goal.invariant_of-result
 invariant_of-result c = record {
   rows = c.requires.size;
   short = symbols_short _ (record {
-    file_names = All-map (λ (name : List ℕ). length name < 2 ^ 64) (λ n. n.items) c.args.file_names.items
-        (λ i d low. omega (arith, (get_or c.args.file_names.items i d).ok, c.requires.file_names i d low));
+    mark_ends = All-map (λ (ending : List ℕ). length ending < 2 ^ 64) (λ e. e.items) c.args.mark_ends.items
+        (λ i d low. omega (arith, (get_or c.args.mark_ends.items i d).ok, c.requires.mark_ends i d low));
     program = row_short c.args.nodes.items c.requires.nodes 0;
     names = zip_short c.args.names (drop 1 c.args.nodes.items)
         (All-drop (All IsShort) 1 c.args.nodes.items c.requires.nodes);
