@@ -142,15 +142,12 @@ def chunks_of(files, web, change):
         if SECTION.match(lines[first]) and not before.endswith(b'\\'):
             close(chunks, parts)
             parts = []
-        row = first
-        for number, cut in enumerate(cuts, at):
-            if not parts and row == (text.starts[number - 1] if number else 0) and chunks:
-                chunks.append(Chunk([Part(file, lines, row, cut)], text.pieces[number]))
-            else:
-                close(chunks, parts + [Part(file, lines, row, cut)])
-                parts = []
-            row = cut
-        parts = parts + [Part(file, lines, row, last)]
+        if cuts:
+            close(chunks, parts + [Part(file, lines, first, cuts[0])])
+            chunks += [Chunk([Part(file, lines, *rows)], piece) for *rows, piece in zip(
+                cuts, cuts[1:], text.pieces[at + 1:end])]
+            first, parts = cuts[-1], []
+        parts = parts + [Part(file, lines, first, last)]
         before = lines[last - 1]
     if parts:
         close(chunks, parts)
