@@ -225,8 +225,8 @@ def use_names(emacs, folder):
     emacs.ask('(progn (in-web) (goto-char 1) (search-forward "@ A file of the program") (forward-line 2) '
               '(insert "@<Part 17 of\\n") (backward-char) t)')
     emacs.ask('(progn (in-web) (completion-at-point) t)')
-    emacs.wait('(progn (in-web) (save-excursion (goto-char 1) (search-forward "@<Part 17 of the program@>\\n" 40000 t)))',
-               'completed')
+    emacs.wait('(progn (in-web) (save-excursion (goto-char 1) '
+               '(search-forward "@<Part 17 of the program@>\\n" 40000 t)))', 'completed')
     emacs.holds('completed')
     emacs.ask('(progn (in-web) (goto-char 1) (search-forward "@<Part 17 of the program@>") (backward-char 5) '
               '(xref-find-definitions (xref-backend-identifier-at-point (quote eglot))) t)')

@@ -17,7 +17,7 @@ Found = collections.namedtuple('Found', 'chunk occurrence')
 Found.__doc__ = """An occurrence of a name, and the number of the chunk that it is in."""
 
 NEAREST, NEAR = 3, .5           # how many near names are offered, and how near they have to be
-MOST_COMPARED = 50              # names for which the near ones are kept
+MOST_COMPARED = 100             # names for which the near ones are kept
 
 
 class Meanings:
@@ -71,7 +71,7 @@ class Names:
 
     @functools.cached_property
     def parts(self):
-        """For each file its parts in their order: the start, the end, the chunk and the row of it."""
+        """For each file its parts in order: the start, the end, the chunk and the row in that."""
         found = {}
         for number, chunk in enumerate(self.chunks):
             row = 0

@@ -14,7 +14,7 @@ Change = collections.namedtuple('Change', 'old new')
 Change.__doc__ = """The old lines, and the new ones as pairs of rows of the change file."""
 
 Part = collections.namedtuple('Part', 'file lines start end')
-Part.__doc__ = """The lines of a file from one row to another, of which the last is no more in it."""
+Part.__doc__ = """The lines of a file from one row up to another, which is not in it any more."""
 
 
 class Chunk:
