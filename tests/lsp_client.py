@@ -39,7 +39,7 @@ class Client:
         self.folder = folder_with(files)
         arguments = [] if program is None else ['--retangle', program]
         self.process = subprocess.Popen(SERVER + arguments, cwd='/', stdin=subprocess.PIPE,
-                                        stdout=subprocess.PIPE)
+                                        stdout=subprocess.PIPE, env=parts.get('environment'))
         self.read, self.number, self.version, self.last = b'', 0, 0, None
         self.diagnostics, self.shown, self.logged, self.asked, self.errors = {}, [], [], [], []
         if parts.get('initialize', True):
