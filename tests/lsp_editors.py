@@ -103,7 +103,7 @@ EMACS = '''
 (defun in-web () (set-buffer (find-buffer-visiting "a.w")))
 (defun ask (method params)
   (eglot--signal-textDocument/didChange)
-  (jsonrpc-request (eglot--current-server-or-lose) method params))
+  (jsonrpc-request (eglot--current-server-or-lose) method params :timeout 60))
 (defun faults ()
   (in-web)
   (save-some-buffers t)
