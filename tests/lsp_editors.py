@@ -8,7 +8,8 @@ editor, another program writes a file, retangle and the server are killed, and t
 and written again. After each step the faults that the editor has are those of ctangle. Neovim and
 Emacs are tried where they are installed; else their part is skipped, by its name.
 
-The last line is 'N passed, M failed'.
+RETANGLE_LSP in the environment names another server, as one that is installed. The last line is
+'N passed, M failed'.
 """
 import json
 import os
@@ -25,6 +26,7 @@ import webs
 from checks import check, folder_with, read, run_all, same, write
 from running import run
 
+server = os.environ.get('RETANGLE_LSP', os.path.join(top, 'lsp', 'retangle-lsp'))
 LINES = 35000
 SECONDS = 300
 
@@ -47,7 +49,7 @@ def author(name):
     os.mkdir(programs)
     os.symlink(ctangle, os.path.join(programs, 'ctangle'))
     os.symlink(retangle, os.path.join(programs, 'retangle'))
-    os.symlink(os.path.join(top, 'lsp', 'retangle-lsp'), os.path.join(programs, 'retangle-lsp'))
+    os.symlink(server, os.path.join(programs, 'retangle-lsp'))
     git(path, 'add', '.')
     git(path, 'commit', '-qm', name)
     git(path, 'checkout', '-qb', 'other')
