@@ -638,6 +638,12 @@ def test_ends():
         client.change('a.w', (((2, 8), (2, 9)), 'u'))
         client.has(['a.w:3: error: undefined: <u>'], 'retangle is there again')
         client.end()
+    without = {name: text for name, text in os.environ.items() if name != 'RETANGLE'}
+    client = Client({'a.w': WEB}, environment=dict(without, PATH='/nowhere'))
+    client.open('a.w', WEB.decode())
+    client.has([], 'no retangle on the path')
+    check(len(client.shown) == 1 and 'install it' in client.shown[0], 'lsp, no retangle', client.shown)
+    client.end()
     client = Client({'a.w': WEB}, '/nowhere/retangle')
     client.open('a.w', WEB.decode())
     client.change('a.w', (((2, 8), (2, 9)), 'w'))

@@ -39,7 +39,7 @@ class Client:
         self.folder = folder_with(files)
         arguments = [] if program is None else ['--retangle', program]
         self.process = subprocess.Popen(SERVER + arguments, cwd='/', stdin=subprocess.PIPE,
-                                        stdout=subprocess.PIPE)
+                                        stdout=subprocess.PIPE, env=parts.get('environment'))
         self.read, self.number, self.version, self.last = b'', 0, 0, None
         self.diagnostics, self.shown, self.logged, self.asked, self.errors = {}, [], [], [], []
         if parts.get('initialize', True):
@@ -195,12 +195,10 @@ def times(web, changes):
     found = {'opening': [], 'change': [], 'completion': [], 'hover': []}
     client, count = Client({'a.w': read(web)}), text.count('\n')
 
-    def change(number, new):
-        line = number * 347 % count
+    def change(start, end, new):
         client.diagnostics.clear()
-        client.change('a.w', (((line, 0), (line, 0)), new))
+        client.change('a.w', ((start, end), new))
         diagnosed(client)
-        return line
 
     def ask(method, line, character):
         return client.result('textDocument/' + method, {
@@ -209,14 +207,16 @@ def times(web, changes):
 
     found['opening'].append(seconds_of(lambda: (client.open('a.w', text), diagnosed(client))))
     names = [at for at, line in enumerate(text.split('\n')) if re.match('@<[^@]*@>', line)]
-    for number in range(changes):
-        new = ['x', '@<a@>', '"', '\n'][number % 4]
-        found['change'].append(seconds_of(lambda: change(number, new)))
-        if number % 20 == 0:
-            line = change(number, '@<\n')
+    for number in range(0, changes, 2):             # something is typed, and removed again
+        line, new = number * 347 % count, ['x', '@<a@>', '"', '\n', '@<'][number // 2 % 5]
+        start, end = (line, 0), (line + 1, 0) if new == '\n' else (line, len(new))
+        found['change'].append(seconds_of(lambda: change(start, start, new)))
+        if new == '@<':
             found['completion'].append(seconds_of(lambda: ask('completion', line, 2)))
-            line = names[number % len(names)]
-            found['hover'].append(seconds_of(lambda: ask('hover', line, 3)))
+        found['change'].append(seconds_of(lambda: change(start, end, '')))
+        if new == '@<' and names:
+            at = names[number % len(names)]
+            found['hover'].append(seconds_of(lambda: ask('hover', at, 3)))
     memory = [memory_of(pid) for pid in [client.process.pid, *children_of(client.process.pid)]]
     client.end()
     return found, memory
@@ -236,7 +236,7 @@ def main(web, changes=2000):
     seconds, memory = times(web, int(changes))
     print('load %.1f on %d processors' % (os.getloadavg()[0], os.cpu_count()))
     for kind, these in seconds.items():
-        these = sorted(1000 * one for one in these)
+        these = sorted(1000 * one for one in these) or [0]
         print('%-10s median %4.0f ms, 99 of 100 within %4.0f, longest %4.0f (%d)' % (
             kind, statistics.median(these), these[(99 * len(these) - 1) // 100], these[-1], len(these)))
     print('most memory: server %.1f MB, retangle %s MB' % (

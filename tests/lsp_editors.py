@@ -8,7 +8,8 @@ editor, another program writes a file, retangle and the server are killed, and t
 and written again. After each step the faults that the editor has are those of ctangle. Neovim and
 Emacs are tried where they are installed; else their part is skipped, by its name.
 
-The last line is 'N passed, M failed'.
+RETANGLE_LSP in the environment names another server, as one that is installed. The last line is
+'N passed, M failed'.
 """
 import json
 import os
@@ -25,6 +26,7 @@ import webs
 from checks import check, folder_with, read, run_all, same, write
 from running import run
 
+server = os.environ.get('RETANGLE_LSP', os.path.join(top, 'lsp', 'retangle-lsp'))
 LINES = 35000
 SECONDS = 300
 
@@ -47,7 +49,7 @@ def author(name):
     os.mkdir(programs)
     os.symlink(ctangle, os.path.join(programs, 'ctangle'))
     os.symlink(retangle, os.path.join(programs, 'retangle'))
-    os.symlink(os.path.join(top, 'lsp', 'retangle-lsp'), os.path.join(programs, 'retangle-lsp'))
+    os.symlink(server, os.path.join(programs, 'retangle-lsp'))
     git(path, 'add', '.')
     git(path, 'commit', '-qm', name)
     git(path, 'checkout', '-qb', 'other')
@@ -103,7 +105,7 @@ EMACS = '''
 (defun in-web () (set-buffer (find-buffer-visiting "a.w")))
 (defun ask (method params)
   (eglot--signal-textDocument/didChange)
-  (jsonrpc-request (eglot--current-server-or-lose) method params))
+  (jsonrpc-request (eglot--current-server-or-lose) method params :timeout 60))
 (defun faults ()
   (in-web)
   (save-some-buffers t)
@@ -225,8 +227,8 @@ def use_names(emacs, folder):
     emacs.ask('(progn (in-web) (goto-char 1) (search-forward "@ A file of the program") (forward-line 2) '
               '(insert "@<Part 17 of\\n") (backward-char) t)')
     emacs.ask('(progn (in-web) (completion-at-point) t)')
-    emacs.wait('(progn (in-web) (save-excursion (goto-char 1) (search-forward "@<Part 17 of the program@>\\n" 40000 t)))',
-               'completed')
+    emacs.wait('(progn (in-web) (save-excursion (goto-char 1) '
+               '(search-forward "@<Part 17 of the program@>\\n" 40000 t)))', 'completed')
     emacs.holds('completed')
     emacs.ask('(progn (in-web) (goto-char 1) (search-forward "@<Part 17 of the program@>") (backward-char 5) '
               '(xref-find-definitions (xref-backend-identifier-at-point (quote eglot))) t)')

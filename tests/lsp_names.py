@@ -21,14 +21,12 @@ import sys
 ctangle, retangle, layers, top = (os.path.abspath(path) for path in sys.argv[1:5])
 sys.path[:0] = [os.path.join(top, below) for below in ('lsp', 'tests', 'tests/reference')]
 import generator
-from checks import check, folder_with, lay, read, run_all, same, write
+from checks import check, folder_with, read, run_all, same
 from lsp_client import Client, range_of
 from retangle_lsp.faults import Folding
-from retangle_lsp.files import lines_of, text_of, with_extension
-from retangle_lsp.kinds import kind_of
+from retangle_lsp.files import lines_of, text_of
 from retangle_lsp.names import Names
 from retangle_lsp.runs import fault_line, fault_of
-from retangle_lsp.scanning import is_abbreviation
 from running import run
 
 os.environ['RETANGLE'] = retangle

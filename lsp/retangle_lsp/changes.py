@@ -62,7 +62,7 @@ def rename(workspace, path, place, new):
     if not new or is_abbreviation(new):
         raise Problem(REQUEST_FAILED, 'this is no name of a section')
     made, paths, seen = {}, {path}, None
-    while paths != seen:                # a web may have one of the files that are changed for another
+    while paths != seen:                # another web may have a file that is changed for this one
         seen = set(paths)
         for web in webs_with(workspace, seen):
             check_renaming(web, name, new)

@@ -11,7 +11,7 @@ ALIKE = .6              # names that are so alike may be one name that is misspe
 MUCH_ALIKE = .8         # and if one of them may have other text in it
 MOST_RELATED = 50       # places that a diagnostic leads to
 MOST_NAMES = 5          # names that a message lists
-MOST_SOUGHT = 10        # names for which the nearest are sought, which takes its time
+MOST_SOUGHT = 50        # faults for which the nearest names are sought, which takes its time
 
 
 class Group:
@@ -79,7 +79,8 @@ class Folding:
         self.groups = [group for group in self.groups if group.members]
         if self.by_name:
             self.fold_consequences()
-        for group in self.groups[:MOST_SOUGHT]:
+        name = self.typed and self.typed.occurrence.text
+        for group in sorted(self.groups, key=lambda one: one.name != name)[:MOST_SOUGHT]:
             self.propose(group)
         return self.groups
 

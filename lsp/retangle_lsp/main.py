@@ -1,5 +1,6 @@
 """The program: its arguments, and the retangle that it starts."""
 import argparse
+import gc
 import os
 import shutil
 import sys
@@ -8,6 +9,9 @@ from .protocol import Messages
 from .server import Server
 
 VERSION = '1.0'
+# What a change makes is soon dropped, and is in no cycle: the collector would look at a whole web
+# at each change, and find nothing.
+OBJECTS = 200000
 
 
 def find_retangle(program):
@@ -32,6 +36,7 @@ def main(program):
     parser.add_argument('--retangle', metavar='PATH', help='the program to use')
     parser.add_argument('--version', action='version', version='%(prog)s ' + VERSION)
     arguments = parser.parse_args()
+    gc.set_threshold(OBJECTS)
     named = arguments.retangle or os.environ.get('RETANGLE')
     server = Server(Messages(sys.stdin.fileno(), sys.stdout.buffer),
                     lambda: named or find_retangle(program), VERSION)

@@ -6,6 +6,7 @@ import itertools
 import operator
 import re
 
+from .files import common_back, common_front
 from .scanning import DEFINITION, NAME, USE, Scan, is_abbreviation, is_unended, plain_name
 from .source import chunks_of
 
@@ -16,7 +17,7 @@ Found = collections.namedtuple('Found', 'chunk occurrence')
 Found.__doc__ = """An occurrence of a name, and the number of the chunk that it is in."""
 
 NEAREST, NEAR = 3, .5           # how many near names are offered, and how near they have to be
-MOST_COMPARED = 50              # names for which the near ones are kept
+MOST_COMPARED = 100             # names for which the near ones are kept
 
 
 class Meanings:
@@ -41,21 +42,26 @@ class Names:
 
     def __init__(self, files, web, change, before=None):
         self.chunks = chunks_of(files, web, change)
-        known, self.scans, self.ordered = before.scans if before else {}, {}, []
-        for number, chunk in enumerate(self.chunks):
-            key = chunk.text if number else (chunk.text,)
-            scan = self.scans.get(key) or known.get(key) or Scan(chunk.text, number == 0)
-            self.scans[key] = scan
-            self.ordered.append(scan)
-        scans = self.scans.values()
-        self.names = set().union(*(scan.full_names for scan in scans))
-        self.abbreviations = set().union(*(scan.abbreviations for scan in scans))
+        self.texts = [chunk.text for chunk in self.chunks]
+        self.ordered = self.scans(before)
+        self.names = set().union(*(scan.full_names for scan in self.ordered))
+        self.abbreviations = set().union(*(scan.abbreviations for scan in self.ordered))
         if before and (self.names, self.abbreviations) == (before.names, before.abbreviations):
             self.meanings = before.meanings
         else:
             self.meanings = Meanings(self.names, self.abbreviations)
         self.full_names = self.meanings.ordered
         self.places_of_text = {}
+
+    def scans(self, before):
+        """The scan of each chunk. The first one begins elsewhere and is no scan of another."""
+        old, known = (before.texts, before.ordered) if before else ([], [])
+        front = common_front(old, self.texts)
+        most = min(len(old), len(self.texts)) - max(front, 1)
+        back = max(0, min(common_back(old, self.texts, front), most))
+        made = [Scan(text, number == 0) for number, text in enumerate(
+            self.texts[front:len(self.texts) - back], front)]
+        return known[:front] + made + known[len(old) - back:]
 
     @functools.cached_property
     def first_numbers(self):
@@ -65,7 +71,7 @@ class Names:
 
     @functools.cached_property
     def parts(self):
-        """For each file its parts in their order: the start, the end, the chunk and the row of it."""
+        """For each file its parts in order: the start, the end, the chunk and the row in that."""
         found = {}
         for number, chunk in enumerate(self.chunks):
             row = 0
@@ -99,8 +105,7 @@ class Names:
         if text not in self.places_of_text:
             self.places_of_text[text] = [
                 Found(number, one) for number, scan in enumerate(self.ordered)
-                if text in scan.full_names or text in scan.abbreviations
-                for one in scan.occurrences if one.text == text]
+                if text in scan.texts for one in scan.occurrences if one.text == text]
         return self.places_of_text[text]
 
     def written(self, name, roles=None):

@@ -17,7 +17,7 @@ OPEN_NAME = re.compile(rb'@[<(](?=((?:[^@]|@@)*)$)')
 REST_OF_NAME = re.compile(rb'(?:[^@]|@@)*@>')
 
 Spot = collections.namedtuple('Spot', 'web files row column')
-Spot.__doc__ = """A place in a file of a web: the names of the file, the row and the bytes before."""
+Spot.__doc__ = """A place in a file of a web: the file's names, the row and the bytes before."""
 
 
 def spots(workspace, path, place):

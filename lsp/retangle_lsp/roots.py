@@ -1,8 +1,8 @@
 """Which webs there are, and which files are theirs.
 
-The root of a file is the nearest folder upwards with a `.retangle`, a Makefile or a repository, else
-its own folder. Each .w of the root that no other web includes is a web. A line of `.retangle` names
-a web, its change file and its main output, as the words of retangle do.
+The root of a file is the nearest folder upwards with a `.retangle`, a Makefile or a repository,
+else its own folder. Each .w of the root that no other web includes is a web. A line of `.retangle`
+names a web, its change file and its main output, as the words of retangle do.
 """
 import collections
 import os
@@ -65,6 +65,7 @@ class Root:
 
     def text(self, name):
         """The text of a file as it is open, else as it is on the disk; None where there is none."""
+        path = None
         try:
             path = path_in(self.folder, name)
             if path in self.buffers:
@@ -72,6 +73,7 @@ class Root:
             self.readings[path] = read_text(name, path, self.readings.get(path))
             return self.readings[path]
         except Unreadable:
+            self.readings.pop(path, None)
             return None
 
     def lines(self, name):

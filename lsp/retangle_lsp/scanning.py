@@ -72,9 +72,9 @@ class Scan:
             at = next((found.start() for found in codes if found[1] in STARTS), len(text))
         while at < len(text):
             at = self.section(at)
-        texts = {one.text for one in self.occurrences}
-        self.abbreviations = {one for one in texts if is_abbreviation(one)}
-        self.full_names = texts - self.abbreviations
+        self.texts = {one.text for one in self.occurrences}
+        self.abbreviations = {one for one in self.texts if is_abbreviation(one)}
+        self.full_names = self.texts - self.abbreviations
 
     def section(self, start):
         """Scans a section: where the next one begins."""

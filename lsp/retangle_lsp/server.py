@@ -1,5 +1,4 @@
 """The state of a conversation with a client, and what is done for each message."""
-import sys
 import tempfile
 import traceback
 

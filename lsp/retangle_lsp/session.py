@@ -126,7 +126,10 @@ class Retangle:
             if path not in buffers:
                 self.readings[path] = read_text(name, path, self.readings.get(path))
         except Unreadable:
-            return self.readings.get(path) if name in self.roles else None
+            if name in self.roles:
+                return self.readings.get(path)
+            self.readings.pop(path, None)
+            return None
         return buffers.get(path) or self.readings[path]
 
     def texts(self, buffers):

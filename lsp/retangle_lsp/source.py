@@ -14,7 +14,7 @@ Change = collections.namedtuple('Change', 'old new')
 Change.__doc__ = """The old lines, and the new ones as pairs of rows of the change file."""
 
 Part = collections.namedtuple('Part', 'file lines start end')
-Part.__doc__ = """The lines of a file from one row to another, of which the last is no more in it."""
+Part.__doc__ = """The lines of a file from one row up to another, which is not in it any more."""
 
 
 class Chunk:
@@ -142,15 +142,12 @@ def chunks_of(files, web, change):
         if SECTION.match(lines[first]) and not before.endswith(b'\\'):
             close(chunks, parts)
             parts = []
-        row = first
-        for number, cut in enumerate(cuts, at):
-            if not parts and row == (text.starts[number - 1] if number else 0) and chunks:
-                chunks.append(Chunk([Part(file, lines, row, cut)], text.pieces[number]))
-            else:
-                close(chunks, parts + [Part(file, lines, row, cut)])
-                parts = []
-            row = cut
-        parts = parts + [Part(file, lines, row, last)]
+        if cuts:
+            close(chunks, parts + [Part(file, lines, first, cuts[0])])
+            chunks += [Chunk([Part(file, lines, *rows)], piece) for *rows, piece in zip(
+                cuts, cuts[1:], text.pieces[at + 1:end])]
+            first, parts = cuts[-1], []
+        parts = parts + [Part(file, lines, first, last)]
         before = lines[last - 1]
     if parts:
         close(chunks, parts)

@@ -27,26 +27,24 @@ class Web:
     # ------------------------------------------------------------------ retangle
 
     def start(self):
+        """Starts the retangle that is there now: it may be installed while this runs."""
+        program = self.find_retangle()
+        if program is None:
+            self.stumble('there is no retangle beside retangle-lsp and none on the path: install '
+                         'it, or pass --retangle PATH')
+            return
         try:
-            self.retangle = Retangle(*self.roles, cwd=self.root.folder, program=self.program(),
+            self.retangle = Retangle(*self.roles, cwd=self.root.folder, program=program,
                                      buffers=self.root.buffers)
             self.trouble = None
         except Ended as ended:
-            self.stumble(ended)
+            self.stumble(str(ended))
 
-    def program(self):
-        """The retangle that is there now: it may be installed while this runs."""
-        found = self.find_retangle()
-        if found is None:
-            raise Ended(127, 'there is none beside retangle-lsp and none on the path: '
-                             'install it, or pass --retangle PATH')
-        return found
-
-    def stumble(self, ended):
+    def stumble(self, why):
         """Says why retangle does not answer, unless that was said."""
-        if str(ended) != self.trouble:
-            self.trouble = str(ended)
-            self.say('%s: %s' % (shown(self.roles.web), ended))
+        if why != self.trouble:
+            self.trouble = why
+            self.say('%s: %s' % (shown(self.roles.web), why))
 
     def asked(self, question):
         """The answer of retangle, or None where there is none; then the user is shown why."""
@@ -57,7 +55,7 @@ class Web:
         except (Refused, Unreadable):
             pass                        # a fault of its file, or one that was never saved
         except Ended as ended:
-            self.stumble(ended)
+            self.stumble(str(ended))
         finally:
             for notice in self.retangle.notices:
                 self.say(notice, again=True)

@@ -213,9 +213,13 @@ class Workspace:
             missing = web.members - set(readings) - set(self.buffers) if readings else ()
             if any(map(os.path.isfile, missing)):
                 return True
-        return any(is_other(path, text) for root in self.roots.values()
-                   for path, text in root.readings.items()
-                   if self.is_settings(path) and path not in self.buffers)
+        return any(self.has_other_settings(root) for root in self.roots.values())
+
+    def has_other_settings(self, root):
+        path = os.path.join(root.folder, SETTINGS)
+        known = root.readings.get(path)
+        return path not in self.buffers and (
+            os.path.isfile(path) if known is None else is_other(path, known))
 
     # ------------------------------------------------------------------ diagnostics
 
