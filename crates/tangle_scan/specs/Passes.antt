@@ -23,7 +23,7 @@ use Rattle.tangle_scan.specs.declared.spacing.Stage.TheVariants as stage
 use Rattle.tangle_text.specs.Bytes.{backslash, is_word_byte}
 use Rattle.tangle_lines.specs.Reading.{SourceLine, origin_at}
 use Rattle.tangle_scan.specs.Rules.{without_faults, without_front_gaps, may_follow_name, is_gap}
-use Rattle.tangle_scan.specs.Rules.{would_merge, is_constant, is_word_token, has_join}
+use Rattle.tangle_scan.specs.Rules.{would_merge, is_constant, may_merge, full_stop, has_join}
 use Rattle.tangle_scan.specs.Rules.{without_joins, left_of_run, blanks, is_continued, at_line_front}
 use Rattle.tangle_scan.specs.Rules.{texts_of, first_byte, last_byte, span_item, next_line}
 use Rattle.tangle_scan.specs.Entries.{items_of, entry_is_mark}
@@ -45,8 +45,9 @@ without_joins_from spaced start es = take start spaced ++ without_joins (drop st
 -- rule 1 for the tokens after another one
 
 abbrev pub needs_space : List (List ℕ) → Stage → Token → Token → Bool
-needs_space texts stage.AfterName before e = would_merge before e || not (may_follow_name texts e)
-needs_space texts _ before e = would_merge before e
+needs_space texts stage.AfterName before e =
+    would_merge texts before e || not (may_follow_name texts e)
+needs_space texts _ before e = would_merge texts before e
 
 abbrev pub stage_after : Stage → Token → Stage
 stage_after stage.Inside e = stage.Inside
@@ -155,15 +156,23 @@ abbrev pub is_code : Option Entry → Bool
 is_code (Some (entry.Item (item.Code b))) = true
 is_code _ = false
 
-abbrev pub is_word_end : List (List ℕ) → Option Entry → Bool
-is_word_end texts (Some (entry.Item (item.Word s))) = true
-is_word_end texts (Some (entry.Run s)) = is_word_byte (last_byte texts s)
-is_word_end texts _ = false
+-- a byte of a run with which a number would be read as one
+abbrev pub is_merging_byte : ℕ → Bool
+is_merging_byte b = is_word_byte b || (b == full_stop || b == backslash)
+
+abbrev pub is_merging_end : List (List ℕ) → Option Entry → Bool
+is_merging_end texts (Some (entry.Item (item.Code b))) = true
+is_merging_end texts (Some (entry.Item (item.Word s))) = true
+is_merging_end texts (Some (entry.Item (item.Verbatim s))) = true
+is_merging_end texts (Some (entry.Item (item.Sign s))) =
+    first_byte texts s == full_stop || first_byte texts s == backslash
+is_merging_end texts (Some (entry.Run s)) = is_merging_byte (last_byte texts s)
+is_merging_end texts _ = false
 
 abbrev pub entries_merge : List (List ℕ) → List Entry → Token → Bool
 entries_merge texts entries e =
-    is_code (last_entry entries) && (is_constant e || is_word_token e)
-    || is_word_end texts (last_entry entries) && is_constant e
+    is_code (last_entry entries) && may_merge texts e
+    || is_merging_end texts (last_entry entries) && is_constant e
 
 -- rule 4 and rule 5 in one pass: the items of tokens that rule 3 made, by the token before them on
 -- the line and by the counted origin
@@ -185,8 +194,8 @@ items_after lines before counted white es =
     items_by_origin lines before counted (blanks (texts_of lines) before white es)
 
 -- the tokens that rule 1 makes of those after a token
-abbrev pub spaced_after : Token → List Token → List Token
-spaced_after before es = with_white_space [] stage.Inside before (without_faults es)
+abbrev pub spaced_after : List (List ℕ) → Token → List Token → List Token
+spaced_after texts before es = with_white_space texts stage.Inside before (without_faults es)
 
 -- what is known of `Last`
 
@@ -248,7 +257,7 @@ pub record IsRead (lines : List SourceLine) (entries : List Entry) (at : PartSta
   pub continues : is_joined at.last ≡ false
       → is_continued (texts_of lines) before ≡ entries_continue (texts_of lines) entries
   pub merges : (e : Token)
-      → would_merge prev e ≡ (is_touching at && entries_merge (texts_of lines) entries e)
+      → would_merge (texts_of lines) prev e ≡ (is_touching at && entries_merge (texts_of lines) entries e)
 
 -- The items `whole` of a C part are those of the entries so far, then those of the tokens `es` that
 -- were not read yet.
@@ -256,7 +265,7 @@ pub record IsPassed (lines : List SourceLine) (whole : List Item) (entries : Lis
     (at : PartState) (es : List Token) : Type 0 where
   pub read : IsRead lines entries at
   pub left : whole
-      ≡ from_gap lines entries at read.front (without_joins read.gap (spaced_after read.prev es))
+      ≡ from_gap lines entries at read.front (without_joins read.gap (spaced_after (texts_of lines) read.prev es))
 
 -- the item of a token that is one, after the blank that goes before it
 abbrev pub blank_before : List SourceLine → List Entry → PartState → Token → Bool

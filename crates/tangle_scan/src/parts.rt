@@ -11,7 +11,6 @@ ghost use Rattle.std.specs.Prelude.{Some, option_to_list, IfOk, OnOk};
 ghost use Rattle.std.specs.List.{list_any, All};
 ghost use Rattle.tangle_scan.specs.Rules as rules;
 ghost use Rattle.tangle_lines.specs.Reading.{origin_at};
-ghost use Rattle.tangle_text.specs.Bytes.{is_word_byte};
 ghost use Rattle.tangle_scan.specs.Entries.{IsEntryInRange, entry_is_mark, items_of};
 ghost use Rattle.tangle_scan.specs.Passes as passes;
 ghost use Rattle.tangle_scan.specs.Rules.{texts_of};
@@ -20,7 +19,7 @@ ghost use Rattle.tangle_scan.specs.Web as web;
 ghost use Rattle.tangle_scan.specs.Web.{is_line_mark};
 ghost use Rattle.tangle_scan.specs.WebBuilder.{own_fault};
 ghost use Rattle.tangle_scan.specs.Passes.{origin_of, last_entry, entries_continue, highest};
-ghost use Rattle.tangle_scan.specs.Passes.{blank_if, blank_before, start_of_gap};
+ghost use Rattle.tangle_scan.specs.Passes.{blank_if, blank_before, start_of_gap, is_merging_byte};
 ghost use Rattle.tangle_scan.specs.Passes.{IsPassed, IsMarked};
 ghost use Rattle.tangle_lexer.specs.Heads.{is_head};
 ghost use Rattle.tangle_lexer.specs.Runs.{IsRunIn, unfolded, unfolded_token};
@@ -32,7 +31,7 @@ ghost use Rattle.tangle_scan.specs.declared.parts.Last.TheVariants as last;
 
 use crate::faults::add_fault;
 use crate::items::{Entry, Item, OccurrenceNumber};
-use crate::touching::{first_byte, last_byte};
+use crate::touching::{first_byte, last_byte, may_merge};
 use std::alloc::Global;
 use tangle_lexer::{SpanKind, Token};
 use tangle_lines::{Fault, NoMemory, Origin, Source};
@@ -360,24 +359,32 @@ fn ends_in_constant(entries: &[Entry]) -> bool
     }
 }
 
-/// Whether an entry is a word or a run that ends in a word.
-#[inline(always)]
-fn is_word_end(source: &Source, entry: Entry) -> bool
-    ensures { result ≡ passes.is_word_end (texts_of source.now.lines) (Some entry) }
+/// Whether a number beside a run that begins or ends with this byte would be read as one with it.
+fn is_merging_byte(byte: u8) -> bool
+    ensures { result ≡ passes.is_merging_byte byte }
 {
-    match entry {
-        Entry::Item(Item::Word(_)) => true,
-        Entry::Run(span) => is_word_byte(last_byte(source, span)),
+    is_word_byte(byte) || byte == b'.' || byte == b'\\'
+}
+
+/// Whether an ASCII constant after this item would be read as one with it.
+#[inline(always)]
+fn item_merges(source: &Source, item: Item) -> bool
+    ensures { result ≡ passes.is_merging_end (texts_of source.now.lines) (Some (entry.Item item)) }
+{
+    match item {
+        Item::Code(_) | Item::Word(_) | Item::Verbatim(_) => true,
+        Item::Sign(span) => matches!(first_byte(source, span), b'.' | b'\\'),
         _ => false,
     }
 }
 
-/// Whether the last entry is a word or a run that ends in a word.
-fn ends_in_word(source: &Source, entries: &[Entry]) -> bool
-    ensures { result ≡ passes.is_word_end (texts_of source.now.lines) (last_entry entries.now) }
+/// Whether an ASCII constant after the last entry would be read as one with it.
+fn ends_merging(source: &Source, entries: &[Entry]) -> bool
+    ensures { result ≡ passes.is_merging_end (texts_of source.now.lines) (last_entry entries.now) }
 {
     match entries.last() {
-        Some(entry) => is_word_end(source, *entry),
+        Some(Entry::Item(item)) => item_merges(source, *item),
+        Some(Entry::Run(span)) => is_merging_byte(last_byte(source, *span)),
         None => false,
     }
 }
@@ -397,11 +404,8 @@ fn would_merge(source: &Source, entries: &[Entry], at: &PartState, token: Token)
         && passes.entries_merge (texts_of source.now.lines) entries.now token) }
 {
     match token {
-        Token::Span(SpanKind::Word, _) => is_touching(at) && ends_in_constant(entries),
-        Token::AsciiConstant(..) => {
-            is_touching(at) && (ends_in_constant(entries) || ends_in_word(source, entries))
-        }
-        _ => false,
+        Token::AsciiConstant(..) => is_touching(at) && ends_merging(source, entries),
+        _ => is_touching(at) && ends_in_constant(entries) && may_merge(source, token),
     }
 }
 
@@ -410,9 +414,9 @@ fn would_merge(source: &Source, entries: &[Entry], at: &PartState, token: Token)
 #[inline(always)]
 fn run_would_merge(source: &Source, entries: &[Entry], at: &PartState, span: Span) -> bool
     ensures { result ≡ (passes.is_touching at.now && (passes.is_code (last_entry entries.now)
-        && is_word_byte (rules.first_byte (texts_of source.now.lines) span))) }
+        && is_merging_byte (rules.first_byte (texts_of source.now.lines) span))) }
 {
-    is_touching(at) && ends_in_constant(entries) && is_word_byte(first_byte(source, span))
+    is_touching(at) && ends_in_constant(entries) && is_merging_byte(first_byte(source, span))
 }
 
 /// Ends the gap before an item. Adds a blank if the item would merge with the one before it, or if
@@ -442,7 +446,7 @@ fn add_run(
     ensures entries { OnOk result (entries.new.items
         ≡ (entries.old.items ++ map entry.Item (blank_if (
         passes.is_touching at.old && (passes.is_code (last_entry entries.old.items)
-        && is_word_byte (rules.first_byte (texts_of source.now.lines) span))
+        && is_merging_byte (rules.first_byte (texts_of source.now.lines) span))
         || passes.keeps_white at.old.last && at.old.has_white)))
         ++ entry.Run span ∷ []) }
     ensures at { OnOk result (at.new ≡ record at.old { last = last.Item; has_white = false }) }

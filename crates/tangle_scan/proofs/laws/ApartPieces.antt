@@ -351,9 +351,9 @@ module _ (lines : List SourceLine) (used : ℕ → List ℕ) (mark : Origin → 
 
 -- the items of a whole piece are read apart
 pub piece-apart : (lines : List SourceLine) (line : ℕ) (tokens : List Token) →
-    IsPieceReadApart (texts_of lines) (part_tokens tokens) (part_items lines line tokens)
+    IsPieceReadApart (texts_of lines) (part_tokens (texts_of lines) tokens) (part_items lines line tokens)
 piece-apart lines line tokens used mark macros =
     rw (part_items-by_origin lines line tokens)
-    ((reads lines used mark macros (part_tokens tokens)).plain false false None None (origin_at lines line) []
+    ((reads lines used mark macros (part_tokens (texts_of lines) tokens)).plain false false None None (origin_at lines line) []
     (inr (record { nothing = no-bytes lines used mark macros None; here = λ none f. refl; front = λ none f. refl }))
     refl)

@@ -38,13 +38,14 @@ white-flows : (count : ℕ) (b : Bool) (line : ℕ) (es : List Token) → Flows 
 white-flows count true line es f = (tt, f)
 white-flows count false line es f = f
 
-with_spaces-flows : (count : ℕ) (es : List Token) (line : ℕ) → Flows count line es → Flows count line (with_spaces es)
-with_spaces-flows count [] line f = f
-with_spaces-flows count (e ∷ []) line f = f
-with_spaces-flows count (e ∷ g ∷ es) line f = (
+with_spaces-flows : (texts : List (List ℕ)) (count : ℕ) (es : List Token) (line : ℕ)
+    → Flows count line es → Flows count line (with_spaces texts es)
+with_spaces-flows texts count [] line f = f
+with_spaces-flows texts count (e ∷ []) line f = f
+with_spaces-flows texts count (e ∷ g ∷ es) line f = (
   f.0,
-  white-flows count (would_merge e g) (line_past line e) (with_spaces (g ∷ es))
-      (with_spaces-flows count (g ∷ es) (line_past line e) f.1),
+  white-flows count (would_merge texts e g) (line_past line e) (with_spaces texts (g ∷ es))
+      (with_spaces-flows texts count (g ∷ es) (line_past line e) f.1),
 )
 
 -- all tokens of a run are joins, white space and line ends
@@ -264,7 +265,7 @@ module _ (lines : List SourceLine) where
       → IsAtItsLine lines (origin_at lines line) (part_items lines line es) (part_locations lines line es)
   part-true line es flows =
       let clean : List Token = without_faults es in
-      let spaced : Flows (length lines) line (with_spaces clean) =
-      with_spaces-flows (length lines) clean line (without_faults-flows (length lines) es line flows) in
-      rw (part_items-by_origin lines line es, blanks-seen None false (part_tokens es) None (origin_at lines line))
-      (map_runs-true [] (with_spaces clean) refl None (origin_at lines line) false line (λ out inside. refl) spaced)
+      let spaced : Flows (length lines) line (with_spaces (texts_of lines) clean) =
+      with_spaces-flows (texts_of lines) (length lines) clean line (without_faults-flows (length lines) es line flows) in
+      rw (part_items-by_origin lines line es, blanks-seen None false (part_tokens (texts_of lines) es) None (origin_at lines line))
+      (map_runs-true [] (with_spaces (texts_of lines) clean) refl None (origin_at lines line) false line (λ out inside. refl) spaced)

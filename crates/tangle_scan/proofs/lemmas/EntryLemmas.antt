@@ -106,13 +106,13 @@ item-continues lines entries (token.Run s) solid head run = absurd (run s refl)
 item-continues lines entries _ solid head run = cc
 
 span-merges : (texts : List (List ℕ)) (entries : List Entry) (kind : SpanKind) (s : Span) (f : Token)
-    → entries_merge texts (entries ++ entry.Item (span_item kind s) ∷ []) f ≡ would_merge (token.Span kind s) f
+    → entries_merge texts (entries ++ entry.Item (span_item kind s) ∷ []) f ≡ would_merge texts (token.Span kind s) f
 span-merges texts entries span_kind.Word s f = rw (last-of-push entries (entry.Item (item.Word s))) refl
 span-merges texts entries kind s f = rw (last-of-push entries (entry.Item (span_item kind s))) refl
 
 pub item-merges : (lines : List SourceLine) (entries : List Entry) (e f : Token)
     → is_solid e ≡ true → is_head e ≡ false → ((s : Span) → e ≡ token.Run s → ⊥)
-    → entries_merge (texts_of lines) (entries ++ map entry.Item (items_at lines e)) f ≡ would_merge e f
+    → entries_merge (texts_of lines) (entries ++ map entry.Item (items_at lines e)) f ≡ would_merge (texts_of lines) e f
 item-merges lines entries (token.Span kind s) f solid head run = span-merges (texts_of lines) entries kind s f
 item-merges lines entries token.QuoteBreak f solid head run =
     rw (last-of-push entries (entry.Item item.QuoteBreak)) refl

@@ -133,5 +133,5 @@ module _ (lines : List SourceLine) where
   -- rules 4 and 5, one after the other, give the same items of a C part as the one pass
   pub part_items-by_origin : (line : ℕ) (es : List Token)
       → part_items lines line es
-      ≡ items_by_origin lines None (origin_at lines line) (blanks texts None false (part_tokens es))
-  part_items-by_origin line es = made-blanks None None false (origin_at lines line) (part_tokens es) refl
+      ≡ items_by_origin lines None (origin_at lines line) (blanks texts None false (part_tokens texts es))
+  part_items-by_origin line es = made-blanks None None false (origin_at lines line) (part_tokens texts es) refl

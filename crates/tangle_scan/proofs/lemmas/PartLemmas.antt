@@ -13,7 +13,6 @@ use Rattle.tangle_lexer.specs.Runs.{part_token, unfolded_token, IsRunOf}
 use Rattle.tangle_text.specs.declared.runs.RunPart.{RunPart}
 use Rattle.tangle_text.specs.declared.runs.RunPart.TheVariants as part
 use Rattle.tangle_text.specs.declared.spans.Span.{Span}
-use Rattle.tangle_text.specs.Bytes.{is_word_byte}
 use Rattle.tangle_text.specs.Runs.{run_parts, has_single_spaces}
 use Rattle.tangle_lines.specs.declared.origin.Origin.{Origin}
 use Rattle.tangle_lines.specs.Reading.{SourceLine, origin_at}
@@ -28,12 +27,12 @@ use Rattle.tangle_scan.specs.declared.parts.PartState.{PartState}
 use Rattle.tangle_scan.specs.declared.parts.Start.{Start}
 use Rattle.tangle_scan.specs.Entries.{items_of, part_item}
 use Rattle.tangle_scan.specs.Rules.{without_faults, would_merge, is_constant, first_byte}
-use Rattle.tangle_scan.specs.Rules.{is_word_token, without_joins, is_gap, left_of_run, ends_in_backslash}
+use Rattle.tangle_scan.specs.Rules.{may_merge, without_joins, is_gap, left_of_run, ends_in_backslash}
 use Rattle.tangle_scan.specs.Rules.{has_join, texts_of, is_continued, at_line_front}
 use Rattle.tangle_scan.specs.Rules.{blanks, part_items, is_front_gap}
 use Rattle.tangle_scan.specs.LineTruth.{counted_after_line_end}
 use Rattle.tangle_scan.specs.Passes.{IsPassed, from_gap, start_of_gap, items_after, spaced_after, blank_before}
-use Rattle.tangle_scan.specs.Passes.{is_joined, is_item, is_touching, is_after_line_end, keeps_white, last_after_line_end}
+use Rattle.tangle_scan.specs.Passes.{is_merging_byte, is_joined, is_item, is_touching, is_after_line_end, keeps_white, last_after_line_end}
 use Rattle.tangle_scan.specs.Passes.{line_item, items_at, counted_after_token, items_by_origin, blank_if}
 use Rattle.tangle_scan.specs.Passes.{item_continues, entries_continue, entries_merge, is_code, last_entry, origin_of}
 use Rattle.tangle_scan.proofs.lemmas.ItemsByOrigin.{items_by_origin-item, part_items-by_origin, by-line_item}
@@ -41,7 +40,7 @@ use Rattle.tangle_scan.proofs.lemmas.RuleLemmas.{without_joins-item, has_join-pu
 use Rattle.tangle_scan.proofs.lemmas.SpacingLemmas.{spaced-inside}
 use Rattle.tangle_scan.proofs.lemmas.EntryLemmas.{items_by_origin-blank, items-push, items-more, last-continues}
 use Rattle.tangle_scan.proofs.lemmas.EntryLemmas.{last-of-push, item-continues, item-merges, start-within}
-use Rattle.tangle_scan.proofs.lemmas.RunItems.{last_token, run-front, run-continues, run-word}
+use Rattle.tangle_scan.proofs.lemmas.RunItems.{last_token, run-front, run-continues, run-merges}
 
 abbrev white_if : Bool → List Token
 white_if b = if b then token.White ∷ [] else []
@@ -51,12 +50,12 @@ white_if b = if b then token.White ∷ [] else []
 apart : (a b : Bool) → (a && false || b && false) ≡ false
 apart a b = rw (and-false a, and-false b) refl
 
-spaced-gap : (gap : List Token) (prev e : Token) (es : List Token) → is_gap e ≡ true
-    → without_joins gap (spaced_after prev (e ∷ es)) ≡ without_joins (gap ++ e ∷ []) (spaced_after e es)
-spaced-gap gap prev token.Join es h = rw (apart (is_constant prev) (is_word_token prev)) refl
-spaced-gap gap prev token.White es h = rw (apart (is_constant prev) (is_word_token prev)) refl
-spaced-gap gap prev (token.LineEnd line) es h = rw (apart (is_constant prev) (is_word_token prev)) refl
-spaced-gap gap prev _ es h = cc
+spaced-gap : (texts : List (List ℕ)) (gap : List Token) (prev e : Token) (es : List Token) → is_gap e ≡ true
+    → without_joins gap (spaced_after texts prev (e ∷ es)) ≡ without_joins (gap ++ e ∷ []) (spaced_after texts e es)
+spaced-gap texts gap prev token.Join es h = rw (apart (is_constant prev) (may_merge texts prev)) refl
+spaced-gap texts gap prev token.White es h = rw (apart (is_constant prev) (may_merge texts prev)) refl
+spaced-gap texts gap prev (token.LineEnd line) es h = rw (apart (is_constant prev) (may_merge texts prev)) refl
+spaced-gap texts gap prev _ es h = cc
 
 -- faults are left out
 pub passed-fault : (lines : List SourceLine) (whole : List Item) (entries : List Entry) (at : PartState)
@@ -108,7 +107,7 @@ passed-white lines whole entries at es h = record {
     merges = λ e. sym (ap (λ b. b && entries_merge (texts_of lines) entries e) (and-false (is_item at.last)));
   };
   left = h.left
-      ∙ ap (from_gap lines entries at h.read.front) (spaced-gap h.read.gap h.read.prev token.White es refl);
+      ∙ ap (from_gap lines entries at h.read.front) (spaced-gap (texts_of lines) h.read.gap h.read.prev token.White es refl);
 }
 
 -- a line end
@@ -136,7 +135,7 @@ passed-joined-end lines whole entries at line es is h =
         merges = λ e. rw is refl;
       };
       left = h.left
-          ∙ ap (from_gap lines entries at h.read.front) (spaced-gap h.read.gap h.read.prev (token.LineEnd line) es refl);
+          ∙ ap (from_gap lines entries at h.read.front) (spaced-gap (texts_of lines) h.read.gap h.read.prev (token.LineEnd line) es refl);
     }
 
 after-end : (continued : Bool) → is_after_line_end (last_after_line_end continued) ≡ true
@@ -205,8 +204,8 @@ passed-end lines whole entries at line counted es other is h = record {
     merges = λ e. sym (ap (λ b. b && true && entries_merge texts (entries ++ entry.Item made ∷ []) e)
         (item-end continued));
   };
-  left = h.left ∙ (ap (from_gap lines entries at h.read.front) (spaced-gap gap h.read.prev (token.LineEnd line) es refl)
-      ∙ sym (same (without_joins (gap ++ token.LineEnd line ∷ []) (spaced_after (token.LineEnd line) es))));
+  left = h.left ∙ (ap (from_gap lines entries at h.read.front) (spaced-gap texts gap h.read.prev (token.LineEnd line) es refl)
+      ∙ sym (same (without_joins (gap ++ token.LineEnd line ∷ []) (spaced_after texts (token.LineEnd line) es))));
 }
   where
     texts : List (List ℕ)
@@ -274,7 +273,7 @@ passed-join lines whole entries at es h =
         continues = λ never. cc;
         merges = λ e. refl;
       };
-      left = rw all (h.left ∙ ap (from_gap lines entries at h.read.front) (spaced-gap h.read.gap h.read.prev token.Join es refl));
+      left = rw all (h.left ∙ ap (from_gap lines entries at h.read.front) (spaced-gap (texts_of lines) h.read.gap h.read.prev token.Join es refl));
     }
   where
     within : (b : Bool) → at.start.entries
@@ -286,12 +285,12 @@ passed-join lines whole entries at es h =
 
 -- the items of the tokens after an item
 abbrev ahead : List SourceLine → Token → Origin → List Token → List Item
-ahead lines e counted es = items_after lines (Some e) counted false (without_joins [] (spaced_after e es))
+ahead lines e counted es = items_after lines (Some e) counted false (without_joins [] (spaced_after (texts_of lines) e es))
 
-solid-spaced : (prev e : Token) (es : List Token) → is_solid e ≡ true
-    → spaced_after prev (e ∷ es) ≡ white_if (would_merge prev e) ++ e ∷ spaced_after e es
-solid-spaced prev (token.Fault kind line) es h = cc
-solid-spaced prev _ es h = refl
+solid-spaced : (texts : List (List ℕ)) (prev e : Token) (es : List Token) → is_solid e ≡ true
+    → spaced_after texts prev (e ∷ es) ≡ white_if (would_merge texts prev e) ++ e ∷ spaced_after texts e es
+solid-spaced texts prev (token.Fault kind line) es h = cc
+solid-spaced texts prev _ es h = refl
 
 solid-gap : (e : Token) → is_solid e ≡ true → is_gap e ≡ false
 solid-gap token.White h = cc
@@ -342,11 +341,12 @@ item-ahead : (lines : List SourceLine) (whole : List Item) (entries : List Entry
 item-ahead lines whole entries at e es solid h =
     h.left
     ∙ (ap (λ t. from_gap lines entries at h.read.front (without_joins h.read.gap t))
-    (solid-spaced h.read.prev e es solid ∙ ap (λ b. white_if b ++ e ∷ spaced_after e es) (h.read.merges e))
+    (solid-spaced (texts_of lines) h.read.prev e es solid
+    ∙ ap (λ b. white_if b ++ e ∷ spaced_after (texts_of lines) e es) (h.read.merges e))
     ∙ (ap (from_gap lines entries at h.read.front)
-    (item-joins h.read.gap merges e (spaced_after e es) (solid-gap e solid)
+    (item-joins h.read.gap merges e (spaced_after (texts_of lines) e es) (solid-gap e solid)
     (λ is. h.read.joined ∙ item-unjoined at.last (item is)))
-    ∙ (h.read.made (white_if merges ++ e ∷ without_joins [] (spaced_after e es))
+    ∙ (h.read.made (white_if merges ++ e ∷ without_joins [] (spaced_after (texts_of lines) e es))
     ∙ ap (λ t. items_of (texts_of lines) entries ++ t)
     (ap (items_by_origin lines h.read.before (origin_of at.counted))
     (item-blanks (texts_of lines) at.last at.has_white merges h.read.before e _ (solid-front e solid) h.read.keeps item)
@@ -364,7 +364,7 @@ item-ahead lines whole entries at e es solid h =
 item-passed : (lines : List SourceLine) (whole : List Item) (new : List Entry) (next : PartState)
     (e : Token) (es : List Token) → next.last ≡ last.Item → next.has_white ≡ false → next.start.entries ≤ length new
     → ends_in_backslash (texts_of lines) e ≡ entries_continue (texts_of lines) new
-    → ((f : Token) → would_merge e f ≡ entries_merge (texts_of lines) new f)
+    → ((f : Token) → would_merge (texts_of lines) e f ≡ entries_merge (texts_of lines) new f)
     → whole ≡ items_of (texts_of lines) new ++ ahead lines e (origin_of next.counted) es
     → IsPassed lines whole new next es
 item-passed lines whole new next e es item white within continues merges left =
@@ -431,18 +431,18 @@ parts-ahead : (lines : List SourceLine) (e : Token) (counted : Origin) (ps : Lis
     ≡ map part_item ps ++ ahead lines (last_token e ps) counted es
 parts-ahead lines e counted [] es plain h = refl
 parts-ahead lines e counted (part.Word s ∷ ps) es plain h =
-    rw (plain, and-false (is_word_token e))
+    rw (plain, and-false (may_merge (texts_of lines) e))
     (ap (λ t. item.Word s ∷ t) (parts-ahead lines (token.Span span_kind.Word s) counted ps es refl h))
 parts-ahead lines e counted (part.Sign s ∷ ps) es plain h =
-    rw (plain, and-false (is_word_token e))
+    rw (plain, and-false (may_merge (texts_of lines) e))
     (ap (λ t. item.Sign s ∷ t) (parts-ahead lines (token.Span span_kind.Sign s) counted ps es refl h))
 parts-ahead lines e counted (part.Space ∷ []) es plain h = cc
 parts-ahead lines e counted (part.Space ∷ part.Space ∷ ps) es plain h = cc
 parts-ahead lines e counted (part.Space ∷ part.Word s ∷ ps) es plain h =
-    rw (plain, and-false (is_word_token e))
+    rw (plain, and-false (may_merge (texts_of lines) e))
     (ap (λ t. item.Blank ∷ item.Word s ∷ t) (parts-ahead lines (token.Span span_kind.Word s) counted ps es refl h))
 parts-ahead lines e counted (part.Space ∷ part.Sign s ∷ ps) es plain h =
-    rw (plain, and-false (is_word_token e))
+    rw (plain, and-false (may_merge (texts_of lines) e))
     (ap (λ t. item.Blank ∷ item.Sign s ∷ t) (parts-ahead lines (token.Span span_kind.Sign s) counted ps es refl h))
 
 -- a part that is no space, before others
@@ -464,14 +464,14 @@ part-ahead lines whole entries at (part.Sign s) ps es spaces h =
 
 -- an item after which no run is written as one with it, and a word or a sign before
 front-merges : (texts : List (List ℕ)) (entries : List Entry) (p : RunPart)
-    → entries_merge texts entries (part_token p) ≡ (is_code (last_entry entries) && is_word_token (part_token p))
+    → entries_merge texts entries (part_token p) ≡ (is_code (last_entry entries) && may_merge texts (part_token p))
 front-merges texts entries p =
     rw (plain-part p, and-false, or-false) refl
 
 -- the blank before a run, by its first byte
 abbrev pub blank_before_run : List SourceLine → List Entry → PartState → Span → Bool
 blank_before_run lines entries at s =
-    is_touching at && (is_code (last_entry entries) && is_word_byte (first_byte (texts_of lines) s))
+    is_touching at && (is_code (last_entry entries) && is_merging_byte (first_byte (texts_of lines) s))
     || keeps_white at.last && at.has_white
 
 run-passed : (lines : List SourceLine) (whole : List Item) (entries : List Entry) (at : PartState) (s : Span)
@@ -490,7 +490,7 @@ run-passed lines whole entries at s (p ∷ ps) es is run spaces h =
     item-passed lines whole _ _ end es refl refl
     (omega (arith, h.read.start, length-append entries (map entry.Item blank), length-append middle (entry.Run s ∷ [])))
     (run-continues texts s p ps is run ∙ sym (last-continues texts middle (entry.Run s)))
-    (λ f. rw (last-of-push middle (entry.Run s), last-plain (part_token p) ps (plain-part p), run-word texts s p ps is run)
+    (λ f. rw (last-of-push middle (entry.Run s), last-plain (part_token p) ps (plain-part p), run-merges texts s p ps is run)
     refl)
     (part-ahead lines whole entries at p ps es spaces h
     ∙ rw (first, items-push texts middle (entry.Run s), items-more texts entries blank, append_assoc, append_assoc, is) refl)
@@ -522,7 +522,7 @@ passed-begin lines line at es front start is_start is = record {
     merges = λ e. rw front refl;
   };
   left = part_items-by_origin lines line es
-      ∙ rw (front, start, is_start, spaced-inside [] (without_faults es)) refl;
+      ∙ rw (front, start, is_start, spaced-inside (texts_of lines) (without_faults es)) refl;
 }
 
 pub passed-whole : (lines : List SourceLine) (whole : List Item) (entries : List Entry) (at : PartState) (es : List Token)
