@@ -6,6 +6,7 @@ use Rattle.std.specs.Prelude.{Option, Some, None, is_some, option_to_list}
 use Rattle.tangle_lines.specs.declared.origin.Origin.{Origin}
 use Rattle.tangle_lexer.specs.declared.tokens.Token.{Token}
 use Rattle.tangle_lexer.specs.declared.tokens.Token.TheVariants as token
+use Rattle.tangle_text.specs.declared.spans.Span.{Span}
 use Rattle.tangle_scan.specs.declared.items.Item.{Item}
 use Rattle.tangle_scan.specs.declared.items.Item.TheVariants as item
 use Rattle.tangle_scan.specs.declared.items.Entry.{Entry}
@@ -267,10 +268,16 @@ pub record IsPassed (lines : List SourceLine) (whole : List Item) (entries : Lis
   pub left : whole
       ≡ from_gap lines entries at read.front (without_joins read.gap (spaced_after (texts_of lines) read.prev es))
 
--- the item of a token that is one, after the blank that goes before it
+-- a blank goes before the item of a token
 abbrev pub blank_before : List SourceLine → List Entry → PartState → Token → Bool
 blank_before lines entries at e =
     is_touching at && entries_merge (texts_of lines) entries e
+    || keeps_white at.last && at.has_white
+
+-- a blank goes before a run, by the first byte of the run
+abbrev pub blank_before_run : List SourceLine → List Entry → PartState → Span → Bool
+blank_before_run lines entries at s =
+    is_touching at && (is_code (last_entry entries) && is_merging_byte (first_byte (texts_of lines) s))
     || keeps_white at.last && at.has_white
 
 abbrev pub blank_if : Bool → List Item

@@ -19,7 +19,8 @@ ghost use Rattle.tangle_scan.specs.Web as web;
 ghost use Rattle.tangle_scan.specs.Web.{is_line_mark};
 ghost use Rattle.tangle_scan.specs.WebBuilder.{own_fault};
 ghost use Rattle.tangle_scan.specs.Passes.{origin_of, last_entry, entries_continue, highest};
-ghost use Rattle.tangle_scan.specs.Passes.{blank_if, blank_before, start_of_gap, is_merging_byte};
+ghost use Rattle.tangle_scan.specs.Passes.{blank_if, blank_before, blank_before_run, start_of_gap};
+ghost use Rattle.tangle_scan.specs.Passes.{is_merging_byte};
 ghost use Rattle.tangle_scan.specs.Passes.{IsPassed, IsMarked};
 ghost use Rattle.tangle_lexer.specs.Heads.{is_head};
 ghost use Rattle.tangle_lexer.specs.Runs.{IsRunIn, unfolded, unfolded_token};
@@ -444,10 +445,8 @@ fn add_run(
     span: Span,
 ) -> Result<(), NoMemory>
     ensures entries { OnOk result (entries.new.items
-        ≡ (entries.old.items ++ map entry.Item (blank_if (
-        passes.is_touching at.old && (passes.is_code (last_entry entries.old.items)
-        && is_merging_byte (rules.first_byte (texts_of source.now.lines) span))
-        || passes.keeps_white at.old.last && at.old.has_white)))
+        ≡ (entries.old.items ++ map entry.Item (blank_if
+        (blank_before_run source.now.lines entries.old.items at.old span)))
         ++ entry.Run span ∷ []) }
     ensures at { OnOk result (at.new ≡ record at.old { last = last.Item; has_white = false }) }
 {
@@ -573,14 +572,14 @@ fn add_token(
     faults: &mut Vec<Fault>,
     entries: &mut Vec<Entry>,
     at: &mut PartState,
-    token: Token,
+    token: &Token,
 ) -> Result<(), NoMemory>
-    requires no_head { is_head token ≡ false }
+    requires no_head { is_head token.now ≡ false }
     requires line { highest at.old < 2 ^ 63 }
-    requires run { IsRunIn (texts_of source.now.lines) token }
+    requires run { IsRunIn (texts_of source.now.lines) token.now }
     ensures passed { OnOk result ((whole : List ItemRead) (rest : List TokenRead) →
         IsPassed source.now.lines whole entries.old.items at.old
-        (unfolded_token (texts_of source.now.lines) token ++ rest)
+        (unfolded_token (texts_of source.now.lines) token.now ++ rest)
         → IsPassed source.now.lines whole entries.new.items at.new rest) }
     ensures limit { OnOk result (highest at.new ≤ max (2 ^ 32) (highest at.old + 1)) }
     ensures mark { OnOk result
@@ -589,11 +588,11 @@ fn add_token(
         (All (IsEntryInRange (texts_of source.now.lines)) entries.old.items
         → All (IsEntryInRange (texts_of source.now.lines)) entries.new.items) }
     ensures all_macros { OnOk result
-        (at.new.has_all_macros ≡ (at.old.has_all_macros || web.is_all_macros token)) }
+        (at.new.has_all_macros ≡ (at.old.has_all_macros || web.is_all_macros token.now)) }
     ensures faults { OnOk result (faults.new.items ≡ faults.old.items
-        ++ own_fault source.now.files source.now.lines token) }
+        ++ own_fault source.now.files source.now.lines token.now) }
 {
-    match token {
+    match *token {
         Token::White => {
             at.has_white = true;
             Ok(())
@@ -618,8 +617,8 @@ fn add_token(
             Ok(())
         }
         _ => {
-            add_item(source, entries, at, token)?;
-            at.has_all_macros = at.has_all_macros | is_all_macros(token);
+            add_item(source, entries, at, *token)?;
+            at.has_all_macros = at.has_all_macros | is_all_macros(*token);
             Ok(())
         }
     }
@@ -671,7 +670,7 @@ pub(crate) fn fill_part(
         has_all_macros: false,
     };
     for token in tokens {
-        add_token(alloc, source, faults, entries, &mut at, *token)?;
+        add_token(alloc, source, faults, entries, &mut at, token)?;
     }
     Ok(PartNotes {
         has_mark: at.counted.has_mark,

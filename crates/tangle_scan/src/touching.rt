@@ -1,4 +1,4 @@
-//! Which items may touch, and which lines a C compiler joins.
+//! Which items may touch.
 ghost use Rattle.std.specs.Prelude.{◌≡◌, get_or, []};
 ghost use Rattle.tangle_scan.specs.Rules as rules;
 ghost use Rattle.tangle_scan.specs.Rules.{texts_of};
@@ -52,18 +52,6 @@ pub(crate) fn last_byte(source: &Source, span: Span) -> u8
         return 0;
     }
     source_byte(source, span.line, span.end as usize - 1)
-}
-
-/// Whether a token is a sign or a verbatim text that ends in a backslash. A C compiler joins a line
-/// that ends with such a token to the next line.
-pub(crate) fn ends_in_backslash(source: &Source, token: Token) -> bool
-    ensures { result ≡ rules.ends_in_backslash (texts_of source.now.lines) token }
-{
-    match token {
-        Token::Span(SpanKind::Sign, span) => first_byte(source, span) == b'\\',
-        Token::Span(SpanKind::Verbatim, span) => last_byte(source, span) == b'\\',
-        _ => false,
-    }
 }
 
 /// Whether a number beside this token would be read as one with it: an ASCII constant, a word, a

@@ -33,11 +33,6 @@ use Rattle.tangle_scan.specs.Passes.{last_entry, entries_merge, items_by_origin,
 use Rattle.tangle_scan.specs.Passes.{start_of_gap, is_after_line_end}
 use Rattle.tangle_scan.proofs.lemmas.RuleLemmas.{is_solid}
 
--- the items after a blank and then other items were added
-pub pushed-twice : (old blank middle more new rest : List Item)
-    → middle ≡ old ++ blank → new ≡ middle ++ more → new ++ rest ≡ old ++ (blank ++ (more ++ rest))
-pushed-twice old blank middle more new rest first second = rw (second, first, append_assoc, append_assoc) refl
-
 pub items_by_origin-blank : (lines : List SourceLine) (before : Option Token)
     (counted : Origin) (blank : Bool) (es : List Token)
     → items_by_origin lines before counted ((if blank then token.White ∷ [] else []) ++ es)
@@ -122,11 +117,6 @@ item-merges lines entries (token.UseOf line occurrence) f solid head run = rw (l
 item-merges lines entries (token.AllMacros line) f solid head run = rw (last-of-two entries _ _) refl
 item-merges lines entries (token.Run s) f solid head run = absurd (run s refl)
 item-merges lines entries _ f solid head run = cc
-
--- At the end of the tokens all items were made. `whole` are the items made so far, with those ahead.
-pub all-made : (items left : List Item) (whole : List Token → List Item) (es : List Token)
-    → es ≡ [] → whole [] ≡ items ++ [] → whole es ≡ left → items ≡ left
-all-made items left whole es none end is = sym (append-nil items) ∙ (sym end ∙ (sym (ap whole none) ∙ is))
 
 -- whether the entries made so far have a mark
 

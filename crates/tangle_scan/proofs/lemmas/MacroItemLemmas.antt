@@ -1,14 +1,25 @@
 -- The items of a macro, token by token.
 use Rattle.std.proofs.Common.{◌≡◌, ℕ, Bool, true, false, ◌&&◌, not, List, [], ◌∷◌, ◌++◌, refl, ap, sym, ◌∙◌}
-use Rattle.std.proofs.Common.{if◌then◌else◌, Some, None, is_some, option_to_list}
+use Rattle.std.proofs.Common.{if◌then◌else◌, Some, None, is_some, option_to_list, append_assoc, append-nil}
 use Rattle.tangle_lexer.specs.declared.tokens.Token.{Token}
 use Rattle.tangle_lexer.specs.declared.tokens.Token.TheVariants as token
+use Rattle.tangle_scan.specs.declared.items.Item.{Item}
 use Rattle.tangle_scan.specs.declared.items.Item.TheVariants as item
 use Rattle.tangle_scan.specs.declared.macro_items.MacroState.{MacroState}
 use Rattle.tangle_scan.specs.Rules.{next_item, has_blank_at_line_end, is_name_part, macro_blanks, unmarked_items}
 use Rattle.tangle_scan.specs.Rules.{is_front_gap}
 use Rattle.tangle_scan.proofs.lemmas.RuleLemmas.{macro_blanks-item}
 use Rattle.tangle_scan.specs.Passes.{item_before, unmarked_from, item_of}
+
+-- the items after a blank and then other items were added
+pub pushed-twice : (old blank middle more new rest : List Item)
+    → middle ≡ old ++ blank → new ≡ middle ++ more → new ++ rest ≡ old ++ (blank ++ (more ++ rest))
+pushed-twice old blank middle more new rest first second = rw (second, first, append_assoc, append_assoc) refl
+
+-- At the end of the tokens all items were made. `whole` are the items made so far, with those ahead.
+pub all-made : (items left : List Item) (whole : List Token → List Item) (es : List Token)
+    → es ≡ [] → whole [] ≡ items ++ [] → whole es ≡ left → items ≡ left
+all-made items left whole es none end is = sym (append-nil items) ∙ (sym end ∙ (sym (ap whole none) ∙ is))
 
 -- the item of a token other than white space and line ends
 unmarked-step : (e : Token) (es : List Token) → is_front_gap e ≡ false

@@ -31,8 +31,8 @@ use Rattle.tangle_scan.specs.Rules.{may_merge, without_joins, is_gap, left_of_ru
 use Rattle.tangle_scan.specs.Rules.{has_join, texts_of, is_continued, at_line_front}
 use Rattle.tangle_scan.specs.Rules.{blanks, part_items, is_front_gap}
 use Rattle.tangle_scan.specs.LineTruth.{counted_after_line_end}
-use Rattle.tangle_scan.specs.Passes.{IsPassed, from_gap, start_of_gap, items_after, spaced_after, blank_before}
-use Rattle.tangle_scan.specs.Passes.{is_merging_byte, is_joined, is_item, is_touching, is_after_line_end, keeps_white, last_after_line_end}
+use Rattle.tangle_scan.specs.Passes.{IsPassed, from_gap, start_of_gap, items_after, spaced_after, blank_before, blank_before_run}
+use Rattle.tangle_scan.specs.Passes.{is_joined, is_item, is_touching, is_after_line_end, keeps_white, last_after_line_end}
 use Rattle.tangle_scan.specs.Passes.{line_item, items_at, counted_after_token, items_by_origin, blank_if}
 use Rattle.tangle_scan.specs.Passes.{item_continues, entries_continue, entries_merge, is_code, last_entry, origin_of}
 use Rattle.tangle_scan.proofs.lemmas.ItemsByOrigin.{items_by_origin-item, part_items-by_origin, by-line_item}
@@ -467,12 +467,6 @@ front-merges : (texts : List (List ℕ)) (entries : List Entry) (p : RunPart)
     → entries_merge texts entries (part_token p) ≡ (is_code (last_entry entries) && may_merge texts (part_token p))
 front-merges texts entries p =
     rw (plain-part p, and-false, or-false) refl
-
--- the blank before a run, by its first byte
-abbrev pub blank_before_run : List SourceLine → List Entry → PartState → Span → Bool
-blank_before_run lines entries at s =
-    is_touching at && (is_code (last_entry entries) && is_merging_byte (first_byte (texts_of lines) s))
-    || keeps_white at.last && at.has_white
 
 run-passed : (lines : List SourceLine) (whole : List Item) (entries : List Entry) (at : PartState) (s : Span)
     (parts : List RunPart) (es : List Token) → run_parts (texts_of lines) s ≡ parts → IsRunOf (texts_of lines) s

@@ -2,8 +2,7 @@ use Rattle.std.proofs.Common.{◌∷◌, ◌++◌, [], append_assoc, ap, ◌∙�
 use Rattle.tangle_lexer.specs.declared.tokens.Token.TheVariants as token
 use Rattle.tangle_scan.specs.Rules.{texts_of}
 use Rattle.tangle_scan.specs.Passes.{unmarked_from}
-use Rattle.tangle_scan.proofs.lemmas.EntryLemmas.{pushed-twice}
-use Rattle.tangle_scan.proofs.lemmas.MacroItemLemmas.{unmarked-line, unmarked-item}
+use Rattle.tangle_scan.proofs.lemmas.MacroItemLemmas.{pushed-twice, unmarked-line, unmarked-item}
 use Rattle.tangle_scan.proofs.lemmas.RuleLemmas.{no-front_gap}
 use Rattle.tangle_scan.proofs.macro_items.add_macro_token.Goals as goal
 

@@ -3,7 +3,7 @@ use Rattle.std.proofs.lemmas.List.{nil_from_length}
 use Rattle.tangle_lexer.specs.declared.tokens.Token.{Token}
 use Rattle.tangle_scan.specs.Rules.{texts_of}
 use Rattle.tangle_scan.specs.Passes.{unmarked_from}
-use Rattle.tangle_scan.proofs.lemmas.EntryLemmas.{all-made}
+use Rattle.tangle_scan.proofs.lemmas.MacroItemLemmas.{all-made}
 use Rattle.tangle_scan.proofs.macro_items.fill_macro.Goals as goal
 
 pub returns : goal.returns

@@ -65,7 +65,7 @@ returns-in_ok-add_fault-in-Fault-clause-passed c = λ whole es h.
 pub returns-in_ok-add_item-in_default-clause-passed : goal.returns-in_ok-add_item-in_default-clause-passed
 returns-in_ok-add_item-in_default-clause-passed c = λ whole es h.
     let other = c.in_default in
-    let e = c.args.token in
+    let e = c.args.token.now in
     let made = c.in_ok-add_item-in_default.ensures in
     passed-item c.args.source.now.lines whole c.args.entries.now.items _ c.args.at.now _ e es
     (solid e other.not-White other.not-LineEnd other.not-Join other.not-Fault) c.requires.no_head other.not-Run
