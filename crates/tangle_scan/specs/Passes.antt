@@ -21,11 +21,11 @@ use Rattle.tangle_scan.specs.declared.parts.Start.{Start}
 use Rattle.tangle_scan.specs.declared.parts.Last.{Last}
 use Rattle.tangle_scan.specs.declared.parts.Last.TheVariants as last
 use Rattle.tangle_scan.specs.declared.spacing.Stage.TheVariants as stage
-use Rattle.tangle_text.specs.Bytes.{backslash, is_word_byte}
+use Rattle.tangle_text.specs.Bytes.{backslash, slash, is_word_byte}
 use Rattle.tangle_lines.specs.Reading.{SourceLine, origin_at}
 use Rattle.tangle_scan.specs.Rules.{without_faults, without_front_gaps, may_follow_name, is_gap}
 use Rattle.tangle_scan.specs.Rules.{would_merge, is_constant, may_merge, full_stop, has_join}
-use Rattle.tangle_scan.specs.Rules.{without_joins, left_of_run, blanks, is_continued, at_line_front}
+use Rattle.tangle_scan.specs.Rules.{without_joins, left_of_run, blanks, is_open, is_continued, at_line_front}
 use Rattle.tangle_scan.specs.Rules.{texts_of, first_byte, last_byte, span_item, next_line}
 use Rattle.tangle_scan.specs.Entries.{items_of, entry_is_mark}
 use Rattle.std.specs.List.{list_any}
@@ -129,27 +129,31 @@ counted_after_token lines counted (token.AllMacros line) = origin_at lines line
 counted_after_token lines counted token.QuoteBreak = next_line counted
 counted_after_token lines counted e = counted
 
--- whether the next line continues a line whose last item is this one, whose last entry is this
--- one, or that ends after these entries
+-- whether an item, an entry, or the last of these entries is a sign or a verbatim text that ends in
+-- this byte, or ends with one
 
-abbrev pub item_continues : List (List ℕ) → Item → Bool
-item_continues texts (item.Sign s) = first_byte texts s == backslash
-item_continues texts (item.Verbatim s) = last_byte texts s == backslash
-item_continues texts _ = false
+abbrev pub item_ends_in : ℕ → List (List ℕ) → Item → Bool
+item_ends_in b texts (item.Sign s) = first_byte texts s == b
+item_ends_in b texts (item.Verbatim s) = last_byte texts s == b
+item_ends_in b texts _ = false
 
-abbrev pub entry_continues : List (List ℕ) → Entry → Bool
-entry_continues texts (entry.Item x) = item_continues texts x
-entry_continues texts (entry.Run s) = last_byte texts s == backslash
+abbrev pub entry_ends_in : ℕ → List (List ℕ) → Entry → Bool
+entry_ends_in b texts (entry.Item x) = item_ends_in b texts x
+entry_ends_in b texts (entry.Run s) = last_byte texts s == b
 
-abbrev pub last_continues : List (List ℕ) → Option Entry → Bool
-last_continues texts None = false
-last_continues texts (Some x) = entry_continues texts x
+abbrev pub last_ends_in : ℕ → List (List ℕ) → Option Entry → Bool
+last_ends_in b texts None = false
+last_ends_in b texts (Some x) = entry_ends_in b texts x
 
 abbrev pub last_entry : List Entry → Option Entry
 last_entry entries = slice_get entries (length entries - 1)
 
+abbrev pub entries_end_in : ℕ → List (List ℕ) → List Entry → Bool
+entries_end_in b texts entries = last_ends_in b texts (last_entry entries)
+
+-- the next line continues a line that ends after these entries
 abbrev pub entries_continue : List (List ℕ) → List Entry → Bool
-entries_continue texts entries = last_continues texts (last_entry entries)
+entries_continue = entries_end_in backslash
 
 -- rule 1 puts white space between the last entry and this token
 
@@ -241,6 +245,11 @@ from_gap lines entries at front es =
     items_of (texts_of lines) (take (start_of_gap entries at).entries entries)
     ++ items_after lines front (origin_of (start_of_gap entries at).counted) false es
 
+-- a piece that ends with these entries needs a blank at its end
+abbrev pub are_open : List (List ℕ) → List Entry → Last → Bool
+are_open texts entries last.Continued = true
+are_open texts entries _ = entries_end_in slash texts entries
+
 -- The entries so far and the state are those of the tokens so far, which end with the gap `gap`.
 -- `front` is the token before the gap, `before` the last token on the current line, and `prev` the
 -- last token.
@@ -257,6 +266,9 @@ pub record IsRead (lines : List SourceLine) (entries : List Entry) (at : PartSta
   pub keeps : is_joined at.last ≡ false → is_some before ≡ keeps_white at.last
   pub continues : is_joined at.last ≡ false
       → is_continued (texts_of lines) before ≡ entries_continue (texts_of lines) entries
+  pub front_open : is_open (texts_of lines) front ≡ entries_end_in slash (texts_of lines)
+      (take (start_of_gap entries at).entries entries)
+  pub before_open : is_open (texts_of lines) before ≡ are_open (texts_of lines) entries at.last
   pub merges : (e : Token)
       → would_merge (texts_of lines) prev e ≡ (is_touching at && entries_merge (texts_of lines) entries e)
 

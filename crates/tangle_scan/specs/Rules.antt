@@ -17,7 +17,7 @@ use Rattle.tangle_lexer.specs.declared.tokens.SpanKind.{SpanKind}
 use Rattle.tangle_lexer.specs.declared.tokens.SpanKind.TheVariants as span_kind
 use Rattle.tangle_lexer.specs.declared.tokens.Token.TheVariants as token
 pub use Rattle.tangle_text.specs.Text.{texts_of, span_text}
-use Rattle.tangle_text.specs.Bytes.{left_parenthesis, backslash, is_digit}
+use Rattle.tangle_text.specs.Bytes.{left_parenthesis, backslash, slash, is_digit}
 
 abbrev pub full_stop : ℕ
 full_stop = 46
@@ -120,10 +120,14 @@ without_joins run es = map_runs left_of_run run es
 -- feed directly after it. So a line is continued by the next one if its last item is a sign or a
 -- verbatim text that ends in a backslash.
 
+-- whether a token is a sign or a verbatim text that ends in this byte
+abbrev pub ends_in : ℕ → List (List ℕ) → Token → Bool
+ends_in b texts (token.Span span_kind.Sign s) = first_byte texts s == b
+ends_in b texts (token.Span span_kind.Verbatim s) = last_byte texts s == b
+ends_in b texts _ = false
+
 abbrev pub ends_in_backslash : List (List ℕ) → Token → Bool
-ends_in_backslash texts (token.Span span_kind.Sign s) = first_byte texts s == backslash
-ends_in_backslash texts (token.Span span_kind.Verbatim s) = last_byte texts s == backslash
-ends_in_backslash texts _ = false
+ends_in_backslash = ends_in backslash
 
 -- whether a line that ends after this token, if there is one on it, is continued by the next line
 abbrev pub is_continued : List (List ℕ) → Option Token → Bool
@@ -140,10 +144,18 @@ abbrev pub at_line_front : List (List ℕ) → Option Token → ℕ → Option T
 at_line_front texts before line =
     if is_continued texts before then Some (token.LineEnd line) else None
 
+-- At the end of a piece a blank keeps the slash of the piece's closing mark apart: from a slash, with
+-- which it would open a comment that the C compiler ends at the next line end only, and from a line
+-- that the closing mark's line would continue.
+abbrev pub is_open : List (List ℕ) → Option Token → Bool
+is_open texts None = false
+is_open texts (Some (token.LineEnd line)) = true
+is_open texts (Some e) = ends_in slash texts e
+
 -- White space is a blank if it is after a token `before`: an item on the same line, or the end of
 -- the line that this line continues. `white`: white space is directly before these tokens.
 abbrev pub blanks : List (List ℕ) → Option Token → Bool → List Token → List Token
-blanks texts before white [] = []
+blanks texts before white [] = if is_open texts before then token.White ∷ [] else []
 blanks texts before white (token.White ∷ es) = blanks texts before true es
 blanks texts before white (token.LineEnd line ∷ es) =
     token.LineEnd line ∷ blanks texts (at_line_front texts before line) false es

@@ -315,36 +315,27 @@ fn push_entry(entries: &mut Vec<Entry>, item: Option<Item>) -> Result<(), NoMemo
     Ok(())
 }
 
-/// Whether the next line continues a line whose last item is this one.
+/// Whether an item is a sign or a verbatim text that ends in this byte.
 #[inline(always)]
-fn item_continues(source: &Source, item: Item) -> bool
-    ensures { result ≡ passes.item_continues (texts_of source.now.lines) item }
+fn item_ends_in(source: &Source, item: Item, byte: u8) -> bool
+    ensures { result ≡ passes.item_ends_in byte (texts_of source.now.lines) item }
 {
     match item {
-        Item::Sign(span) => first_byte(source, span) == b'\\',
-        Item::Verbatim(span) => last_byte(source, span) == b'\\',
+        Item::Sign(span) => first_byte(source, span) == byte,
+        Item::Verbatim(span) => last_byte(source, span) == byte,
         _ => false,
     }
 }
 
-/// Whether the next line continues a line whose last entry is this one.
+/// Whether the last of these entries is, or ends with, a sign or a verbatim text that ends in this
+/// byte, which is no word byte and no space.
 #[inline(always)]
-fn entry_continues(source: &Source, entry: Entry) -> bool
-    ensures { result ≡ passes.entry_continues (texts_of source.now.lines) entry }
-{
-    match entry {
-        Entry::Item(item) => item_continues(source, item),
-        Entry::Run(span) => last_byte(source, span) == b'\\',
-    }
-}
-
-/// Whether the next line continues a line that ends after these entries.
-#[inline(always)]
-fn is_continued(source: &Source, entries: &[Entry]) -> bool
-    ensures { result ≡ passes.entries_continue (texts_of source.now.lines) entries.now }
+fn end_in(source: &Source, entries: &[Entry], byte: u8) -> bool
+    ensures { result ≡ passes.entries_end_in byte (texts_of source.now.lines) entries.now }
 {
     match entries.last() {
-        Some(entry) => entry_continues(source, *entry),
+        Some(Entry::Item(item)) => item_ends_in(source, *item, byte),
+        Some(Entry::Run(span)) => last_byte(source, *span) == byte,
         None => false,
     }
 }
@@ -531,7 +522,7 @@ fn add_line_end(
         (origin_of at.old.counted) line) || at.old.counted.has_mark)) }
 {
     note_gap(entries, at);
-    let is_continued = is_continued(source, entries);
+    let is_continued = end_in(source, entries, b'\\');
     let (item, counted) = line_end_item(source, at.counted, line, is_continued);
     entries.push(Entry::Item(item))?;
     at.last = last_after_line_end(is_continued);
@@ -624,6 +615,21 @@ fn add_token(
     }
 }
 
+/// Adds a blank at the end of a piece where the slash of its closing mark has to be kept apart.
+fn add_last_blank(
+    source: &Source,
+    entries: &mut Vec<Entry>,
+    at: &PartState,
+) -> Result<(), NoMemory>
+    ensures { OnOk result (entries.new.items ≡ entries.old.items ++ map entry.Item
+        (blank_if (passes.are_open (texts_of source.now.lines) entries.old.items at.now.last))) }
+{
+    if matches!(at.last, Last::Continued) || end_in(source, entries, b'/') {
+        entries.push(Entry::Item(Item::Blank))?;
+    }
+    Ok(())
+}
+
 /// What was noted while the entries of a C part were made.
 #[derive(Clone, Copy)]
 pub(crate) struct PartNotes {
@@ -672,6 +678,7 @@ pub(crate) fn fill_part(
     for token in tokens {
         add_token(alloc, source, faults, entries, &mut at, token)?;
     }
+    add_last_blank(source, entries, &at)?;
     Ok(PartNotes {
         has_mark: at.counted.has_mark,
         has_all_macros: at.has_all_macros,

@@ -15,6 +15,7 @@ use Rattle.tangle_lexer.specs.declared.tokens.Token.TheVariants as token
 use Rattle.tangle_scan.specs.declared.items.Item.{Item}
 use Rattle.tangle_scan.specs.declared.items.Item.TheVariants as item
 use Rattle.tangle_lines.specs.Reading.{SourceLine, origin_at}
+use Rattle.tangle_scan.specs.Rules.{is_open}
 use Rattle.tangle_scan.specs.Rules.{texts_of, without_faults, would_merge, with_spaces, is_gap, has_join, map_runs}
 use Rattle.tangle_scan.specs.Rules.{left_of_run, part_tokens, span_item}
 use Rattle.tangle_scan.specs.Rules.{is_continued, at_line_front, blanks, next_line, same_origin, part_items}
@@ -142,7 +143,11 @@ module _ (lines : List SourceLine) where
 
   -- rule 3 does not change the counted origin of a source item
   blanks-seen : (left : Option Token) (white : Bool) (es : List Token) → AreSeenAlike (blanks texts left white es) es
-  blanks-seen left white [] before counted = refl
+  blanks-seen left white [] before counted = end (is_open texts left)
+    where
+      end : (b : Bool) → seen before counted (if b then token.White ∷ [] else []) ≡ seen before counted []
+      end true = refl
+      end false = refl
   blanks-seen left white (token.White ∷ es) before counted = blanks-seen left true es before counted
   blanks-seen left white (token.LineEnd line ∷ es) before counted =
       let rest : List Token = blanks texts (at_line_front texts left line) false es in

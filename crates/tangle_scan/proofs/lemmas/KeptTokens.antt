@@ -4,6 +4,7 @@ use Rattle.std.proofs.Common.{List, [], ◌∷◌, ◌++◌, flat_map, refl, ap,
 use Rattle.std.proofs.lemmas.Grind.{flat_map-append}
 use Rattle.tangle_lexer.specs.declared.tokens.Token.{Token}
 use Rattle.tangle_lexer.specs.declared.tokens.Token.TheVariants as token
+use Rattle.tangle_scan.specs.Rules.{is_open}
 use Rattle.tangle_scan.specs.Rules.{without_faults, would_merge, with_spaces, may_follow_name, with_space_after}
 use Rattle.tangle_scan.specs.Rules.{with_name_space, is_gap, has_join, left_of_run, without_joins, part_tokens}
 use Rattle.tangle_scan.specs.Rules.{at_line_front, blanks, next_item, has_blank_at_line_end, is_name_part}
@@ -74,9 +75,13 @@ without_joins-kept run (e ∷ es) none =
         let gone = gap-gone e gap in rw gone (more (rw (flat_map-append, none, gone) refl))
     by false gap more rest = rw (flat_map-append, left-kept run none) (ap (λ ts. keep e ++ ts) rest)
 
+last-kept : (b : Bool) → kept (if b then token.White ∷ [] else []) ≡ []
+last-kept true = refl
+last-kept false = refl
+
 blanks-kept : (texts : List (List ℕ)) (before : Option Token) (white : Bool) (es : List Token)
     → kept (blanks texts before white es) ≡ kept es
-blanks-kept texts before white [] = refl
+blanks-kept texts before white [] = last-kept (is_open texts before)
 blanks-kept texts before white (token.White ∷ es) = blanks-kept texts before true es
 blanks-kept texts before white (token.LineEnd line ∷ es) = blanks-kept texts (at_line_front texts before line) false es
 blanks-kept texts before white (e ∷ es) =

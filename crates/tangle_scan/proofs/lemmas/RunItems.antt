@@ -4,7 +4,7 @@ use Rattle.std.proofs.Common.{◌++◌, length, drop, get_or, refl, ap, sym, ◌
 use Rattle.std.proofs.lemmas.Bool.{lt-leb}
 use Rattle.std.proofs.lemmas.List.{get_or-drop, get_or-take, length-take-le}
 use Rattle.tangle_files.specs.Bytes.{space}
-use Rattle.tangle_text.specs.Bytes.{backslash, is_word_byte}
+use Rattle.tangle_text.specs.Bytes.{is_word_byte}
 use Rattle.tangle_text.specs.declared.runs.RunPart.{RunPart}
 use Rattle.tangle_text.specs.declared.spans.Span.{Span}
 use Rattle.tangle_text.specs.Runs.{chunks, part_of, parts_of, run_parts, has_single_spaces}
@@ -14,7 +14,7 @@ use Rattle.tangle_text.proofs.RunChunks.{chunk_passed, span_chunks, part-by, par
 use Rattle.tangle_lexer.specs.declared.tokens.Token.{Token}
 use Rattle.tangle_lexer.specs.declared.tokens.Token.TheVariants as token
 use Rattle.tangle_lexer.specs.Runs.{part_token, unfolded_token, IsRunOf}
-use Rattle.tangle_scan.specs.Rules.{first_byte, last_byte, ends_in_backslash, may_merge}
+use Rattle.tangle_scan.specs.Rules.{first_byte, last_byte, ends_in, may_merge}
 use Rattle.tangle_scan.specs.Passes.{is_merging_byte}
 
 -- a token other than a run stands for itself
@@ -29,8 +29,8 @@ unfolded-one texts _ other = refl
 abbrev merges : List (List ℕ) → RunPart → Bool
 merges texts p = may_merge texts (part_token p)
 
-abbrev continues : List (List ℕ) → RunPart → Bool
-continues texts p = ends_in_backslash texts (part_token p)
+abbrev ends : ℕ → List (List ℕ) → RunPart → Bool
+ends n texts p = ends_in n texts (part_token p)
 
 -- what a test gives for the last of these, or `none` if there is none
 
@@ -51,9 +51,6 @@ words-end : (test : ℕ → Bool) (is : Bool) → ((b : ℕ) → is_word_byte b 
     → AreWordBytes bs → bytes_end test is bs ≡ is
 words-end test is all [] h = refl
 words-end test is all (b ∷ bs) h = ap (λ k. bytes_end test k bs) (all b h.0) ∙ words-end test is all bs h.1
-
-no-backslash : (b : ℕ) → is_word_byte b ≡ true → (b == backslash) ≡ false
-no-backslash b word = differs is_word_byte b backslash word refl
 
 no-merge : (b : ℕ) → (b == space) ≡ true → is_merging_byte b ≡ false
 no-merge b white = by (is_merging_byte b) refl
@@ -85,16 +82,18 @@ merges-stand texts line column (b ∷ c ∷ bs) none h is =
     ∙ (word-merges b h.0 ∙ sym (words-end is_merging_byte true word-merges (c ∷ bs) h.1)
     ∙ ap (λ k. bytes_end is_merging_byte k (c ∷ bs)) (sym (word-merges b h.0)))
 
-continues-stands : (texts : List (List ℕ)) → StandsFor texts (continues texts) (λ b. b == backslash)
-continues-stands texts line column [] none h is = absurd h
-continues-stands texts line column (b ∷ []) none h is =
-    part-by (λ p. continues texts p ≡ (b == backslash)) line column b []
-    (λ white. sym (differs (λ n. n == space) b backslash white refl))
-    (λ _ word. sym (no-backslash b word))
-    (λ _ sign. ap (λ k. k == backslash) is)
-continues-stands texts line column (b ∷ c ∷ bs) none h is =
+-- a byte that is no word byte and no space
+ends-stand : (n : ℕ) (texts : List (List ℕ)) → is_word_byte n ≡ false → (n == space) ≡ false
+    → StandsFor texts (ends n texts) (λ b. b == n)
+ends-stand n texts word white line column [] none h is = absurd h
+ends-stand n texts word white line column (b ∷ []) none h is =
+    part-by (λ p. ends n texts p ≡ (b == n)) line column b []
+    (λ space_here. sym (differs (λ m. m == space) b n space_here white))
+    (λ _ word_here. sym (differs is_word_byte b n word_here word))
+    (λ _ sign. ap (λ k. k == n) is)
+ends-stand n texts word white line column (b ∷ c ∷ bs) none h is =
     rw (part-word line column b (c ∷ bs) h.0)
-    (sym (words-end (λ n. n == backslash) false no-backslash (b ∷ c ∷ bs) h))
+    (sym (words-end (λ m. m == n) false (λ d word_here. differs is_word_byte d n word_here word) (b ∷ c ∷ bs) h))
 
 front-byte : (bytes : List ℕ) (column : ℕ) (c rest : List ℕ) → IsChunk c → drop column bytes ≡ c ++ rest
     → get_or bytes column 0 ≡ get_or c 0 0
@@ -192,10 +191,10 @@ run-end texts s test bytes stands p ps is run =
     ∙ run-bytes texts (λ q. test (part_token q)) bytes stands s (span_text texts s) false refl
     run.span.start run.span.end run.spaces)
 
-pub run-continues : (texts : List (List ℕ)) (s : Span) (p : RunPart) (ps : List RunPart)
-    → run_parts texts s ≡ p ∷ ps → IsRunOf texts s
-    → ends_in_backslash texts (last_token (part_token p) ps) ≡ (last_byte texts s == backslash)
-run-continues texts s = run-end texts s (ends_in_backslash texts) (λ b. b == backslash) (continues-stands texts)
+pub run-ends : (n : ℕ) (texts : List (List ℕ)) → is_word_byte n ≡ false → (n == space) ≡ false
+    → (s : Span) (p : RunPart) (ps : List RunPart) → run_parts texts s ≡ p ∷ ps → IsRunOf texts s
+    → ends_in n texts (last_token (part_token p) ps) ≡ (last_byte texts s == n)
+run-ends n texts word white s = run-end texts s (ends_in n texts) (λ b. b == n) (ends-stand n texts word white)
 
 pub run-merges : (texts : List (List ℕ)) (s : Span) (p : RunPart) (ps : List RunPart)
     → run_parts texts s ≡ p ∷ ps → IsRunOf texts s
