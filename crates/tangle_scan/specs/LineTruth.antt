@@ -104,7 +104,7 @@ module _ (lines : List SourceLine) where
 
   -- the locations of the source items of a C part whose head ends on this line
   abbrev pub part_locations : ℕ → List Token → List Location
-  part_locations line tokens = 
+  part_locations line tokens =
       locations None (origin_at lines line) false (tokens_and_joins (texts_of lines) tokens)
 
   abbrev pub kind_locations : BlockKind → List Token → List (List Location)

@@ -616,11 +616,7 @@ fn add_token(
 }
 
 /// Adds a blank at the end of a piece where the slash of its closing mark has to be kept apart.
-fn add_last_blank(
-    source: &Source,
-    entries: &mut Vec<Entry>,
-    at: &PartState,
-) -> Result<(), NoMemory>
+fn add_last_blank(source: &Source, entries: &mut Vec<Entry>, at: &PartState) -> Result<(), NoMemory>
     ensures { OnOk result (entries.new.items ≡ entries.old.items ++ map entry.Item
         (blank_if (passes.are_open (texts_of source.now.lines) entries.old.items at.now.last))) }
 {
