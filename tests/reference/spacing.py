@@ -27,17 +27,27 @@ def may_touch(one, other):
     return 'separator' in kinds or kinds == {'operator', 'plain'}
 
 
+def would_merge(one, other):
+    """Whether an ASCII constant, which is written as a number, and an item that touches it would be read as one."""
+    pairs = [(one, other), (other, one)]
+    return any(constant.kind == 'Code' and (token.kind in ('Word', 'Code', 'Verbatim') or
+                                            token.kind == 'Sign' and token.value in b'.\\')
+               for constant, token in pairs)
+
+
 def continues(token):
     """Whether a C compiler takes a line end after this item away, with the backslash before it."""
     return token.kind in ('Sign', 'Verbatim') and token.value.endswith(b'\\')
 
 
 def macro_items(tokens):
-    return [Item(token.kind, token.value, token.at) for token in spaced(with_spaces(tokens, True), True)]
+    kept = without_backslashes(without_joins(with_spaces(tokens, True)))
+    return [Item(token.kind, token.value, token.at) for token in with_blanks(kept, True)]
 
 
 def part_items(tokens, web, opening):
-    return counted(with_marks(spaced(with_spaces(tokens, False), False)), web, opening)
+    kept = with_last_blank(with_blanks(without_joins(with_spaces(tokens, False)), False))
+    return counted(with_marks(kept), web, opening)
 
 
 def with_spaces(tokens, is_macro):
@@ -49,9 +59,7 @@ def with_spaces(tokens, is_macro):
         made.append(token)
         if after is None:
             break
-        kinds = (token.kind, after.kind)
-        touch = kinds in (('Word', 'Code'), ('Code', 'Word'), ('Code', 'Code'))
-        if touch or (is_name and after.kind not in SPACE + ('Join',) and after.value != b'('):
+        if would_merge(token, after) or (is_name and after.kind not in SPACE + ('Join',) and after.value != b'('):
             made.append(Token('White', None, after.at))
     return made
 
@@ -68,16 +76,42 @@ def runs(tokens, kinds):
             run = []
 
 
-def spaced(tokens, is_macro):
-    """Without the runs that hold a join; then with blanks, and without other white space."""
+def without_joins(tokens):
+    """Without the runs that hold a join."""
     kept = []
     for is_run, run, _ in runs(tokens, SPACE + ('Join',)):
         if not is_run or all(token.kind != 'Join' for token in run):
             kept += run
+    return kept
+
+
+def without_backslashes(tokens):
+    """Without the backslashes of a macro that its author wrote before line ends: one is written at each line end."""
     made = []
-    for is_run, run, after in runs(kept, SPACE):
+    for at, token in enumerate(tokens):
+        after = next((other.kind for other in tokens[at + 1:] if other.kind != 'White'), None)
+        if (token.kind, token.value, after) != ('Sign', b'\\', 'LineEnd'):
+            made.append(token)
+    return made
+
+
+def with_blanks(tokens, is_macro):
+    """With blanks, and without other white space."""
+    made = []
+    for is_run, run, after in runs(tokens, SPACE):
         made += with_blank(made, run, after, is_macro) if is_run else run
     return made
+
+
+def with_last_blank(tokens):
+    """With a blank after the last item of a piece that would take the opening slash of its closing to itself: a slash,
+    or the line end of a line that continues."""
+    if not tokens:
+        return tokens
+    last = tokens[-1]
+    is_slash = last.kind in ('Sign', 'Verbatim') and last.value.endswith(b'/')
+    continued = last.kind == 'LineEnd' and len(tokens) > 1 and continues(tokens[-2])
+    return tokens + [Token('Blank', None, last.at)] if is_slash or continued else tokens
 
 
 def with_blank(made, run, after, is_macro):

@@ -172,7 +172,7 @@ module _ (texts : List (List ℕ)) where
 module _ (lines : List SourceLine) where
   abbrev pub kind_piece_tokens : BlockKind → List Token → List (List Token)
   kind_piece_tokens (OfMacro line) tokens = []
-  kind_piece_tokens (OfPiece occurrence line) tokens = part_tokens tokens ∷ []
+  kind_piece_tokens (OfPiece occurrence line) tokens = part_tokens (texts_of lines) tokens ∷ []
 
   abbrev pub kind_macro_tokens : BlockKind → List Token → List (List Token)
   kind_macro_tokens (OfMacro line) tokens =

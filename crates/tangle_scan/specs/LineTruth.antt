@@ -59,8 +59,9 @@ abbrev pub left_or_join : List Token → List Token
 left_or_join run = if has_join run then (if has_line_end run then token.Join ∷ [] else []) else run
 
 -- the tokens of a C part after rules 1 and 2, with a join where line ends were removed
-abbrev pub tokens_and_joins : List Token → List Token
-tokens_and_joins tokens = map_runs left_or_join [] (with_spaces (without_faults tokens))
+abbrev pub tokens_and_joins : List (List ℕ) → List Token → List Token
+tokens_and_joins texts tokens =
+    map_runs left_or_join [] (with_spaces texts (without_faults tokens))
 
 -- the next source line is the one that the count expects, or there is none
 abbrev pub is_expected : List SourceLine → Origin → ℕ → Bool
@@ -103,7 +104,8 @@ module _ (lines : List SourceLine) where
 
   -- the locations of the source items of a C part whose head ends on this line
   abbrev pub part_locations : ℕ → List Token → List Location
-  part_locations line tokens = locations None (origin_at lines line) false (tokens_and_joins tokens)
+  part_locations line tokens =
+      locations None (origin_at lines line) false (tokens_and_joins (texts_of lines) tokens)
 
   abbrev pub kind_locations : BlockKind → List Token → List (List Location)
   kind_locations (OfMacro line) tokens = []

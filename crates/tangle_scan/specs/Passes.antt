@@ -21,11 +21,11 @@ use Rattle.tangle_scan.specs.declared.parts.Start.{Start}
 use Rattle.tangle_scan.specs.declared.parts.Last.{Last}
 use Rattle.tangle_scan.specs.declared.parts.Last.TheVariants as last
 use Rattle.tangle_scan.specs.declared.spacing.Stage.TheVariants as stage
-use Rattle.tangle_text.specs.Bytes.{backslash, is_word_byte}
+use Rattle.tangle_text.specs.Bytes.{backslash, slash, is_word_byte}
 use Rattle.tangle_lines.specs.Reading.{SourceLine, origin_at}
 use Rattle.tangle_scan.specs.Rules.{without_faults, without_front_gaps, may_follow_name, is_gap}
-use Rattle.tangle_scan.specs.Rules.{would_merge, is_constant, is_word_token, has_join}
-use Rattle.tangle_scan.specs.Rules.{without_joins, left_of_run, blanks, is_continued, at_line_front}
+use Rattle.tangle_scan.specs.Rules.{would_merge, is_constant, may_merge, full_stop, has_join}
+use Rattle.tangle_scan.specs.Rules.{without_joins, left_of_run, blanks, is_open, is_continued, at_line_front}
 use Rattle.tangle_scan.specs.Rules.{texts_of, first_byte, last_byte, span_item, next_line}
 use Rattle.tangle_scan.specs.Entries.{items_of, entry_is_mark}
 use Rattle.std.specs.List.{list_any}
@@ -46,8 +46,9 @@ without_joins_from spaced start es = take start spaced ++ without_joins (drop st
 -- rule 1 for the tokens after another one
 
 abbrev pub needs_space : List (List ℕ) → Stage → Token → Token → Bool
-needs_space texts stage.AfterName before e = would_merge before e || not (may_follow_name texts e)
-needs_space texts _ before e = would_merge before e
+needs_space texts stage.AfterName before e =
+    would_merge texts before e || not (may_follow_name texts e)
+needs_space texts _ before e = would_merge texts before e
 
 abbrev pub stage_after : Stage → Token → Stage
 stage_after stage.Inside e = stage.Inside
@@ -128,27 +129,31 @@ counted_after_token lines counted (token.AllMacros line) = origin_at lines line
 counted_after_token lines counted token.QuoteBreak = next_line counted
 counted_after_token lines counted e = counted
 
--- whether the next line continues a line whose last item is this one, whose last entry is this
--- one, or that ends after these entries
+-- whether an item, an entry, or the last of these entries is a sign or a verbatim text that ends in
+-- this byte, or ends with one
 
-abbrev pub item_continues : List (List ℕ) → Item → Bool
-item_continues texts (item.Sign s) = first_byte texts s == backslash
-item_continues texts (item.Verbatim s) = last_byte texts s == backslash
-item_continues texts _ = false
+abbrev pub item_ends_in : ℕ → List (List ℕ) → Item → Bool
+item_ends_in b texts (item.Sign s) = first_byte texts s == b
+item_ends_in b texts (item.Verbatim s) = last_byte texts s == b
+item_ends_in b texts _ = false
 
-abbrev pub entry_continues : List (List ℕ) → Entry → Bool
-entry_continues texts (entry.Item x) = item_continues texts x
-entry_continues texts (entry.Run s) = last_byte texts s == backslash
+abbrev pub entry_ends_in : ℕ → List (List ℕ) → Entry → Bool
+entry_ends_in b texts (entry.Item x) = item_ends_in b texts x
+entry_ends_in b texts (entry.Run s) = last_byte texts s == b
 
-abbrev pub last_continues : List (List ℕ) → Option Entry → Bool
-last_continues texts None = false
-last_continues texts (Some x) = entry_continues texts x
+abbrev pub last_ends_in : ℕ → List (List ℕ) → Option Entry → Bool
+last_ends_in b texts None = false
+last_ends_in b texts (Some x) = entry_ends_in b texts x
 
 abbrev pub last_entry : List Entry → Option Entry
 last_entry entries = slice_get entries (length entries - 1)
 
+abbrev pub entries_end_in : ℕ → List (List ℕ) → List Entry → Bool
+entries_end_in b texts entries = last_ends_in b texts (last_entry entries)
+
+-- the next line continues a line that ends after these entries
 abbrev pub entries_continue : List (List ℕ) → List Entry → Bool
-entries_continue texts entries = last_continues texts (last_entry entries)
+entries_continue = entries_end_in backslash
 
 -- rule 1 puts white space between the last entry and this token
 
@@ -156,15 +161,23 @@ abbrev pub is_code : Option Entry → Bool
 is_code (Some (entry.Item (item.Code b))) = true
 is_code _ = false
 
-abbrev pub is_word_end : List (List ℕ) → Option Entry → Bool
-is_word_end texts (Some (entry.Item (item.Word s))) = true
-is_word_end texts (Some (entry.Run s)) = is_word_byte (last_byte texts s)
-is_word_end texts _ = false
+-- a byte of a run with which a number would be read as one
+abbrev pub is_merging_byte : ℕ → Bool
+is_merging_byte b = is_word_byte b || (b == full_stop || b == backslash)
+
+abbrev pub is_merging_end : List (List ℕ) → Option Entry → Bool
+is_merging_end texts (Some (entry.Item (item.Code b))) = true
+is_merging_end texts (Some (entry.Item (item.Word s))) = true
+is_merging_end texts (Some (entry.Item (item.Verbatim s))) = true
+is_merging_end texts (Some (entry.Item (item.Sign s))) =
+    first_byte texts s == full_stop || first_byte texts s == backslash
+is_merging_end texts (Some (entry.Run s)) = is_merging_byte (last_byte texts s)
+is_merging_end texts _ = false
 
 abbrev pub entries_merge : List (List ℕ) → List Entry → Token → Bool
 entries_merge texts entries e =
-    is_code (last_entry entries) && (is_constant e || is_word_token e)
-    || is_word_end texts (last_entry entries) && is_constant e
+    is_code (last_entry entries) && may_merge texts e
+    || is_merging_end texts (last_entry entries) && is_constant e
 
 -- rule 4 and rule 5 in one pass: the items of tokens that rule 3 made, by the token before them on
 -- the line and by the counted origin
@@ -186,8 +199,8 @@ items_after lines before counted white es =
     items_by_origin lines before counted (blanks (texts_of lines) before white es)
 
 -- the tokens that rule 1 makes of those after a token
-abbrev pub spaced_after : Token → List Token → List Token
-spaced_after before es = with_white_space [] stage.Inside before (without_faults es)
+abbrev pub spaced_after : List (List ℕ) → Token → List Token → List Token
+spaced_after texts before es = with_white_space texts stage.Inside before (without_faults es)
 
 -- what is known of `Last`
 
@@ -232,6 +245,11 @@ from_gap lines entries at front es =
     items_of (texts_of lines) (take (start_of_gap entries at).entries entries)
     ++ items_after lines front (origin_of (start_of_gap entries at).counted) false es
 
+-- a piece that ends with these entries needs a blank at its end
+abbrev pub are_open : List (List ℕ) → List Entry → Last → Bool
+are_open texts entries last.Continued = true
+are_open texts entries _ = entries_end_in slash texts entries
+
 -- The entries so far and the state are those of the tokens so far, which end with the gap `gap`.
 -- `front` is the token before the gap, `before` the last token on the current line, and `prev` the
 -- last token.
@@ -248,8 +266,11 @@ pub record IsRead (lines : List SourceLine) (entries : List Entry) (at : PartSta
   pub keeps : is_joined at.last ≡ false → is_some before ≡ keeps_white at.last
   pub continues : is_joined at.last ≡ false
       → is_continued (texts_of lines) before ≡ entries_continue (texts_of lines) entries
+  pub front_open : is_open (texts_of lines) front ≡ entries_end_in slash (texts_of lines)
+      (take (start_of_gap entries at).entries entries)
+  pub before_open : is_open (texts_of lines) before ≡ are_open (texts_of lines) entries at.last
   pub merges : (e : Token)
-      → would_merge prev e ≡ (is_touching at && entries_merge (texts_of lines) entries e)
+      → would_merge (texts_of lines) prev e ≡ (is_touching at && entries_merge (texts_of lines) entries e)
 
 -- The items `whole` of a C part are those of the entries so far, then those of the tokens `es` that
 -- were not read yet.
@@ -257,7 +278,7 @@ pub record IsPassed (lines : List SourceLine) (whole : List Item) (entries : Lis
     (at : PartState) (es : List Token) : Type 0 where
   pub read : IsRead lines entries at
   pub left : whole
-      ≡ from_gap lines entries at read.front (without_joins read.gap (spaced_after read.prev es))
+      ≡ from_gap lines entries at read.front (without_joins read.gap (spaced_after (texts_of lines) read.prev es))
 
 -- a blank goes before the item of a token
 abbrev pub blank_before : List SourceLine → List Entry → PartState → Token → Bool
@@ -268,7 +289,7 @@ blank_before lines entries at e =
 -- a blank goes before a run, by the first byte of the run
 abbrev pub blank_before_run : List SourceLine → List Entry → PartState → Span → Bool
 blank_before_run lines entries at s =
-    is_touching at && (is_code (last_entry entries) && is_word_byte (first_byte (texts_of lines) s))
+    is_touching at && (is_code (last_entry entries) && is_merging_byte (first_byte (texts_of lines) s))
     || keeps_white at.last && at.has_white
 
 abbrev pub blank_if : Bool → List Item

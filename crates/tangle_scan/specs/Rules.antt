@@ -17,7 +17,10 @@ use Rattle.tangle_lexer.specs.declared.tokens.SpanKind.{SpanKind}
 use Rattle.tangle_lexer.specs.declared.tokens.SpanKind.TheVariants as span_kind
 use Rattle.tangle_lexer.specs.declared.tokens.Token.TheVariants as token
 pub use Rattle.tangle_text.specs.Text.{texts_of, span_text}
-use Rattle.tangle_text.specs.Bytes.{left_parenthesis, backslash, is_digit}
+use Rattle.tangle_text.specs.Bytes.{left_parenthesis, backslash, slash, is_digit}
+
+abbrev pub full_stop : ℕ
+full_stop = 46
 
 -- the first byte of a span
 abbrev pub first_byte : List (List ℕ) → Span → ℕ
@@ -34,26 +37,32 @@ without_faults [] = []
 without_faults (token.Fault kind line ∷ es) = without_faults es
 without_faults (e ∷ es) = e ∷ without_faults es
 
--- Rule 1: white space is put between a word and an ASCII constant
--- that touch, in either order, and between two constants.
+-- Rule 1: white space is put between an ASCII constant and another one, a word, a verbatim text, a
+-- full stop or a backslash that touch, in either order. The constant is written as a number, and a C
+-- compiler would read both as one number, as in 97...122, or the next line as a part of it, after a
+-- backslash.
 
 abbrev pub is_constant : Token → Bool
 is_constant (token.AsciiConstant value line) = true
 is_constant _ = false
 
-abbrev pub is_word_token : Token → Bool
-is_word_token (token.Span span_kind.Word s) = true
-is_word_token _ = false
+-- what a number beside it would be read as one with
+abbrev pub may_merge : List (List ℕ) → Token → Bool
+may_merge texts (token.AsciiConstant value line) = true
+may_merge texts (token.Span span_kind.Word s) = true
+may_merge texts (token.Span span_kind.Verbatim s) = true
+may_merge texts (token.Span span_kind.Sign s) =
+    first_byte texts s == full_stop || first_byte texts s == backslash
+may_merge texts _ = false
 
-abbrev pub would_merge : Token → Token → Bool
-would_merge e f =
-    is_constant e && (is_constant f || is_word_token f) || is_word_token e && is_constant f
+abbrev pub would_merge : List (List ℕ) → Token → Token → Bool
+would_merge texts e f = is_constant e && may_merge texts f || may_merge texts e && is_constant f
 
-abbrev pub with_spaces : List Token → List Token
-with_spaces [] = []
-with_spaces (e ∷ []) = e ∷ []
-with_spaces (e ∷ f ∷ es) =
-    e ∷ (if would_merge e f then token.White ∷ [] else []) ++ with_spaces (f ∷ es)
+abbrev pub with_spaces : List (List ℕ) → List Token → List Token
+with_spaces texts [] = []
+with_spaces texts (e ∷ []) = e ∷ []
+with_spaces texts (e ∷ f ∷ es) =
+    e ∷ (if would_merge texts e f then token.White ∷ [] else []) ++ with_spaces texts (f ∷ es)
 
 -- In a macro, white space is also put after the name, which is the first item, unless an opening
 -- parenthesis, white space, a line end or a join follows.
@@ -111,10 +120,14 @@ without_joins run es = map_runs left_of_run run es
 -- feed directly after it. So a line is continued by the next one if its last item is a sign or a
 -- verbatim text that ends in a backslash.
 
+-- whether a token is a sign or a verbatim text that ends in this byte
+abbrev pub ends_in : ℕ → List (List ℕ) → Token → Bool
+ends_in b texts (token.Span span_kind.Sign s) = first_byte texts s == b
+ends_in b texts (token.Span span_kind.Verbatim s) = last_byte texts s == b
+ends_in b texts _ = false
+
 abbrev pub ends_in_backslash : List (List ℕ) → Token → Bool
-ends_in_backslash texts (token.Span span_kind.Sign s) = first_byte texts s == backslash
-ends_in_backslash texts (token.Span span_kind.Verbatim s) = last_byte texts s == backslash
-ends_in_backslash texts _ = false
+ends_in_backslash = ends_in backslash
 
 -- whether a line that ends after this token, if there is one on it, is continued by the next line
 abbrev pub is_continued : List (List ℕ) → Option Token → Bool
@@ -131,10 +144,18 @@ abbrev pub at_line_front : List (List ℕ) → Option Token → ℕ → Option T
 at_line_front texts before line =
     if is_continued texts before then Some (token.LineEnd line) else None
 
+-- At the end of a piece a blank keeps the slash of the piece's closing mark apart: from a slash, with
+-- which it would open a comment that the C compiler ends at the next line end only, and from a line
+-- that the closing mark's line would continue.
+abbrev pub is_open : List (List ℕ) → Option Token → Bool
+is_open texts None = false
+is_open texts (Some (token.LineEnd line)) = true
+is_open texts (Some e) = ends_in slash texts e
+
 -- White space is a blank if it is after a token `before`: an item on the same line, or the end of
 -- the line that this line continues. `white`: white space is directly before these tokens.
 abbrev pub blanks : List (List ℕ) → Option Token → Bool → List Token → List Token
-blanks texts before white [] = []
+blanks texts before white [] = if is_open texts before then token.White ∷ [] else []
 blanks texts before white (token.White ∷ es) = blanks texts before true es
 blanks texts before white (token.LineEnd line ∷ es) =
     token.LineEnd line ∷ blanks texts (at_line_front texts before line) false es
@@ -274,14 +295,14 @@ with_needed_marks counted (item.LineMark p ∷ items) = item.LineMark p ∷ with
 with_needed_marks counted (x ∷ items) = x ∷ with_needed_marks counted items
 
 -- the tokens of a C part after rules 1 and 2
-abbrev pub part_tokens : List Token → List Token
-part_tokens tokens = without_joins [] (with_spaces (without_faults tokens))
+abbrev pub part_tokens : List (List ℕ) → List Token → List Token
+part_tokens texts tokens = without_joins [] (with_spaces texts (without_faults tokens))
 
 -- The items of a C part whose head ends on this line. The origin of that line is counted first.
 abbrev pub part_items : List SourceLine → ℕ → List Token → List Item
 part_items lines line tokens =
     with_needed_marks (origin_at lines line)
-    (with_all_marks lines None (blanks (texts_of lines) None false (part_tokens tokens)))
+    (with_all_marks lines None (blanks (texts_of lines) None false (part_tokens (texts_of lines) tokens)))
 
 -- Macros have no marks, and white space and line ends after @d are skipped.
 
@@ -305,7 +326,7 @@ unmarked_items (e ∷ es) = token_items e ++ unmarked_items es
 -- the tokens of a macro after rules 1 and 2
 abbrev pub macro_tokens : List (List ℕ) → List Token → List Token
 macro_tokens texts tokens = without_joins []
-    (with_name_space texts (with_spaces (without_front_gaps (without_faults tokens))))
+    (with_name_space texts (with_spaces texts (without_front_gaps (without_faults tokens))))
 
 abbrev pub macro_items : List (List ℕ) → List Token → List Item
 macro_items texts tokens =

@@ -11,7 +11,6 @@ ghost use Rattle.std.specs.Prelude.{Some, option_to_list, IfOk, OnOk};
 ghost use Rattle.std.specs.List.{list_any, All};
 ghost use Rattle.tangle_scan.specs.Rules as rules;
 ghost use Rattle.tangle_lines.specs.Reading.{origin_at};
-ghost use Rattle.tangle_text.specs.Bytes.{is_word_byte};
 ghost use Rattle.tangle_scan.specs.Entries.{IsEntryInRange, entry_is_mark, items_of};
 ghost use Rattle.tangle_scan.specs.Passes as passes;
 ghost use Rattle.tangle_scan.specs.Rules.{texts_of};
@@ -21,6 +20,7 @@ ghost use Rattle.tangle_scan.specs.Web.{is_line_mark};
 ghost use Rattle.tangle_scan.specs.WebBuilder.{own_fault};
 ghost use Rattle.tangle_scan.specs.Passes.{origin_of, last_entry, entries_continue, highest};
 ghost use Rattle.tangle_scan.specs.Passes.{blank_if, blank_before, blank_before_run, start_of_gap};
+ghost use Rattle.tangle_scan.specs.Passes.{is_merging_byte};
 ghost use Rattle.tangle_scan.specs.Passes.{IsPassed, IsMarked};
 ghost use Rattle.tangle_lexer.specs.Heads.{is_head};
 ghost use Rattle.tangle_lexer.specs.Runs.{IsRunIn, unfolded, unfolded_token};
@@ -32,7 +32,7 @@ ghost use Rattle.tangle_scan.specs.declared.parts.Last.TheVariants as last;
 
 use crate::faults::add_fault;
 use crate::items::{Entry, Item, OccurrenceNumber};
-use crate::touching::{first_byte, last_byte};
+use crate::touching::{first_byte, last_byte, may_merge};
 use std::alloc::Global;
 use tangle_lexer::{SpanKind, Token};
 use tangle_lines::{Fault, NoMemory, Origin, Source};
@@ -315,36 +315,27 @@ fn push_entry(entries: &mut Vec<Entry>, item: Option<Item>) -> Result<(), NoMemo
     Ok(())
 }
 
-/// Whether the next line continues a line whose last item is this one.
+/// Whether an item is a sign or a verbatim text that ends in this byte.
 #[inline(always)]
-fn item_continues(source: &Source, item: Item) -> bool
-    ensures { result ≡ passes.item_continues (texts_of source.now.lines) item }
+fn item_ends_in(source: &Source, item: Item, byte: u8) -> bool
+    ensures { result ≡ passes.item_ends_in byte (texts_of source.now.lines) item }
 {
     match item {
-        Item::Sign(span) => first_byte(source, span) == b'\\',
-        Item::Verbatim(span) => last_byte(source, span) == b'\\',
+        Item::Sign(span) => first_byte(source, span) == byte,
+        Item::Verbatim(span) => last_byte(source, span) == byte,
         _ => false,
     }
 }
 
-/// Whether the next line continues a line whose last entry is this one.
+/// Whether the last of these entries is, or ends with, a sign or a verbatim text that ends in this
+/// byte, which is no word byte and no space.
 #[inline(always)]
-fn entry_continues(source: &Source, entry: Entry) -> bool
-    ensures { result ≡ passes.entry_continues (texts_of source.now.lines) entry }
-{
-    match entry {
-        Entry::Item(item) => item_continues(source, item),
-        Entry::Run(span) => last_byte(source, span) == b'\\',
-    }
-}
-
-/// Whether the next line continues a line that ends after these entries.
-#[inline(always)]
-fn is_continued(source: &Source, entries: &[Entry]) -> bool
-    ensures { result ≡ passes.entries_continue (texts_of source.now.lines) entries.now }
+fn end_in(source: &Source, entries: &[Entry], byte: u8) -> bool
+    ensures { result ≡ passes.entries_end_in byte (texts_of source.now.lines) entries.now }
 {
     match entries.last() {
-        Some(entry) => entry_continues(source, *entry),
+        Some(Entry::Item(item)) => item_ends_in(source, *item, byte),
+        Some(Entry::Run(span)) => last_byte(source, *span) == byte,
         None => false,
     }
 }
@@ -360,24 +351,32 @@ fn ends_in_constant(entries: &[Entry]) -> bool
     }
 }
 
-/// Whether an entry is a word or a run that ends in a word.
-#[inline(always)]
-fn is_word_end(source: &Source, entry: Entry) -> bool
-    ensures { result ≡ passes.is_word_end (texts_of source.now.lines) (Some entry) }
+/// Whether a number beside a run that begins or ends with this byte would be read as one with it.
+fn is_merging_byte(byte: u8) -> bool
+    ensures { result ≡ passes.is_merging_byte byte }
 {
-    match entry {
-        Entry::Item(Item::Word(_)) => true,
-        Entry::Run(span) => is_word_byte(last_byte(source, span)),
+    is_word_byte(byte) || byte == b'.' || byte == b'\\'
+}
+
+/// Whether an ASCII constant after this item would be read as one with it.
+#[inline(always)]
+fn item_merges(source: &Source, item: Item) -> bool
+    ensures { result ≡ passes.is_merging_end (texts_of source.now.lines) (Some (entry.Item item)) }
+{
+    match item {
+        Item::Code(_) | Item::Word(_) | Item::Verbatim(_) => true,
+        Item::Sign(span) => matches!(first_byte(source, span), b'.' | b'\\'),
         _ => false,
     }
 }
 
-/// Whether the last entry is a word or a run that ends in a word.
-fn ends_in_word(source: &Source, entries: &[Entry]) -> bool
-    ensures { result ≡ passes.is_word_end (texts_of source.now.lines) (last_entry entries.now) }
+/// Whether an ASCII constant after the last entry would be read as one with it.
+fn ends_merging(source: &Source, entries: &[Entry]) -> bool
+    ensures { result ≡ passes.is_merging_end (texts_of source.now.lines) (last_entry entries.now) }
 {
     match entries.last() {
-        Some(entry) => is_word_end(source, *entry),
+        Some(Entry::Item(item)) => item_merges(source, *item),
+        Some(Entry::Run(span)) => is_merging_byte(last_byte(source, *span)),
         None => false,
     }
 }
@@ -397,11 +396,8 @@ fn would_merge(source: &Source, entries: &[Entry], at: &PartState, token: Token)
         && passes.entries_merge (texts_of source.now.lines) entries.now token) }
 {
     match token {
-        Token::Span(SpanKind::Word, _) => is_touching(at) && ends_in_constant(entries),
-        Token::AsciiConstant(..) => {
-            is_touching(at) && (ends_in_constant(entries) || ends_in_word(source, entries))
-        }
-        _ => false,
+        Token::AsciiConstant(..) => is_touching(at) && ends_merging(source, entries),
+        _ => is_touching(at) && ends_in_constant(entries) && may_merge(source, token),
     }
 }
 
@@ -410,9 +406,9 @@ fn would_merge(source: &Source, entries: &[Entry], at: &PartState, token: Token)
 #[inline(always)]
 fn run_would_merge(source: &Source, entries: &[Entry], at: &PartState, span: Span) -> bool
     ensures { result ≡ (passes.is_touching at.now && (passes.is_code (last_entry entries.now)
-        && is_word_byte (rules.first_byte (texts_of source.now.lines) span))) }
+        && is_merging_byte (rules.first_byte (texts_of source.now.lines) span))) }
 {
-    is_touching(at) && ends_in_constant(entries) && is_word_byte(first_byte(source, span))
+    is_touching(at) && ends_in_constant(entries) && is_merging_byte(first_byte(source, span))
 }
 
 /// Ends the gap before an item. Adds a blank if the item would merge with the one before it, or if
@@ -526,7 +522,7 @@ fn add_line_end(
         (origin_of at.old.counted) line) || at.old.counted.has_mark)) }
 {
     note_gap(entries, at);
-    let is_continued = is_continued(source, entries);
+    let is_continued = end_in(source, entries, b'\\');
     let (item, counted) = line_end_item(source, at.counted, line, is_continued);
     entries.push(Entry::Item(item))?;
     at.last = last_after_line_end(is_continued);
@@ -619,6 +615,17 @@ fn add_token(
     }
 }
 
+/// Adds a blank at the end of a piece where the slash of its closing mark has to be kept apart.
+fn add_last_blank(source: &Source, entries: &mut Vec<Entry>, at: &PartState) -> Result<(), NoMemory>
+    ensures { OnOk result (entries.new.items ≡ entries.old.items ++ map entry.Item
+        (blank_if (passes.are_open (texts_of source.now.lines) entries.old.items at.now.last))) }
+{
+    if matches!(at.last, Last::Continued) || end_in(source, entries, b'/') {
+        entries.push(Entry::Item(Item::Blank))?;
+    }
+    Ok(())
+}
+
 /// What was noted while the entries of a C part were made.
 #[derive(Clone, Copy)]
 pub(crate) struct PartNotes {
@@ -667,6 +674,7 @@ pub(crate) fn fill_part(
     for token in tokens {
         add_token(alloc, source, faults, entries, &mut at, token)?;
     }
+    add_last_blank(source, entries, &at)?;
     Ok(PartNotes {
         has_mark: at.counted.has_mark,
         has_all_macros: at.has_all_macros,

@@ -11,7 +11,7 @@ ghost use Rattle.tangle_scan.specs.Passes.{IsGap, without_joins_from, spacing_fr
 ghost use Rattle.tangle_lexer.specs.declared.tokens.Token.{Token};
 ghost use Rattle.tangle_lexer.specs.declared.tokens.Token.TheVariants as token;
 
-use crate::touching::first_byte;
+use crate::touching::{first_byte, may_merge};
 use tangle_lexer::{SpanKind, Token};
 use tangle_lines::{NoMemory, Source};
 
@@ -105,14 +105,14 @@ struct Spacing {
     before: Token,
 }
 
-/// Whether two tokens would be written as one word or number with nothing between them.
-fn would_merge(before: Token, token: Token) -> bool
-    ensures { result ≡ rules.would_merge before token }
+/// Whether two tokens, of which one is an ASCII constant, would be read as one number with nothing
+/// between them.
+fn would_merge(source: &Source, before: Token, token: Token) -> bool
+    ensures { result ≡ rules.would_merge (texts_of source.now.lines) before token }
 {
     match (before, token) {
-        (Token::AsciiConstant(..), Token::AsciiConstant(..) | Token::Span(SpanKind::Word, _)) =>
-            true,
-        (Token::Span(SpanKind::Word, _), Token::AsciiConstant(..)) => true,
+        (Token::AsciiConstant(..), _) => may_merge(source, token),
+        (_, Token::AsciiConstant(..)) => may_merge(source, before),
         _ => false,
     }
 }
@@ -133,8 +133,8 @@ fn needs_space(source: &Source, stage: Stage, before: Token, token: Token) -> bo
     ensures { result ≡ passes.needs_space (texts_of source.now.lines) stage before token }
 {
     match stage {
-        Stage::AfterName => would_merge(before, token) || !may_follow_name(source, token),
-        _ => would_merge(before, token),
+        Stage::AfterName => would_merge(source, before, token) || !may_follow_name(source, token),
+        _ => would_merge(source, before, token),
     }
 }
 

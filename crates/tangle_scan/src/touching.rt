@@ -54,6 +54,20 @@ pub(crate) fn last_byte(source: &Source, span: Span) -> u8
     source_byte(source, span.line, span.end as usize - 1)
 }
 
+/// Whether a number beside this token would be read as one with it: an ASCII constant, a word, a
+/// verbatim text, a full stop or a backslash.
+#[inline(always)]
+pub(crate) fn may_merge(source: &Source, token: Token) -> bool
+    ensures { result ≡ rules.may_merge (texts_of source.now.lines) token }
+{
+    match token {
+        Token::AsciiConstant(..) => true,
+        Token::Span(SpanKind::Word | SpanKind::Verbatim, _) => true,
+        Token::Span(SpanKind::Sign, span) => matches!(first_byte(source, span), b'.' | b'\\'),
+        _ => false,
+    }
+}
+
 /// The kind of the sign that this byte is.
 fn sign_kind(byte: u8) -> TouchKind
     ensures { result ≡ rules.sign_kind byte }

@@ -13,6 +13,7 @@ use Rattle.tangle_lexer.specs.declared.tokens.Token.{Token}
 use Rattle.tangle_lexer.specs.declared.tokens.Token.TheVariants as token
 use Rattle.tangle_lexer.specs.declared.tokens.SpanKind.TheVariants as span_kind
 use Rattle.tangle_scan.specs.declared.items.Item.{Item}
+use Rattle.tangle_scan.specs.Rules.{is_open}
 use Rattle.tangle_scan.specs.Rules.{texts_of, span_text, ends_in_backslash, is_continued}
 use Rattle.tangle_scan.specs.Rules.{is_front_gap, blanks, next_line, part_tokens, part_items}
 use Rattle.tangle_scan.specs.LineTruth.{is_expected}
@@ -182,11 +183,15 @@ module _ (lines : List SourceLine) (used : ℕ → List ℕ) (mark : Origin → 
     continued : ReadsContinued es
 
   plain-end : ReadsPlain []
-  plain-end apart white last before counted gap is continued = rw (append-nil gap) (by is)
+  plain-end apart white last before counted gap is continued = by (is_open texts before) is
     where
-      by : IsGap apart white last before gap → is_gap_read false (read_after (after last) gap) ≡ true
-      by (inl space_first) = white-serves false (after last) gap space_first
-      by (inr unread) = nothing-serves false (after last) gap refl unread.nothing.reads
+      by : (blank : Bool) → IsGap apart white last before gap → is_gap_read false (read_after (after last) (gap
+          ++ flat_map item_bytes (items_by_origin lines before counted (if blank then token.White ∷ [] else [])))) ≡ true
+      by true (inl space_first) =
+          white-serves false (after last) (gap ++ space ∷ []) (white-append (after last) gap (space ∷ []) space_first)
+      by true (inr unread) = white-serves false (after last) (gap ++ space ∷ []) (unread.nothing.spaced [])
+      by false (inl space_first) = rw (append-nil gap) (white-serves false (after last) gap space_first)
+      by false (inr unread) = rw (append-nil gap) (nothing-serves false (after last) gap refl unread.nothing.reads)
 
   plain-white : (es : List Token) → ReadsPlain es → ReadsPlain (token.White ∷ es)
   plain-white es next apart white last before counted gap is continued =
@@ -351,9 +356,9 @@ module _ (lines : List SourceLine) (used : ℕ → List ℕ) (mark : Origin → 
 
 -- the items of a whole piece are read apart
 pub piece-apart : (lines : List SourceLine) (line : ℕ) (tokens : List Token) →
-    IsPieceReadApart (texts_of lines) (part_tokens tokens) (part_items lines line tokens)
+    IsPieceReadApart (texts_of lines) (part_tokens (texts_of lines) tokens) (part_items lines line tokens)
 piece-apart lines line tokens used mark macros =
     rw (part_items-by_origin lines line tokens)
-    ((reads lines used mark macros (part_tokens tokens)).plain false false None None (origin_at lines line) []
+    ((reads lines used mark macros (part_tokens (texts_of lines) tokens)).plain false false None None (origin_at lines line) []
     (inr (record { nothing = no-bytes lines used mark macros None; here = λ none f. refl; front = λ none f. refl }))
     refl)

@@ -62,7 +62,7 @@ unmarked_items-spans (_ ∷ es) = unmarked_items-spans es
 pub part-spans : (lines : List SourceLine) (line : ℕ) (es : List Token)
     → item_spans (part_items lines line es) ≡ token_spans es
 part-spans lines line es =
-    let ruled : List Token = blanks (texts_of lines) None false (part_tokens es) in
+    let ruled : List Token = blanks (texts_of lines) None false (part_tokens (texts_of lines) es) in
     ap item_spans (part_items-by_origin lines line es)
     ∙ items_by_origin-spans lines None (origin_at lines line) ruled
     ∙ alike-spans ruled es (part-kept (texts_of lines) es)

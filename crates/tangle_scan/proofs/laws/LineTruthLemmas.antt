@@ -15,6 +15,7 @@ use Rattle.tangle_lexer.specs.declared.tokens.Token.TheVariants as token
 use Rattle.tangle_scan.specs.declared.items.Item.{Item}
 use Rattle.tangle_scan.specs.declared.items.Item.TheVariants as item
 use Rattle.tangle_lines.specs.Reading.{SourceLine, origin_at}
+use Rattle.tangle_scan.specs.Rules.{is_open}
 use Rattle.tangle_scan.specs.Rules.{texts_of, without_faults, would_merge, with_spaces, is_gap, has_join, map_runs}
 use Rattle.tangle_scan.specs.Rules.{left_of_run, part_tokens, span_item}
 use Rattle.tangle_scan.specs.Rules.{is_continued, at_line_front, blanks, next_line, same_origin, part_items}
@@ -38,13 +39,14 @@ white-flows : (count : ℕ) (b : Bool) (line : ℕ) (es : List Token) → Flows 
 white-flows count true line es f = (tt, f)
 white-flows count false line es f = f
 
-with_spaces-flows : (count : ℕ) (es : List Token) (line : ℕ) → Flows count line es → Flows count line (with_spaces es)
-with_spaces-flows count [] line f = f
-with_spaces-flows count (e ∷ []) line f = f
-with_spaces-flows count (e ∷ g ∷ es) line f = (
+with_spaces-flows : (texts : List (List ℕ)) (count : ℕ) (es : List Token) (line : ℕ)
+    → Flows count line es → Flows count line (with_spaces texts es)
+with_spaces-flows texts count [] line f = f
+with_spaces-flows texts count (e ∷ []) line f = f
+with_spaces-flows texts count (e ∷ g ∷ es) line f = (
   f.0,
-  white-flows count (would_merge e g) (line_past line e) (with_spaces (g ∷ es))
-      (with_spaces-flows count (g ∷ es) (line_past line e) f.1),
+  white-flows count (would_merge texts e g) (line_past line e) (with_spaces texts (g ∷ es))
+      (with_spaces-flows texts count (g ∷ es) (line_past line e) f.1),
 )
 
 -- all tokens of a run are joins, white space and line ends
@@ -141,7 +143,11 @@ module _ (lines : List SourceLine) where
 
   -- rule 3 does not change the counted origin of a source item
   blanks-seen : (left : Option Token) (white : Bool) (es : List Token) → AreSeenAlike (blanks texts left white es) es
-  blanks-seen left white [] before counted = refl
+  blanks-seen left white [] before counted = end (is_open texts left)
+    where
+      end : (b : Bool) → seen before counted (if b then token.White ∷ [] else []) ≡ seen before counted []
+      end true = refl
+      end false = refl
   blanks-seen left white (token.White ∷ es) before counted = blanks-seen left true es before counted
   blanks-seen left white (token.LineEnd line ∷ es) before counted =
       let rest : List Token = blanks texts (at_line_front texts left line) false es in
@@ -264,7 +270,7 @@ module _ (lines : List SourceLine) where
       → IsAtItsLine lines (origin_at lines line) (part_items lines line es) (part_locations lines line es)
   part-true line es flows =
       let clean : List Token = without_faults es in
-      let spaced : Flows (length lines) line (with_spaces clean) =
-      with_spaces-flows (length lines) clean line (without_faults-flows (length lines) es line flows) in
-      rw (part_items-by_origin lines line es, blanks-seen None false (part_tokens es) None (origin_at lines line))
-      (map_runs-true [] (with_spaces clean) refl None (origin_at lines line) false line (λ out inside. refl) spaced)
+      let spaced : Flows (length lines) line (with_spaces (texts_of lines) clean) =
+      with_spaces-flows (texts_of lines) (length lines) clean line (without_faults-flows (length lines) es line flows) in
+      rw (part_items-by_origin lines line es, blanks-seen None false (part_tokens (texts_of lines) es) None (origin_at lines line))
+      (map_runs-true [] (with_spaces (texts_of lines) clean) refl None (origin_at lines line) false line (λ out inside. refl) spaced)

@@ -84,7 +84,7 @@ items_by_origin-below count lines before origin (e ∷ es) h =
 part_items-below : (count : ℕ) (lines : List SourceLine) (line : ℕ) (es : List Token)
     → AreBelow count es → AreUsesBelow count (part_items lines line es)
 part_items-below count lines line es h =
-    let ruled : List Token = blanks (texts_of lines) None false (part_tokens es) in
+    let ruled : List Token = blanks (texts_of lines) None false (part_tokens (texts_of lines) es) in
     rw (part_items-by_origin lines line es)
     (items_by_origin-below count lines None (origin_at lines line) ruled
     (below-kept count ruled (rw (part-kept (texts_of lines) es) (kept-below count es h))))

@@ -15,7 +15,7 @@ use Rattle.tangle_lexer.specs.declared.tokens.SpanKind.{SpanKind}
 use Rattle.tangle_lexer.specs.declared.tokens.SpanKind.TheVariants as span_kind
 use Rattle.tangle_scan.specs.declared.parts.PartState.{PartState}
 use Rattle.tangle_scan.specs.declared.parts.Start.{Start}
-use Rattle.tangle_scan.specs.Rules.{texts_of, ends_in_backslash, span_item, would_merge}
+use Rattle.tangle_scan.specs.Rules.{texts_of, ends_in, span_item, would_merge}
 use Rattle.std.specs.List.{list_any, All}
 use Rattle.std.proofs.lemmas.List.Elements.{All-append, All-map, All-push}
 use Rattle.std.proofs.lemmas.List.{take_all, take-append-le}
@@ -28,7 +28,7 @@ use Rattle.tangle_text.specs.declared.runs.RunPart.TheVariants as part
 use Rattle.tangle_text.specs.Runs.{run_parts}
 use Rattle.tangle_lexer.specs.Heads.{is_head}
 use Rattle.tangle_scan.specs.Entries.{entry_items, items_of, entry_is_mark, part_item, IsEntryInRange}
-use Rattle.tangle_scan.specs.Passes.{items_at, item_continues, entry_continues, entries_continue, last_continues}
+use Rattle.tangle_scan.specs.Passes.{items_at, item_ends_in, entry_ends_in, entries_end_in, last_ends_in}
 use Rattle.tangle_scan.specs.Passes.{last_entry, entries_merge, items_by_origin, blank_if, IsMarked}
 use Rattle.tangle_scan.specs.Passes.{start_of_gap, is_after_line_end}
 use Rattle.tangle_scan.proofs.lemmas.RuleLemmas.{is_solid}
@@ -73,41 +73,40 @@ last-of-two : (entries : List Entry) (x y : Entry) → last_entry (entries ++ x 
 last-of-two entries x y =
     ap last_entry (sym (append_assoc entries (x ∷ []) (y ∷ []))) ∙ last-of-push (entries ++ x ∷ []) y
 
-pub last-continues : (texts : List (List ℕ)) (entries : List Entry) (x : Entry)
-    → entries_continue texts (entries ++ x ∷ []) ≡ entry_continues texts x
-last-continues texts entries x = ap (last_continues texts) (last-of-push entries x)
+pub last-ends : (b : ℕ) (texts : List (List ℕ)) (entries : List Entry) (x : Entry)
+    → entries_end_in b texts (entries ++ x ∷ []) ≡ entry_ends_in b texts x
+last-ends b texts entries x = ap (last_ends_in b texts) (last-of-push entries x)
 
-pub span-continues : (texts : List (List ℕ)) (kind : SpanKind) (s : Span)
-    → item_continues texts (span_item kind s) ≡ ends_in_backslash texts (token.Span kind s)
-span-continues texts span_kind.Word s = refl
-span-continues texts _ s = refl
+pub span-ends : (b : ℕ) (texts : List (List ℕ)) (kind : SpanKind) (s : Span)
+    → item_ends_in b texts (span_item kind s) ≡ ends_in b texts (token.Span kind s)
+span-ends b texts span_kind.Word s = refl
+span-ends b texts _ s = refl
 
 -- an entry and another one, or no other
-pub item-continues : (lines : List SourceLine) (entries : List Entry) (e : Token)
+pub item-ends : (b : ℕ) (lines : List SourceLine) (entries : List Entry) (e : Token)
     → is_solid e ≡ true → is_head e ≡ false → ((s : Span) → e ≡ token.Run s → ⊥)
-    → entries_continue (texts_of lines) (entries ++ map entry.Item (items_at lines e))
-    ≡ ends_in_backslash (texts_of lines) e
-item-continues lines entries (token.Span kind s) solid head run =
-    last-continues (texts_of lines) entries (entry.Item (span_item kind s)) ∙ span-continues (texts_of lines) kind s
-item-continues lines entries token.QuoteBreak solid head run =
-    last-continues (texts_of lines) entries (entry.Item item.QuoteBreak)
-item-continues lines entries (token.AsciiConstant b line) solid head run =
-    last-continues (texts_of lines) entries (entry.Item (item.Code b))
-item-continues lines entries (token.UseOf line occurrence) solid head run =
-    ap (last_continues (texts_of lines)) (last-of-two entries _ _)
-item-continues lines entries (token.AllMacros line) solid head run =
-    ap (last_continues (texts_of lines)) (last-of-two entries _ _)
-item-continues lines entries (token.Run s) solid head run = absurd (run s refl)
-item-continues lines entries _ solid head run = cc
+    → entries_end_in b (texts_of lines) (entries ++ map entry.Item (items_at lines e)) ≡ ends_in b (texts_of lines) e
+item-ends b lines entries (token.Span kind s) solid head run =
+    last-ends b (texts_of lines) entries (entry.Item (span_item kind s)) ∙ span-ends b (texts_of lines) kind s
+item-ends b lines entries token.QuoteBreak solid head run =
+    last-ends b (texts_of lines) entries (entry.Item item.QuoteBreak)
+item-ends b lines entries (token.AsciiConstant value line) solid head run =
+    last-ends b (texts_of lines) entries (entry.Item (item.Code value))
+item-ends b lines entries (token.UseOf line occurrence) solid head run =
+    ap (last_ends_in b (texts_of lines)) (last-of-two entries _ _)
+item-ends b lines entries (token.AllMacros line) solid head run =
+    ap (last_ends_in b (texts_of lines)) (last-of-two entries _ _)
+item-ends b lines entries (token.Run s) solid head run = absurd (run s refl)
+item-ends b lines entries _ solid head run = cc
 
 span-merges : (texts : List (List ℕ)) (entries : List Entry) (kind : SpanKind) (s : Span) (f : Token)
-    → entries_merge texts (entries ++ entry.Item (span_item kind s) ∷ []) f ≡ would_merge (token.Span kind s) f
+    → entries_merge texts (entries ++ entry.Item (span_item kind s) ∷ []) f ≡ would_merge texts (token.Span kind s) f
 span-merges texts entries span_kind.Word s f = rw (last-of-push entries (entry.Item (item.Word s))) refl
 span-merges texts entries kind s f = rw (last-of-push entries (entry.Item (span_item kind s))) refl
 
 pub item-merges : (lines : List SourceLine) (entries : List Entry) (e f : Token)
     → is_solid e ≡ true → is_head e ≡ false → ((s : Span) → e ≡ token.Run s → ⊥)
-    → entries_merge (texts_of lines) (entries ++ map entry.Item (items_at lines e)) f ≡ would_merge e f
+    → entries_merge (texts_of lines) (entries ++ map entry.Item (items_at lines e)) f ≡ would_merge (texts_of lines) e f
 item-merges lines entries (token.Span kind s) f solid head run = span-merges (texts_of lines) entries kind s f
 item-merges lines entries token.QuoteBreak f solid head run =
     rw (last-of-push entries (entry.Item item.QuoteBreak)) refl
@@ -138,7 +137,7 @@ marks-of-entries texts (entry.Run s ∷ entries) =
     no-mark-in-run (run_parts texts s) (items_of texts entries) ∙ marks-of-entries texts entries
 
 -- a blank is no mark
-blank-unmarked : (b : Bool) → list_any entry_is_mark (map entry.Item (if b then item.Blank ∷ [] else [])) ≡ false
+pub blank-unmarked : (b : Bool) → list_any entry_is_mark (map entry.Item (if b then item.Blank ∷ [] else [])) ≡ false
 blank-unmarked true = refl
 blank-unmarked false = refl
 

@@ -11,6 +11,7 @@ use Rattle.tangle_text.specs.declared.spans.Span.{Span}
 use Rattle.tangle_lines.specs.Reading.{SourceLine, origin_at}
 use Rattle.tangle_scan.specs.declared.items.Item.{Item}
 use Rattle.tangle_scan.specs.declared.items.Item.TheVariants as item
+use Rattle.tangle_scan.specs.Rules.{is_open}
 use Rattle.tangle_scan.specs.Rules.{texts_of, is_continued, at_line_front, blanks, span_item, next_line, same_origin}
 use Rattle.tangle_scan.specs.Rules.{with_all_marks, with_needed_marks, is_front_gap, part_tokens, part_items}
 use Rattle.tangle_scan.specs.LineTruth.{is_expected, counted_after_line_end}
@@ -106,7 +107,12 @@ module _ (lines : List SourceLine) where
       → is_continued texts left ≡ is_continued texts before
       → made left counted (blanks texts before white es)
       ≡ items_by_origin lines before counted (blanks texts before white es)
-  made-blanks left before white counted [] alike = refl
+  made-blanks left before white counted [] alike = end (is_open texts before)
+    where
+      end : (b : Bool) → let last : List Token = if b then token.White ∷ [] else [] in
+          made left counted last ≡ items_by_origin lines before counted last
+      end true = refl
+      end false = refl
   made-blanks left before white counted (token.White ∷ es) alike = made-blanks left before true counted es alike
   made-blanks left before white counted (token.LineEnd line ∷ es) alike =
       let front : Option Token = at_line_front texts before line in
@@ -133,5 +139,5 @@ module _ (lines : List SourceLine) where
   -- rules 4 and 5, one after the other, give the same items of a C part as the one pass
   pub part_items-by_origin : (line : ℕ) (es : List Token)
       → part_items lines line es
-      ≡ items_by_origin lines None (origin_at lines line) (blanks texts None false (part_tokens es))
-  part_items-by_origin line es = made-blanks None None false (origin_at lines line) (part_tokens es) refl
+      ≡ items_by_origin lines None (origin_at lines line) (blanks texts None false (part_tokens texts es))
+  part_items-by_origin line es = made-blanks None None false (origin_at lines line) (part_tokens texts es) refl

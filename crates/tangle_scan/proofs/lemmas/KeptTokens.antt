@@ -4,6 +4,7 @@ use Rattle.std.proofs.Common.{List, [], ◌∷◌, ◌++◌, flat_map, refl, ap,
 use Rattle.std.proofs.lemmas.Grind.{flat_map-append}
 use Rattle.tangle_lexer.specs.declared.tokens.Token.{Token}
 use Rattle.tangle_lexer.specs.declared.tokens.Token.TheVariants as token
+use Rattle.tangle_scan.specs.Rules.{is_open}
 use Rattle.tangle_scan.specs.Rules.{without_faults, would_merge, with_spaces, may_follow_name, with_space_after}
 use Rattle.tangle_scan.specs.Rules.{with_name_space, is_gap, has_join, left_of_run, without_joins, part_tokens}
 use Rattle.tangle_scan.specs.Rules.{at_line_front, blanks, next_item, has_blank_at_line_end, is_name_part}
@@ -26,11 +27,11 @@ without_faults-kept [] = refl
 without_faults-kept (token.Fault kind line ∷ es) = without_faults-kept es
 without_faults-kept (e ∷ es) = ap (λ ts. keep e ++ ts) (without_faults-kept es)
 
-with_spaces-kept : (es : List Token) → kept (with_spaces es) ≡ kept es
-with_spaces-kept [] = refl
-with_spaces-kept (e ∷ []) = refl
-with_spaces-kept (e ∷ f ∷ es) =
-    ap (λ ts. keep e ++ ts) (white-kept (would_merge e f) (with_spaces (f ∷ es)) ∙ with_spaces-kept (f ∷ es))
+with_spaces-kept : (texts : List (List ℕ)) (es : List Token) → kept (with_spaces texts es) ≡ kept es
+with_spaces-kept texts [] = refl
+with_spaces-kept texts (e ∷ []) = refl
+with_spaces-kept texts (e ∷ f ∷ es) =
+    ap (λ ts. keep e ++ ts) (white-kept (would_merge texts e f) (with_spaces texts (f ∷ es)) ∙ with_spaces-kept texts (f ∷ es))
 
 with_space_after-kept : (texts : List (List ℕ)) (e : Token) (es : List Token)
     → kept (with_space_after texts e es) ≡ kept (e ∷ es)
@@ -74,9 +75,13 @@ without_joins-kept run (e ∷ es) none =
         let gone = gap-gone e gap in rw gone (more (rw (flat_map-append, none, gone) refl))
     by false gap more rest = rw (flat_map-append, left-kept run none) (ap (λ ts. keep e ++ ts) rest)
 
+last-kept : (b : Bool) → kept (if b then token.White ∷ [] else []) ≡ []
+last-kept true = refl
+last-kept false = refl
+
 blanks-kept : (texts : List (List ℕ)) (before : Option Token) (white : Bool) (es : List Token)
     → kept (blanks texts before white es) ≡ kept es
-blanks-kept texts before white [] = refl
+blanks-kept texts before white [] = last-kept (is_open texts before)
 blanks-kept texts before white (token.White ∷ es) = blanks-kept texts before true es
 blanks-kept texts before white (token.LineEnd line ∷ es) = blanks-kept texts (at_line_front texts before line) false es
 blanks-kept texts before white (e ∷ es) =
@@ -103,11 +108,11 @@ without_front-kept (token.LineEnd line ∷ es) = without_front-kept es
 without_front-kept (_ ∷ es) = refl
 
 -- the tokens of a C part after rules 1 to 3
-pub part-kept : (texts : List (List ℕ)) (es : List Token) → kept (blanks texts None false (part_tokens es)) ≡ kept es
+pub part-kept : (texts : List (List ℕ)) (es : List Token) → kept (blanks texts None false (part_tokens texts es)) ≡ kept es
 part-kept texts es =
-    blanks-kept texts None false (part_tokens es)
-    ∙ without_joins-kept [] (with_spaces (without_faults es)) refl
-    ∙ with_spaces-kept (without_faults es)
+    blanks-kept texts None false (part_tokens texts es)
+    ∙ without_joins-kept [] (with_spaces texts (without_faults es)) refl
+    ∙ with_spaces-kept texts (without_faults es)
     ∙ without_faults-kept es
 
 -- the tokens of a macro after rules 1 to 3
@@ -116,8 +121,8 @@ pub macro-kept : (texts : List (List ℕ)) (es : List Token)
 macro-kept texts es =
     let front : List Token = without_front_gaps (without_faults es) in
     macro_blanks-kept texts true None false (macro_tokens texts es)
-    ∙ without_joins-kept [] (with_name_space texts (with_spaces front)) refl
-    ∙ with_name_space-kept texts (with_spaces front)
-    ∙ with_spaces-kept front
+    ∙ without_joins-kept [] (with_name_space texts (with_spaces texts front)) refl
+    ∙ with_name_space-kept texts (with_spaces texts front)
+    ∙ with_spaces-kept texts front
     ∙ without_front-kept (without_faults es)
     ∙ without_faults-kept es

@@ -13,7 +13,6 @@ use Rattle.tangle_lexer.specs.Runs.{part_token, unfolded_token, IsRunOf}
 use Rattle.tangle_text.specs.declared.runs.RunPart.{RunPart}
 use Rattle.tangle_text.specs.declared.runs.RunPart.TheVariants as part
 use Rattle.tangle_text.specs.declared.spans.Span.{Span}
-use Rattle.tangle_text.specs.Bytes.{is_word_byte}
 use Rattle.tangle_text.specs.Runs.{run_parts, has_single_spaces}
 use Rattle.tangle_lines.specs.declared.origin.Origin.{Origin}
 use Rattle.tangle_lines.specs.Reading.{SourceLine, origin_at}
@@ -28,20 +27,23 @@ use Rattle.tangle_scan.specs.declared.parts.PartState.{PartState}
 use Rattle.tangle_scan.specs.declared.parts.Start.{Start}
 use Rattle.tangle_scan.specs.Entries.{items_of, part_item}
 use Rattle.tangle_scan.specs.Rules.{without_faults, would_merge, is_constant, first_byte}
-use Rattle.tangle_scan.specs.Rules.{is_word_token, without_joins, is_gap, left_of_run, ends_in_backslash}
+use Rattle.tangle_scan.specs.Rules.{may_merge, without_joins, is_gap, left_of_run, ends_in, is_open}
 use Rattle.tangle_scan.specs.Rules.{has_join, texts_of, is_continued, at_line_front}
+use Rattle.tangle_text.specs.Bytes.{backslash, slash, is_word_byte}
+use Rattle.tangle_files.specs.Bytes.{space}
+use Rattle.std.proofs.Common.{◌==◌}
 use Rattle.tangle_scan.specs.Rules.{blanks, part_items, is_front_gap}
 use Rattle.tangle_scan.specs.LineTruth.{counted_after_line_end}
 use Rattle.tangle_scan.specs.Passes.{IsPassed, from_gap, start_of_gap, items_after, spaced_after, blank_before, blank_before_run}
 use Rattle.tangle_scan.specs.Passes.{is_joined, is_item, is_touching, is_after_line_end, keeps_white, last_after_line_end}
 use Rattle.tangle_scan.specs.Passes.{line_item, items_at, counted_after_token, items_by_origin, blank_if}
-use Rattle.tangle_scan.specs.Passes.{item_continues, entries_continue, entries_merge, is_code, last_entry, origin_of}
+use Rattle.tangle_scan.specs.Passes.{item_ends_in, entries_end_in, entries_continue, are_open, entries_merge, is_code, last_entry, origin_of}
 use Rattle.tangle_scan.proofs.lemmas.ItemsByOrigin.{items_by_origin-item, part_items-by_origin, by-line_item}
 use Rattle.tangle_scan.proofs.lemmas.RuleLemmas.{without_joins-item, has_join-push, blanks-item, is_solid}
 use Rattle.tangle_scan.proofs.lemmas.SpacingLemmas.{spaced-inside}
-use Rattle.tangle_scan.proofs.lemmas.EntryLemmas.{items_by_origin-blank, items-push, items-more, last-continues}
-use Rattle.tangle_scan.proofs.lemmas.EntryLemmas.{last-of-push, item-continues, item-merges, start-within}
-use Rattle.tangle_scan.proofs.lemmas.RunItems.{last_token, run-front, run-continues, run-word}
+use Rattle.tangle_scan.proofs.lemmas.EntryLemmas.{items_by_origin-blank, items-push, items-more, last-ends}
+use Rattle.tangle_scan.proofs.lemmas.EntryLemmas.{last-of-push, item-ends, item-merges, start-within}
+use Rattle.tangle_scan.proofs.lemmas.RunItems.{last_token, run-front, run-ends, run-merges}
 
 abbrev white_if : Bool → List Token
 white_if b = if b then token.White ∷ [] else []
@@ -51,12 +53,12 @@ white_if b = if b then token.White ∷ [] else []
 apart : (a b : Bool) → (a && false || b && false) ≡ false
 apart a b = rw (and-false a, and-false b) refl
 
-spaced-gap : (gap : List Token) (prev e : Token) (es : List Token) → is_gap e ≡ true
-    → without_joins gap (spaced_after prev (e ∷ es)) ≡ without_joins (gap ++ e ∷ []) (spaced_after e es)
-spaced-gap gap prev token.Join es h = rw (apart (is_constant prev) (is_word_token prev)) refl
-spaced-gap gap prev token.White es h = rw (apart (is_constant prev) (is_word_token prev)) refl
-spaced-gap gap prev (token.LineEnd line) es h = rw (apart (is_constant prev) (is_word_token prev)) refl
-spaced-gap gap prev _ es h = cc
+spaced-gap : (texts : List (List ℕ)) (gap : List Token) (prev e : Token) (es : List Token) → is_gap e ≡ true
+    → without_joins gap (spaced_after texts prev (e ∷ es)) ≡ without_joins (gap ++ e ∷ []) (spaced_after texts e es)
+spaced-gap texts gap prev token.Join es h = rw (apart (is_constant prev) (may_merge texts prev)) refl
+spaced-gap texts gap prev token.White es h = rw (apart (is_constant prev) (may_merge texts prev)) refl
+spaced-gap texts gap prev (token.LineEnd line) es h = rw (apart (is_constant prev) (may_merge texts prev)) refl
+spaced-gap texts gap prev _ es h = cc
 
 -- faults are left out
 pub passed-fault : (lines : List SourceLine) (whole : List Item) (entries : List Entry) (at : PartState)
@@ -105,10 +107,12 @@ passed-white lines whole entries at es h = record {
         (from_gap lines entries at h.read.front) (items_of (texts_of lines) entries) h.read.joined h.read.keeps h.read.made;
     keeps = h.read.keeps;
     continues = h.read.continues;
+    front_open = h.read.front_open;
+    before_open = h.read.before_open;
     merges = λ e. sym (ap (λ b. b && entries_merge (texts_of lines) entries e) (and-false (is_item at.last)));
   };
   left = h.left
-      ∙ ap (from_gap lines entries at h.read.front) (spaced-gap h.read.gap h.read.prev token.White es refl);
+      ∙ ap (from_gap lines entries at h.read.front) (spaced-gap (texts_of lines) h.read.gap h.read.prev token.White es refl);
 }
 
 -- a line end
@@ -133,10 +137,12 @@ passed-joined-end lines whole entries at line es is h =
         made = rw (end-joined h.read.gap line, joined) (rw joined at h.read.made);
         keeps = h.read.keeps;
         continues = h.read.continues;
+        front_open = h.read.front_open;
+        before_open = h.read.before_open;
         merges = λ e. rw is refl;
       };
       left = h.left
-          ∙ ap (from_gap lines entries at h.read.front) (spaced-gap h.read.gap h.read.prev (token.LineEnd line) es refl);
+          ∙ ap (from_gap lines entries at h.read.front) (spaced-gap (texts_of lines) h.read.gap h.read.prev (token.LineEnd line) es refl);
     }
 
 after-end : (continued : Bool) → is_after_line_end (last_after_line_end continued) ≡ true
@@ -164,6 +170,13 @@ front-continues texts line false = refl
 unjoined : (at : Last) → (at ≡ last.Joined → ⊥) → is_joined at ≡ false
 unjoined last.Joined h = absurd (h refl)
 unjoined _ h = refl
+
+end-open : (texts : List (List ℕ)) (line : ℕ) (continued : Bool) (new : List Entry)
+    → entries_end_in slash texts new ≡ false
+    → is_open texts (if continued then Some (token.LineEnd line) else None)
+    ≡ are_open texts new (last_after_line_end continued)
+end-open texts line true new h = refl
+end-open texts line false new h = sym h
 
 -- the entries so far with one more, and the state, after a line end
 pub passed-end : (lines : List SourceLine) (whole : List Item) (entries : List Entry) (at : PartState)
@@ -199,14 +212,17 @@ passed-end lines whole entries at line counted es other is h = record {
         ) refl));
     keeps = λ _. rw continues (front-keeps line continued);
     continues = λ _. front-continues texts line (is_continued texts before)
-        ∙ sym (last-continues texts entries (entry.Item made)
-        ∙ by-line_item (λ x. item_continues texts x ≡ false) lines continued (origin_of at.counted) line
-        refl (λ p. refl));
+        ∙ sym (ends_in_none backslash);
+    front_open = rw (
+      after-end continued,
+      take-append-le (start_of_gap entries at).entries entries (entry.Item made ∷ []) within,
+    ) h.read.front_open;
+    before_open = rw continues (end-open texts line continued (entries ++ entry.Item made ∷ []) (ends_in_none slash));
     merges = λ e. sym (ap (λ b. b && true && entries_merge texts (entries ++ entry.Item made ∷ []) e)
         (item-end continued));
   };
-  left = h.left ∙ (ap (from_gap lines entries at h.read.front) (spaced-gap gap h.read.prev (token.LineEnd line) es refl)
-      ∙ sym (same (without_joins (gap ++ token.LineEnd line ∷ []) (spaced_after (token.LineEnd line) es))));
+  left = h.left ∙ (ap (from_gap lines entries at h.read.front) (spaced-gap texts gap h.read.prev (token.LineEnd line) es refl)
+      ∙ sym (same (without_joins (gap ++ token.LineEnd line ∷ []) (spaced_after texts (token.LineEnd line) es))));
 }
   where
     texts : List (List ℕ)
@@ -229,6 +245,11 @@ passed-end lines whole entries at line counted es other is h = record {
 
     continues : is_continued texts before ≡ continued
     continues = h.read.continues (unjoined at.last other)
+
+    ends_in_none : (b : ℕ) → entries_end_in b texts (entries ++ entry.Item made ∷ []) ≡ false
+    ends_in_none b = last-ends b texts entries (entry.Item made)
+        ∙ by-line_item (λ x. item_ends_in b texts x ≡ false) lines continued (origin_of at.counted) line
+        refl (λ p. refl)
 
     opened : (xs : List Token) → left_of_run (gap ++ token.LineEnd line ∷ []) ++ xs ≡ gap ++ token.LineEnd line ∷ xs
     opened xs = rw (end-joined gap line, none) (append_assoc gap (token.LineEnd line ∷ []) xs)
@@ -272,9 +293,11 @@ passed-join lines whole entries at es h =
         made = λ xs. rw (joined, all) refl;
         keeps = λ never. cc;
         continues = λ never. cc;
+        front_open = rw all h.read.front_open;
+        before_open = h.read.front_open;
         merges = λ e. refl;
       };
-      left = rw all (h.left ∙ ap (from_gap lines entries at h.read.front) (spaced-gap h.read.gap h.read.prev token.Join es refl));
+      left = rw all (h.left ∙ ap (from_gap lines entries at h.read.front) (spaced-gap (texts_of lines) h.read.gap h.read.prev token.Join es refl));
     }
   where
     within : (b : Bool) → at.start.entries
@@ -286,16 +309,24 @@ passed-join lines whole entries at es h =
 
 -- the items of the tokens after an item
 abbrev ahead : List SourceLine → Token → Origin → List Token → List Item
-ahead lines e counted es = items_after lines (Some e) counted false (without_joins [] (spaced_after e es))
+ahead lines e counted es = items_after lines (Some e) counted false (without_joins [] (spaced_after (texts_of lines) e es))
 
-solid-spaced : (prev e : Token) (es : List Token) → is_solid e ≡ true
-    → spaced_after prev (e ∷ es) ≡ white_if (would_merge prev e) ++ e ∷ spaced_after e es
-solid-spaced prev (token.Fault kind line) es h = cc
-solid-spaced prev _ es h = refl
+solid-spaced : (texts : List (List ℕ)) (prev e : Token) (es : List Token) → is_solid e ≡ true
+    → spaced_after texts prev (e ∷ es) ≡ white_if (would_merge texts prev e) ++ e ∷ spaced_after texts e es
+solid-spaced texts prev (token.Fault kind line) es h = cc
+solid-spaced texts prev _ es h = refl
 
 solid-gap : (e : Token) → is_solid e ≡ true → is_gap e ≡ false
 solid-gap token.White h = cc
 solid-gap _ h = cc
+
+abbrev is_end : Token → Bool
+is_end (token.LineEnd line) = true
+is_end _ = false
+
+solid-end : (e : Token) → is_solid e ≡ true → is_end e ≡ false
+solid-end (token.LineEnd line) h = cc
+solid-end _ h = refl
 
 solid-front : (e : Token) → is_solid e ≡ true → is_front_gap e ≡ false
 solid-front token.White h = cc
@@ -342,11 +373,12 @@ item-ahead : (lines : List SourceLine) (whole : List Item) (entries : List Entry
 item-ahead lines whole entries at e es solid h =
     h.left
     ∙ (ap (λ t. from_gap lines entries at h.read.front (without_joins h.read.gap t))
-    (solid-spaced h.read.prev e es solid ∙ ap (λ b. white_if b ++ e ∷ spaced_after e es) (h.read.merges e))
+    (solid-spaced (texts_of lines) h.read.prev e es solid
+    ∙ ap (λ b. white_if b ++ e ∷ spaced_after (texts_of lines) e es) (h.read.merges e))
     ∙ (ap (from_gap lines entries at h.read.front)
-    (item-joins h.read.gap merges e (spaced_after e es) (solid-gap e solid)
+    (item-joins h.read.gap merges e (spaced_after (texts_of lines) e es) (solid-gap e solid)
     (λ is. h.read.joined ∙ item-unjoined at.last (item is)))
-    ∙ (h.read.made (white_if merges ++ e ∷ without_joins [] (spaced_after e es))
+    ∙ (h.read.made (white_if merges ++ e ∷ without_joins [] (spaced_after (texts_of lines) e es))
     ∙ ap (λ t. items_of (texts_of lines) entries ++ t)
     (ap (items_by_origin lines h.read.before (origin_of at.counted))
     (item-blanks (texts_of lines) at.last at.has_white merges h.read.before e _ (solid-front e solid) h.read.keeps item)
@@ -360,15 +392,21 @@ item-ahead lines whole entries at e es solid h =
     item : merges ≡ true → is_item at.last ≡ true
     item is = touching-item at.last at.has_white (entries_merge (texts_of lines) entries e) is
 
+open-item : (texts : List (List ℕ)) (e : Token) → is_end e ≡ false → is_open texts (Some e) ≡ ends_in slash texts e
+open-item texts (token.LineEnd line) h = cc
+open-item texts _ h = refl
+
 -- after an item, with which the entries end
 item-passed : (lines : List SourceLine) (whole : List Item) (new : List Entry) (next : PartState)
     (e : Token) (es : List Token) → next.last ≡ last.Item → next.has_white ≡ false → next.start.entries ≤ length new
-    → ends_in_backslash (texts_of lines) e ≡ entries_continue (texts_of lines) new
-    → ((f : Token) → would_merge e f ≡ entries_merge (texts_of lines) new f)
+    → is_end e ≡ false → ((b : ℕ) → is_word_byte b ≡ false → (b == space) ≡ false
+    → ends_in b (texts_of lines) e ≡ entries_end_in b (texts_of lines) new)
+    → ((f : Token) → would_merge (texts_of lines) e f ≡ entries_merge (texts_of lines) new f)
     → whole ≡ items_of (texts_of lines) new ++ ahead lines e (origin_of next.counted) es
     → IsPassed lines whole new next es
-item-passed lines whole new next e es item white within continues merges left =
+item-passed lines whole new next e es item white within solid ends merges left =
     let all : take (length new) new ≡ new = take_all (length new) new (omega arith) in
+    let is = open-item (texts_of lines) e solid ∙ ends slash refl refl in
     record {
       read = record {
         gap = [];
@@ -379,7 +417,9 @@ item-passed lines whole new next e es item white within continues merges left =
         joined = rw item refl;
         made = λ xs. rw (item, white, all) refl;
         keeps = λ _. rw item refl;
-        continues = λ _. continues;
+        continues = λ _. ends backslash refl refl;
+        front_open = rw (item, all) is;
+        before_open = rw item is;
         merges = rw (item, white) merges;
       };
       left = rw (item, all) left;
@@ -403,7 +443,7 @@ passed-item lines whole entries new at next e es solid head run is_new item whit
       length-append entries (map entry.Item blank),
       length-append middle (map entry.Item (items_at lines e)),
     ))
-    (sym (item-continues lines middle e solid head run))
+    (solid-end e solid) (λ b _ _. sym (item-ends b lines middle e solid head run))
     (λ f. sym (item-merges lines middle e f solid head run))
     (item-ahead lines whole entries at e es solid h
     ∙ rw (
@@ -420,6 +460,14 @@ plain-part : (p : RunPart) → is_constant (part_token p) ≡ false
 plain-part part.Space = refl
 plain-part _ = refl
 
+part-solid : (p : RunPart) → is_end (part_token p) ≡ false
+part-solid part.Space = refl
+part-solid _ = refl
+
+last-solid : (e : Token) (ps : List RunPart) → is_end e ≡ false → is_end (last_token e ps) ≡ false
+last-solid e [] solid = solid
+last-solid e (p ∷ ps) solid = last-solid (part_token p) ps (part-solid p)
+
 last-plain : (e : Token) (ps : List RunPart) → is_constant e ≡ false → is_constant (last_token e ps) ≡ false
 last-plain e [] plain = plain
 last-plain e (p ∷ ps) plain = last-plain (part_token p) ps (plain-part p)
@@ -431,18 +479,18 @@ parts-ahead : (lines : List SourceLine) (e : Token) (counted : Origin) (ps : Lis
     ≡ map part_item ps ++ ahead lines (last_token e ps) counted es
 parts-ahead lines e counted [] es plain h = refl
 parts-ahead lines e counted (part.Word s ∷ ps) es plain h =
-    rw (plain, and-false (is_word_token e))
+    rw (plain, and-false (may_merge (texts_of lines) e))
     (ap (λ t. item.Word s ∷ t) (parts-ahead lines (token.Span span_kind.Word s) counted ps es refl h))
 parts-ahead lines e counted (part.Sign s ∷ ps) es plain h =
-    rw (plain, and-false (is_word_token e))
+    rw (plain, and-false (may_merge (texts_of lines) e))
     (ap (λ t. item.Sign s ∷ t) (parts-ahead lines (token.Span span_kind.Sign s) counted ps es refl h))
 parts-ahead lines e counted (part.Space ∷ []) es plain h = cc
 parts-ahead lines e counted (part.Space ∷ part.Space ∷ ps) es plain h = cc
 parts-ahead lines e counted (part.Space ∷ part.Word s ∷ ps) es plain h =
-    rw (plain, and-false (is_word_token e))
+    rw (plain, and-false (may_merge (texts_of lines) e))
     (ap (λ t. item.Blank ∷ item.Word s ∷ t) (parts-ahead lines (token.Span span_kind.Word s) counted ps es refl h))
 parts-ahead lines e counted (part.Space ∷ part.Sign s ∷ ps) es plain h =
-    rw (plain, and-false (is_word_token e))
+    rw (plain, and-false (may_merge (texts_of lines) e))
     (ap (λ t. item.Blank ∷ item.Sign s ∷ t) (parts-ahead lines (token.Span span_kind.Sign s) counted ps es refl h))
 
 -- a part that is no space, before others
@@ -464,7 +512,7 @@ part-ahead lines whole entries at (part.Sign s) ps es spaces h =
 
 -- an item after which no run is written as one with it, and a word or a sign before
 front-merges : (texts : List (List ℕ)) (entries : List Entry) (p : RunPart)
-    → entries_merge texts entries (part_token p) ≡ (is_code (last_entry entries) && is_word_token (part_token p))
+    → entries_merge texts entries (part_token p) ≡ (is_code (last_entry entries) && may_merge texts (part_token p))
 front-merges texts entries p =
     rw (plain-part p, and-false, or-false) refl
 
@@ -483,8 +531,9 @@ run-passed lines whole entries at s (p ∷ ps) es is run spaces h =
     rw (front-merges texts entries p, run-front texts s p ps is) refl in
     item-passed lines whole _ _ end es refl refl
     (omega (arith, h.read.start, length-append entries (map entry.Item blank), length-append middle (entry.Run s ∷ [])))
-    (run-continues texts s p ps is run ∙ sym (last-continues texts middle (entry.Run s)))
-    (λ f. rw (last-of-push middle (entry.Run s), last-plain (part_token p) ps (plain-part p), run-word texts s p ps is run)
+    (last-solid (part_token p) ps (part-solid p))
+    (λ b word white. run-ends b texts word white s p ps is run ∙ sym (last-ends b texts middle (entry.Run s)))
+    (λ f. rw (last-of-push middle (entry.Run s), last-plain (part_token p) ps (plain-part p), run-merges texts s p ps is run)
     refl)
     (part-ahead lines whole entries at p ps es spaces h
     ∙ rw (first, items-push texts middle (entry.Run s), items-more texts entries blank, append_assoc, append_assoc, is) refl)
@@ -513,16 +562,26 @@ passed-begin lines line at es front start is_start is = record {
     made = λ xs. rw (front, start, is_start, is) refl;
     keeps = λ _. rw front refl;
     continues = λ _. refl;
+    front_open = rw (front, start) refl;
+    before_open = rw front refl;
     merges = λ e. rw front refl;
   };
   left = part_items-by_origin lines line es
-      ∙ rw (front, start, is_start, spaced-inside [] (without_faults es)) refl;
+      ∙ rw (front, start, is_start, spaced-inside (texts_of lines) (without_faults es)) refl;
 }
 
+last-blank : (lines : List SourceLine) (before : Option Token) (counted : Origin) (b : Bool)
+    → items_by_origin lines before counted (white_if b) ≡ blank_if b
+last-blank lines before counted true = refl
+last-blank lines before counted false = refl
+
 pub passed-whole : (lines : List SourceLine) (whole : List Item) (entries : List Entry) (at : PartState) (es : List Token)
-    → es ≡ [] → IsPassed lines whole entries at es → items_of (texts_of lines) entries ≡ whole
+    → es ≡ [] → IsPassed lines whole entries at es
+    → items_of (texts_of lines) entries ++ blank_if (are_open (texts_of lines) entries at.last) ≡ whole
 passed-whole lines whole entries at (e ∷ es) none h = cc
 passed-whole lines whole entries at [] none h =
     sym (h.left
     ∙ (ap (from_gap lines entries at h.read.front) (sym (append-nil (left_of_run h.read.gap)))
-    ∙ (h.read.made [] ∙ append-nil (items_of (texts_of lines) entries))))
+    ∙ (h.read.made [] ∙ ap (λ t. items_of (texts_of lines) entries ++ t)
+    (ap (λ b. items_by_origin lines h.read.before (origin_of at.counted) (white_if b)) h.read.before_open
+    ∙ last-blank lines h.read.before (origin_of at.counted) (are_open (texts_of lines) entries at.last)))))

@@ -4,7 +4,7 @@ use Rattle.std.proofs.Common.{◌++◌, length, drop, get_or, refl, ap, sym, ◌
 use Rattle.std.proofs.lemmas.Bool.{lt-leb}
 use Rattle.std.proofs.lemmas.List.{get_or-drop, get_or-take, length-take-le}
 use Rattle.tangle_files.specs.Bytes.{space}
-use Rattle.tangle_text.specs.Bytes.{backslash, is_word_byte}
+use Rattle.tangle_text.specs.Bytes.{is_word_byte}
 use Rattle.tangle_text.specs.declared.runs.RunPart.{RunPart}
 use Rattle.tangle_text.specs.declared.spans.Span.{Span}
 use Rattle.tangle_text.specs.Runs.{chunks, part_of, parts_of, run_parts, has_single_spaces}
@@ -14,7 +14,8 @@ use Rattle.tangle_text.proofs.RunChunks.{chunk_passed, span_chunks, part-by, par
 use Rattle.tangle_lexer.specs.declared.tokens.Token.{Token}
 use Rattle.tangle_lexer.specs.declared.tokens.Token.TheVariants as token
 use Rattle.tangle_lexer.specs.Runs.{part_token, unfolded_token, IsRunOf}
-use Rattle.tangle_scan.specs.Rules.{first_byte, last_byte, is_word_token, ends_in_backslash}
+use Rattle.tangle_scan.specs.Rules.{first_byte, last_byte, ends_in, may_merge}
+use Rattle.tangle_scan.specs.Passes.{is_merging_byte}
 
 -- a token other than a run stands for itself
 pub unfolded-one : (texts : List (List ℕ)) (e : Token) → ((s : Span) → e ≡ token.Run s → ⊥)
@@ -25,11 +26,11 @@ unfolded-one texts _ other = refl
 -- The first and the last part of a run, by its bytes. A test of parts stands for one of bytes: it gives for each chunk
 -- what that gives for the chunk's last byte.
 
-abbrev is_word : RunPart → Bool
-is_word p = is_word_token (part_token p)
+abbrev merges : List (List ℕ) → RunPart → Bool
+merges texts p = may_merge texts (part_token p)
 
-abbrev continues : List (List ℕ) → RunPart → Bool
-continues texts p = ends_in_backslash texts (part_token p)
+abbrev ends : ℕ → List (List ℕ) → RunPart → Bool
+ends n texts p = ends_in n texts (part_token p)
 
 -- what a test gives for the last of these, or `none` if there is none
 
@@ -51,43 +52,48 @@ words-end : (test : ℕ → Bool) (is : Bool) → ((b : ℕ) → is_word_byte b 
 words-end test is all [] h = refl
 words-end test is all (b ∷ bs) h = ap (λ k. bytes_end test k bs) (all b h.0) ∙ words-end test is all bs h.1
 
-no-backslash : (b : ℕ) → is_word_byte b ≡ true → (b == backslash) ≡ false
-no-backslash b word = differs is_word_byte b backslash word refl
-
-no-word : (b : ℕ) → (b == space) ≡ true → is_word_byte b ≡ false
-no-word b white = by (is_word_byte b) refl
+no-merge : (b : ℕ) → (b == space) ≡ true → is_merging_byte b ≡ false
+no-merge b white = by (is_merging_byte b) refl
   where
-    by : (w : Bool) → is_word_byte b ≡ w → w ≡ false
-    by true word = sym white ∙ differs is_word_byte b space word refl
-    by false word = refl
+    by : (w : Bool) → is_merging_byte b ≡ w → w ≡ false
+    by true merging = sym white ∙ differs is_merging_byte b space merging refl
+    by false merging = refl
 
-first-word : (line column b : ℕ) (bs : List ℕ) → is_word (part_of line column (b ∷ bs)) ≡ is_word_byte b
-first-word line column b bs =
-    part-by (λ p. is_word p ≡ is_word_byte b) line column b bs
-    (λ white. sym (no-word b white)) (λ _ word. sym word) (λ _ sign. sym sign)
+word-merges : (b : ℕ) → is_word_byte b ≡ true → is_merging_byte b ≡ true
+word-merges b word = rw word refl
+
+first-merges : (texts : List (List ℕ)) (line column b : ℕ) (bs : List ℕ)
+    → get_or (get_or texts line []) column 0 ≡ b → merges texts (part_of line column (b ∷ bs)) ≡ is_merging_byte b
+first-merges texts line column b bs is =
+    part-by (λ p. merges texts p ≡ is_merging_byte b) line column b bs
+    (λ white. sym (no-merge b white)) (λ _ word. sym (word-merges b word))
+    (λ _ sign. rw (sign, is) refl)
 
 -- a test of parts that stands for one of bytes
 abbrev StandsFor : List (List ℕ) → (RunPart → Bool) → (ℕ → Bool) → Type 0
 StandsFor texts parts bytes = (line column : ℕ) (c : List ℕ) (none : Bool) → IsChunk c
     → get_or (get_or texts line []) column 0 ≡ get_or c 0 0 → parts (part_of line column c) ≡ bytes_end bytes none c
 
-word-stands : (texts : List (List ℕ)) → StandsFor texts is_word is_word_byte
-word-stands texts line column [] none h is = absurd h
-word-stands texts line column (b ∷ []) none h is = first-word line column b []
-word-stands texts line column (b ∷ c ∷ bs) none h is =
-    first-word line column b (c ∷ bs) ∙ (h.0 ∙ sym (words-end is_word_byte true (λ d word. word) (c ∷ bs) h.1)
-    ∙ ap (λ k. bytes_end is_word_byte k (c ∷ bs)) (sym h.0))
+merges-stand : (texts : List (List ℕ)) → StandsFor texts (merges texts) is_merging_byte
+merges-stand texts line column [] none h is = absurd h
+merges-stand texts line column (b ∷ []) none h is = first-merges texts line column b [] is
+merges-stand texts line column (b ∷ c ∷ bs) none h is =
+    first-merges texts line column b (c ∷ bs) is
+    ∙ (word-merges b h.0 ∙ sym (words-end is_merging_byte true word-merges (c ∷ bs) h.1)
+    ∙ ap (λ k. bytes_end is_merging_byte k (c ∷ bs)) (sym (word-merges b h.0)))
 
-continues-stands : (texts : List (List ℕ)) → StandsFor texts (continues texts) (λ b. b == backslash)
-continues-stands texts line column [] none h is = absurd h
-continues-stands texts line column (b ∷ []) none h is =
-    part-by (λ p. continues texts p ≡ (b == backslash)) line column b []
-    (λ white. sym (differs (λ n. n == space) b backslash white refl))
-    (λ _ word. sym (no-backslash b word))
-    (λ _ sign. ap (λ k. k == backslash) is)
-continues-stands texts line column (b ∷ c ∷ bs) none h is =
+-- a byte that is no word byte and no space
+ends-stand : (n : ℕ) (texts : List (List ℕ)) → is_word_byte n ≡ false → (n == space) ≡ false
+    → StandsFor texts (ends n texts) (λ b. b == n)
+ends-stand n texts word white line column [] none h is = absurd h
+ends-stand n texts word white line column (b ∷ []) none h is =
+    part-by (λ p. ends n texts p ≡ (b == n)) line column b []
+    (λ space_here. sym (differs (λ m. m == space) b n space_here white))
+    (λ _ word_here. sym (differs is_word_byte b n word_here word))
+    (λ _ sign. ap (λ k. k == n) is)
+ends-stand n texts word white line column (b ∷ c ∷ bs) none h is =
     rw (part-word line column b (c ∷ bs) h.0)
-    (sym (words-end (λ n. n == backslash) false no-backslash (b ∷ c ∷ bs) h))
+    (sym (words-end (λ m. m == n) false (λ d word_here. differs is_word_byte d n word_here word) (b ∷ c ∷ bs) h))
 
 front-byte : (bytes : List ℕ) (column : ℕ) (c rest : List ℕ) → IsChunk c → drop column bytes ≡ c ++ rest
     → get_or bytes column 0 ≡ get_or c 0 0
@@ -146,23 +152,23 @@ run-bytes texts parts bytes stands s (b ∷ bs) none is start end spaces =
         rw (lt-leb s.end s.start (omega (arith, long)))
         (ap (λ k. get_or text k 0) (omega (arith, long)))
 
--- the first part of a run is a word if its first byte is a word byte
-front-word : (texts : List (List ℕ)) (s : Span) (cs : List (List ℕ)) (rest : List ℕ) (p : RunPart) (ps : List RunPart)
+-- the first part of a run, by its first byte
+front-merges : (texts : List (List ℕ)) (s : Span) (cs : List (List ℕ)) (rest : List ℕ) (p : RunPart) (ps : List RunPart)
     → AreChunks cs → drop s.start (get_or texts s.line []) ≡ joined cs ++ rest → parts_of s.line s.start cs ≡ p ∷ ps
-    → is_word p ≡ is_word_byte (first_byte texts s)
-front-word texts s [] rest p ps h is parts = cc
-front-word texts s ([] ∷ cs) rest p ps h is parts = absurd h.0
-front-word texts s ((b ∷ bs) ∷ cs) rest p ps h is parts =
+    → merges texts p ≡ is_merging_byte (first_byte texts s)
+front-merges texts s [] rest p ps h is parts = cc
+front-merges texts s ([] ∷ cs) rest p ps h is parts = absurd h.0
+front-merges texts s ((b ∷ bs) ∷ cs) rest p ps h is parts =
     let first : part_of s.line s.start (b ∷ bs) ≡ p = cc in
-    ap is_word (sym first) ∙ (first-word s.line s.start b bs
-    ∙ ap is_word_byte (sym (front-byte (get_or texts s.line []) s.start (b ∷ bs) (joined cs ++ rest) h.0
-    (is ∙ append_assoc (b ∷ bs) (joined cs) rest))))
+    let front = front-byte (get_or texts s.line []) s.start (b ∷ bs) (joined cs ++ rest) h.0
+    (is ∙ append_assoc (b ∷ bs) (joined cs) rest) in
+    ap (merges texts) (sym first) ∙ (first-merges texts s.line s.start b bs front ∙ ap is_merging_byte (sym front))
 
 pub run-front : (texts : List (List ℕ)) (s : Span) (p : RunPart) (ps : List RunPart) → run_parts texts s ≡ p ∷ ps
-    → is_word_token (part_token p) ≡ is_word_byte (first_byte texts s)
+    → may_merge texts (part_token p) ≡ is_merging_byte (first_byte texts s)
 unfolding run_parts
 run-front texts s p ps is =
-    front-word texts s (chunks (span_text texts s)) _ p ps (chunks_are (span_text texts s)) (span_chunks texts s) is
+    front-merges texts s (chunks (span_text texts s)) _ p ps (chunks_are (span_text texts s)) (span_chunks texts s) is
 
 -- the last token of a run that begins with this one
 
@@ -185,12 +191,12 @@ run-end texts s test bytes stands p ps is run =
     ∙ run-bytes texts (λ q. test (part_token q)) bytes stands s (span_text texts s) false refl
     run.span.start run.span.end run.spaces)
 
-pub run-continues : (texts : List (List ℕ)) (s : Span) (p : RunPart) (ps : List RunPart)
-    → run_parts texts s ≡ p ∷ ps → IsRunOf texts s
-    → ends_in_backslash texts (last_token (part_token p) ps) ≡ (last_byte texts s == backslash)
-run-continues texts s = run-end texts s (ends_in_backslash texts) (λ b. b == backslash) (continues-stands texts)
+pub run-ends : (n : ℕ) (texts : List (List ℕ)) → is_word_byte n ≡ false → (n == space) ≡ false
+    → (s : Span) (p : RunPart) (ps : List RunPart) → run_parts texts s ≡ p ∷ ps → IsRunOf texts s
+    → ends_in n texts (last_token (part_token p) ps) ≡ (last_byte texts s == n)
+run-ends n texts word white s = run-end texts s (ends_in n texts) (λ b. b == n) (ends-stand n texts word white)
 
-pub run-word : (texts : List (List ℕ)) (s : Span) (p : RunPart) (ps : List RunPart)
+pub run-merges : (texts : List (List ℕ)) (s : Span) (p : RunPart) (ps : List RunPart)
     → run_parts texts s ≡ p ∷ ps → IsRunOf texts s
-    → is_word_token (last_token (part_token p) ps) ≡ is_word_byte (last_byte texts s)
-run-word texts s = run-end texts s is_word_token is_word_byte (word-stands texts)
+    → may_merge texts (last_token (part_token p) ps) ≡ is_merging_byte (last_byte texts s)
+run-merges texts s = run-end texts s (may_merge texts) is_merging_byte (merges-stand texts)

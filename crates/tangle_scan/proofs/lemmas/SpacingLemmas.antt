@@ -2,6 +2,7 @@ use Rattle.std.proofs.Common.{◌≡◌, ℕ, Bool, true, false, ◌||◌, not, 
 use Rattle.std.proofs.Common.{if◌then◌else◌, append_assoc, append-nil}
 use Rattle.std.specs.List.{list_any}
 use Rattle.std.proofs.lemmas.Bool.{or_parts}
+use Rattle.std.proofs.Math.Bool.{and-false}
 use Rattle.tangle_lexer.specs.declared.tokens.Token.{Token}
 use Rattle.tangle_lexer.specs.declared.tokens.SpanKind.TheVariants as span_kind
 use Rattle.tangle_lexer.specs.declared.tokens.Token.TheVariants as token
@@ -10,6 +11,7 @@ use Rattle.tangle_scan.specs.declared.spacing.Spacing.{Spacing}
 use Rattle.tangle_scan.specs.declared.spacing.Stage.TheVariants as stage
 use Rattle.tangle_scan.specs.Rules.{is_gap, without_joins, has_join, without_faults, without_front_gaps, with_spaces}
 use Rattle.tangle_scan.specs.Rules.{with_name_space, with_space_after, may_follow_name, would_merge}
+use Rattle.tangle_scan.specs.Rules.{is_constant, may_merge}
 use Rattle.tangle_scan.proofs.lemmas.RuleLemmas.{run-end, has_join-push}
 use Rattle.tangle_scan.specs.Passes.{without_joins_from, spacing_from, with_white_space, is_rare}
 use Rattle.tangle_scan.specs.Passes.{is_name_spaced, is_skipped, without_skipped, stage_after, needs_space}
@@ -17,13 +19,13 @@ use Rattle.tangle_scan.specs.Passes.{is_name_spaced, is_skipped, without_skipped
 -- rule 1, token by token
 
 inside-spaced : (texts : List (List ℕ)) (e : Token) (es : List Token)
-    → with_spaces (e ∷ es) ≡ e ∷ with_white_space texts stage.Inside e es
+    → with_spaces texts (e ∷ es) ≡ e ∷ with_white_space texts stage.Inside e es
 inside-spaced texts e [] = refl
 inside-spaced texts e (f ∷ es) =
-    ap (λ t. e ∷ (if would_merge e f then token.White ∷ [] else []) ++ t) (inside-spaced texts f es)
+    ap (λ t. e ∷ (if would_merge texts e f then token.White ∷ [] else []) ++ t) (inside-spaced texts f es)
 
 pub spaced-inside : (texts : List (List ℕ)) (es : List Token)
-    → with_white_space texts stage.Inside token.White es ≡ with_spaces es
+    → with_white_space texts stage.Inside token.White es ≡ with_spaces texts es
 spaced-inside texts [] = refl
 spaced-inside texts (e ∷ es) = sym (inside-spaced texts e es)
 
@@ -70,7 +72,7 @@ name-after : (texts : List (List ℕ)) (e : Token) (es : List Token)
     ≡ e ∷ with_white_space texts stage.AfterName e es
 name-after texts e [] = refl
 name-after texts e (f ∷ es) =
-    after-name texts e f (with_white_space texts stage.Inside f es) (would_merge e f) (may_follow_name texts f) refl
+    after-name texts e f (with_white_space texts stage.Inside f es) (would_merge texts e f) (may_follow_name texts f) refl
 
 name-spaced : (texts : List (List ℕ)) (es : List Token)
     → with_name_space texts (with_white_space texts stage.Inside token.White es)
@@ -92,7 +94,7 @@ front-spaced texts [] = refl
 front-spaced texts (e ∷ es) = refl
 
 pub spaced-front : (texts : List (List ℕ)) (es : List Token)
-    → with_white_space texts stage.Front token.White es ≡ with_name_space texts (with_spaces es)
+    → with_white_space texts stage.Front token.White es ≡ with_name_space texts (with_spaces texts es)
 spaced-front texts es =
     front-spaced texts es ∙ (sym (name-spaced texts es) ∙ ap (with_name_space texts) (spaced-inside texts es))
 
@@ -125,17 +127,22 @@ unchanged-faults [] h = refl
 unchanged-faults (token.Fault kind line ∷ es) h = cc
 unchanged-faults (e ∷ es) h = ap (λ t. e ∷ t) (unchanged-faults es (or_parts (is_rare e) (list_any is_rare es) h).1)
 
-unchanged-merge : (e f : Token) → is_rare e ≡ false → is_rare f ≡ false → would_merge e f ≡ false
-unchanged-merge (token.Span span_kind.Word s) (token.AsciiConstant value line) h k = cc
-unchanged-merge _ _ h k = cc
+unchanged-plain : (e : Token) → is_rare e ≡ false → is_constant e ≡ false
+unchanged-plain (token.AsciiConstant value line) h = cc
+unchanged-plain _ h = refl
 
-unchanged-spaces : (es : List Token) → list_any is_rare es ≡ false → with_spaces es ≡ es
-unchanged-spaces [] h = refl
-unchanged-spaces (e ∷ []) h = refl
-unchanged-spaces (e ∷ f ∷ es) h =
+unchanged-merge : (texts : List (List ℕ)) (e f : Token)
+    → is_rare e ≡ false → is_rare f ≡ false → would_merge texts e f ≡ false
+unchanged-merge texts e f h k = rw (unchanged-plain e h, unchanged-plain f k, and-false (may_merge texts e)) refl
+
+unchanged-spaces : (texts : List (List ℕ)) (es : List Token)
+    → list_any is_rare es ≡ false → with_spaces texts es ≡ es
+unchanged-spaces texts [] h = refl
+unchanged-spaces texts (e ∷ []) h = refl
+unchanged-spaces texts (e ∷ f ∷ es) h =
     let first = or_parts (is_rare e) (list_any is_rare (f ∷ es)) h in
     let second = or_parts (is_rare f) (list_any is_rare es) first.1 in
-    rw (unchanged-merge e f first.0 second.0) (ap (λ t. e ∷ t) (unchanged-spaces (f ∷ es) first.1))
+    rw (unchanged-merge texts e f first.0 second.0) (ap (λ t. e ∷ t) (unchanged-spaces texts (f ∷ es) first.1))
 
 unchanged-without_joins : (gap es : List Token)
     → has_join gap ≡ false → list_any is_rare es ≡ false → without_joins gap es ≡ gap ++ es
@@ -174,11 +181,11 @@ named-stays texts (e ∷ es) h k = name-stays texts e es k
 
 pub unchanged-macro : (texts : List (List ℕ)) (es : List Token)
     → list_any is_rare es ≡ false → is_name_spaced texts (without_front_gaps es) ≡ true
-    → without_front_gaps es ≡ without_joins [] (with_name_space texts (with_spaces (without_front_gaps (without_faults es))))
+    → without_front_gaps es ≡ without_joins [] (with_name_space texts (with_spaces texts (without_front_gaps (without_faults es))))
 unchanged-macro texts es h k =
     let rest = without_front_gaps es in
     let rare = after-rare es h in
     let front = ap without_front_gaps (unchanged-faults es h) in
-    let spaced = ap with_spaces front ∙ unchanged-spaces rest rare in
+    let spaced = ap (with_spaces texts) front ∙ unchanged-spaces texts rest rare in
     let named = ap (with_name_space texts) spaced ∙ named-stays texts es rare k in
     sym (ap (without_joins []) named ∙ unchanged-without_joins [] rest refl rare)

@@ -46,7 +46,7 @@ joins =
     word 1 ∷ token.White ∷ token.Join ∷ token.LineEnd 1 ∷ word 2
     ∷ token.Join ∷ word 2 ∷ token.White ∷ token.LineEnd 2 ∷ word 3 ∷ []
 
-runs_with_joins : tokens_and_joins joins
+runs_with_joins : tokens_and_joins [] joins
     ≡ word 1 ∷ token.Join ∷ word 2 ∷ word 2 ∷ token.White ∷ token.LineEnd 2 ∷ word 3 ∷ []
 runs_with_joins = refl
 

@@ -9,6 +9,11 @@ use Rattle.tangle_lexer.specs.Runs.{unfolded}
 use Rattle.tangle_scan.specs.Passes.{IsPassed}
 use Rattle.tangle_scan.specs.Rules.{texts_of, part_items}
 use Rattle.tangle_scan.specs.Web.{is_all_macros}
+use Rattle.std.specs.List.{list_any}
+use Rattle.std.proofs.lemmas.List.Folds.{list_any-append}
+use Rattle.std.proofs.Math.Bool.{or-false}
+use Rattle.tangle_scan.specs.Entries.{items_of, entry_is_mark}
+use Rattle.tangle_scan.proofs.lemmas.EntryLemmas.{items-more, range-items, blank-unmarked}
 use Rattle.tangle_scan.proofs.lemmas.PartLemmas.{passed-begin, passed-whole}
 use Rattle.tangle_scan.proofs.lemmas.UnfoldedTokens.{no-head-at}
 use Rattle.tangle_scan.proofs.parts.fill_part.Goals as goal
@@ -59,6 +64,19 @@ loop-token-preserved c =
 pub returns-clause-items : goal.returns-clause-items
 returns-clause-items c =
     let lines = c.args.source.now.lines in
-    passed-whole lines _ c.loop-token.entries.items c.loop-token.at _
+    ap (items_of (texts_of lines)) c.in_ok-add_last_blank.ensures
+    ∙ (items-more (texts_of lines) c.loop-token.entries.items _
+    ∙ passed-whole lines _ c.loop-token.entries.items c.loop-token.at _
     (ap (unfolded (texts_of lines)) (drop_all c.loop-token.token-index c.args.tokens.now (omega arith)))
-    c.loop-token.invariant.passed
+    c.loop-token.invariant.passed)
+
+pub returns-clause-runs : goal.returns-clause-runs
+returns-clause-runs c =
+    range-items (texts_of c.args.source.now.lines) c.loop-token.entries.items _ _
+    c.in_ok-add_last_blank.ensures c.loop-token.invariant.runs
+
+pub returns-clause-mark : goal.returns-clause-mark
+returns-clause-mark c =
+    let entries = c.loop-token.entries.items in
+    sym (ap (list_any entry_is_mark) c.in_ok-add_last_blank.ensures
+    ∙ rw (list_any-append entry_is_mark entries, blank-unmarked, or-false) c.loop-token.invariant.mark.now)
