@@ -72,7 +72,7 @@ def check_touched(folder, target, path, sources, others, name):
 
 
 PROJECT = {
-    'hello.w': b' @i no.w\n@ A.\n@c\nint main(void) { return 0; }\n@i b.w\n@I "c.w" a note\n',
+    'hello.w': b'@ A.\n @i no.w\n@c\nint main(void) { return 0; }\n@i b.w\n@I "c.w" a note\n',
     'b.w': b'@include.w\n@i\tparts/d.w \xe9 other\n',
     'c.w': b'int c;\n',
     'nclude.w': b'int n;\r\n',
