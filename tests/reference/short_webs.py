@@ -6,12 +6,13 @@ import random
 
 EVERY_BYTE = [bytes([byte]) for byte in range(256) if byte != 10]
 EVERY_CODE = [b'@' + byte for byte in EVERY_BYTE]
+HEAD_SPACES = [b' ', b'/*', b'*/', b'//', b'@^', b'@>', b'@@', b'@,', b'@&', b'@h', b"@'a'", b'@d', b'@ ', b'+', b'=', b'x', b'\n']
 
 KINDS = {
     'c_text': (b'@ @c\n', [b'@', b'<', b'>', b'=', b'"', b"'", b'\\', b'/', b'*', b'a', b'1', b'#', b' ', b'\n',
                b'&', b'h', b'('], 3, b''),
     'documentation': (b'@ ', [b'@', b'd', b'c', b'<', b'>', b'=', b'*', b' ', b'a', b'\n', b'f', b'('], 4, b''),
-    'before_sections': (b'', [b'@', b'*', b' ', b'\t', b'c', b'<', b'\n'], 4, b''),
+    'before_sections': (b'', [b'@', b'*', b' ', b'\t', b'c', b'<', b'>', b'q', b'F', b'\n'], 4, b''),
     'macro': (b'@ @d N', [b'@', b'<', b'>', b'=', b'"', b"'", b'd', b'c', b'f', b'h', b'a', b'1', b' ', b'\n',
               b'(', b'&', b'*'], 3, b''),
     'macro_begin': (b'@ @d', [b' ', b'\n', b'/*\n*/', b'@&', b'@,', b'N', b'3', b"@'a'", b'"s"', b'@^x@>', b'_',
@@ -22,6 +23,8 @@ KINDS = {
     'constant_octal': (b"@ @c\n@'\\", [b'0', b'1', b'3', b'4', b'7', b'8'], 4, b"'"),
     'head': (b'@ @<a@>', [b' ', b'\t', b'+', b'=', b'@', b'x', b'\n'], 5, b'=y'),
     'use': (b'@ @c\n@<a@>', [b' ', b'\t', b'+', b'=', b'@', b'x', b'\n'], 4, b'=y'),
+    'head_space': (b'@ @<a@>', HEAD_SPACES, 4, b'=y'),
+    'use_space': (b'@ @c\n@<a@>', HEAD_SPACES, 3, b'=y'),
     'name': (b'@ @c\n@<', [b'@', b'>', b'<', b' ', b'\n', b'a', b'.', b'*', b'c'], 4, b''),
     'name_in_documentation': (b'@ @<', [b'@', b'>', b'(', b' ', b'\n', b'a', b'=', b'*'], 4, b''),
     'quoted': (b'@ @c\n"', [b'"', b"'", b'\\', b'@', b'a', b'\n', b' '], 4, b'"'),
