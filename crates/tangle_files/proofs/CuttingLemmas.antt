@@ -3,10 +3,13 @@ use Rattle.std.proofs.Common.{◌≡◌, ℕ, zero, suc, ◌<◌, ◌≤◌, ◌
 use Rattle.std.proofs.Common.{take, drop, refl, ap, sym, ◌∙◌, arith, ◌+◌, ◌-◌, ◌++◌, ◌||◌, map, length-drop}
 use Rattle.std.proofs.Common.{length-append, append_assoc}
 use Rattle.std.specs.List.{list_any}
-use Rattle.std.proofs.lemmas.List.{take_all, drop_all, drop-drop, take-take, length-take}
-use Rattle.std.proofs.lemmas.Bool.{le-ltb}
+use Rattle.std.proofs.Common.{◌≢◌, subst, ⊎_elim}
+use Rattle.std.proofs.lemmas.List.{take_all, drop_all, drop-drop, take-take, length-take, get_or-drop}
+use Rattle.std.proofs.lemmas.Bool.{le-ltb, cases_eq, false≢true, false_from_ne_true}
+use Rattle.memchr.specs.Find.{Nowhere, Passes, is_byte, places_between, places_from}
 use Rattle.tangle_files.specs.Lines.{raw_lines, trimmed, cut, before_first_line, before_trimmed}
-use Rattle.tangle_files.specs.Adding.{is_too_long, longest_line, most_lines}
+use Rattle.std.proofs.Common.{None, append-nil}
+use Rattle.tangle_files.specs.Adding.{cut_refusal, is_too_long, longest_line, most_lines}
 use Rattle.tangle_files.specs.Sharing.{slice_of}
 
 -- a byte that is no line feed joins the first line
@@ -76,25 +79,98 @@ trimmed_is_front (b ∷ bs) = by (trimmed bs) (trimmed_is_front bs) (b == 32) re
     by [] e false is = rw is refl
     by (c ∷ cs) e s is = ap (λ l. b ∷ l) e
 
--- the first line after a position, ended by a line feed or by the end of the text
-pub line_with_feed : (bs rest : List ℕ) (start n : ℕ)
-    → rest ≡ drop start bs → n < length rest → ((k : ℕ) → k < n → (get_or rest k 0 == 10) ≡ false)
-    → (get_or rest n 0 == 10) ≡ true
-    → raw_lines (drop start bs) ≡ take (start + n - start) (drop start bs) ∷ raw_lines (drop (start + n + 1) bs)
-line_with_feed bs rest start n is h before at =
-    ap raw_lines (sym is) ∙ raw_lines_at rest n h before at ∙ ap (λ l. take n l ∷ raw_lines (drop (suc n) l)) is
-    ∙ ap (λ m. take m (drop start bs) ∷ raw_lines (drop (suc n) (drop start bs))) (omega arith)
-    ∙ ap (λ l. take (start + n - start) (drop start bs) ∷ raw_lines l)
-    (drop-drop (suc n) start bs ∙ ap (λ m. drop m bs) (omega arith))
+-- the places from a position on, by the first of them
+module _ (test : ℕ → Bool) (hay : List ℕ) where
+  record FirstPlace (i n e : ℕ) (es : List ℕ) : Type 0 where
+    low : i ≤ e
+    high : e < i + n
+    before : Nowhere (Passes test hay) i e
+    here : Passes test hay e
+    rest : es ≡ places_from test hay (e + 1) (i + n - (e + 1))
 
-pub line_without_feed : (bs rest : List ℕ) (start : ℕ)
-    → rest ≡ drop start bs → start < length bs → ((k : ℕ) → k < length rest → (get_or rest k 0 == 10) ≡ false)
-    → raw_lines (drop start bs) ≡ take (length bs - start) (drop start bs) ∷ raw_lines (drop (length bs + 1) bs)
-line_without_feed bs rest start is h none =
-    ap raw_lines (sym is)
-    ∙ raw_lines_whole rest (omega (arith, ap length is, length-drop start bs)) none ∙ ap (λ l. l ∷ []) is
-    ∙ ap (λ l. l ∷ []) (sym (take_all (length bs - start) (drop start bs) (omega (arith, length-drop start bs))))
-    ∙ ap (λ l. take (length bs - start) (drop start bs) ∷ raw_lines l) (sym (drop_all (length bs + 1) bs (omega arith)))
+  abbrev ArePlaces : ℕ → ℕ → List ℕ → Type 0
+  ArePlaces i n [] = Nowhere (Passes test hay) i (i + n)
+  ArePlaces i n (e ∷ es) = FirstPlace i n e es
+
+  -- where the first place does not pass, what is true from the next place on is true from it on
+  from_next : (i n : ℕ) (es : List ℕ) → test (get_or hay i 0) ≡ false → ArePlaces (i + 1) n es → ArePlaces i (suc n) es
+  from_next i n es is h = by es h
+    where
+      passed : (k : ℕ) → (k ≢ i → ¬ Passes test hay k) → ¬ Passes test hay k
+      passed k others passes =
+          ⊎_elim (λ same. false≢true (sym is ∙ subst (λ m. test (get_or hay m 0) ≡ true) same passes))
+          (λ other. others other passes) (cases_eq k i)
+
+      by : (es : List ℕ) → ArePlaces (i + 1) n es → ArePlaces i (suc n) es
+      by [] h = λ k low high. passed k (λ other. h k (omega arith) (omega arith))
+      by (e ∷ es) h =
+          let size : i + 1 + n ≡ i + suc n = omega arith in
+          record {
+            low = omega (arith, h.low);
+            high = omega (arith, h.high);
+            before = λ k low high. passed k (λ other. h.before k (omega arith) high);
+            here = h.here;
+            rest = h.rest ∙ ap (λ m. places_from test hay (e + 1) (m - (e + 1))) size;
+          }
+
+  are_places : (i n : ℕ) → ArePlaces i n (places_from test hay i n)
+  unfolding places_from
+  are_places i zero = λ k low high. absurd (omega arith)
+  are_places i (suc n) = by (test (get_or hay i 0)) refl (are_places (i + 1) n)
+    where
+      by : (b : Bool) → test (get_or hay i 0) ≡ b → ArePlaces (i + 1) n (places_from test hay (i + 1) n)
+          → ArePlaces i (suc n) (cond b (i ∷ places_from test hay (i + 1) n) (places_from test hay (i + 1) n))
+      by true is h =
+          let size : n ≡ i + suc n - (i + 1) = omega arith in
+          record {
+            low = omega arith;
+            high = omega arith;
+            before = λ k low high. absurd (omega arith);
+            here = is;
+            rest = ap (places_from test hay (i + 1)) size;
+          }
+      by false is h = from_next i n (places_from test hay (i + 1) n) is h
+
+-- the next line of a text ends at the next line feed
+pub record EndsAt (text : List ℕ) (start end : ℕ) (feeds : List ℕ) : Type 0 where
+  pub low : start ≤ end
+  pub high : end < length text
+  pub line : raw_lines (drop start text) ≡ take (end - start) (drop start text) ∷ raw_lines (drop (end + 1) text)
+  pub later : feeds ≡ places_between (is_byte 10) text (end + 1) (length text)
+
+pub next_line : (text : List ℕ) (start end : ℕ) (feeds left : List ℕ)
+    → left ≡ end ∷ feeds → left ≡ places_between (is_byte 10) text start (length text) → EndsAt text start end feeds
+next_line text start end feeds left first is =
+    let n = length text - start in
+    let r = subst (ArePlaces (is_byte 10) text start n) (sym is ∙ first) (are_places (is_byte 10) text start n) in
+    let whole : start + (length text - start) ≡ length text = omega (arith, r.low, r.high) in
+    let low : start ≤ end = r.low in
+    let high : end < length text = omega (arith, r.high) in
+    let at : start + (end - start) ≡ end = omega arith in
+    record {
+      low = low;
+      high = high;
+      line =
+          raw_lines_at (drop start text) (end - start) (omega (arith, length-drop start text))
+          (λ k l. rw get_or-drop (false_from_ne_true _ (r.before (start + k) (omega arith) (omega arith))))
+          (rw (get_or-drop, at) r.here)
+          ∙ ap (λ l. take (end - start) (drop start text) ∷ raw_lines l)
+          (drop-drop (suc (end - start)) start text ∙ ap (λ m. drop m text) (omega arith));
+      later = r.rest ∙ ap (λ m. places_from (is_byte 10) text (end + 1) (m - (end + 1))) whole;
+    }
+
+-- the last line ends without a line feed
+pub last_line : (text : List ℕ) (start : ℕ) (left : List ℕ) → start < length text
+    → left ≡ [] → left ≡ places_between (is_byte 10) text start (length text)
+    → raw_lines (drop start text) ≡ take (length text - start) (drop start text) ∷ raw_lines (drop (length text + 1) text)
+last_line text start left within last is =
+    let n = length text - start in
+    let none = subst (ArePlaces (is_byte 10) text start n) (sym is ∙ last) (are_places (is_byte 10) text start n) in
+    raw_lines_whole (drop start text) (omega (arith, length-drop start text))
+    (λ k l. rw get_or-drop (false_from_ne_true _
+    (none (start + k) (omega arith) (omega (arith, l, length-drop start text)))))
+    ∙ ap (λ l. l ∷ []) (sym (take_all (length text - start) (drop start text) (omega (arith, length-drop start text))))
+    ∙ ap (λ l. take (length text - start) (drop start text) ∷ raw_lines l) (sym (drop_all (length text + 1) text (omega arith)))
 
 trimmed_shorter : (bs : List ℕ) → length (trimmed bs) ≤ length bs
 trimmed_shorter bs = omega (arith, ap length (trimmed_is_front bs), length-take (length (trimmed bs)) bs)
@@ -111,6 +187,16 @@ line_fits text line start end is low high =
       length-take (end - start) (drop start text),
     )
 
+-- it is the slice of its size
+pub trimmed_slice : (text line : List ℕ) (start end : ℕ)
+    → line ≡ trimmed (take (end - start) (drop start text)) → slice_of text start (length line) ≡ line
+trimmed_slice text line start end is =
+    let whole = take (end - start) (drop start text) in
+    let fits : length line ≤ end - start =
+    omega (arith, ap length is, trimmed_shorter whole, length-take (end - start) (drop start text)) in
+    sym (take-take (length line) (end - start) (drop start text) fits)
+    ∙ ap (λ m. take (length m) whole) is ∙ trimmed_is_front whole ∙ sym is
+
 -- `lines` are the lines of the text before `start`, and they keep the limits
 pub record IsCutUpTo (text : List ℕ) (start : ℕ) (lines : List (List ℕ)) : Type 0 where
   pub made : lines ++ cut (drop start text) ≡ cut text
@@ -118,29 +204,30 @@ pub record IsCutUpTo (text : List ℕ) (start : ℕ) (lines : List (List ℕ)) :
   pub few : length lines ≤ most_lines
   pub within : start ≤ length text + 1
 
-pub one_more_line : (text line : List ℕ) (start end : ℕ) (lines next : List (List ℕ))
+pub one_more_line : (text : List ℕ) (start end : ℕ) (lines next : List (List ℕ))
     → raw_lines (drop start text) ≡ take (end - start) (drop start text) ∷ raw_lines (drop (end + 1) text)
-    → line ≡ trimmed (take (end - start) (drop start text)) → length line ≤ longest_line
-    → start ≤ end → end ≤ length text → length lines < most_lines
-    → next ≡ lines ++ slice_of text start (length line) ∷ []
+    → end ≤ length text → next ≡ lines ++ trimmed (take (end - start) (drop start text)) ∷ []
+    → length (trimmed (take (end - start) (drop start text))) ≤ longest_line → length lines < most_lines
     → IsCutUpTo text start lines → IsCutUpTo text (end + 1) next
-one_more_line text line start end lines next raw is size low high below_limit more h =
-    let whole = take (end - start) (drop start text) in
+one_more_line text start end lines next raw high more size below_limit h =
+    let line = trimmed (take (end - start) (drop start text)) in
     let rest = cut (drop (end + 1) text) in
-    let fits : length line ≤ end - start =
-    omega (arith, ap length is, trimmed_shorter whole, length-take (end - start) (drop start text)) in
-    let shared : slice_of text start (length line) ≡ trimmed whole
-    = sym (take-take (length line) (end - start) (drop start text) fits)
-    ∙ ap (λ m. take (length m) whole) is ∙ trimmed_is_front whole in
-    let lines_here : cut (drop start text) ≡ trimmed whole ∷ rest = ap (map trimmed) raw in
-    let fine : is_too_long (trimmed whole) ≡ false = ap is_too_long (sym is) ∙ le-ltb longest_line (length line) size in
+    let lines_here : cut (drop start text) ≡ line ∷ rest = ap (map trimmed) raw in
+    let fine : is_too_long line ≡ false = le-ltb longest_line (length line) size in
     record {
-      made =
-          ap (λ l. l ++ rest) more ∙ ap (λ p. (lines ++ p ∷ []) ++ rest) shared
-          ∙ append_assoc lines (trimmed whole ∷ []) rest
-          ∙ ap (λ l. lines ++ l) (sym lines_here) ∙ h.made;
+      made = ap (λ l. l ++ rest) more ∙ append_assoc lines (line ∷ []) rest ∙ ap (λ l. lines ++ l) (sym lines_here) ∙ h.made;
       short =
           ap (λ b. b || list_any is_too_long rest) (sym fine) ∙ ap (list_any is_too_long) (sym lines_here) ∙ h.short;
-      few = omega (arith, below_limit, ap length more, length-append lines (slice_of text start (length line) ∷ []));
+      few = omega (arith, below_limit, ap length more, length-append lines (line ∷ []));
       within = omega (arith, high);
     }
+
+-- once all of the text is cut, it is within the limits
+pub all_cut : (text : List ℕ) (lines : List (List ℕ))
+    → IsCutUpTo text (length text + 1) lines → (lines ≡ cut text) × (cut_refusal text ≡ None)
+all_cut text lines h =
+    let none = drop_all (length text + 1) text (omega arith) in
+    let whole = sym (append-nil lines) ∙ ap (λ rest. lines ++ cut rest) (sym none) ∙ h.made in
+    let short = sym h.short ∙ ap (λ rest. list_any is_too_long (cut rest)) none in
+    let few = le-ltb most_lines (length (cut text)) (omega (arith, h.few, ap length whole)) in
+    (whole, rw (short, few) refl)

@@ -1,15 +1,15 @@
 //! Cutting bytes into lines.
 ghost use Rattle.std.specs.Prelude.{◌≡◌, ◌+◌, ◌-◌, ◌<◌, ◌≤◌, ◌^◌, [], ◌∷◌, ◌++◌, length, take};
-ghost use Rattle.std.specs.Prelude.{drop, None, unwrap_or, IfErr, IfOk, IfSome, OnOk};
+ghost use Rattle.std.specs.Prelude.{drop, None, unwrap_or, IfErr, IfOk, IfSome, OnOk, OnSome};
 ghost use Rattle.std.specs.List.{list_any};
 ghost use Rattle.tangle_files.specs.Lines.{raw_lines, trimmed, cut};
-ghost use Rattle.tangle_files.specs.Adding.{cut_refusal, is_too_long};
+ghost use Rattle.tangle_files.specs.Adding.{cut_refusal, is_too_long, longest_line, most_lines};
 ghost use Rattle.tangle_files.specs.Sharing.{slice_of};
 
 use crate::files::MOST_LINES;
 use crate::line::{Line, MOST_POSITIONS};
 use crate::refusal::Refusal;
-use memchr::memchr;
+use memchr::{memchr, memchr_iter};
 use std::alloc::{AllocError, Global};
 use std::rc::Rc;
 
@@ -93,19 +93,17 @@ fn share_lines(alloc: Global, text: &Rc<Vec<u8>>) -> Option<Vec<Line>>
     ensures within { IfSome result (λ lines. cut_refusal text.now.value.items ≡ None) }
 {
     let bytes = bytes_of(text);
-    let mut lines = Vec::new(alloc);
+    // Most lines are longer, so the list seldom grows. Memory that is not used costs nothing.
+    let mut lines = Vec::with_capacity(alloc, bytes.len() / 32 + 1).ok()?;
     let mut start = 0;
-    while start < bytes.len() {
-        let end = end_of_line(bytes, start);
-        let line = without_trailing_spaces(&bytes[start..end]);
-        if line.len() > LONGEST_LINE || lines.len() >= MOST_LINES || start >= MOST_POSITIONS {
-            return None;
-        }
-        match add_line(&mut lines, text, start, line.len() as u16) {
-            Ok(()) => start = end + 1,
-            Err(_) => return None,
-        }
+    for end in memchr_iter(b'\n', bytes) {
+        add_line(&mut lines, text, start, end)?;
+        start = end + 1;
     }
+    if start >= bytes.len() {
+        return Some(lines);
+    }
+    add_line(&mut lines, text, start, bytes.len())?;
     Some(lines)
 }
 
@@ -116,8 +114,29 @@ fn bytes_of(text: &Rc<Vec<u8>>) -> &[u8]
     text.as_slice()
 }
 
+/// Adds the line of the bytes from `start` up to `end`. `None` if it is too long, there are too many
+/// lines, or an allocation fails.
+#[inline(always)]
+fn add_line(lines: &mut Vec<Line>, text: &Rc<Vec<u8>>, start: usize, end: usize) -> Option<()>
+    requires low { start ≤ end }
+    requires high { end ≤ length text.now.value.items }
+    ensures { let line = trimmed (take (end - start) (drop start text.now.value.items)) in
+        OnSome result ((lines.new.items ≡ lines.old.items ++ line ∷ [])
+        × (length line ≤ longest_line) × (length lines.old.items < most_lines)) }
+{
+    let line = without_trailing_spaces(&bytes_of(text)[start..end]);
+    if line.len() > LONGEST_LINE || lines.len() >= MOST_LINES || start >= MOST_POSITIONS {
+        return None;
+    }
+    match push_line(lines, text, start, line.len() as u16) {
+        Ok(()) => Some(()),
+        Err(_) => None,
+    }
+}
+
 /// Adds the line that has `size` bytes from position `start` of the text.
-fn add_line(
+#[inline(always)]
+fn push_line(
     lines: &mut Vec<Line>,
     text: &Rc<Vec<u8>>,
     start: usize,
@@ -130,20 +149,6 @@ fn add_line(
 {
     lines.push(Line::new(text.clone()?, start, size))?;
     Ok(())
-}
-
-/// The position of the first line feed from `start` on, or the length of the bytes.
-fn end_of_line(bytes: &[u8], start: usize) -> usize
-    requires { start < length bytes.now }
-    ensures low { start ≤ result }
-    ensures high { result ≤ length bytes.now }
-    ensures line { raw_lines (drop start bytes.now) ≡ take (result - start) (drop start bytes.now)
-        ∷ raw_lines (drop (result + 1) bytes.now) }
-{
-    match memchr(b'\n', &bytes[start..]) {
-        Some(count) => start + count,
-        None => bytes.len(),
-    }
 }
 
 /// The bytes before the first line feed, and those after it.

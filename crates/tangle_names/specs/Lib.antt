@@ -1,4 +1,5 @@
 pub mod Faults
+pub mod Keys
 pub mod Laws
 pub mod Names
 pub mod NameTable

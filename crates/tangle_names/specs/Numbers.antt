@@ -2,9 +2,8 @@
 -- by private contracts.
 use Rattle.std.specs.Prelude.{◌≡◌, ◌<◌, ℕ, Bool, true, false, nat_lt, ◌==◌, ◌&&◌, ◌||◌, List, []}
 use Rattle.std.specs.Prelude.{length, filter, flat_map, map, slice_get, slice_index_or, Option}
-use Rattle.std.specs.Prelude.{Some, None, option_to_list, Vec, if◌then◌else◌}
+use Rattle.std.specs.Prelude.{Some, None, option_to_list, if◌then◌else◌}
 use Rattle.std.specs.List.{enumerate_from, list_any, position_or_len}
-use Rattle.std.specs.Global.{Global}
 use Rattle.tangle_lexer.specs.declared.occurrences.OccurrenceRole.{OccurrenceRole}
 use Rattle.tangle_lexer.specs.declared.occurrences.OccurrenceRole.TheVariants.{Use}
 use Rattle.tangle_names.specs.declared.first_numbers.Counted.{Counted}
@@ -19,10 +18,6 @@ use Rattle.tangle_names.specs.Faults.{resolution_fault, named_place_of}
 use Rattle.tangle_names.specs.Names.{NameText, One}
 use Rattle.tangle_names.specs.Resolving.{resolved_meaning}
 use Rattle.tangle_names.specs.Faults.{begins_another}
-
--- the texts of the names of a set, in its order
-abbrev pub key_texts : List (Vec ℕ Global) → List NameText
-key_texts keys = map (λ (v : Vec ℕ Global). v.items) keys
 
 -- an occurrence with this resolution resolves to the name with this number
 abbrev pub is_number : ℕ → Resolved → Bool

@@ -5,12 +5,12 @@ use Rattle.tangle_lexer.specs.Occurrences.{OccurrenceRead}
 use Rattle.tangle_names.specs.declared.resolution.Resolution.{Resolution}
 use Rattle.tangle_names.specs.Faults.{begins_another}
 use Rattle.tangle_names.specs.NameTable.{TableRead, table_over}
-use Rattle.tangle_names.specs.Numbers.{is_unresolved, key_texts, number_below, numbers_from}
+use Rattle.tangle_names.specs.Numbers.{is_unresolved, number_below, numbers_from}
 
 -- a resolution as a table
 abbrev pub table_read : Resolution → TableRead
 table_read r = record {
-  names = key_texts r.names.keys;
+  names = r.names.keys;
   resolved = r.resolved.items;
   first_occurrences = r.first_occurrences.items;
   first_file_occurrences =
@@ -25,7 +25,7 @@ pub record ResolutionInvariant (r : Resolution) : Type 0 where
   pub first_file_occurrences : length r.first_file_occurrences.items ≡ length r.names.keys
   pub unresolved : r.unresolved.items ≡ numbers_from is_unresolved 0 r.resolved.items
   pub beginning_numbers : r.beginning_numbers.items
-      ≡ numbers_from (begins_another (key_texts r.names.keys)) 0 (key_texts r.names.keys)
+      ≡ numbers_from (begins_another r.names.keys) 0 r.names.keys
 
 -- the resolution is that of the occurrences
 pub record IsResolutionOf (os : List OccurrenceRead) (r : Resolution) : Type 0 where

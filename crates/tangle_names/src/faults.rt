@@ -2,11 +2,12 @@
 ghost use Rattle.std.specs.Prelude.{◌≡◌, ◌<◌, ◌++◌, ◌∷◌, [], All, IfOk, OnOk, flat_map, length};
 ghost use Rattle.tangle_faults.specs.Faults.{fault_about};
 ghost use Rattle.tangle_names.specs.Faults.{name_faults, named_place_of, resolution_fault};
-ghost use Rattle.tangle_names.specs.Numbers.{fault_of_number, key_texts};
+ghost use Rattle.tangle_names.specs.Numbers.{fault_of_number};
 ghost use Rattle.tangle_names.specs.Numbers.{warning, warning_of_number};
 ghost use Rattle.tangle_names.specs.Resolution.{IsResolutionOf};
 
 use crate::Resolved;
+use crate::keys::NameKey;
 use crate::resolution::Resolution;
 use std::alloc::Global;
 use tangle_lines::{Fault, FaultKind, NoMemory, Origin};
@@ -107,18 +108,24 @@ fn add_warnings(
     alloc: Global,
     faults: &mut Vec<Fault>,
     web: &Web,
-    names: &[Vec<u8>],
+    names: &[NameKey<'_>],
     first_occurrences: &[usize],
     ids: &[usize],
 ) -> Result<(), NoMemory>
     requires first_occurrences { length first_occurrences.now ≡ length names.now }
     requires inside { All (λ id. id < length names.now) ids.now }
     ensures { OnOk result (faults.new.items ≡ faults.old.items
-        ++ flat_map (warning_of_number web.now (key_texts names.now) first_occurrences.now)
+        ++ flat_map (warning_of_number web.now names.now first_occurrences.now)
         ids.now) }
 {
     for id in ids {
-        add_warning(alloc, faults, web, first_occurrences[*id], &names[*id])?;
+        add_warning(
+            alloc,
+            faults,
+            web,
+            first_occurrences[*id],
+            names[*id].bytes(),
+        )?;
     }
     Ok(())
 }

@@ -4,6 +4,7 @@
 mod beginnings;
 mod faults;
 mod first_numbers;
+mod keys;
 mod laws;
 mod name_table;
 mod names;

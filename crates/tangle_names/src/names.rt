@@ -2,7 +2,6 @@
 ghost use Rattle.std.specs.Prelude.{◌≡◌, ◌<◌, [], IfOk, length, position};
 ghost use Rattle.std.specs.Prelude.{slice_index_or};
 ghost use Rattle.std.specs.Str.{bytes_eq};
-ghost use Rattle.tangle_names.specs.Numbers.{key_texts};
 
 use crate::resolution::Resolution;
 use std::marker::Model;
@@ -19,17 +18,16 @@ pub struct Names {
 impl Model for Names {
     ghost use Rattle.std.specs.Prelude.{List};
     ghost use Rattle.tangle_names.specs.Names.{NameText};
-    ghost use Rattle.tangle_names.specs.Numbers.{key_texts};
 
     ghost Value = { List NameText };
 
-    ghost view = { λ n. key_texts n.resolution.value.names.keys };
+    ghost view = { λ n. n.resolution.value.names.keys };
 }
 
 impl Names {
     /// The names of a resolution.
     pub(crate) fn new(resolution: Rc<Resolution>) -> Names
-        ensures { result ≡ key_texts resolution.value.names.keys }
+        ensures { result ≡ resolution.value.names.keys }
     {
         Names { resolution }
     }

@@ -4,12 +4,12 @@ ghost use Rattle.std.specs.Prelude.{◌≡◌, ◌↔◌, ◌<◌, [], IfOk, IsT
 ghost use Rattle.std.specs.Prelude.{slice_index_or};
 ghost use Rattle.std.specs.Str.{bytes_eq};
 ghost use Rattle.tangle_names.specs.NameTable.{AreWrittenAlike, written_form};
-ghost use Rattle.tangle_names.specs.Numbers.{key_texts};
 ghost use Rattle.tangle_names.specs.Resolution.{IsResolutionOf};
 
 use crate::Resolved;
 use crate::beginnings::{beginning_flags, flagged_numbers};
 use crate::first_numbers::{Counted, first_numbers};
+use crate::keys::{NameSet, find};
 use crate::numbers::{resolve_occurrences, unresolved_numbers};
 use crate::sorted::sorted_names;
 use indexmap::IndexSet;
@@ -21,7 +21,7 @@ use tangle_scan::Occurrence;
 /// nothing of this.
 #[derive(Drop)]
 pub(crate) struct Resolution {
-    pub(crate) names: IndexSet<Vec<u8>>,
+    pub(crate) names: NameSet,
     pub(crate) resolved: Vec<Resolved>,
     // The number of each name's first occurrence.
     pub(crate) first_occurrences: Vec<usize>,
@@ -40,7 +40,7 @@ impl Resolution {
         ensures { IfOk result (λ resolution. IsResolutionOf occurrences.now resolution) }
     {
         let sorted = sorted_names(alloc, occurrences)?;
-        let mut names = IndexSet::new(alloc);
+        let mut names: NameSet = IndexSet::new(alloc);
         let resolved = resolve_occurrences(alloc, &mut names, &sorted, occurrences)?;
         let first_occurrences = first_numbers(
             alloc,
@@ -71,25 +71,24 @@ impl Resolution {
 
     /// The number of names.
     pub(crate) fn count(&self) -> usize
-        ensures { result ≡ length (key_texts self.now.names.keys) }
+        ensures { result ≡ length self.now.names.keys }
     {
         self.names.len()
     }
 
     /// The text of the name with this number.
     pub(crate) fn text(&self, id: usize) -> &[u8]
-        requires { id < length (key_texts self.now.names.keys) }
-        ensures { result.now ≡ slice_index_or (key_texts self.now.names.keys) id [] }
+        requires { id < length self.now.names.keys }
+        ensures { result.now ≡ slice_index_or self.now.names.keys id [] }
     {
-        let text = &self.names.as_slice()[id];
-        text.as_slice()
+        self.names.as_slice()[id].bytes()
     }
 
     /// The number of the name with this text, if there is one.
     pub(crate) fn find(&self, text: &[u8]) -> Option<usize>
-        ensures { result ≡ position (bytes_eq text.now) (key_texts self.now.names.keys) }
+        ensures { result ≡ position (bytes_eq text.now) self.now.names.keys }
     {
-        self.names.get_index_of(text)
+        find(&self.names, text)
     }
 }
 

@@ -1,20 +1,41 @@
-use Rattle.std.proofs.Common.{arith}
-use Rattle.tangle_files.proofs.CuttingLemmas.{line_fits, one_more_line}
+use Rattle.std.proofs.Common.{length, arith}
+use Rattle.tangle_files.proofs.CuttingLemmas.{all_cut, last_line, next_line, one_more_line}
 use Rattle.tangle_files.proofs.cutting.share_lines.Goals as goal
 
-pub add_line-requires-clause-within : goal.add_line-requires-clause-within
-add_line-requires-clause-within c =
-    let bytes = c.bytes_of-bytes.result.now in
-    let end = c.end_of_line-end in
-    rw (← c.bytes_of-bytes.ensures)
-    (line_fits bytes c.without_trailing_spaces-line.result.now c.loop-start.start
-    end.result c.without_trailing_spaces-line.ensures end.ensures.low end.ensures.high)
+pub add_line-requires-clause-low : goal.add_line-requires-clause-low
+add_line-requires-clause-low c =
+    (next_line c.bytes_of-bytes.result.now c.loop-end.start _ _ _ c.in-Some.ensures.steps c.loop-end.invariant.feeds).low
 
-pub loop-start-preserved : goal.loop-start-preserved
-loop-start-preserved c =
+pub add_line-requires-clause-high : goal.add_line-requires-clause-high
+add_line-requires-clause-high c =
     let bytes = c.bytes_of-bytes.result.now in
-    let line = c.without_trailing_spaces-line.result.now in
-    let end = c.end_of_line-end in
-    one_more_line bytes line c.loop-start.start end.result c.loop-start.lines.items c.add_line.new.lines.items
-    end.ensures.line c.without_trailing_spaces-line.ensures (omega arith) end.ensures.low end.ensures.high (omega arith)
-    (rw (← c.bytes_of-bytes.ensures) at c.in-Ok.ensures) c.loop-start.invariant
+    let ends = next_line bytes c.loop-end.start _ _ _ c.in-Some.ensures.steps c.loop-end.invariant.feeds in
+    rw (← c.bytes_of-bytes.ensures) (omega (arith, ends.high))
+
+pub overflow_add-start : goal.overflow_add-start
+overflow_add-start c =
+    let bytes = c.bytes_of-bytes.result.now in
+    let ends = next_line bytes c.loop-end.start _ _ _ c.in-Some.ensures.steps c.loop-end.invariant.feeds in
+    omega (arith, ends.high)
+
+pub loop-end-preserved : goal.loop-end-preserved
+loop-end-preserved c =
+    let bytes = c.bytes_of-bytes.result.now in
+    let ends = next_line bytes c.loop-end.start _ _ _ c.in-Some.ensures.steps c.loop-end.invariant.feeds in
+    let added = rw (← c.bytes_of-bytes.ensures) at c.in_ok-add_line.ensures in
+    record {
+      cut =
+          one_more_line bytes c.loop-end.start c.in-Some.end c.loop-end.lines.items c.add_line.new.lines.items
+          ends.line (omega (arith, ends.high)) added.0 added.1 added.2 c.loop-end.invariant.cut;
+      feeds = ends.later;
+    }
+
+pub returns : goal.returns
+returns c =
+    let bytes = c.bytes_of-bytes.result.now in
+    let last = last_line bytes c.loop-end.start _ (omega (arith, c.if-start-bytes.false))
+    c.in-None.ensures.steps.0 c.loop-end.invariant.feeds in
+    let added = rw (← c.bytes_of-bytes.ensures) at c.in_ok-add_line-2.ensures in
+    let all = all_cut bytes _ (one_more_line bytes c.loop-end.start (length bytes) c.loop-end.lines.items
+    c.add_line-2.new.lines.items last (omega arith) added.0 added.1 added.2 c.loop-end.invariant.cut) in
+    rw (← c.bytes_of-bytes.ensures) (record { lines = all.0; within = all.1 })

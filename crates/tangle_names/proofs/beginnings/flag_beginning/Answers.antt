@@ -2,7 +2,6 @@ use Rattle.std.proofs.Common.{◌≡◌, ◌∙◌, sym, ap, true, false}
 use Rattle.tangle_names.specs.declared.Resolved.TheVariants.{Name}
 use Rattle.tangle_names.specs.Names.{NameText, One}
 use Rattle.tangle_names.specs.Resolving.{resolved_meaning}
-use Rattle.tangle_names.specs.Numbers.{key_texts}
 use Rattle.tangle_names.proofs.NumberLemmas.{flags-kept, flags-made}
 use Rattle.tangle_names.proofs.SortedLemmas.{at_text, begins_another-read, begins_none-read}
 use Rattle.tangle_names.proofs.beginnings.flag_beginning.Goals as goal
@@ -13,7 +12,7 @@ returns-then-begins_at c =
     (begins_another-read c.args.sorted.now c.args.position _ c.requires.order
     c.requires.inside (c.begins_at.ensures.0 c.if-begins_at.true))
     (ap Name c.number.ensures
-    ∙ ap (λ (t : NameText). resolved_meaning (key_texts c.args.names.now.keys) (One t))
+    ∙ ap (λ (t : NameText). resolved_meaning c.args.names.now.keys (One t))
     (sym (at_text c.args.sorted.now c.args.position _ c.requires.inside)))
 
 pub returns-else-begins_at : goal.returns-else-begins_at

@@ -5,4 +5,4 @@ use Rattle.tangle_names.proofs.numbers.number.Goals as goal
 pub returns : goal.returns
 returns c =
     c.unwrap_or.ensures
-    ∙ number_is c.args.names.now.keys c.args.text.now _ _ c.get_index_of.ensures.index c.len.ensures.len
+    ∙ number_is c.args.names.now.keys c.args.text.now _ _ c.find.ensures.index c.len.ensures.len
