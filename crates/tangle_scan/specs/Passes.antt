@@ -77,18 +77,13 @@ is_skipped stage.Front token.White = true
 is_skipped stage.Front (token.LineEnd line) = true
 is_skipped at e = false
 
--- a fault, a join, an ASCII constant, @h or a head: without them rules 1 and 2 change at most the
--- front of a macro
-abbrev pub is_rare : Token → Bool
-is_rare token.Section = true
-is_rare (token.MacroStart line) = true
-is_rare (token.UnnamedPart line) = true
-is_rare (token.NamedPart line occurrence) = true
-is_rare (token.Fault kind line) = true
-is_rare token.Join = true
-is_rare (token.AsciiConstant value line) = true
-is_rare (token.AllMacros line) = true
-is_rare e = false
+-- a fault, a join or an ASCII constant: without them rules 1 and 2 change at most the front of a
+-- macro
+abbrev pub needs_pass : Token → Bool
+needs_pass (token.Fault kind line) = true
+needs_pass token.Join = true
+needs_pass (token.AsciiConstant value line) = true
+needs_pass e = false
 
 -- the second token needs no white space before it, where the first is the name of a macro
 abbrev pub is_name_spaced : List (List ℕ) → List Token → Bool
@@ -202,7 +197,7 @@ items_after lines before counted white es =
 abbrev pub spaced_after : List (List ℕ) → Token → List Token → List Token
 spaced_after texts before es = with_white_space texts stage.Inside before (without_faults es)
 
--- what is known of `Last`
+-- what is before a position, if white space and faults are left out
 
 abbrev pub keeps_white : Last → Bool
 keeps_white last.Continued = true

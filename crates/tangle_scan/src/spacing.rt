@@ -208,29 +208,21 @@ fn space(source: &Source, spaced: &mut Vec<Token>, tokens: &[Token]) -> Result<(
     Ok(())
 }
 
-/// Whether a token is one that most blocks do not have: a fault, a join, an ASCII constant or `@h`.
-/// Without such tokens there is no fault to add, and spacing changes at most the front of a macro. A
-/// head, which no block has, counts as one.
-fn is_rare(token: Token) -> bool
-    ensures { result ≡ passes.is_rare token }
+/// Whether the pass that spaces a macro is needed for this token: a fault, a join or an ASCII
+/// constant.
+fn needs_pass(token: Token) -> bool
+    ensures { result ≡ passes.needs_pass token }
 {
     matches!(
         token,
-        Token::Fault(..)
-            | Token::Join
-            | Token::AsciiConstant(..)
-            | Token::AllMacros(_)
-            | Token::Section
-            | Token::MacroStart(_)
-            | Token::UnnamedPart(_)
-            | Token::NamedPart(..)
+        Token::Fault(..) | Token::Join | Token::AsciiConstant(..)
     )
 }
 
-fn has_rare(tokens: &[Token]) -> bool
-    ensures { result ≡ list_any passes.is_rare tokens.now }
+fn any_needs_pass(tokens: &[Token]) -> bool
+    ensures { result ≡ list_any passes.needs_pass tokens.now }
 {
-    tokens.iter().any(|token| is_rare(*token))
+    tokens.iter().any(|token| needs_pass(*token))
 }
 
 /// Whether a token is white space or a line end.
@@ -275,7 +267,7 @@ pub(crate) fn macro_tokens<'e>(
         ≡ rules.macro_tokens (texts_of source.now.lines) tokens.entry.now) }
 {
     let rest = after_front(tokens);
-    if !has_rare(tokens) && is_name_spaced(source, rest) {
+    if !any_needs_pass(tokens) && is_name_spaced(source, rest) {
         return Ok(rest);
     }
     space(source, spaced, tokens)?;

@@ -13,7 +13,7 @@ use Rattle.tangle_scan.specs.Rules.{is_gap, without_joins, has_join, without_fau
 use Rattle.tangle_scan.specs.Rules.{with_name_space, with_space_after, may_follow_name, would_merge}
 use Rattle.tangle_scan.specs.Rules.{is_constant, may_merge}
 use Rattle.tangle_scan.proofs.lemmas.RuleLemmas.{run-end, has_join-push}
-use Rattle.tangle_scan.specs.Passes.{without_joins_from, spacing_from, with_white_space, is_rare}
+use Rattle.tangle_scan.specs.Passes.{without_joins_from, spacing_from, with_white_space, needs_pass}
 use Rattle.tangle_scan.specs.Passes.{is_name_spaced, is_skipped, without_skipped, stage_after, needs_space}
 
 -- rule 1, token by token
@@ -122,30 +122,30 @@ spaced-begin texts spaced at es is = rw is refl
 
 -- tokens that need no white space and have no joins are unchanged
 
-unchanged-faults : (es : List Token) → list_any is_rare es ≡ false → without_faults es ≡ es
+unchanged-faults : (es : List Token) → list_any needs_pass es ≡ false → without_faults es ≡ es
 unchanged-faults [] h = refl
 unchanged-faults (token.Fault kind line ∷ es) h = cc
-unchanged-faults (e ∷ es) h = ap (λ t. e ∷ t) (unchanged-faults es (or_parts (is_rare e) (list_any is_rare es) h).1)
+unchanged-faults (e ∷ es) h = ap (λ t. e ∷ t) (unchanged-faults es (or_parts (needs_pass e) (list_any needs_pass es) h).1)
 
-unchanged-plain : (e : Token) → is_rare e ≡ false → is_constant e ≡ false
+unchanged-plain : (e : Token) → needs_pass e ≡ false → is_constant e ≡ false
 unchanged-plain (token.AsciiConstant value line) h = cc
 unchanged-plain _ h = refl
 
 unchanged-merge : (texts : List (List ℕ)) (e f : Token)
-    → is_rare e ≡ false → is_rare f ≡ false → would_merge texts e f ≡ false
+    → needs_pass e ≡ false → needs_pass f ≡ false → would_merge texts e f ≡ false
 unchanged-merge texts e f h k = rw (unchanged-plain e h, unchanged-plain f k, and-false (may_merge texts e)) refl
 
 unchanged-spaces : (texts : List (List ℕ)) (es : List Token)
-    → list_any is_rare es ≡ false → with_spaces texts es ≡ es
+    → list_any needs_pass es ≡ false → with_spaces texts es ≡ es
 unchanged-spaces texts [] h = refl
 unchanged-spaces texts (e ∷ []) h = refl
 unchanged-spaces texts (e ∷ f ∷ es) h =
-    let first = or_parts (is_rare e) (list_any is_rare (f ∷ es)) h in
-    let second = or_parts (is_rare f) (list_any is_rare es) first.1 in
+    let first = or_parts (needs_pass e) (list_any needs_pass (f ∷ es)) h in
+    let second = or_parts (needs_pass f) (list_any needs_pass es) first.1 in
     rw (unchanged-merge texts e f first.0 second.0) (ap (λ t. e ∷ t) (unchanged-spaces texts (f ∷ es) first.1))
 
 unchanged-without_joins : (gap es : List Token)
-    → has_join gap ≡ false → list_any is_rare es ≡ false → without_joins gap es ≡ gap ++ es
+    → has_join gap ≡ false → list_any needs_pass es ≡ false → without_joins gap es ≡ gap ++ es
 unchanged-without_joins gap [] h k = rw h (sym (append-nil gap))
 unchanged-without_joins gap (token.Join ∷ es) h k = cc
 unchanged-without_joins gap (token.White ∷ es) h k =
@@ -155,15 +155,15 @@ unchanged-without_joins gap (token.LineEnd line ∷ es) h k =
     unchanged-without_joins (gap ++ token.LineEnd line ∷ []) es (has_join-push gap (token.LineEnd line) ∙ rw h refl) k
     ∙ append_assoc gap (token.LineEnd line ∷ []) es
 unchanged-without_joins gap (e ∷ es) h k =
-    rw h (ap (λ t. gap ++ e ∷ t) (unchanged-without_joins [] es refl (or_parts (is_rare e) (list_any is_rare es) k).1))
+    rw h (ap (λ t. gap ++ e ∷ t) (unchanged-without_joins [] es refl (or_parts (needs_pass e) (list_any needs_pass es) k).1))
 
--- a macro without rare tokens, whose name needs no white space after it
+-- a macro of which no token needs the pass, whose name needs no white space after it
 
-after-rare : (es : List Token) → list_any is_rare es ≡ false → list_any is_rare (without_front_gaps es) ≡ false
-after-rare [] h = refl
-after-rare (token.White ∷ es) h = after-rare es h
-after-rare (token.LineEnd line ∷ es) h = after-rare es h
-after-rare (e ∷ es) h = h
+after-front : (es : List Token) → list_any needs_pass es ≡ false → list_any needs_pass (without_front_gaps es) ≡ false
+after-front [] h = refl
+after-front (token.White ∷ es) h = after-front es h
+after-front (token.LineEnd line ∷ es) h = after-front es h
+after-front (e ∷ es) h = h
 
 name-stays : (texts : List (List ℕ)) (e : Token) (es : List Token)
     → is_name_spaced texts (e ∷ es) ≡ true → with_space_after texts e es ≡ e ∷ es
@@ -171,7 +171,7 @@ name-stays texts e [] h = refl
 name-stays texts e (f ∷ es) h = rw h refl
 
 named-stays : (texts : List (List ℕ)) (es : List Token)
-    → list_any is_rare (without_front_gaps es) ≡ false → is_name_spaced texts (without_front_gaps es) ≡ true
+    → list_any needs_pass (without_front_gaps es) ≡ false → is_name_spaced texts (without_front_gaps es) ≡ true
     → with_name_space texts (without_front_gaps es) ≡ without_front_gaps es
 named-stays texts [] h k = refl
 named-stays texts (token.White ∷ es) h k = named-stays texts es h k
@@ -180,12 +180,12 @@ named-stays texts (token.Join ∷ es) h k = cc
 named-stays texts (e ∷ es) h k = name-stays texts e es k
 
 pub unchanged-macro : (texts : List (List ℕ)) (es : List Token)
-    → list_any is_rare es ≡ false → is_name_spaced texts (without_front_gaps es) ≡ true
+    → list_any needs_pass es ≡ false → is_name_spaced texts (without_front_gaps es) ≡ true
     → without_front_gaps es ≡ without_joins [] (with_name_space texts (with_spaces texts (without_front_gaps (without_faults es))))
 unchanged-macro texts es h k =
     let rest = without_front_gaps es in
-    let rare = after-rare es h in
+    let none = after-front es h in
     let front = ap without_front_gaps (unchanged-faults es h) in
-    let spaced = ap (with_spaces texts) front ∙ unchanged-spaces texts rest rare in
-    let named = ap (with_name_space texts) spaced ∙ named-stays texts es rare k in
-    sym (ap (without_joins []) named ∙ unchanged-without_joins [] rest refl rare)
+    let spaced = ap (with_spaces texts) front ∙ unchanged-spaces texts rest none in
+    let named = ap (with_name_space texts) spaced ∙ named-stays texts es none k in
+    sym (ap (without_joins []) named ∙ unchanged-without_joins [] rest refl none)

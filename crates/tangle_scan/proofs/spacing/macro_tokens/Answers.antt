@@ -9,4 +9,4 @@ returns-then-is_name_spaced c =
     let texts = texts_of c.args.source.now.lines in
     let rest = c.after_front-rest.ensures in
     let named = ap (is_name_spaced texts) (sym rest) ∙ (sym c.is_name_spaced.ensures ∙ c.if-is_name_spaced.true) in
-    rest ∙ unchanged-macro texts c.args.tokens.now (sym c.has_rare.ensures ∙ c.if-not-has_rare.true) named
+    rest ∙ unchanged-macro texts c.args.tokens.now (sym c.any_needs_pass.ensures ∙ c.if-not-any_needs_pass.true) named
