@@ -268,19 +268,28 @@ def test_prefix(temporary):
     """Other names leave the files of the usual ones, and are removed alone."""
     source, root = copy_of_top(temporary, 'prefix'), os.path.join(temporary, 'a root')
     make = ['make', '-s'] + making.BUILT + ['DESTDIR=' + root, 'PREFIX=/usr']
-    usual = ['usr/bin/ctangle', 'usr/bin/retangle', 'usr/share/ctangle/webs.mk', 'usr/share/man/man1/ctangle.1',
-             'usr/share/man/man1/retangle.1']
-    proved = [re.sub(r'(ctangle|retangle)(?=$|\.1|/)', r'proved-\1', name) for name in usual]
+    names = 'ctangle', 'retangle', 'retangle-lsp'
+    usual = (['usr/bin/' + name for name in names] + ['usr/share/ctangle/webs.mk']
+             + ['usr/share/man/man1/%s.1' % name for name in names])
+    proved = [re.sub(r'(retangle-lsp|ctangle|retangle)(?=$|\.1|/)', r'proved-\1', name) for name in usual]
     for arguments, expected in ((['install', 'PROGRAM_PREFIX=proved-'], proved), (['install'], usual + proved),
                                 (['uninstall'], proved), (['install'], usual + proved),
                                 (['uninstall', 'PROGRAM_PREFIX=proved-'], usual)):
         _, errors, status = run(make + arguments, source)
         check(status == 0, 'make ' + ' '.join(arguments), errors)
-        same(files_below(root), sorted(expected), 'make ' + ' '.join(arguments))
+        found = files_below(root)
+        # the modules of the language server are in a folder of its name
+        same([name for name in found if '/retangle_lsp/' not in name], sorted(expected), 'make ' + ' '.join(arguments))
+        folders = {os.path.join('usr', 'share', os.path.basename(name), 'retangle_lsp')
+                   for name in expected if name.endswith('-lsp')}
+        same({os.path.dirname(name) for name in found if '/retangle_lsp/' in name and name.endswith('.py')}, folders,
+             'the modules after make ' + ' '.join(arguments))
         for name in expected:
             plain = os.path.basename(name).replace('proved-', '')
             if '.' in plain:
                 same(read(root, name), read(top, 'docs' if plain.endswith('.1') else 'examples', plain), name)
+            elif plain.endswith('-lsp'):
+                same(read(root, name), read(source, 'lsp', plain), name)
             else:
                 same(read(root, name), stripped(source, plain), name)
     same(run([os.path.join(root, 'usr', 'bin', 'ctangle')], temporary)[2], 2, 'an installed program')
