@@ -15,7 +15,8 @@ use Rattle.tangle_lexer.specs.Steps.{all_tokens}
 use Rattle.tangle_scan.specs.declared.items.Item.{Item}
 use Rattle.tangle_scan.specs.declared.items.Item.TheVariants as item
 use Rattle.tangle_scan.specs.Rules.{texts_of, span_text, ends_in_backslash, may_touch, is_name_part}
-use Rattle.tangle_scan.specs.Rules.{part_tokens, macro_tokens, is_macro, macro_items}
+use Rattle.tangle_scan.specs.Rules.{part_tokens, macro_tokens, is_macro, macro_items, ends_line}
+use Rattle.tangle_scan.specs.Rules.{without_backslashes}
 use Rattle.tangle_scan.specs.ItemBytes.{bytes_in}
 use Rattle.tangle_scan.specs.MacroBytes.{macro_bytes}
 use Rattle.tangle_scan.specs.Web.{WebRead, BlockKind, blocks}
@@ -43,13 +44,6 @@ is_gap_read is_needed (b ∷ bs) = is_white b || b == line_feed
 -- the tokens of a part, as the author means a C compiler to read them
 
 module _ (texts : List (List ℕ)) where
-  -- the next token other than white space is a line end
-  abbrev pub ends_line : List Token → Bool
-  ends_line [] = false
-  ends_line (token.White ∷ es) = ends_line es
-  ends_line (token.LineEnd line ∷ es) = true
-  ends_line (e ∷ es) = false
-
   -- a sign that is a backslash
   abbrev pub is_backslash : Token → Bool
   is_backslash (token.Span span_kind.Sign s) = bytes_eq (span_text texts s) (backslash ∷ [])
@@ -167,7 +161,8 @@ module _ (texts : List (List ℕ)) where
       (line_feed ∷ macros) EndsPiece false false None
       (read_tokens false tokens) (flat_map (piece_item_bytes used mark macros) items)
 
--- the tokens of the pieces and of the macros of a source after rules 1 and 2, in order
+-- the tokens of the pieces and of the macros of a source after rules 1 and 2, in order, in macros
+-- without the backslashes before line ends
 
 module _ (lines : List SourceLine) where
   abbrev pub kind_piece_tokens : BlockKind → List Token → List (List Token)
@@ -177,7 +172,7 @@ module _ (lines : List SourceLine) where
   abbrev pub kind_macro_tokens : BlockKind → List Token → List (List Token)
   kind_macro_tokens (OfMacro line) tokens =
       if is_macro (texts_of lines) (macro_items (texts_of lines) tokens)
-      then macro_tokens (texts_of lines) tokens ∷ []
+      then without_backslashes (texts_of lines) (macro_tokens (texts_of lines) tokens) ∷ []
       else []
   kind_macro_tokens (OfPiece occurrence line) tokens = []
 

@@ -30,7 +30,7 @@ use Rattle.tangle_scan.specs.Rules.{texts_of, first_byte, last_byte, span_item, 
 use Rattle.tangle_scan.specs.Entries.{items_of, entry_is_mark}
 use Rattle.std.specs.List.{list_any}
 use Rattle.tangle_scan.specs.LineTruth.{is_expected, counted_after_line_end}
-use Rattle.tangle_scan.specs.Rules.{macro_blanks, unmarked_items}
+use Rattle.tangle_scan.specs.Rules.{macro_blanks, unmarked_items, without_backslashes}
 
 -- `gap` is a gap at the end of a list: it begins inside the list, and its flag says whether it has
 -- a join
@@ -307,4 +307,5 @@ item_before at = if at.has_item then Some at.item.now else None
 -- the items of a macro for tokens that were not read yet
 unfoldable pub unmarked_from : List (List ℕ) → MacroState → List Token → List Item
 unmarked_from texts at es =
-    unmarked_items (macro_blanks texts at.in_name (item_before at) at.has_white es)
+    unmarked_items
+    (macro_blanks texts at.in_name (item_before at) at.has_white (without_backslashes texts es))

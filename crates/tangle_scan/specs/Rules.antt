@@ -162,6 +162,28 @@ blanks texts before white (token.LineEnd line ∷ es) =
 blanks texts before white (e ∷ es) =
     (if is_some before && white then token.White ∷ [] else []) ++ e ∷ blanks texts (Some e) false es
 
+-- Before rule 3, a backslash of the author's that is directly before a line end of a macro is
+-- dropped, white space aside: a backslash is written before each line end of a macro anyway, and
+-- the author's would be one too many.
+
+-- the next token other than white space is a line end
+abbrev pub ends_line : List Token → Bool
+ends_line [] = false
+ends_line (token.White ∷ es) = ends_line es
+ends_line (token.LineEnd line ∷ es) = true
+ends_line (e ∷ es) = false
+
+-- whether a token before the tokens `es` is such a backslash
+abbrev pub is_line_backslash : List (List ℕ) → Token → List Token → Bool
+is_line_backslash texts (token.Span span_kind.Sign s) es =
+    first_byte texts s == backslash && ends_line es
+is_line_backslash texts e es = false
+
+abbrev pub without_backslashes : List (List ℕ) → List Token → List Token
+without_backslashes texts [] = []
+without_backslashes texts (e ∷ es) =
+    (if is_line_backslash texts e es then [] else e ∷ []) ++ without_backslashes texts es
+
 -- Rule 3 in a macro. A backslash is written before each line end of a macro, so a C compiler takes
 -- all of them out. If only line ends keep two items apart, a blank goes before the line ends,
 -- unless the items may touch. It is directly after the first item, so that each line begins with an
@@ -330,7 +352,8 @@ macro_tokens texts tokens = without_joins []
 
 abbrev pub macro_items : List (List ℕ) → List Token → List Item
 macro_items texts tokens =
-    unmarked_items (macro_blanks texts true None false (macro_tokens texts tokens))
+    unmarked_items
+    (macro_blanks texts true None false (without_backslashes texts (macro_tokens texts tokens)))
 
 -- A macro is kept if its first item is a word that begins with a word byte other than a digit.
 abbrev pub is_macro : List (List ℕ) → List Item → Bool

@@ -1,6 +1,6 @@
 //! The items of a macro. A C compiler takes out all line ends of a macro. So where line ends keep
 //! two items apart, a blank goes before the line ends if the two may not touch, or if the first
-//! ends the macro's name.
+//! ends the macro's name. A backslash of the author's before a line end is dropped.
 ghost use Rattle.std.specs.Prelude.{◌≡◌, ◌++◌, ◌∷◌, ◌&&◌, [], not, true, false, None};
 ghost use Rattle.std.specs.Prelude.{if◌then◌else◌, IfOk, OnOk};
 ghost use Rattle.tangle_scan.specs.Rules as rules;
@@ -10,7 +10,7 @@ ghost use Rattle.tangle_scan.specs.declared.items.Item.TheVariants as item;
 
 use crate::items::Item;
 use crate::parts::{blank, item_of, push_some, span_item};
-use crate::touching::may_touch;
+use crate::touching::{first_byte, may_touch};
 use tangle_lexer::{SpanKind, Token};
 use tangle_lines::{NoMemory, Source};
 
@@ -36,14 +36,43 @@ fn is_name_part(token: Token) -> bool
     )
 }
 
-/// The first token that is neither white space nor a line end.
-fn next_item(tokens: &[Token]) -> Option<Token>
-    ensures { result ≡ rules.next_item tokens.now }
+/// Whether the next token other than white space is a line end.
+fn ends_line(tokens: &[Token]) -> bool
+    ensures { result ≡ rules.ends_line tokens.now }
 {
     for token in tokens {
-        if !matches!(token, Token::White | Token::LineEnd(_)) {
+        if !matches!(token, Token::White) {
+            return matches!(token, Token::LineEnd(_));
+        }
+    }
+    false
+}
+
+/// Whether a token is a backslash before a line end, white space aside. `rest` are the tokens after
+/// it.
+#[inline(always)]
+fn is_line_backslash(source: &Source, token: Token, rest: &[Token]) -> bool
+    ensures { result ≡ rules.is_line_backslash (texts_of source.now.lines) token rest.now }
+{
+    match token {
+        Token::Span(SpanKind::Sign, span) => first_byte(source, span) == b'\\' && ends_line(rest),
+        _ => false,
+    }
+}
+
+/// The first token that is neither white space nor a line end, nor a backslash before one.
+fn next_item(source: &Source, tokens: &[Token]) -> Option<Token>
+    ensures { result ≡ rules.next_item
+        (rules.without_backslashes (texts_of source.now.lines) tokens.entry.now) }
+{
+    let mut left = tokens;
+    while let [token, rest @ ..] = left {
+        if !matches!(*token, Token::White | Token::LineEnd(_))
+            && !is_line_backslash(source, *token, rest)
+        {
             return Some(*token);
         }
+        left = rest;
     }
     None
 }
@@ -53,12 +82,13 @@ fn next_item(tokens: &[Token]) -> Option<Token>
 // after that, `has_item` is false.
 fn has_blank_at_line_end(source: &Source, at: MacroState, rest: &[Token]) -> bool
     ensures { result ≡ rules.has_blank_at_line_end (texts_of source.now.lines) at.entry.in_name
-        (item_before at.entry) (rules.next_item rest.now) }
+        (item_before at.entry)
+        (rules.next_item (rules.without_backslashes (texts_of source.now.lines) rest.now)) }
 {
     if !at.has_item {
         return false;
     }
-    match next_item(rest) {
+    match next_item(source, rest) {
         Some(next) => at.in_name || !may_touch(source, *at.item, next),
         None => false,
     }
@@ -108,6 +138,9 @@ fn add_macro_token<'t>(
         ++ unmarked_from (texts_of source.now.lines) next rest.now ≡ items.old.items
         ++ unmarked_from (texts_of source.now.lines) at.entry (token.now ∷ rest.now)) }
 {
+    if is_line_backslash(source, *token, rest) {
+        return Ok(at);
+    }
     match *token {
         Token::White => Ok(MacroState {
             has_white: true,
@@ -145,7 +178,8 @@ pub(crate) fn fill_macro(
     tokens: &[Token],
 ) -> Result<(), NoMemory>
     ensures { OnOk result (items.new.items ≡ rules.unmarked_items
-        (rules.macro_blanks (texts_of source.now.lines) true None false tokens.entry.now)) }
+        (rules.macro_blanks (texts_of source.now.lines) true None false
+        (rules.without_backslashes (texts_of source.now.lines) tokens.entry.now))) }
 {
     items.clear();
     let front = Token::White;

@@ -19,7 +19,8 @@ use Rattle.tangle_scan.specs.Rules.{is_front_gap, blanks, next_line, part_tokens
 use Rattle.tangle_scan.specs.LineTruth.{is_expected}
 use Rattle.tangle_scan.proofs.lemmas.ItemsByOrigin.{part_items-by_origin}
 use Rattle.tangle_scan.specs.Passes.{counted_after_token, items_by_origin}
-use Rattle.tangle_scan.specs.Apart.{read_after, is_gap_read, ends_line, is_backslash, read_tokens, needs_white}
+use Rattle.tangle_scan.specs.Rules.{ends_line}
+use Rattle.tangle_scan.specs.Apart.{read_after, is_gap_read, is_backslash, read_tokens, needs_white}
 use Rattle.tangle_scan.specs.Apart.{after_backslash}
 use Rattle.tangle_scan.specs.Apart.{token_bytes, AreReadApart, EndsPiece, piece_item_bytes, IsPieceReadApart}
 use Rattle.tangle_scan.proofs.lemmas.RuleLemmas.{blanks-item}
@@ -100,7 +101,7 @@ module _ (lines : List SourceLine) (used : ℕ → List ℕ) (mark : Origin → 
 
   -- the tokens that the compiler reads, from an item on
   read-item : (continued : Bool) (e : Token) (es : List Token) → is_front_gap e ≡ false →
-      let continues : Bool = ends_in_backslash texts e && ends_line texts es in
+      let continues : Bool = ends_in_backslash texts e && ends_line es in
       read_tokens texts continued (e ∷ es)
       ≡ (if continues && is_backslash texts e then [] else e ∷ []) ++ read_tokens texts continues es
   read-item continued token.White es item = cc
@@ -169,13 +170,13 @@ module _ (lines : List SourceLine) (used : ℕ → List ℕ) (mark : Origin → 
   -- the tokens that follow are read apart, unless they are at the end of a line after a backslash
   abbrev ReadsPlain : List Token → Type 0
   ReadsPlain es = (apart white : Bool) (last before : Option Token) (counted : Origin) (gap : List ℕ) →
-      IsGap apart white last before gap → (is_continued texts before && ends_line texts es) ≡ false →
+      IsGap apart white last before gap → (is_continued texts before && ends_line es) ≡ false →
       AreRead apart last (read_tokens texts false es) (gap ++ text_from before white counted es)
 
   -- the tokens that follow are read apart after a backslash at the end of a continued line
   abbrev ReadsContinued : List Token → Type 0
   ReadsContinued es = (apart white : Bool) (last before : Option Token) (counted : Origin) (gap : List ℕ) →
-      IsGapToLineEnd apart last (gap ++ line_feed ∷ []) → is_continued texts before ≡ true → ends_line texts es ≡ true →
+      IsGapToLineEnd apart last (gap ++ line_feed ∷ []) → is_continued texts before ≡ true → ends_line es ≡ true →
       AreRead apart last (read_tokens texts true es) (gap ++ text_from before white counted es)
 
   record Reads (es : List Token) : Type 0 where
@@ -290,7 +291,7 @@ module _ (lines : List SourceLine) (used : ℕ → List ℕ) (mark : Origin → 
   plain-item : (e : Token) (es : List Token) → is_front_gap e ≡ false → Reads es → ReadsPlain (e ∷ es)
   plain-item e es item next apart white last before counted gap is plain =
       rw (read-item false e es item, text-item before white counted e es item)
-      (by (ends_in_backslash texts e && ends_line texts es) refl (is_backslash texts e) refl)
+      (by (ends_in_backslash texts e && ends_line es) refl (is_backslash texts e) refl)
     where
       counted_after : Origin
       counted_after = counted_after_token lines counted e
@@ -312,7 +313,7 @@ module _ (lines : List SourceLine) (used : ℕ → List ℕ) (mark : Origin → 
           (gap-read apart white last before gap e is) more
 
       -- the case in which the item is a backslash at the end of a continued line
-      taken_out : ends_in_backslash texts e ≡ true → ends_line texts es ≡ true → bytes_of e ≡ backslash ∷ [] →
+      taken_out : ends_in_backslash texts e ≡ true → ends_line es ≡ true → bytes_of e ≡ backslash ∷ [] →
           AreRead apart last (read_tokens texts true es) (gap ++ (blank ++ (bytes_of e ++ (mark_after e ++ rest))))
       taken_out is_last line_ends bytes =
           rw (bytes, no-mark e is_last)
@@ -322,7 +323,7 @@ module _ (lines : List SourceLine) (used : ℕ → List ℕ) (mark : Origin → 
           (next.continued apart false last (Some e) counted_after (gap ++ (blank ++ backslash ∷ []))
           (rw (append_assoc, append_assoc) (gap-to_line_end apart white last before gap is)) is_last line_ends))
 
-      by : (continues : Bool) → (ends_in_backslash texts e && ends_line texts es) ≡ continues → (is_sign : Bool)
+      by : (continues : Bool) → (ends_in_backslash texts e && ends_line es) ≡ continues → (is_sign : Bool)
           → is_backslash texts e ≡ is_sign
           → AreRead apart last ((if continues && is_sign then [] else e ∷ []) ++ read_tokens texts continues es)
           (gap ++ (blank ++ (bytes_of e ++ (mark_after e ++ rest))))

@@ -16,7 +16,7 @@ use Rattle.tangle_lexer.specs.declared.tokens.Token.TheVariants as token
 use Rattle.tangle_scan.specs.declared.items.Item.{Item}
 use Rattle.tangle_scan.specs.Rules.{texts_of, span_item, part_tokens, macro_tokens}
 use Rattle.tangle_scan.specs.Rules.{is_continued, at_line_front, blanks, macro_blanks, unmarked_items}
-use Rattle.tangle_scan.specs.Rules.{part_items, macro_items, is_macro}
+use Rattle.tangle_scan.specs.Rules.{part_items, macro_items, is_macro, without_backslashes}
 use Rattle.tangle_scan.specs.LineTruth.{counted_after_line_end}
 use Rattle.tangle_scan.specs.Passes.{items_at, counted_after_token, items_by_origin}
 use Rattle.tangle_scan.proofs.lemmas.KeptTokens.{kept, part-kept}
@@ -142,7 +142,9 @@ macro-none : (lines : List SourceLine) (n : ℕ) (e : Token) (es : List Token)
     → AllByRecursion (All (IsUseBelow 0)) (flat_map (macro_of lines) (block_at n e es))
 macro-none lines n (token.MacroStart line) es =
     by (macro_items (texts_of lines) (body es)) (is_macro (texts_of lines) (macro_items (texts_of lines) (body es)))
-    (unmarked_items-none (macro_blanks (texts_of lines) true None false (macro_tokens (texts_of lines) (body es))))
+    (unmarked_items-none
+    (macro_blanks (texts_of lines) true None false
+    (without_backslashes (texts_of lines) (macro_tokens (texts_of lines) (body es)))))
   where
     by : (items : List Item) (b : Bool)
         → AreUsesBelow 0 items → AllByRecursion (All (IsUseBelow 0)) ((if b then items ∷ [] else []) ++ [])

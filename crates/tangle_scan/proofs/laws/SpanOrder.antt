@@ -1,7 +1,7 @@
 -- The spans of tokens in the text are ranges of source lines, in the order of the source, and so are the spans of some
 -- of its blocks.
 use Rattle.std.proofs.Common.{◌≡◌, ℕ, ◌+◌, ◌<◌, ◌≤◌, Bool, true, List, [], ◌∷◌, ◌++◌, flat_map, inl, inr}
-use Rattle.std.proofs.Common.{sym, ◌∙◌, arith, subst, ◌⊎◌, Some, None}
+use Rattle.std.proofs.Common.{◌∙◌, arith, Some, None}
 use Rattle.std.specs.List.{All, AllPairs}
 use Rattle.std.proofs.lemmas.List.Elements.{All-nil, All-cons}
 use Rattle.std.proofs.lemmas.List.Kept.{AllPairs-cons}
@@ -13,7 +13,7 @@ use Rattle.tangle_scan.specs.Web.{Block, BlockKind, blocks, body}
 use Rattle.tangle_scan.specs.Web.BlockKind.{OfMacro, OfPiece}
 use Rattle.tangle_lexer.proofs.laws.Points.{Point, Precedes, precedes-trans}
 use Rattle.tangle_lexer.proofs.laws.TokenOrder.{AreInOrder, IsFrom, span_end}
-use Rattle.tangle_scan.proofs.laws.ItemSpans.{token_spans}
+use Rattle.tangle_scan.proofs.laws.ItemSpans.{token_spans, IsPart, part-none}
 use Rattle.tangle_scan.proofs.laws.TokenSteps.{from-inside, same-after, in_order-step}
 
 -- a span is after a position
@@ -70,39 +70,50 @@ module _ (width : ℕ → ℕ) (count : ℕ) where
       let step = in_order-step width count from at e es stays to ordered in
       in_order-ordered step.inside step.next es stays to step.rest
 
-  -- the spans of some of the blocks are in order too
+  -- some of the spans are in order too
 
-  after-suffix : (at : Point) (ss ts : List Span) → AreAfter at (ss ++ ts) → AreAfter at ts
-  after-suffix at [] ts h = h
-  after-suffix at (s ∷ ss) ts h = after-suffix at ss ts h.1
+  after-part : (at : Point) (ss ts rest : List Span) → IsPart ss ts → AreAfter at (ts ++ rest) → AreAfter at (ss ++ rest)
+  after-part at ss [] rest part h = rw part h
+  after-part at ss (t ∷ ts) rest part h = elim part [
+    | inl skipped ↦ after-part at ss ts rest skipped h.1
+    | inr taken ↦ rw taken.1 (h.0, after-part at taken.0 ts rest taken.2 h.1)
+  ]
+
+  ordered-part : (ss ts rest : List Span) → IsPart ss ts
+      → AreOrdered width count (ts ++ rest) → AreOrdered width count (ss ++ rest)
+  ordered-part ss [] rest part h = rw part h
+  ordered-part ss (t ∷ ts) rest part h = elim part [
+    | inl skipped ↦ ordered-part ss ts rest skipped h.1.1
+    | inr taken ↦ rw taken.1
+        (h.0, (after-part (span_end t) taken.0 ts rest taken.2 h.1.0, ordered-part taken.0 ts rest taken.2 h.1.1))
+  ]
 
   pub ordered-suffix : (ss ts : List Span) → AreOrdered width count (ss ++ ts) → AreOrdered width count ts
-  ordered-suffix [] ts h = h
-  ordered-suffix (s ∷ ss) ts h = ordered-suffix ss ts h.1.1
+  ordered-suffix ss ts h = ordered-part [] ss ts (part-none ss) h
 
-  -- `f` takes all spans of a block or none
-  module _ (f : Block → List Span) (picks : (p : Block) → (f p ≡ []) ⊎ (f p ≡ token_spans p.tokens)) where
-    -- the spans of a block that begins here, before others, have a property that the rest of a list has too
-    begun : (P : List Span → Type 0) → ((ss ts : List Span) → P (ss ++ ts) → P ts)
+  -- `f` takes some spans of each block
+  module _ (f : Block → List Span) (picks : (p : Block) → IsPart (f p) (token_spans p.tokens)) where
+    -- the spans of a block that begins here have a property if those of its tokens do
+    begun : (P : List Span → Type 0)
+        → ((ss ts rest : List Span) → IsPart ss ts → P (ts ++ rest) → P (ss ++ rest))
         → (n : ℕ) (kind : BlockKind) (es : List Token) → P (token_spans (body es) ++ flat_map f (blocks n es))
         → P (f (record { section = n; kind = kind; tokens = body es }) ++ flat_map f (blocks n es))
-    begun P suffix n kind es all = elim (picks (record { section = n; kind = kind; tokens = body es })) [
-      | inl e ↦ subst (λ ss. P (ss ++ flat_map f (blocks n es))) (sym e)
-          (suffix (token_spans (body es)) (flat_map f (blocks n es)) all)
-      | inr e ↦ subst (λ ss. P (ss ++ flat_map f (blocks n es))) (sym e) all
-    ]
+    begun P part n kind es all =
+        let p : Block = record { section = n; kind = kind; tokens = body es } in
+        part (f p) (token_spans (body es)) (flat_map f (blocks n es)) (picks p) all
 
     blocks-after : (at : Point) (n : ℕ) (es : List Token)
         → AreAfter at (token_spans es) → AreAfter at (token_spans (body es) ++ flat_map f (blocks n es))
     blocks-after at n [] h = tt
     blocks-after at n (token.Section ∷ es) h =
-        after-suffix at (token_spans (body es)) (flat_map f (blocks (n + 1) es)) (blocks-after at (n + 1) es h)
+        let ss = token_spans (body es) in
+        after-part at [] ss (flat_map f (blocks (n + 1) es)) (part-none ss) (blocks-after at (n + 1) es h)
     blocks-after at n (token.MacroStart line ∷ es) h =
-        begun (AreAfter at) (after-suffix at) n (OfMacro line) es (blocks-after at n es h)
+        begun (AreAfter at) (after-part at) n (OfMacro line) es (blocks-after at n es h)
     blocks-after at n (token.UnnamedPart line ∷ es) h =
-        begun (AreAfter at) (after-suffix at) n (OfPiece None line) es (blocks-after at n es h)
+        begun (AreAfter at) (after-part at) n (OfPiece None line) es (blocks-after at n es h)
     blocks-after at n (token.NamedPart line occurrence ∷ es) h =
-        begun (AreAfter at) (after-suffix at) n (OfPiece (Some occurrence) line) es (blocks-after at n es h)
+        begun (AreAfter at) (after-part at) n (OfPiece (Some occurrence) line) es (blocks-after at n es h)
     blocks-after at n (token.Span kind s ∷ es) h = (h.0, blocks-after at n es h.1)
     blocks-after at n (_ ∷ es) h = blocks-after at n es h
 
@@ -112,11 +123,11 @@ module _ (width : ℕ → ℕ) (count : ℕ) where
     blocks-ordered n (token.Section ∷ es) h =
         ordered-suffix (token_spans (body es)) (flat_map f (blocks (n + 1) es)) (blocks-ordered (n + 1) es h)
     blocks-ordered n (token.MacroStart line ∷ es) h =
-        begun (AreOrdered width count) ordered-suffix n (OfMacro line) es (blocks-ordered n es h)
+        begun (AreOrdered width count) ordered-part n (OfMacro line) es (blocks-ordered n es h)
     blocks-ordered n (token.UnnamedPart line ∷ es) h =
-        begun (AreOrdered width count) ordered-suffix n (OfPiece None line) es (blocks-ordered n es h)
+        begun (AreOrdered width count) ordered-part n (OfPiece None line) es (blocks-ordered n es h)
     blocks-ordered n (token.NamedPart line occurrence ∷ es) h =
-        begun (AreOrdered width count) ordered-suffix n (OfPiece (Some occurrence) line) es (blocks-ordered n es h)
+        begun (AreOrdered width count) ordered-part n (OfPiece (Some occurrence) line) es (blocks-ordered n es h)
     blocks-ordered n (token.Span kind s ∷ es) h =
         (h.0, (blocks-after (span_end s) n es h.1.0, blocks-ordered n es h.1.1))
     blocks-ordered n (_ ∷ es) h = blocks-ordered n es h

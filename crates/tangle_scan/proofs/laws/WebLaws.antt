@@ -20,7 +20,7 @@ use Rattle.tangle_scan.specs.SourceOrder.{IsSpan, IsInRange, SpansAreInRange, it
 use Rattle.tangle_scan.specs.LineTruth.{Location, IsAtItsLine, kind_locations, PiecesAreAtTheirLines}
 use Rattle.tangle_lexer.proofs.laws.Points.{point_at, text-is}
 use Rattle.tangle_lexer.proofs.laws.LexemeOrder.{AreSomewhere, lexemes-in_order}
-use Rattle.tangle_scan.proofs.laws.ItemSpans.{token_spans, part-spans, macro-spans}
+use Rattle.tangle_scan.proofs.laws.ItemSpans.{token_spans, IsPart, part-none, part-whole, part-spans, macro-spans}
 use Rattle.tangle_scan.proofs.laws.SpanOrder.{AreOrdered, IsRange, in_order-ordered, some-ordered, ordered-suffix}
 use Rattle.tangle_scan.proofs.laws.SpanOrder.{ordered-pairs}
 use Rattle.tangle_scan.proofs.laws.BlockFlows.{kind_flows, AllFlow, blocks-flow}
@@ -52,31 +52,27 @@ module _ (lines : List SourceLine) where
   abbrev macro_spans : Block → List Span
   macro_spans p = flat_map item_spans (macro_of lines p)
 
-  piece_picks : (p : Block) → (piece_spans p ≡ []) ⊎ (piece_spans p ≡ token_spans p.tokens)
+  piece_picks : (p : Block) → IsPart (piece_spans p) (token_spans p.tokens)
   piece_picks p = by p.kind
     where
-      by : (k : BlockKind)
-          → (flat_map (λ q. item_spans q.items) (kind_piece lines k p) ≡ [])
-          ⊎ (flat_map (λ q. item_spans q.items) (kind_piece lines k p) ≡ token_spans p.tokens)
-      by (OfMacro line) = inl refl
+      by : (k : BlockKind) → IsPart (flat_map (λ q. item_spans q.items) (kind_piece lines k p)) (token_spans p.tokens)
+      by (OfMacro line) = part-none (token_spans p.tokens)
       by (OfPiece occurrence line) =
-          inr (append-nil (item_spans (part_items lines line p.tokens)) ∙ part-spans lines line p.tokens)
+          rw (append-nil (item_spans (part_items lines line p.tokens)), part-spans lines line p.tokens)
+          (part-whole (token_spans p.tokens))
 
-  macro_picks : (p : Block) → (macro_spans p ≡ []) ⊎ (macro_spans p ≡ token_spans p.tokens)
+  macro_picks : (p : Block) → IsPart (macro_spans p) (token_spans p.tokens)
   macro_picks p = by p.kind
     where
-      kept : (items : List Item) → item_spans items ≡ token_spans p.tokens → (b : Bool)
-          → (flat_map item_spans (cond b (items ∷ []) []) ≡ [])
-          ⊎ (flat_map item_spans (cond b (items ∷ []) []) ≡ token_spans p.tokens)
-      kept items e true = inr (append-nil (item_spans items) ∙ e)
-      kept items e false = inl refl
+      kept : (items : List Item) → IsPart (item_spans items) (token_spans p.tokens) → (b : Bool)
+          → IsPart (flat_map item_spans (cond b (items ∷ []) [])) (token_spans p.tokens)
+      kept items part true = rw (append-nil (item_spans items)) part
+      kept items part false = part-none (token_spans p.tokens)
 
-      by : (k : BlockKind)
-          → (flat_map item_spans (kind_macro lines k p) ≡ [])
-          ⊎ (flat_map item_spans (kind_macro lines k p) ≡ token_spans p.tokens)
+      by : (k : BlockKind) → IsPart (flat_map item_spans (kind_macro lines k p)) (token_spans p.tokens)
       by (OfMacro line) = kept (macro_items (texts_of lines) p.tokens) (macro-spans (texts_of lines) p.tokens)
           (is_macro (texts_of lines) (macro_items (texts_of lines) p.tokens))
-      by (OfPiece occurrence line) = inl refl
+      by (OfPiece occurrence line) = part-none (token_spans p.tokens)
 
   all-ordered : AreOrdered (width lines) (length lines) (token_spans (all_tokens lines))
   all-ordered =

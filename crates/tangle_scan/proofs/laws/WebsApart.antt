@@ -5,7 +5,7 @@ use Rattle.tangle_lines.specs.Reading.{SourceLine, SourceRead}
 use Rattle.tangle_lexer.specs.Steps.{all_tokens}
 use Rattle.tangle_lexer.specs.declared.tokens.Token.{Token}
 use Rattle.tangle_scan.specs.declared.items.Item.{Item}
-use Rattle.tangle_scan.specs.Rules.{texts_of, macro_tokens, macro_items, is_macro}
+use Rattle.tangle_scan.specs.Rules.{texts_of, macro_tokens, macro_items, is_macro, without_backslashes}
 use Rattle.tangle_scan.specs.MacroBytes.{macro_bytes}
 use Rattle.tangle_scan.specs.Web.{web_of, PieceRead, Block, BlockKind, blocks, piece_of, kind_piece, macro_of}
 use Rattle.tangle_scan.specs.Web.{kind_macro}
@@ -33,9 +33,9 @@ module _ (lines : List SourceLine) where
       kept : (is_kept : Bool)
           → AllZip IsMacroOf (flat_map (macro_of lines) bs) (flat_map (λ b. kind_macro_tokens lines b.kind b.tokens) bs)
           → AllZip IsMacroOf ((if is_kept then macro_items texts b.tokens ∷ [] else []) ++ flat_map (macro_of lines) bs)
-          ((if is_kept then macro_tokens texts b.tokens ∷ [] else [])
+          ((if is_kept then without_backslashes texts (macro_tokens texts b.tokens) ∷ [] else [])
           ++ flat_map (λ b. kind_macro_tokens lines b.kind b.tokens) bs)
-      kept true rest = (macro-apart texts (macro_tokens texts b.tokens), rest)
+      kept true rest = (macro-apart texts (without_backslashes texts (macro_tokens texts b.tokens)), rest)
       kept false rest = rest
 
       by : (kind : BlockKind)

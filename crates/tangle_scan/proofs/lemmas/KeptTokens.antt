@@ -88,7 +88,7 @@ blanks-kept texts before white (e ∷ es) =
     white-kept (is_some before && white) (e ∷ blanks texts (Some e) false es)
     ∙ ap (λ ts. keep e ++ ts) (blanks-kept texts (Some e) false es)
 
-macro_blanks-kept : (texts : List (List ℕ)) (in_name : Bool) (before : Option Token) (white : Bool) (es : List Token)
+pub macro_blanks-kept : (texts : List (List ℕ)) (in_name : Bool) (before : Option Token) (white : Bool) (es : List Token)
     → kept (macro_blanks texts in_name before white es) ≡ kept es
 macro_blanks-kept texts in_name before white [] = refl
 macro_blanks-kept texts in_name before white (token.White ∷ es) = macro_blanks-kept texts in_name before true es
@@ -115,13 +115,11 @@ part-kept texts es =
     ∙ with_spaces-kept texts (without_faults es)
     ∙ without_faults-kept es
 
--- the tokens of a macro after rules 1 to 3
-pub macro-kept : (texts : List (List ℕ)) (es : List Token)
-    → kept (macro_blanks texts true None false (macro_tokens texts es)) ≡ kept es
+-- the tokens of a macro after rules 1 and 2
+pub macro-kept : (texts : List (List ℕ)) (es : List Token) → kept (macro_tokens texts es) ≡ kept es
 macro-kept texts es =
     let front : List Token = without_front_gaps (without_faults es) in
-    macro_blanks-kept texts true None false (macro_tokens texts es)
-    ∙ without_joins-kept [] (with_name_space texts (with_spaces texts front)) refl
+    without_joins-kept [] (with_name_space texts (with_spaces texts front)) refl
     ∙ with_name_space-kept texts (with_spaces texts front)
     ∙ with_spaces-kept texts front
     ∙ without_front-kept (without_faults es)

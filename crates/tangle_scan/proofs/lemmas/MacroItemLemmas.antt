@@ -7,7 +7,7 @@ use Rattle.tangle_scan.specs.declared.items.Item.{Item}
 use Rattle.tangle_scan.specs.declared.items.Item.TheVariants as item
 use Rattle.tangle_scan.specs.declared.macro_items.MacroState.{MacroState}
 use Rattle.tangle_scan.specs.Rules.{next_item, has_blank_at_line_end, is_name_part, macro_blanks, unmarked_items}
-use Rattle.tangle_scan.specs.Rules.{is_front_gap}
+use Rattle.tangle_scan.specs.Rules.{is_front_gap, is_line_backslash, without_backslashes}
 use Rattle.tangle_scan.proofs.lemmas.RuleLemmas.{macro_blanks-item}
 use Rattle.tangle_scan.specs.Passes.{item_before, unmarked_from, item_of}
 
@@ -35,34 +35,43 @@ unmarked-blank false es = refl
 
 pub unmarked-line : (texts : List (List ℕ)) (at next : MacroState) (line : ℕ) (es : List Token) →
     next.in_name ≡ false → next.has_item ≡ false → next.has_white ≡ false →
-    (if has_blank_at_line_end texts at.in_name (item_before at) (next_item es) then item.Blank ∷ [] else [])
+    (if has_blank_at_line_end texts at.in_name (item_before at) (next_item (without_backslashes texts es))
+    then item.Blank ∷ [] else [])
     ++ item.LineEnd ∷ unmarked_from texts next es
     ≡ unmarked_from texts at (token.LineEnd line ∷ es)
 unfolding unmarked_from
 unmarked-line texts at next line es name none white =
     rw (name, none, white)
-    (sym (unmarked-blank (has_blank_at_line_end texts at.in_name (item_before at) (next_item es))
-    (token.LineEnd line ∷ macro_blanks texts false None false es)))
+    (sym (unmarked-blank (has_blank_at_line_end texts at.in_name (item_before at)
+    (next_item (without_backslashes texts es)))
+    (token.LineEnd line ∷ macro_blanks texts false None false (without_backslashes texts es))))
+
+-- a backslash before a line end is passed over
+pub unmarked-passed : (texts : List (List ℕ)) (at : MacroState) (e : Token) (es : List Token)
+    → is_line_backslash texts e es ≡ true → unmarked_from texts at es ≡ unmarked_from texts at (e ∷ es)
+unfolding unmarked_from
+unmarked-passed texts at e es is = rw is refl
 
 before-some : (has : Bool) (e : Token) → is_some (if has then Some e else None) ≡ has
 before-some true e = refl
 before-some false e = refl
 
 pub unmarked-item : (texts : List (List ℕ)) (at next : MacroState) (e : Token) (es : List Token)
-    → is_front_gap e ≡ false → next.in_name ≡ (at.in_name && not at.has_white && is_name_part e) → item_before next ≡ Some e
+    → is_line_backslash texts e es ≡ false → is_front_gap e ≡ false → next.in_name ≡ (at.in_name && not at.has_white && is_name_part e) → item_before next ≡ Some e
     → next.has_white ≡ false
     → (if at.has_item && at.has_white then item.Blank ∷ [] else [])
     ++ (option_to_list (item_of e) ++ unmarked_from texts next es)
     ≡ unmarked_from texts at (e ∷ es)
 unfolding unmarked_from
-unmarked-item texts at next e es solid name some white =
+unmarked-item texts at next e es kept solid name some white =
     let before = item_before at in
-    let rest = macro_blanks texts (at.in_name && not at.has_white && is_name_part e) (Some e) false es in
-    rw (name, some, white)
+    let left = without_backslashes texts es in
+    let rest = macro_blanks texts (at.in_name && not at.has_white && is_name_part e) (Some e) false left in
+    rw (kept, name, some, white)
     (ap (λ has.
     (if has && at.has_white then item.Blank ∷ [] else []) ++ (option_to_list (item_of e) ++ unmarked_items rest))
     (sym (before-some at.has_item at.item.now))
     ∙ (ap (λ t. (if is_some before && at.has_white then item.Blank ∷ [] else []) ++ t)
     (sym (unmarked-step e rest solid))
     ∙ (sym (unmarked-blank (is_some before && at.has_white) (e ∷ rest))
-    ∙ ap unmarked_items (sym (macro_blanks-item texts at.in_name before at.has_white e es solid)))))
+    ∙ ap unmarked_items (sym (macro_blanks-item texts at.in_name before at.has_white e left solid)))))

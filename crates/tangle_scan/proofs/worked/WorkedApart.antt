@@ -8,7 +8,7 @@ use Rattle.tangle_text.specs.declared.spans.Span.{Span}
 use Rattle.tangle_lexer.specs.declared.tokens.Token.{Token}
 use Rattle.tangle_lexer.specs.declared.tokens.Token.TheVariants as token
 use Rattle.tangle_lexer.specs.declared.tokens.SpanKind.TheVariants as span_kind
-use Rattle.tangle_scan.specs.Rules.{macro_blanks, unmarked_items}
+use Rattle.tangle_scan.specs.Rules.{macro_blanks, unmarked_items, without_backslashes, macro_items}
 use Rattle.tangle_scan.specs.MacroBytes.{macro_bytes}
 use Rattle.tangle_scan.specs.Apart.{as_read, read_after, is_gap_read, read_tokens, written_tokens, needs_white}
 use Rattle.tangle_scan.specs.Apart.{after_backslash}
@@ -156,6 +156,25 @@ written_macro :
     macro_bytes texts (unmarked_items (macro_blanks texts true None false (name ∷ token.LineEnd 0 ∷ word ∷ [])))
     ≡ codes "#define hex \\\nif\n"
 written_macro = refl
+
+-- A backslash of the author's before a line end is dropped, also with white space between the two, and the line end keeps
+-- apart what is before and after them. Of two backslashes only the one before the line end is dropped, and a backslash
+-- that is not before a line end is kept.
+dropped_backslash :
+    without_backslashes texts (name ∷ backslash_sign ∷ token.White ∷ token.LineEnd 0 ∷ word ∷ [])
+    ≡ name ∷ token.White ∷ token.LineEnd 0 ∷ word ∷ []
+dropped_backslash = refl
+
+kept_backslashes :
+    without_backslashes texts
+    (backslash_sign ∷ backslash_sign ∷ token.LineEnd 0 ∷ backslash_sign ∷ token.White ∷ word ∷ [])
+    ≡ backslash_sign ∷ token.LineEnd 0 ∷ backslash_sign ∷ token.White ∷ word ∷ []
+kept_backslashes = refl
+
+written_backslash :
+    macro_bytes texts (macro_items texts (name ∷ backslash_sign ∷ token.White ∷ token.LineEnd 0 ∷ word ∷ []))
+    ≡ codes "#define hex \\\nif\n"
+written_backslash = refl
 
 -- The bytes without the blank are refused, however they are divided into those of the two items and others: a C
 -- compiler would read one name, hexif.
