@@ -5,8 +5,8 @@ use Rattle.tangle_lines.specs.declared.origin.Origin.{Origin}
 use Rattle.tangle_plans.specs.Flat.{Symbol}
 use Rattle.tangle_expansion.specs.Numbers.{PieceNumbersRead, NumbersRead, symbol_bytes}
 
--- no more bytes than this are written for one symbol: what ends a mark and the macros have fewer than 2
--- ^ 64
+-- no more bytes than this are written for one symbol: what ends a mark, and the macros, have fewer
+-- than 2 ^ 64
 unfoldable pub longest_symbol : ℕ
 longest_symbol = 2 ^ 66
 

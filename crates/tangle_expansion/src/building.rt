@@ -101,8 +101,8 @@ fn push_escaped(bytes: &mut Vec<u8>, byte: u8) -> Result<(), NoMemory>
     Ok(())
 }
 
-/// What comes after the number in the line marks of a file: its name in quotes, with backslashes and
-/// double quotes escaped, and the line feed.
+/// What comes after the number in the line marks of a file: its name in quotes, with backslashes
+/// and double quotes escaped, and the line feed.
 fn mark_end(alloc: Global, name: &[u8]) -> Result<Vec<u8>, NoMemory>
     ensures { IfOk result (λ bytes. bytes.items ≡ mark_end name.now) }
 {

@@ -25,7 +25,8 @@ pub record IsBodyAt (web : WebRead) (table : TableRead)
     (rows : List (List ℕ)) (node : Node) (body : NodeBody) : Type 0 where
   pub title : body_title body ≡ title_at table.names node
   pub plan : plan_slots body
-      ≡ pieces_slots web.texts table (title_at table.names node) 0 (pieces_at web.pieces (row_at rows node))
+      ≡ pieces_slots web.texts table
+      (title_at table.names node) 0 (pieces_at web.pieces (row_at rows node))
   pub shape : HoldsShape table.names
       (shape_of web.texts table (pieces_at web.pieces (row_at rows node))) body
   pub uses : body_uses body ≡ pieces_uses table (pieces_at web.pieces (row_at rows node))

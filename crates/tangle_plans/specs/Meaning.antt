@@ -29,8 +29,8 @@ left_over used = flat_map use_flat used
 module _ (node : Title) (bytes : List ℕ) where
   -- The symbols of the remaining steps of a plan: `piece` pieces are before the current one,
   -- `marks` marks were in it and `start` bytes of the body were used, and `used` has the remaining
-  -- shared expansions. The plan ends at a use for which there is no entry; an expansion that is made
-  -- has one for each use.
+  -- shared expansions. The plan ends at a use without an entry; an expansion that is made has one
+  -- for each use.
   abbrev pub plan_flat : ℕ → ℕ → ℕ → List Step → List (Option (List Symbol)) → List Symbol
   plan_flat piece marks start [] used = left_over used
   plan_flat piece marks start (step.Open ∷ plan) used =

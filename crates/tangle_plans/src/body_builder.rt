@@ -227,8 +227,8 @@ fn add_symbols(
     requires name { IsUseBelow (length table.now.resolved) item }
     ensures { OnOk result (builder.new ≡ record builder.old {
       marks = marks_after_item builder.old.marks item;
-      made = builder.old.made ++ item_slots web.now.texts table.now builder.old.node builder.old.piece
-          builder.old.marks item;
+      made = builder.old.made ++ item_slots web.now.texts table.now
+          builder.old.node builder.old.piece builder.old.marks item;
       bytes = builder.old.bytes ++ bytes_in web.now.texts item;
     }) }
 {
@@ -258,7 +258,8 @@ fn add_item(
 ) -> Result<(), NoMemory>
     requires span { IsInRange web.now.texts item.now }
     requires name { IsUseBelow (length table.now.resolved) item.now }
-    ensures { OnOk result (builder.new ≡ with_entry web.now.texts table.now builder.old (entry.Item item.now)) }
+    ensures { OnOk result (builder.new
+        ≡ with_entry web.now.texts table.now builder.old (entry.Item item.now)) }
 {
     builder.add_tag(tag_of(item, table))?;
     builder.add_name(table, item)?;

@@ -253,7 +253,8 @@ pub fn has_items_of(old: &NodeBody, web: &Web, table: &NameTable, numbers: &[usi
     ensures shape { result ≡ true → HoldsShape table.now.names (shape_of web.now.texts table.now
         (pieces_at web.now.pieces numbers.now)) old.now }
     ensures plan { result ≡ true → IsPlanned old.now
-        → plan_slots old.now ≡ pieces_slots web.now.texts table.now (body_title old.now) 0 (pieces_at web.now.pieces numbers.now) }
+        → plan_slots old.now ≡ pieces_slots web.now.texts table.now (body_title old.now) 0
+        (pieces_at web.now.pieces numbers.now) }
 {
     let left = Left {
         tags: TagsLeft::new(&old.tags, &old.bytes),

@@ -7,7 +7,13 @@ use Rattle.tangle_expansion.proofs.writing.write_opening.Goals as goal
 pub returns-in-Full : goal.returns-in-Full
 returns-in-Full g c =
     let full : c.args.numbers.now.marks ≡ Full = sym c.marks.ensures ∙ c.in-Full.is in
-    rw (full, ← c.mark_end.ensures, append_assoc (decimal c.args.section) (codes ":*/"), ← c.format.ensures.text, ← c.as_bytes.ensures.value)
+    rw (
+      full,
+      ← c.mark_end.ensures,
+      append_assoc (decimal c.args.section) (codes ":*/"),
+      ← c.format.ensures.text,
+      ← c.as_bytes.ensures.value,
+    )
     (writes_then _ _ _ _ _ _ _ _
     (writes_then _ _ _ _ _ _ _ _ c.write_after-opened.ensures c.write_after-numbered.ensures) c.write_between.ensures)
 
