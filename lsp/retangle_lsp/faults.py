@@ -11,6 +11,7 @@ ALIKE = .6              # names that are so alike may be one name that is misspe
 MUCH_ALIKE = .8         # and if one of them may have other text in it
 MOST_RELATED = 50       # places that a diagnostic leads to
 MOST_NAMES = 5          # names that a message lists
+MOST_SUSPECTS = 20      # names that are causes of other faults; each is compared with all of these
 MOST_SOUGHT = 50        # faults for which the nearest names are sought, which takes its time
 
 
@@ -105,7 +106,7 @@ class Folding:
         not used, into its group."""
         suspects = [group for group in self.by_name.values() if not is_abbreviation(group.name)
                     and group.kinds & {'name-end', 'undefined', 'unused'}]
-        suspects.sort(key=self.rank)
+        suspects = sorted(suspects, key=self.rank)[:MOST_SUSPECTS]
         for group in list(self.by_name.values()):
             cause = next((one for one in suspects if one is not group and one.members
                           and self.rank(one) <= self.rank(group) and self.follows(group, one)),
