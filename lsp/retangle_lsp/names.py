@@ -105,7 +105,7 @@ class Names:
         if text not in self.places_of_text:
             self.places_of_text[text] = [
                 Found(number, one) for number, scan in enumerate(self.ordered)
-                if text in scan.texts for one in scan.occurrences if one.text == text]
+                for one in scan.by_text.get(text, ())]
         return self.places_of_text[text]
 
     def written(self, name, roles=None):

@@ -72,7 +72,10 @@ class Scan:
             at = next((found.start() for found in codes if found[1] in STARTS), len(text))
         while at < len(text):
             at = self.section(at)
-        self.texts = {one.text for one in self.occurrences}
+        self.by_text = {}               # the text of a name: its occurrences
+        for one in self.occurrences:
+            self.by_text.setdefault(one.text, []).append(one)
+        self.texts = set(self.by_text)
         self.abbreviations = {one for one in self.texts if is_abbreviation(one)}
         self.full_names = self.texts - self.abbreviations
 
