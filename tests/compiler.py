@@ -4,8 +4,9 @@ usage: compiler.py CTANGLE TOP        TOP is the folder of the repository
 
 `cc -E -dM` lists each macro as the compiler has understood it.
 
-- tests/compiler/NAME: the list for in/a.w, less that of an empty file, is the file macros. A
-  program is compiled and run, with and without its change file, and prints the file printed.
+- tests/compiler/NAME: the list for in/a.w, less that of an empty file, is the file macros. Or what
+  the compiler reads of its C are the tokens in the file tokens. A program is compiled and run, with
+  and without its change file if it has one, and prints the file printed.
 - Generated webs: each macro is also written on one line, with one space wherever the web keeps two
   items apart. The compiler's lists of these lines and of what ctangle makes have the same macros,
   of the same C tokens. The lines are made from what the web is made of, and not from any output.
@@ -59,6 +60,27 @@ def test_stored_lists():
             lay(folder, {'a.w': read(STORED, name, 'in', 'a.w')})
             tangle(name, folder)
             same(listed(name, folder, 'a.c'), read(STORED, name, 'macros').splitlines(), name)
+
+
+def test_stored_tokens():
+    for name in ('slashes-at-the-ends-of-pieces', 'constants-that-touch', 'backslashes-in-macros',
+                 'heads-with-comments-and-codes'):
+        with tempfile.TemporaryDirectory() as folder:
+            lay(folder, {'a.w': read(STORED, name, 'in', 'a.w')})
+            tangle(name, folder)
+            text, errors, status = run(['cc', '-E', '-P', 'a.c'], folder)
+            check(status == 0 and not errors, name, errors.decode(errors='replace')[:1000])
+            same(tokens(text), read(STORED, name, 'tokens').split(), name)
+
+
+def test_program_of_slashes():
+    name = 'program-of-heads-and-slashes'
+    with tempfile.TemporaryDirectory() as folder:
+        lay(folder, {'a.w': read(STORED, name, 'in', 'a.w')})
+        tangle(name, folder)
+        made = run(['cc', '-Wall', '-o', 'a', 'a.c'], folder)
+        same(made, (b'', b'', 0), name + ', cc')
+        same(run(['./a'], folder) if made[2] == 0 else None, (read(STORED, name, 'printed'), b'', 0), name)
 
 
 def test_program():
@@ -121,7 +143,7 @@ def check_webs(name, folder, webs):
 
 
 def main():
-    return run_all((test_stored_lists, test_program, test_generated))
+    return run_all((test_stored_lists, test_stored_tokens, test_program, test_program_of_slashes, test_generated))
 
 
 if __name__ == '__main__':

@@ -1,0 +1,3 @@
+@ @c @<Count@>
+@ @<Count@>@^counting@>= n++;
+@ @<Count@> /* once more */ + @; = m++;
