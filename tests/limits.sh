@@ -302,7 +302,7 @@ test_weight() {
 }
 
 many_sections() { # COUNT
-    awk -v count="$1" 'BEGIN { printf "@c\n"; for (n = 1; n <= count; n++) printf "@ @c\nx\n" }' >"$case/in/a.w"
+    awk -v count="$1" 'BEGIN { printf "limbo\n"; for (n = 1; n <= count; n++) printf "@ @c\nx\n" }' >"$case/in/a.w"
     awk -v count="$1" 'BEGIN {
         for (n = 1; n <= count; n++) printf "/*%d:*/\n#line %d \"a.w\"\n\nx\n/*:%d*/", n, 2 * n, n
         printf "\n"
