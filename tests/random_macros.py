@@ -113,6 +113,8 @@ class DefinedByCode(Macro):
         self._add(b'@d ' + web, self.name)
 
     def _add_line_end(self):
+        if self.web.endswith(b'\\'):           # a backslash before a line end is the line end's own
+            self.line = self.line[:-1]
         end = self.chance.choice(SEVERAL_ENDS) if self.chance.random() < .2 else self._line_end()
         self._add(self.chance.choice(BEFORE) + end + self.chance.choice(FRONTS), b' ')
         return True

@@ -98,10 +98,10 @@ x
 +\
 [\
 x
-#define S20(x) x \
-\ \
-+ \
-\ \
+#define S20(x) x\
+\
++\
+\
 x
 #define S21(x) x\
 ]\
