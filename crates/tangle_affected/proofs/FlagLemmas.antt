@@ -1,17 +1,17 @@
 -- One more node of the order is flagged or not.
 use Rattle.std.proofs.Common.{◌≡◌, ◌≢◌, ◌∙◌, ◌+◌, ◌<◌, ◌↔◌, ℕ, Bool, true, false, List, [], ◌∷◌, ◌++◌, length, take}
-use Rattle.std.proofs.Common.{◌⊎◌, get_or, set, refl, ap, sym, subst, inl, inr, arith, Contains}
+use Rattle.std.proofs.Common.{◌⊎◌, get_or, set, refl, ap, sym, subst, inl, inr, arith, Contains, true≢false}
 use Rattle.std.proofs.Common.{get_or-set_same, get_or-set_other}
 use Rattle.std.proofs.lemmas.List.{get_or_default, take_more}
+use Rattle.std.proofs.lemmas.List.Folds.{Any-from_list_any, list_any-from_Any}
 use Rattle.std.proofs.lemmas.List.Elements.{Contains-push_cases}
 use Rattle.tangle_plans.specs.Shapes.{Title, Named, Shapes, Uses, Reaches, here, on}
 use Rattle.tangle_plans.specs.Shapes as title
 use Rattle.digraph.specs.Nodes.{Node, program}
-use Rattle.digraph.proofs.ReachLemmas.{true_unless}
 use Rattle.tangle_graph.specs.Nodes.{UsesTitle}
 use Rattle.tangle_graph.specs.Ordering.{IsOrderIn}
 use Rattle.tangle_graph.specs.Stores.{StoreRead, IsStoreOf, IsNodeIn, flag_at, uses_at, title_in_store}
-use Rattle.tangle_affected.specs.Flags.{ReachesNewShape, AreFlagged}
+use Rattle.tangle_affected.specs.Flags.{ReachesNewShape, AreFlagged, uses_flagged}
 use Rattle.tangle_affected.proofs.FilterLemmas.{in_front}
 
 step_on : (shapes : Shapes) (a b c : Title) → UsesTitle shapes a b → Reaches shapes b c → Reaches shapes a c
@@ -45,38 +45,23 @@ module _ (store : StoreRead) (order : List Node) (ordered : IsOrderIn store orde
 
   module _ (old new : Shapes) (is : IsStoreOf new store) (flags : List Bool)
       (are : AreFlagged old new store flags (take i order)) where
-    pub flagged_next : (b : Bool) → length flags ≡ length store.names + 1
-        → (b ≡ true → ReachesNewShape old new (title_in_store store node))
-        → (b ≡ false → ReachesNewShape old new (title_in_store store node) → ⊥)
-        → AreFlagged old new store (set flags node b) (take (i + 1) order)
-    flagged_next b size reached not a c =
-        let is_set = get_or-set_same flags node b false (omega (arith, at_position, size)) in
-        elim (more_cases order i node a inside at c) [
-          | inl before ↦ (let stays = get_or-set_other flags node a b false (apart a before) in
-              ((λ f. (are a before).0 (sym stays ∙ f)), (λ r. stays ∙ (are a before).1 r)))
-          | inr e ↦ subst
-              (λ m. (flag_at (set flags node b) m ≡ true) ↔ ReachesNewShape old new (title_in_store store m)) e
-              ((λ f. reached (sym is_set ∙ f)), (λ r. is_set ∙ true_unless b (λ off. not off r)))
-        ]
-
-    -- the node uses a flagged one
-    pub reached_by_use : (m : Node) → Contains (uses_at store node) m → flag_at flags m ≡ true
-        → ReachesNewShape old new (title_in_store store node)
-    reached_by_use m used is_flagged =
-        let r = (are m (after_used m used)).0 is_flagged in
+    reached_by_use : uses_flagged store flags node ≡ true → ReachesNewShape old new (title_in_store store node)
+    reached_by_use some =
+        let found = Any-from_list_any (flag_at flags) (uses_at store node) some in
+        let m = found.1 in
+        let used : Contains (uses_at store node) m = (found.0, found.2, found.3) in
+        let r = (are m (after_used m used)).0 found.4 in
         let u = (is.uses node m at_position).0 used in
         (r.0, step_on new (title_in_store store node) (title_in_store store m) r.0 u.1 r.1, r.2)
 
-    -- the shape of the node is not new, and the node uses no flagged one
-    pub not_reached : (is_new : Bool)
-        → ((is_new ≡ true) ↔ (new (title_in_store store node) ≢ old (title_in_store store node)))
-        → is_new ≡ false → ((m : Node) → Contains (uses_at store node) m → flag_at flags m ≡ false)
-        → ReachesNewShape old new (title_in_store store node) → ⊥
-    not_reached is_new reported same none r = from (title_in_store store node) r.0 r.1 r.2 refl
+    -- a node that reaches a new shape has one, or uses a flagged node
+    cause : ReachesNewShape old new (title_in_store store node)
+        → (new (title_in_store store node) ≢ old (title_in_store store node)) ⊎ (uses_flagged store flags node ≡ true)
+    cause r = from (title_in_store store node) r.0 r.1 r.2 refl
       where
-        from : (a c : Title) → Reaches new a c → new c ≢ old c → a ≡ title_in_store store node → ⊥
-        from a c here differs e =
-            (let both : true ≡ false = sym (reported.1 (subst (λ t. new t ≢ old t) e differs)) ∙ same in absurd (cc))
+        from : (a c : Title) → Reaches new a c → new c ≢ old c → a ≡ title_in_store store node
+            → (new (title_in_store store node) ≢ old (title_in_store store node)) ⊎ (uses_flagged store flags node ≡ true)
+        from a c here differs e = inl (subst (λ t. new t ≢ old t) e differs)
         from a c (on {name = name} u s) differs e =
             let this = title_in_store store node in
             let uses : Uses new (title_in_store store node) name = subst (λ t. Uses new t name) e u in
@@ -84,5 +69,34 @@ module _ (store : StoreRead) (order : List Node) (ordered : IsOrderIn store orde
             let used = (is.uses node m.0 at_position).1 (m.1, subst (UsesTitle new this) (sym m.2) uses) in
             let is_flagged =
             (are m.0 (after_used m.0 used)).1 (c, subst (λ t. Reaches new t c) (sym m.2) s, differs) in
-            let both : true ≡ false = sym is_flagged ∙ none m.0 used in
-            absurd (cc)
+            inr (list_any-from_Any (flag_at flags) (uses_at store node) (used.0, m.0, used.1, used.2, is_flagged))
+
+    pub flagged_next : (b : Bool) → length flags ≡ length store.names + 1
+        → (uses_flagged store flags node ≡ true → b ≡ true)
+        → (uses_flagged store flags node ≡ false
+        → ((b ≡ true) ↔ (new (title_in_store store node) ≢ old (title_in_store store node))))
+        → AreFlagged old new store (set flags node b) (take (i + 1) order)
+    flagged_next b size uses shape a c =
+        let is_set = get_or-set_same flags node b false (omega (arith, at_position, size)) in
+        elim (more_cases order i node a inside at c) [
+          | inl before ↦ (let stays = get_or-set_other flags node a b false (apart a before) in
+              ((λ f. (are a before).0 (sym stays ∙ f)), (λ r. stays ∙ (are a before).1 r)))
+          | inr e ↦ subst
+              (λ m. (flag_at (set flags node b) m ≡ true) ↔ ReachesNewShape old new (title_in_store store m)) e (
+                (λ f. reached (uses_flagged store flags node) refl (sym is_set ∙ f)),
+                (λ r. is_set ∙ marked (uses_flagged store flags node) refl r),
+              )
+        ]
+      where
+        reached : (any : Bool) → uses_flagged store flags node ≡ any → b ≡ true
+            → ReachesNewShape old new (title_in_store store node)
+        reached true some is_marked = reached_by_use some
+        reached false none is_marked = (title_in_store store node, here, (shape none).0 is_marked)
+
+        marked : (any : Bool) → uses_flagged store flags node ≡ any
+            → ReachesNewShape old new (title_in_store store node) → b ≡ true
+        marked true some r = uses some
+        marked false none r = elim (cause r) [
+          | inl differs ↦ (shape none).1 differs
+          | inr some ↦ absurd (true≢false (sym some ∙ none))
+        ]

@@ -1,8 +1,9 @@
 -- What flags of a store's nodes mean. Only private contracts cite these definitions.
 use Rattle.std.specs.Prelude.{◌≡◌, ◌≢◌, ◌↔◌, ◌&&◌, Bool, true, List, Contains}
+use Rattle.std.specs.List.{list_any}
 use Rattle.tangle_plans.specs.Shapes.{Title, Shapes, Reaches}
 use Rattle.digraph.specs.Nodes.{Node}
-use Rattle.tangle_graph.specs.Stores.{StoreRead, flag_at, is_expandable_at}
+use Rattle.tangle_graph.specs.Stores.{StoreRead, flag_at, is_expandable_at, uses_at}
 use Rattle.tangle_graph.specs.Stores.{title_in_store}
 
 -- the node with this title reaches one whose shape differs from its old shape
@@ -18,3 +19,7 @@ AreFlagged old new store flags nodes =
 -- the node is expandable, and flagged
 abbrev pub is_expandable_and_flagged : StoreRead → List Bool → Node → Bool
 is_expandable_and_flagged store flags node = is_expandable_at store node && flag_at flags node
+
+-- whether the node uses a flagged one
+abbrev pub uses_flagged : StoreRead → List Bool → Node → Bool
+uses_flagged store flags node = list_any (flag_at flags) (uses_at store node)

@@ -1,5 +1,6 @@
 //! The nodes that an edit affects.
-ghost use Rattle.std.specs.Prelude.{◌≡◌, ◌≢◌, ◌↔◌, true, false, filter, IfOk, Contains};
+ghost use Rattle.std.specs.Prelude.{◌≡◌, ◌≢◌, ◌↔◌, true, false, filter, IfOk};
+ghost use Rattle.std.specs.List.{list_any};
 ghost use Rattle.tangle_plans.specs.Shapes.{Shapes};
 ghost use Rattle.digraph.specs.Nodes.{Node};
 ghost use Rattle.tangle_graph.specs.Ordering.{IsOrderIn};
@@ -7,6 +8,7 @@ ghost use Rattle.tangle_graph.specs.Stores.{IsStoreOf, IsNodeIn, KeepsBodies, fl
 ghost use Rattle.tangle_graph.specs.Stores.{title_in_store};
 ghost use Rattle.tangle_affected.specs.Affected.{ListsAffected};
 ghost use Rattle.tangle_affected.specs.Flags.{AreFlagged, is_expandable_and_flagged};
+ghost use Rattle.tangle_affected.specs.Flags.{uses_flagged};
 
 use std::alloc::Global;
 use tangle_graph::{Node, Store, is_flagged, node_before, same_shape, set_flag};
@@ -48,11 +50,30 @@ pub(crate) fn reaching_new_shapes(
     // In this order no search is needed, as `digraph::reaching` makes one.
     let mut flags = new.no_flags(alloc)?;
     for node in order {
-        let has_cause = has_new_shape(old, new, are_kept, *node)
-            || any_flagged(&flags, new.uses(*node));
-        set_flag(&mut flags, *node, has_cause);
+        let flag = has_cause(old, new, are_kept, &flags, *node);
+        set_flag(&mut flags, *node, flag);
     }
     Ok(flags)
+}
+
+/// Whether the node uses a flagged node, or has a new shape.
+fn has_cause(old: &Store, new: &Store, are_kept: &[bool], flags: &[bool], node: Node) -> bool
+    requires bodies { KeepsBodies old.now new.now are_kept.now }
+    requires node { IsNodeIn new.now node }
+    ensures uses { uses_flagged new.now flags.now node ≡ true → result ≡ true }
+    ensures shape { uses_flagged new.now flags.now node ≡ false
+        → (old_shapes new_shapes : Shapes) → IsStoreOf old_shapes old.now
+        → IsStoreOf new_shapes new.now
+        → ((result ≡ true) ↔ (new_shapes (title_in_store new.now node) ≢ old_shapes
+        (title_in_store new.now node))) }
+{
+    any_flagged(flags, new.uses(node)) || has_new_shape(old, new, are_kept, node)
+}
+
+fn any_flagged(flags: &[bool], nodes: &[Node]) -> bool
+    ensures { result ≡ list_any (flag_at flags.now) nodes.now }
+{
+    nodes.iter().any(|node| is_flagged(flags, *node))
 }
 
 /// Whether the shape of the node differs from its old shape. A node that the old store does not
@@ -72,18 +93,6 @@ fn has_new_shape(old: &Store, new: &Store, are_kept: &[bool], node: Node) -> boo
         Some(before) => !same_shape(old, before, new, node),
         None => new.has_piece(node),
     }
-}
-
-fn any_flagged(flags: &[bool], row: &[Node]) -> bool
-    ensures one { result ≡ true → (m : Node) × Contains row.now m × (flag_at flags.now m ≡ true) }
-    ensures none { result ≡ false → (m : Node) → Contains row.now m → flag_at flags.now m ≡ false }
-{
-    for m in row {
-        if is_flagged(flags, *m) {
-            return true;
-        }
-    }
-    false
 }
 
 /// The nodes that are expandable and flagged, in the order of the store.
