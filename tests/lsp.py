@@ -7,7 +7,7 @@ usage: lsp.py CTANGLE RETANGLE TOP         TOP is the folder of the repository
   and some bytes are no UTF-8. The diagnostics and the C are those of ctangle on the same files.
 - Files: included ones, change files, files that are open, saved, closed, written by others, and
   without a web; several webs; settings; a retangle that ends or is not there.
-- Faults: where they are marked, and which of them are one.
+- Thousands of faults, and how long they take.
 
 The last line is 'N passed, M failed'.
 """
@@ -612,6 +612,30 @@ def test_refusals():
     client.end()
 
 
+MANY, SECONDS = 5000, 3
+
+
+def test_many_faults():
+    """Thousands of faulty names in a section are opened in a time that grows as they do."""
+    for line in '@<Name %d@>\n', '@<Name %d...@>@<Name %d a@>@<Name %d b@>\n':
+        web = '@ A.\n@c\n' + ''.join(line.replace('%d', '%05d' % number) for number in range(MANY))
+        client = Client({'a.w': web.encode()})
+        before = processor_seconds(client.process.pid)
+        client.open('a.w', web)
+        client.settle()
+        seconds = processor_seconds(client.process.pid) - before
+        check(seconds < SECONDS, 'lsp, %d of %r' % (MANY, line), '%.1f seconds' % seconds)
+        client.has(tangled({'a.w': web.encode()}, 'a')[0], '%d of %r' % (MANY, line))
+        client.end()
+
+
+def processor_seconds(pid):
+    """What a process has used of a processor, which does not depend on what others use."""
+    with open('/proc/%d/stat' % pid) as file:
+        user, system = file.read().rpartition(')')[2].split()[11:13]
+    return (int(user) + int(system)) / os.sysconf('SC_CLK_TCK')
+
+
 def test_ends():
     """A retangle that is ended is started again; one that is not there is no end of the server."""
     files = {'a.w': WEB, 'run': b'#!/bin/sh\necho $$ >pid\nexec "%s" "$@"\n' % retangle.encode()}
@@ -656,4 +680,5 @@ if __name__ == '__main__':
     sys.exit(run_all([test_splits, test_bad_messages, test_wrong_parameters, test_mutated_messages,
                       test_order, test_texts, test_positions, test_generated, test_files,
                       test_change_file, test_settings, test_webs, test_without_webs,
-                      test_unsaved_webs, test_other_programs, test_lists, test_refusals, test_ends]))
+                      test_unsaved_webs, test_other_programs, test_lists, test_refusals,
+                      test_many_faults, test_ends]))
