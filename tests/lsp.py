@@ -148,7 +148,8 @@ def test_wrong_parameters():
         same(code_of(client.ask('workspace/symbol', params)), -32602, 'lsp, symbol, %r' % params)
     for place in places:
         wrong = dict(here, range={'start': place['position'], 'end': POSITION})
-        same(code_of(client.ask('textDocument/codeAction', wrong)), -32602, 'lsp, codeAction, %r' % wrong)
+        same(code_of(client.ask('textDocument/codeAction', wrong)), -32602,
+             'lsp, codeAction, %r' % wrong)
     uri = client.uri('a.w')
     for params in [None, {}, {'command': 1}, {'command': 'x', 'arguments': []}] + [
             {'command': 'retangle.showC', 'arguments': arguments}
@@ -581,7 +582,7 @@ def test_other_programs():
 
 
 def test_lists():
-    """A change is one list of edits, or an edit alone; one that leaves the text as it was is none."""
+    """A change is one list of edits, or an edit alone; none where the text stays as it was."""
     program = b'#!/bin/sh\ntee script | "%s" "$@"\n' % retangle.encode()
     with folder_with({'run': program}) as folder:
         os.chmod(os.path.join(folder, 'run'), 0o755)
@@ -666,7 +667,8 @@ def test_ends():
     client = Client({'a.w': WEB}, environment=dict(without, PATH='/nowhere'))
     client.open('a.w', WEB.decode())
     client.has([], 'no retangle on the path')
-    check(len(client.shown) == 1 and 'install it' in client.shown[0], 'lsp, no retangle', client.shown)
+    check(len(client.shown) == 1 and 'install it' in client.shown[0], 'lsp, no retangle',
+          client.shown)
     client.end()
     client = Client({'a.w': WEB}, '/nowhere/retangle')
     client.open('a.w', WEB.decode())
