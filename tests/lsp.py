@@ -7,7 +7,7 @@ usage: lsp.py CTANGLE RETANGLE TOP         TOP is the folder of the repository
   and some bytes are no UTF-8. The diagnostics and the C are those of ctangle on the same files.
 - Files: included ones, change files, files that are open, saved, closed, written by others, and
   without a web; several webs; settings; a retangle that ends or is not there.
-- Faults: where they are marked, and which of them are one.
+- Thousands of faults, and how long they take.
 
 The last line is 'N passed, M failed'.
 """
@@ -148,7 +148,8 @@ def test_wrong_parameters():
         same(code_of(client.ask('workspace/symbol', params)), -32602, 'lsp, symbol, %r' % params)
     for place in places:
         wrong = dict(here, range={'start': place['position'], 'end': POSITION})
-        same(code_of(client.ask('textDocument/codeAction', wrong)), -32602, 'lsp, codeAction, %r' % wrong)
+        same(code_of(client.ask('textDocument/codeAction', wrong)), -32602,
+             'lsp, codeAction, %r' % wrong)
     uri = client.uri('a.w')
     for params in [None, {}, {'command': 1}, {'command': 'x', 'arguments': []}] + [
             {'command': 'retangle.showC', 'arguments': arguments}
@@ -581,7 +582,7 @@ def test_other_programs():
 
 
 def test_lists():
-    """A change is one list of edits, or an edit alone; one that leaves the text as it was is none."""
+    """A change is one list of edits, or an edit alone; none where the text stays as it was."""
     program = b'#!/bin/sh\ntee script | "%s" "$@"\n' % retangle.encode()
     with folder_with({'run': program}) as folder:
         os.chmod(os.path.join(folder, 'run'), 0o755)
@@ -610,6 +611,30 @@ def test_refusals():
     client.change('a.w', (((0, 0), (0, 1)), ''))
     client.has(['a.w:4: error: undefined: <v>'], 'a text that is taken again')
     client.end()
+
+
+MANY, SECONDS = 5000, 3
+
+
+def test_many_faults():
+    """Thousands of faulty names in a section are opened in a time that grows as they do."""
+    for line in '@<Name %d@>\n', '@<Name %d...@>@<Name %d a@>@<Name %d b@>\n':
+        web = '@ A.\n@c\n' + ''.join(line.replace('%d', '%05d' % number) for number in range(MANY))
+        client = Client({'a.w': web.encode()})
+        before = processor_seconds(client.process.pid)
+        client.open('a.w', web)
+        client.settle()
+        seconds = processor_seconds(client.process.pid) - before
+        check(seconds < SECONDS, 'lsp, %d of %r' % (MANY, line), '%.1f seconds' % seconds)
+        client.has(tangled({'a.w': web.encode()}, 'a')[0], '%d of %r' % (MANY, line))
+        client.end()
+
+
+def processor_seconds(pid):
+    """What a process has used of a processor, which does not depend on what others use."""
+    with open('/proc/%d/stat' % pid) as file:
+        user, system = file.read().rpartition(')')[2].split()[11:13]
+    return (int(user) + int(system)) / os.sysconf('SC_CLK_TCK')
 
 
 def test_ends():
@@ -642,7 +667,8 @@ def test_ends():
     client = Client({'a.w': WEB}, environment=dict(without, PATH='/nowhere'))
     client.open('a.w', WEB.decode())
     client.has([], 'no retangle on the path')
-    check(len(client.shown) == 1 and 'install it' in client.shown[0], 'lsp, no retangle', client.shown)
+    check(len(client.shown) == 1 and 'install it' in client.shown[0], 'lsp, no retangle',
+          client.shown)
     client.end()
     client = Client({'a.w': WEB}, '/nowhere/retangle')
     client.open('a.w', WEB.decode())
@@ -656,4 +682,5 @@ if __name__ == '__main__':
     sys.exit(run_all([test_splits, test_bad_messages, test_wrong_parameters, test_mutated_messages,
                       test_order, test_texts, test_positions, test_generated, test_files,
                       test_change_file, test_settings, test_webs, test_without_webs,
-                      test_unsaved_webs, test_other_programs, test_lists, test_refusals, test_ends]))
+                      test_unsaved_webs, test_other_programs, test_lists, test_refusals,
+                      test_many_faults, test_ends]))

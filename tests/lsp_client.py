@@ -237,8 +237,9 @@ def main(web, changes=2000):
     print('load %.1f on %d processors' % (os.getloadavg()[0], os.cpu_count()))
     for kind, these in seconds.items():
         these = sorted(1000 * one for one in these) or [0]
+        most = these[(99 * len(these) - 1) // 100]
         print('%-10s median %4.0f ms, 99 of 100 within %4.0f, longest %4.0f (%d)' % (
-            kind, statistics.median(these), these[(99 * len(these) - 1) // 100], these[-1], len(these)))
+            kind, statistics.median(these), most, these[-1], len(these)))
     print('most memory: server %.1f MB, retangle %s MB' % (
         memory[0], ', '.join('%.1f' % one for one in memory[1:])))
 

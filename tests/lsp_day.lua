@@ -1,6 +1,7 @@
--- An author's day in Neovim, for tests/lsp_editors.py: with the lines of docs/editors.md a web is opened, typed in and
--- renamed in, the branch under it is switched, and the server and retangle are killed. Each step prints a line: whether
--- it holds, its name and what was found. Names of files are those that the test has made.
+-- An author's day in Neovim, for tests/lsp_editors.py: with the lines of docs/editors.md a web is
+-- opened, typed in and renamed in, the branch under it is switched, the server and retangle are
+-- killed, and the web is saved under another name. Each step prints a line: whether it holds, its
+-- name and what was found. Names of files are those that the test has made.
 
 local published, steps = {}, io.open('steps', 'w')
 local handler = vim.lsp.handlers['textDocument/publishDiagnostics']
@@ -10,7 +11,8 @@ vim.lsp.handlers['textDocument/publishDiagnostics'] = function(fault, result, ..
 end
 
 local function step(name, holds, found)
-  steps:write((holds and 'ok ' or 'FAIL ') .. name .. ': ' .. vim.inspect(found):gsub('%s+', ' '):sub(1, 300) .. '\n')
+  local text = vim.inspect(found):gsub('%s+', ' '):sub(1, 300)
+  steps:write((holds and 'ok ' or 'FAIL ') .. name .. ': ' .. text .. '\n')
   steps:flush()
 end
 
@@ -44,11 +46,13 @@ local function check(name, web)
   local function without(these, those)
     return vim.tbl_filter(function(one) return not vim.tbl_contains(those, one) end, these)
   end
-  step(name, vim.deep_equal(shown, said), {#shown, #said, without(shown, said), without(said, shown)})
+  step(name, vim.deep_equal(shown, said),
+    {#shown, #said, without(shown, said), without(said, shown)})
 end
 
 local function children(pid)
-  return vim.split(vim.fn.readfile('/proc/' .. pid .. '/task/' .. pid .. '/children')[1] or '', ' ', {trimempty = true})
+  local lines = vim.fn.readfile('/proc/' .. pid .. '/task/' .. pid .. '/children')
+  return vim.split(lines[1] or '', ' ', {trimempty = true})
 end
 
 vim.cmd('edit a.w')
@@ -58,8 +62,9 @@ check('opened')
 -- ------------------------------------------------------------ typing
 
 math.randomseed(1)
-local typed = {'oint é = 1;<Esc>', 'A /* c */<Esc>', 'o@<Part 3 of the program@><Esc>', 'o@<Part 3<Esc>', 'dd', 'x', 'yyp',
-  'o"open<Esc>', 'J', 'o@ A section.<CR>@c<CR>int q;<Esc>', 'o@<Part 5...@><Esc>', 'o@<Prt 7 of the program@><Esc>'}
+local typed = {'oint é = 1;<Esc>', 'A /* c */<Esc>', 'o@<Part 3 of the program@><Esc>',
+  'o@<Part 3<Esc>', 'dd', 'x', 'yyp', 'o"open<Esc>', 'J', 'o@ A section.<CR>@c<CR>int q;<Esc>',
+  'o@<Part 5...@><Esc>', 'o@<Prt 7 of the program@><Esc>'}
 for number = 1, 300 do
   vim.api.nvim_win_set_cursor(0, {math.random(vim.fn.line('$')), 0})
   keys(typed[math.random(#typed)])
@@ -102,11 +107,12 @@ vim.lsp.buf.rename('The renamed piece')
 vim.wait(5000, function() return vim.fn.getline('.') == '@<The renamed piece@>=' end)
 check('renamed')
 step('renamed here', vim.fn.getline('.') == '@<The renamed piece@>=', vim.fn.getline('.'))
-step('renamed elsewhere', table.concat(vim.fn.readfile('b.w')):find('@<The renamed piece@>', 1, true) ~= nil,
-  vim.fn.readfile('b.w'))
+found = vim.fn.readfile('b.w')
+step('renamed elsewhere', vim.tbl_contains(found, '@ See @<The renamed piece@>.'), found)
 vim.cmd('ShowC')
 vim.wait(5000, function() return vim.fn.expand('%:e') == 'c' end)
-step('the C', vim.bo.readonly and vim.fn.expand('%:t') == 'a.c', {vim.fn.expand('%'), vim.fn.getline('.')})
+step('the C', vim.bo.readonly and vim.fn.expand('%:t') == 'a.c',
+  {vim.fn.expand('%'), vim.fn.getline('.')})
 vim.cmd('buffer a.w')
 
 -- ------------------------------------------------------------ other programs
@@ -140,4 +146,9 @@ vim.wait(1500, function() return false end)
 keys('Go@<Undefined still@><Esc>')
 vim.cmd('write!')
 check('a web that was gone')
+local gone = vim.uri_from_bufnr(0)
+vim.cmd('saveas c.w')
+published[gone] = nil           -- the buffer is that of another file now
+keys('Go@<Undefined elsewhere@><Esc>')
+check('a web that was saved under another name', 'c')
 vim.cmd('qall!')

@@ -4,9 +4,10 @@ usage: lsp_editors.py CTANGLE RETANGLE TOP [neovim] [emacs]      TOP is the fold
 
 In a web of 35,000 lines with an included file 300 edits are typed and undone, a name is completed,
 hovered over, followed and renamed, the C of a line is shown, the branch is switched under the
-editor, another program writes a file, retangle and the server are killed, and the web is removed
-and written again. After each step the faults that the editor has are those of ctangle. Neovim and
-Emacs are tried where they are installed; else their part is skipped, by its name.
+editor, another program writes a file, and retangle and the server are killed; in Neovim the web is
+also removed, written again, and saved under another name. After each step the faults that the
+editor has are those of ctangle. Neovim and Emacs are tried where they are installed; else their
+part is skipped, by its name.
 
 RETANGLE_LSP in the environment names another server, as one that is installed. The last line is
 'N passed, M failed'.
@@ -42,7 +43,8 @@ def author(name):
     """A folder with the web, in a repository with two branches, with the programs on the path."""
     lines = webs.named_program(LINES) + ['@i b.w']
     included = ['@ See @<Part 17 of the program@>.', '@<Part 1 of the program@>=', 'int b;']
-    folder = folder_with({'a.w': text_of(lines), 'b.w': text_of(included), '.gitignore': b'*.c\n*.h\nsteps\n'})
+    folder = folder_with({'a.w': text_of(lines), 'b.w': text_of(included),
+                          '.gitignore': b'*.c\n*.h\nsteps\n'})
     path = folder.name
     programs = os.path.join(path, '.git', 'programs')
     git(path, 'init', '-q')
@@ -58,8 +60,9 @@ def author(name):
     write(text_of(included + ['@<Missing@>']), path, 'b.w')
     git(path, 'commit', '-qam', 'other')
     git(path, 'checkout', '-q', '-')
-    return folder, dict(os.environ, HOME=path, XDG_CONFIG_HOME=os.path.join(path, '.git'), TERM='dumb',
-                        RETANGLE=retangle, PATH=programs + os.pathsep + os.environ['PATH'])
+    return folder, dict(os.environ, HOME=path, XDG_CONFIG_HOME=os.path.join(path, '.git'),
+                        TERM='dumb', RETANGLE=retangle,
+                        PATH=programs + os.pathsep + os.environ['PATH'])
 
 
 def text_of(lines):
@@ -85,12 +88,13 @@ def test_neovim():
     git(folder.name, 'config', 'user.name', 'a')
     git(folder.name, 'config', 'user.email', 'a@b')
     done = run(['nvim', '--headless', '-n', '-i', 'NONE', '-u', os.path.join('.git', 'init.lua'),
-                '-c', 'luafile ' + os.path.join(top, 'tests', 'lsp_day.lua')], folder.name, b'', SECONDS,
-               **environment)
+                '-c', 'luafile ' + os.path.join(top, 'tests', 'lsp_day.lua')],
+               folder.name, b'', SECONDS, **environment)
     steps = read(folder.name, 'steps').decode().splitlines()
     for step in steps:
         check(step.startswith('ok '), 'Neovim', step)
-    check(steps and 'a web that was gone' in steps[-1], 'Neovim, its end', (done.status, done.errors[-2000:]))
+    check(steps and 'another name' in steps[-1], 'Neovim, its end',
+          (done.status, done.errors[-2000:]))
     folder.cleanup()
 
 
@@ -112,7 +116,8 @@ EMACS = '''
   (ask :workspace/symbol '(:query "nothing"))
   (let (found)
     (maphash (lambda (_ these)
-      (mapc (lambda (one) (setq found (append found (append (plist-get (plist-get one :data) :faults) nil)))) these))
+      (mapc (lambda (one)
+        (setq found (append found (append (plist-get (plist-get one :data) :faults) nil)))) these))
       published)
     (json-encode (vconcat found))))
 (defun at-line (number) (in-web) (goto-char (point-min)) (forward-line (1- number)))
@@ -149,6 +154,10 @@ class Emacs:
         found = self.ask('(prin1-to-string (encode-coding-string %s (quote utf-8)))' % expression)
         return unquoted(unquoted(found)) if found else ''
 
+    def in_web(self, expressions):
+        """Evaluates expressions in the buffer of the web, and gives what the last of them does."""
+        return self.ask('(progn (in-web) %s)' % expressions)
+
     def faults(self):
         write(b'', self.folder, 'steps')
         self.ask('(let ((coding-system-for-write (quote utf-8)) (text (faults))) '
@@ -170,8 +179,8 @@ class Emacs:
         check(False, 'Emacs, ' + name, 'nil: ' + expression)
 
     def end(self):
-        run(['emacsclient', '-s', self.socket, '--eval', '(progn (eglot-shutdown-all) (kill-emacs))'],
-            self.folder, b'', 20, **self.environment)
+        run(['emacsclient', '-s', self.socket, '--eval',
+             '(progn (eglot-shutdown-all) (kill-emacs))'], self.folder, b'', 20, **self.environment)
         try:
             self.process.wait(10)
         except subprocess.TimeoutExpired:
@@ -185,8 +194,8 @@ def unquoted(text):
 
 TYPED = ['(insert "int é = 1;\\n")', '(end-of-line) (insert " /* c */")', '(insert "@<Part 3\\n")',
          '(insert "@<Part 3 of the program@>\\n")', '(kill-line 1)', '(delete-char 1)',
-         '(insert "\\"open\\n")', '(insert "@ A section.\\n@c\\nint q;\\n")', '(insert "@<Part 5...@>\\n")',
-         '(insert "@<Prt 7 of the program@>\\n")', '(join-line)']
+         '(insert "\\"open\\n")', '(insert "@ A section.\\n@c\\nint q;\\n")',
+         '(insert "@<Part 5...@>\\n")', '(insert "@<Prt 7 of the program@>\\n")', '(join-line)']
 
 
 def test_emacs():
@@ -209,45 +218,48 @@ def spend_day(emacs, folder):
     emacs.wait('(progn (in-web) (> (hash-table-count published) 0))', 'faults')
     emacs.holds('opened')
     for number in range(30):
-        edits = ' '.join('(undo-boundary) (at-line (1+ (mod %d (count-lines 1 (point-max))))) %s' % (
-            (10 * number + one) * 7919, TYPED[(10 * number + one) % len(TYPED)]) for one in range(10))
-        emacs.ask('(progn (in-web) %s (eglot--signal-textDocument/didChange))' % edits)
+        edits = ' '.join(
+            '(undo-boundary) (at-line (1+ (mod %d (count-lines 1 (point-max))))) %s' % (
+                one * 7919, TYPED[one % len(TYPED)])
+            for one in range(10 * number, 10 * number + 10))
+        emacs.in_web(edits + ' (eglot--signal-textDocument/didChange)')
         if number % 10 == 9:
             emacs.holds('typed %d' % (10 * number + 10))
-    emacs.ask('(progn (in-web) (buffer-enable-undo) (undo-start) (ignore-errors (undo-more 100)) t)')
+    emacs.in_web('(buffer-enable-undo) (undo-start) (ignore-errors (undo-more 100))')
     emacs.holds('undone')
     git(folder, 'checkout', '-q', '.')
-    emacs.ask('(progn (in-web) (revert-buffer t t t))')
+    emacs.in_web('(revert-buffer t t t)')
     emacs.holds('read again')
     use_names(emacs, folder)
     meet_others(emacs, folder)
 
 
 def use_names(emacs, folder):
-    emacs.ask('(progn (in-web) (goto-char 1) (search-forward "@ A file of the program") (forward-line 2) '
-              '(insert "@<Part 17 of\\n") (backward-char) t)')
-    emacs.ask('(progn (in-web) (completion-at-point) t)')
+    emacs.in_web('(goto-char 1) (search-forward "@ A file of the program") (forward-line 2) '
+                 '(insert "@<Part 17 of\\n") (backward-char)')
+    emacs.in_web('(completion-at-point) t')
     emacs.wait('(progn (in-web) (save-excursion (goto-char 1) '
                '(search-forward "@<Part 17 of the program@>\\n" 40000 t)))', 'completed')
     emacs.holds('completed')
-    emacs.ask('(progn (in-web) (goto-char 1) (search-forward "@<Part 17 of the program@>") (backward-char 5) '
-              '(xref-find-definitions (xref-backend-identifier-at-point (quote eglot))) t)')
-    found = emacs.ask('(progn (in-web) (thing-at-point (quote line)))')
+    emacs.in_web('(goto-char 1) (search-forward "@<Part 17 of the program@>") (backward-char 5) '
+                 '(xref-find-definitions (xref-backend-identifier-at-point (quote eglot))) t')
+    found = emacs.in_web('(thing-at-point (quote line))')
     check('@<Part 17 of the program@>=' in found, 'Emacs, definition', found)
-    emacs.ask('(progn (in-web) (goto-char 1) (search-forward "@<Part 17 of the program@>=") (backward-char 9) '
-              '(cl-letf (((symbol-function (quote y-or-n-p)) (lambda (&rest _) t))) '   # to change b.w
-              '(eglot-rename "The renamed piece")) t)')
+    emacs.in_web('(goto-char 1) (search-forward "@<Part 17 of the program@>=") (backward-char 9) '
+                 '(cl-letf (((symbol-function (quote y-or-n-p)) (lambda (&rest _) t))) '
+                 '(eglot-rename "The renamed piece")) t')      # b.w is changed without a question
     emacs.holds('renamed')
-    check(b'@<The renamed piece@>' in read(folder, 'b.w'), 'Emacs, renamed elsewhere', read(folder, 'b.w'))
-    found = emacs.ask('(progn (in-web) (show-c) (list (buffer-name) buffer-read-only))')
+    found = read(folder, 'b.w')
+    check(b'@<The renamed piece@>' in found, 'Emacs, renamed elsewhere', found)
+    found = emacs.in_web('(show-c) (list (buffer-name) buffer-read-only)')
     check('"a.c"' in found and found.endswith('t)'), 'Emacs, the C', found)
 
 
 def meet_others(emacs, folder):
     git(folder, 'commit', '-qam', 'typed')
     git(folder, 'checkout', '-q', 'other')
-    emacs.wait('(progn (in-web) (auto-revert-buffers) (goto-char 1) (search-forward "another branch" nil t))',
-               'the other branch')
+    emacs.wait('(progn (in-web) (auto-revert-buffers) (goto-char 1) '
+               '(search-forward "another branch" nil t))', 'the other branch')
     emacs.holds('the other branch')
     write(b'@ @<Unused@>=\n"\n', folder, 'b.w')
     emacs.ask('(progn (auto-revert-buffers) (sleep-for 2) t)')
@@ -259,8 +271,9 @@ def meet_others(emacs, folder):
         for pid in killed + [server] * (whom != 'retangle'):
             os.kill(pid, signal.SIGKILL)
         if whom != 'retangle':
-            emacs.wait('(progn (in-web) (and (eglot-current-server) (/= (server-pid) %d)))' % server, whom)
-        emacs.ask('(progn (in-web) (sleep-for 2) (goto-char (point-max)) (insert "@<Undefined %s@>\\n") t)' % whom)
+            emacs.wait('(progn (in-web) (and (eglot-current-server) (/= (server-pid) %d)))' % (
+                server), whom)
+        emacs.in_web('(sleep-for 2) (goto-char (point-max)) (insert "@<Undefined %s@>\\n")' % whom)
         emacs.holds(whom + ' killed')
 
 

@@ -128,12 +128,13 @@ def test_sections():
         expected = ((0, 0), (2, 11)), ((3, 0), (6, 2)), ((7, 0), (8, 9))
         same(ranges, [range_of(*one) for one in expected], 'the lines of sections')
         folds = client.result('textDocument/foldingRange', item(client, 'b.w'))
-        same([(one['startLine'], one['endLine']) for one in folds], [(0, 2), (3, 6), (7, 8)], 'folds')
+        same([(one['startLine'], one['endLine']) for one in folds], [(0, 2), (3, 6), (7, 8)],
+             'folds')
         client.end()
     client = Client(FILES)
     client.open('a.w', A)
-    for query, names in (('', ['Value of é😀', 'Value of é😀', 'x/b.h']), ('VALUE', ['Value of é😀'] * 2),
-                         ('b.h', ['x/b.h']), ('nothing', [])):
+    for query, names in (('', ['Value of é😀', 'Value of é😀', 'x/b.h']),
+                         ('VALUE', ['Value of é😀'] * 2), ('b.h', ['x/b.h']), ('nothing', [])):
         found = client.result('workspace/symbol', {'query': query})
         same([one['name'] for one in found], names, 'symbols for %r' % query)
     same([one['containerName'] for one in client.result('workspace/symbol', {'query': 'v'})],
@@ -150,8 +151,8 @@ def test_hover():
         client.open('a.w', web)
         value = client.result('textDocument/hover', item(
             client, 'a.w', position=at(3, 3)))['contents']['value']
-        check(value.startswith(front + 'section 2, 3, 2 pieces, used in 1, mentioned in 3'), 'hover',
-              value)
+        check(value.startswith(front + 'section 2, 3, 2 pieces, used in 1, mentioned in 3'),
+              'hover', value)
         check(re.search(r'1\n\+2;\n(.*\n)*\+3;', value) and '#line' not in value, 'hover, C', value)
         value = client.result('textDocument/hover', item(
             client, 'a.w', position=at(3, 16)))['contents']['value']
@@ -171,9 +172,9 @@ def test_completion():
     client.open('a.w', web)
     for typed, labels in (('@<', ['One', 'Two words', 'Twin@gle', 'one.h']),
                           ('@<Tw', ['Two words', 'Twin@gle']), ('x @<two  w', ['Two words']),
-                          ('@<Two...', ['Two words']), ('@<words', ['Two words']), ('@(', ['one.h']),
-                          ('@(Tw', []), ('@<Nothing', []), ('', []), ('@', []), ('@<One@>', []),
-                          ('@<One@> @<Twin@@', ['Twin@gle'])):
+                          ('@<Two...', ['Two words']), ('@<words', ['Two words']),
+                          ('@(', ['one.h']), ('@(Tw', []), ('@<Nothing', []), ('', []),
+                          ('@', []), ('@<One@>', []), ('@<One@> @<Twin@@', ['Twin@gle'])):
         client.change('a.w', (None, web + typed + '\n'))
         line = web.count('\n') + 1
         found = client.result('textDocument/completion',
@@ -228,7 +229,8 @@ def test_rename():
         client.open('a.w', A)
         params = item(client, 'a.w', position=at(5, 8))
         same(client.result('textDocument/prepareRename', params),
-             {'range': range_of((4, 8), (4, 16)), 'placeholder': 'Value of é😀'}, 'before a renaming')
+             {'range': range_of((4, 8), (4, 16)), 'placeholder': 'Value of é😀'},
+             'before a renaming')
         edits = client.result('textDocument/rename', dict(params, newName='  Sum of\tx@y  '))
         found = applied(client, edits, {**texts, 'o.w': other})
         expected = {name: re.sub(r'Value(\s+of é😀|\.\.\.(?=@>;)| of é\.\.\.)', 'Sum of x@@y', text)
@@ -242,7 +244,8 @@ def test_rename():
                             ((2, 3), 'Twin', 'would be'), ((1, 3), 'x', 'no section name')):
         answer = client.ask('textDocument/rename', item(
             client, 'a.w', position=at(*place), newName=new))
-        check(why in answer.get('error', {}).get('message', ''), 'a renaming that is refused', answer)
+        check(why in answer.get('error', {}).get('message', ''), 'a renaming that is refused',
+              answer)
     same(client.result('textDocument/prepareRename', item(client, 'a.w', position=at(1, 0))), None,
          'no name to be renamed')
     client.end()
@@ -437,8 +440,8 @@ def listed(arguments, folder):
 
 def found_in(names):
     """The same of the server's scanner."""
-    source = [(part.file, row + 1, part.lines[row]) for chunk in names.chunks for part in chunk.parts
-              for row in range(part.start, part.end)]
+    source = [(part.file, row + 1, part.lines[row]) for chunk in names.chunks
+              for part in chunk.parts for row in range(part.start, part.end)]
     occurrences = []
     for number, scan in enumerate(names.ordered):
         for one in scan.occurrences:
@@ -497,8 +500,8 @@ def test_changes_of_texts():
     """After each change of lines the marked rows are those of the whole text, and the names those
     of a new scan."""
     chance = random.Random(7)
-    pieces = [b'', b'@ A.', b'@*', b'@', b'@ @<v@>=', b'x \\', b'"a\\', b'@i b.w', b'@<v@>', b'/*', b'*/',
-              b'@c', b'@I', b' @ x', b'@d N @<w', b'1@>']
+    pieces = [b'', b'@ A.', b'@*', b'@', b'@ @<v@>=', b'x \\', b'"a\\', b'@i b.w', b'@<v@>',
+              b'/*', b'*/', b'@c', b'@I', b' @ x', b'@d N @<w', b'1@>']
     included = text_of([b'@ @<w@>=', b'@<u...@>', b'"x\\'])
     before = names = None
     lines = []

@@ -1,4 +1,5 @@
 """What changes files: renaming a section, and the actions at a fault."""
+import functools
 import os
 
 from .documents import position
@@ -107,15 +108,16 @@ def change_files(web):
 
 
 def edits_by_uri(workspace, made):
+    uri_of = functools.lru_cache(None)(
+        lambda folder, name: workspace.uri(path_in(folder, name)))
     found = {}
     for (folder, (start, end)), text in made.items():
         lines = workspace.roots[folder].lines(start.file)
         span = {key: position(lines[place.row], place.row + 1, place.column)
                 for key, place in (('start', start), ('end', end))}
-        known = found.setdefault(workspace.uri(path_in(folder, start.file)), [])
-        if {'range': span, 'newText': text} not in known:
-            known.append({'range': span, 'newText': text})
-    return found
+        edit = {'range': span, 'newText': text}
+        found.setdefault(uri_of(folder, start.file), {})[repr(edit)] = edit
+    return {uri: list(edits.values()) for uri, edits in found.items()}
 
 
 def workspace_edit(workspace, edits, has_versions):

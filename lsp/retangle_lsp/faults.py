@@ -1,8 +1,11 @@
 """The faults of a web as few diagnostics: all faults of a name are one, and so is what follows from
 a name that is misspelt or not finished."""
+import bisect
+import functools
+
 from .kinds import kind_of
 from .marks import Marker
-from .names import alike
+from .names import alike, between
 from .protocol import ERROR, WARNING, shown
 from .runs import fault_line
 from .scanning import MENTION, USE, is_abbreviation, plain_name
@@ -21,14 +24,27 @@ class Group:
     def __init__(self, name):
         self.name = name                # the section name that they are about, or None
         self.members = []               # fault, kind, and the places between which it is marked
+        self.kinds = set()              # the names of their kinds
+        self.count = 0                  # how often the name is written
+        self.rank = None                # see Folding.rank
         self.proposals = []             # full names that may be meant
         self.text = ''                  # the message
         self.is_typed = False           # whether its name is being typed now
         self.more = []                  # places without a fault where the name is written, too
 
+    def add(self, members):
+        self.members += members
+        self.kinds.update(kind.name for _, kind, _ in members)
+
+    def take(self, group):
+        """Takes over the faults of another group."""
+        self.add(group.members)
+        group.members, group.kinds = [], set()
+
     @property
-    def kinds(self):
-        return {kind.name for _, kind, _ in self.members}
+    def is_suspect(self):
+        """Whether the name may be none: it is not finished or not defined."""
+        return not self.kinds.isdisjoint({'name-end', 'undefined'})
 
     @property
     def file(self):
@@ -70,13 +86,15 @@ class Folding:
         self.line_of = line_of          # the bytes of a row of a file
         self.typed = typed              # the occurrence that is being typed
         self.groups, self.by_name = [], {}
+        self.suspected = []             # the full names that are suspects, in their order
+        self.unended = {}               # what is known of names without an end
 
     def fold(self, faults):
         marker = Marker(self.names, self.line_of)
         for fault in faults:
             kind = kind_of(fault.text)
             places = marker.mark(fault, kind, self.web)
-            self.group_of(kind, places).members.append((fault, kind, places))
+            self.group_of(kind, places).add([(fault, kind, places)])
         self.groups = [group for group in self.groups if group.members]
         if self.by_name:
             self.fold_consequences()
@@ -104,25 +122,45 @@ class Folding:
     def fold_consequences(self):
         """Folds what follows from a suspect, which is a name that is not finished, not defined or
         not used, into its group."""
-        suspects = [group for group in self.by_name.values() if not is_abbreviation(group.name)
-                    and group.kinds & {'name-end', 'undefined', 'unused'}]
-        suspects = sorted(suspects, key=self.rank)[:MOST_SUSPECTS]
-        for group in list(self.by_name.values()):
-            cause = next((one for one in suspects if one is not group and one.members
-                          and self.rank(one) <= self.rank(group) and self.follows(group, one)),
-                         None)
+        full = [group for group in self.by_name.values() if not is_abbreviation(group.name)]
+        for group in full:
+            group.count = len(self.names.written(group.name))
+        for group in self.by_name.values():
+            group.rank = self.rank(group)
+        self.suspected = sorted(group.name for group in full
+                                if group.is_suspect and group.name in self.names.names)
+        suspects = [group for group in full if group.is_suspect or 'unused' in group.kinds]
+        suspects = sorted(suspects, key=lambda one: one.rank)[:MOST_SUSPECTS]
+        for group in self.by_name.values():
+            cause = next((one for one in suspects if one.members and one.rank <= group.rank
+                          and one is not group and self.follows(group, one)), None)
             if cause:
-                cause.members += group.members
-                group.members = []
+                cause.take(group)
+                self.note(cause)
+                self.note(group)
         self.groups = [group for group in self.groups if group.members]
         for group in self.by_name.values():
             self.put_first(group)
         unended = [group for group in suspects if group.members and 'name-end' in group.kinds]
         for group in self.groups if unended else ():
             if group.code == 'no-program' and b'@c' in unended[0].name:
-                unended[0].members += group.members
-                group.members = []
+                unended[0].take(group)
         self.groups = [group for group in self.groups if group.members]
+
+    def note(self, group):
+        """Notes the rank of a group, and whether its name is a suspect now."""
+        group.rank = self.rank(group)
+        at = bisect.bisect_left(self.suspected, group.name)
+        if self.suspected[at:at + 1] == [group.name]:
+            del self.suspected[at]
+        if group.is_suspect and group.name in self.names.names:
+            self.suspected.insert(at, group.name)
+
+    def count_others(self, prefix):
+        """How many full names that begin with some bytes are no suspects."""
+        (start, end), (first, last) = (
+            between(names, prefix) for names in (self.names.full_names, self.suspected))
+        return end - start - (last - first)
 
     def rank(self, group):
         """Which of two names is the cause: that which is being typed, that which is not finished,
@@ -131,7 +169,7 @@ class Folding:
             return 9, 0
         is_typed = self.typed is not None and group.name == self.typed.occurrence.text
         first = 0 if is_typed else 1 if 'name-end' in group.kinds else 2
-        return (first, len(self.names.written(group.name)) + ('undefined' not in group.kinds))
+        return first, group.count + ('undefined' not in group.kinds)
 
     def follows(self, group, cause):
         """Whether the faults of a name follow from those of another."""
@@ -144,8 +182,9 @@ class Folding:
                 cause.kinds & {'name-end', 'unused'}
                 and alike(prefix, cause.name[:len(prefix)]) >= ALIKE)
         if kinds <= {'begins-another'}:
-            return all(self.is_suspect(one) for one in self.names.beginning_with(group.name)
-                       if one != group.name) and cause.name.startswith(group.name)
+            is_known = group.name in self.names.names
+            return cause.name.startswith(group.name) and (
+                self.count_others(group.name) == is_known)
         if 'unused' in kinds and 'name-end' in cause.kinds and self.is_swallowed(group, cause):
             return True
         is_pair = 'undefined' in kinds and cause.kinds & {'unused', 'name-end'} or (
@@ -157,34 +196,33 @@ class Folding:
         in it: only what is on its first line is compared."""
         if 'name-end' not in cause.kinds:
             return alike(name, cause.name) >= ALIKE
-        front = self.front_of(cause)
+        front = self.unended_of(cause)[0]
         return bool(front) and (name.startswith(front) or alike(name, front) >= MUCH_ALIKE)
 
-    def front_of(self, cause):
-        """What is on the first line of a name without an end."""
-        one = self.names.found_as(cause.name)[0]
-        text = self.names.chunks[one.chunk].text
-        end = min(one.occurrence.end, text.index(b'\n', one.occurrence.start))
-        return plain_name(text[one.occurrence.start + 2:end])
-
-    def is_suspect(self, name):
-        group = self.by_name.get(name)
-        return group is not None and bool(group.kinds & {'name-end', 'undefined'})
+    def unended_of(self, cause):
+        """Of a name without an end what is on its first line, and for each chunk the first place
+        where it is written without one."""
+        if cause.name not in self.unended:
+            found, starts = self.names.found_as(cause.name), {}
+            text, one = self.names.chunks[found[0].chunk].text, found[0].occurrence
+            end = min(one.end, text.index(b'\n', one.start))
+            for one in filter(self.names.is_unended, found):
+                starts.setdefault(one.chunk, one.occurrence.start)
+            front = plain_name(text[found[0].occurrence.start + 2:end])
+            self.unended[cause.name] = front, starts
+        return self.unended[cause.name]
 
     def is_one_without(self, prefix, cause):
         """Whether an abbreviation would have at most one full name without the suspects."""
-        found = self.names.beginning_with(prefix)
-        return cause.name in found and self.is_suspect(cause.name) and (
-            len([one for one in found if not self.is_suspect(one)]) <= 1)
+        return cause.is_suspect and cause.name.startswith(prefix) and (
+            cause.name in self.names.names and self.count_others(prefix) <= 1)
 
     def is_swallowed(self, group, cause):
         """Whether a name that is never used is written after a name without an end, in its section:
         there it is no use any more."""
-        ends = [one for one in self.names.found_as(cause.name)
-                if self.names.is_unended(one)]
-        mentions = self.names.written(group.name, {MENTION})
-        return any(one.chunk == end.chunk and one.occurrence.start > end.occurrence.start
-                   for end in ends for one in mentions)
+        starts = self.unended_of(cause)[1]
+        return any(one.occurrence.start > starts.get(one.chunk, one.occurrence.start)
+                   for one in self.names.written(group.name, {MENTION}))
 
     def put_first(self, group):
         """What is shown of a name is a fault of its own, that it is not finished or an error if
@@ -237,6 +275,16 @@ class Folding:
                 old.append(line.rstrip())
         if not old:
             return False
+        web, rows = self.lines_without_ends
+        at = min(range(len(old)), key=lambda one: len(rows.get(old[one], ())))      # a rare line
+        return any(web[max(row - at, 0):row - at + len(old)] == old
+                   for row in rows.get(old[at], ()))
+
+    @functools.cached_property
+    def lines_without_ends(self):
+        """The lines of the web without the white space at their ends, and the rows of each."""
         web = [line.rstrip() for chunk in self.names.chunks for line in chunk.text.split(b'\n')]
-        rows = [row for row, line in enumerate(web) if line == old[0]]
-        return any(web[row:row + len(old)] == old for row in rows)
+        rows = {}
+        for row, line in enumerate(web):
+            rows.setdefault(line, []).append(row)
+        return web, rows

@@ -1,4 +1,5 @@
 """Where a fault is marked: on its name or its code, and only else on the text of its line."""
+import collections
 import re
 
 from .files import INCLUSION
@@ -11,6 +12,7 @@ CONTROL = re.compile(rb'@[\^.:tTqQ]')
 CHANGE_CODES = {'stray-mark', 'missing-y', 'missing-z', 'empty-old', 'change-unused',
                 'change-mismatch'}
 INCLUSIONS = {'include-no-name', 'include-too-deep', 'include-missing'}
+AT_END = 'the end of a chunk'    # as a row
 
 
 def is_quoted(token):
@@ -31,12 +33,24 @@ TOKENS = {
 }
 
 
+def by_row(pieces):
+    """The pieces by their rows; each is given with them."""
+    table = {}
+    for one, rows in pieces:
+        for row in rows:
+            table.setdefault(row, collections.deque()).append(one)
+    return table
+
+
 class Marker:
     """Finds where faults are marked. What was marked for one is not marked for another."""
 
     def __init__(self, names, line_of):
         self.names, self.line_of = names, line_of
-        self.marked, self.tokens = set(), {}
+        self.marked = set()
+        self.ahead = {}                 # what faults in a row may be on, in its order
+        self.found = set()              # the abbreviations that are in this
+        self.tables, self.tokens = {}, {}
 
     def mark(self, fault, kind, web):
         """The places between which a fault is marked."""
@@ -56,87 +70,92 @@ class Marker:
                 self.marked.add(found)
                 return self.names.places(found)
         if kind.name in TOKENS:
-            places = self.token(file, row, *TOKENS[kind.name])
-            if places:
-                return places
+            found = self.unmarked(kind.name, file, row)
+            if found:
+                self.marked.add(found)
+                return self.token_places(*found[1:])
         return self.between(file, row, len(line) - len(line.lstrip()), len(line))
 
     @staticmethod
     def between(file, row, start, end):
         return Place(file, row, start), Place(file, row, end)
 
+    def unmarked(self, kind, file, row):
+        """The first piece of the web that a fault of a kind in a row may be on and that is not
+        marked yet; else None."""
+        key = kind, file, row
+        if key not in self.ahead:
+            self.ahead[key] = collections.deque(
+                one for number, there in self.chunks_at(file, row)
+                for one in self.candidates(kind, number).get(there, ()))
+        these = self.ahead[key]
+        while these and these[0] in self.marked:
+            these.popleft()
+        return these[0] if these else None
+
+    def chunks_at(self, file, row):
+        """The chunks that a row is in, with the row, and the one before each that begins with the
+        row, with AT_END: what is not finished stops at the section that begins there."""
+        for number, first in self.names.at([file], row):
+            yield number, (file, row)
+            if first == 0 and number > 0:
+                yield number - 1, AT_END
+
+    def candidates(self, kind, number):
+        """The pieces of a chunk that faults of a kind may be on, by the rows of such a fault."""
+        if (kind, number) not in self.tables:
+            found = {'name-end': self.unended, USE: self.uses}.get(kind)
+            self.tables[kind, number] = by_row(
+                found(number) if found else self.tokens_of(kind, number))
+        return self.tables[kind, number]
+
     # ------------------------------------------------------------------ names
 
     def name_of(self, kind, file, row):
         """The occurrence that a fault on a name is about; None where none is in its line."""
         if kind.name == 'name-end':
-            return self.unended(file, row)
+            return self.unmarked(kind.name, file, row)
         if kind.subject is None:
-            found = self.in_row(file, row)
-        elif kind.subject in self.names.names:
-            found = self.names.written(kind.subject, {USE} if kind.name == 'undefined' else None)
-        else:
-            found = self.names.found_as(kind.subject)
-        for one in found:
-            if one not in self.marked or kind.subject in self.names.names:
-                start = self.names.place(one.chunk, one.occurrence.start)
-                end = self.names.place(one.chunk, one.occurrence.end)
-                if (start.file, start.row) == (file, row) or (end.file, end.row) == (file, row):
-                    return one
-        return None
+            return self.unmarked(USE, file, row)
+        if kind.subject in self.names.names:
+            roles = {USE} if kind.name == 'undefined' else None
+            return next((one for one in self.names.written(kind.subject, roles)
+                         if (file, row) in self.rows_of(one)), None)
+        if kind.subject not in self.found:
+            self.found.add(kind.subject)
+            rows = by_row((one, self.rows_of(one)) for one in self.names.found_as(kind.subject))
+            self.ahead.update(((kind.subject, *row), these) for row, these in rows.items())
+        return self.unmarked(kind.subject, file, row)
 
-    def in_row(self, file, row):
-        """The uses in a row of a file."""
-        for number, _ in self.names.at([file], row):
-            for one in self.names.found_in(number, USE):
-                if self.names.place(number, one.occurrence.start)[:2] == (file, row):
-                    yield one
+    def rows_of(self, found):
+        """The rows in which an occurrence begins and ends."""
+        return {self.names.place(found.chunk, at)[:2]
+                for at in (found.occurrence.start, found.occurrence.end)}
 
-    def unended(self, file, row):
-        """The name without an end that stops in a row of a file, or where this begins."""
-        for number, is_before in self.chunks_at(file, row):
-            chunk = self.names.chunks[number]
-            for one in self.names.found_in(number):
-                if one in self.marked or not self.names.is_unended(one):
-                    continue
-                stop, start = (self.names.place(number, at)[:2]
-                               for at in (one.occurrence.end, one.occurrence.start))
-                is_at_end = one.occurrence.end == len(chunk.text)
-                if is_at_end if is_before else (file, row) in (stop, start):
-                    return one
-        return None
+    def uses(self, number):
+        """The uses in a chunk, and where they begin."""
+        for one in self.names.found_in(number, USE):
+            yield one, {self.names.place(number, one.occurrence.start)[:2]}
 
-    def chunks_at(self, file, row):
-        """The chunks that a row is in, and the one before each that begins with the row: what is
-        not finished stops at the section that begins there."""
-        for number, first in self.names.at([file], row):
-            yield number, False
-            if first == 0 and number > 0:
-                yield number - 1, True
+    def unended(self, number):
+        """The names without an end in a chunk, and where they stop, or begin."""
+        for one in filter(self.names.is_unended, self.names.found_in(number)):
+            is_at_end = one.occurrence.end == len(self.names.chunks[number].text)
+            yield one, self.rows_of(one) | ({AT_END} if is_at_end else set())
 
     # ------------------------------------------------------------------ codes
 
-    def token(self, file, row, is_kind, at_end):
-        """The first piece of C in a row, or before it, that is of a kind and is not marked yet."""
-        for number, is_before in self.chunks_at(file, row):
-            chunk = self.names.chunks[number]
-            for one in self.tokens_of(number):
-                if is_before:
-                    is_here = at_end and one[1] == len(chunk.text)
-                else:
-                    place = self.names.place(number, one[1 if at_end else 0])
-                    is_here = place[:2] == (file, row)
-                key = number, one, is_kind
-                if is_here and key not in self.marked and is_kind(chunk.text[slice(*one)]):
-                    self.marked.add(key)
-                    return self.token_places(number, *one)
-        return None
-
-    def tokens_of(self, number):
+    def tokens_of(self, kind, number):
+        """The pieces of C of a kind in a chunk, and where they stop, or begin."""
+        text, (is_kind, at_end) = self.names.chunks[number].text, TOKENS[kind]
         if number not in self.tokens:
             self.tokens[number] = []
-            Scan(self.names.chunks[number].text, number == 0, self.tokens[number])
-        return self.tokens[number]
+            Scan(text, number == 0, self.tokens[number])
+        for start, end in self.tokens[number]:
+            if is_kind(text[start:end]):
+                rows = {self.names.place(number, end if at_end else start)[:2]}
+                yield (kind, number, start, end), rows | (
+                    {AT_END} if at_end and end == len(text) else set())
 
     def token_places(self, number, start, end):
         """From where it begins to where it ends, or to the end of its first line."""

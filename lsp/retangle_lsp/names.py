@@ -2,6 +2,7 @@
 import bisect
 import collections
 import functools
+import heapq
 import itertools
 import operator
 import re
@@ -51,7 +52,6 @@ class Names:
         else:
             self.meanings = Meanings(self.names, self.abbreviations)
         self.full_names = self.meanings.ordered
-        self.places_of_text = {}
 
     def scans(self, before):
         """The scan of each chunk. The first one begins elsewhere and is no scan of another."""
@@ -90,9 +90,8 @@ class Names:
 
     def beginning_with(self, prefix):
         """The full names that begin with some bytes."""
-        at = bisect.bisect_left(self.full_names, prefix)
-        return list(itertools.takewhile(lambda name: name.startswith(prefix),
-                                        itertools.islice(self.full_names, at, None)))
+        start, end = between(self.full_names, prefix)
+        return self.full_names[start:end]
 
     def resolved(self, name):
         """The full name that a name resolves to; None if there is none or several."""
@@ -100,17 +99,23 @@ class Names:
             return name
         return self.meanings.by_short.get(name)
 
+    @functools.cached_property
+    def chunks_of_text(self):
+        """For each text of a name the chunks in which it is written so, in their order."""
+        found = {}
+        for number, scan in enumerate(self.ordered):
+            for text in scan.texts:
+                found.setdefault(text, []).append(number)
+        return found
+
     def found_as(self, text):
         """Where a name is written so, in the order of the web."""
-        if text not in self.places_of_text:
-            self.places_of_text[text] = [
-                Found(number, one) for number, scan in enumerate(self.ordered)
-                for one in scan.by_text.get(text, ())]
-        return self.places_of_text[text]
+        return [Found(number, one) for number in self.chunks_of_text.get(text, ())
+                for one in self.ordered[number].by_text[text]]
 
     def written(self, name, roles=None):
         """Where a full name is written in these roles, in full or abbreviated."""
-        found = list(self.found_as(name))
+        found = self.found_as(name)
         short = self.meanings.shorts.get(name, ())
         for text in short:
             found += self.found_as(text)
@@ -132,19 +137,18 @@ class Names:
             found[self.resolved(text)] += count
         return found
 
-    def is_defined(self, name):
-        return bool(self.written(name, {DEFINITION}))
+    @functools.cached_property
+    def defined(self):
+        """The full names that have a definition."""
+        return {self.resolved(name) for scan in self.ordered for section in scan.sections
+                for name in section.names} - {None}
 
     def nearest(self, name):
         """The full names that are most like a name, which may be an abbreviation: it is compared
         with as much of them as it has."""
-        found = []
-        for _, other in sorted(likely(name, self.names)):
-            if other in self.names and other != name and self.is_defined(other):
-                found.append(other)
-                if len(found) == NEAREST:
-                    break
-        return found
+        found = (one for one in likely(name, self.defined)
+                 if one[1] in self.defined and one[1] != name)
+        return [other for _, other in heapq.nsmallest(NEAREST, found)]
 
     # ------------------------------------------------------------------ places
 
@@ -163,9 +167,10 @@ class Names:
         """The occurrence that is written at a column of a row of a file; else None."""
         for number, first in self.at(files, row):
             at = self.chunks[number].offset(first, column)
-            for one in self.ordered[number].occurrences:
-                if one.start <= at < one.end:
-                    return Found(number, one)
+            these = self.ordered[number].occurrences
+            before = bisect.bisect_left(these, (at + 1,))       # as many begin there, or before it
+            if before and at < these[before - 1].end:
+                return Found(number, these[before - 1])
         return None
 
     def name_at(self, files, row, column, line):
@@ -201,9 +206,9 @@ class Names:
 
     def section_of(self, found):
         """The number of the section that an occurrence is in, from 1 on."""
-        starts = [section.start for section in self.ordered[found.chunk].sections]
-        return self.first_numbers[found.chunk] + bisect.bisect_right(starts,
-                                                                     found.occurrence.start)
+        before = bisect.bisect_left(self.ordered[found.chunk].sections,
+                                    (found.occurrence.start + 1,))
+        return self.first_numbers[found.chunk] + before
 
     def sections(self):
         """Each section: its number from 1 on, its chunk, and where it ends in that."""
@@ -237,6 +242,14 @@ class Names:
             if part.file == first.file and part.start <= first.row < part.end:
                 row = part.end - 1
         return first, Place(first.file, row, 0)
+
+
+def between(ordered, prefix):
+    """From where to where ordered names begin with some bytes."""
+    front, end = prefix.rstrip(b'\xff'), len(ordered)
+    if front:
+        end = bisect.bisect_left(ordered, front[:-1] + bytes([front[-1] + 1]))
+    return bisect.bisect_left(ordered, prefix), end
 
 
 @functools.lru_cache(1 << 14)

@@ -41,18 +41,14 @@ def named(workspace, path, place):
 
 def in_webs(found):
     """Values of several webs, each once."""
-    once = []
-    for one in found:
-        if one not in once:
-            once.append(one)
-    return once
+    return list({repr(one): one for one in found}.values())
 
 
 # ---------------------------------------------------------------------- places of a name
 
 def located(workspace, path, place, roles):
     """The places, in these roles, of the name that is written at a place of a file."""
-    return in_webs(web.location(web.names().places(found), workspace.uri)
+    return in_webs(web.location(web.names().places(found), web.uris(workspace.uri))
                    for web, name in named(workspace, path, place)
                    for found in web.names().written(name, roles))
 
@@ -179,12 +175,12 @@ def workspace_symbols(workspace, query):
     """The definitions of names that have the text of the query in them."""
     wanted, made = query.lower(), []
     for web in workspace.webs.values():
-        names = web.names()
+        names, of_file = web.names(), web.uris(workspace.uri)
         for name in names.full_names:
             if wanted not in shown(name).lower():
                 continue
             for found in names.written(name, {DEFINITION}):
-                location = web.location(names.places(found), workspace.uri)
+                location = web.location(names.places(found), of_file)
                 made.append({'name': shown(name), 'kind': NAMESPACE, 'location': location,
                              'containerName': 'section %d' % names.section_of(found)})
             if len(made) >= MOST_SYMBOLS:

@@ -5,6 +5,8 @@ the first begins with a section: a chunk is scanned without what is before it.
 """
 import bisect
 import collections
+import functools
+import itertools
 
 from .files import SECTION, text_between
 
@@ -20,28 +22,34 @@ Part.__doc__ = """The lines of a file from one row up to another, which is not i
 class Chunk:
     """Consecutive source lines, in the parts of files that they come from."""
 
-    __slots__ = 'parts', 'text'
+    __slots__ = 'parts', 'text', '__dict__'
 
     def __init__(self, parts, text):
         self.parts, self.text = parts, text
 
+    @functools.cached_property
+    def rows(self):
+        """Where each row of the text begins, and then where the last one ends."""
+        return [0, *itertools.accumulate(len(row) + 1 for row in self.text.split(b'\n')[:-1])]
+
+    @functools.cached_property
+    def first_rows(self):
+        """The row at which each part begins."""
+        return [0, *itertools.accumulate(part.end - part.start for part in self.parts[:-1])]
+
     def place(self, at):
         """The file, the row and the column of a place in the text."""
-        row = self.text.count(b'\n', 0, at)
-        column = at - self.text.rfind(b'\n', 0, at) - 1
-        for part in self.parts:
-            if row < part.end - part.start:
-                return part.file, part.start + row, column
-            row -= part.end - part.start
-        last = self.parts[-1]           # after the last line
-        return last.file, last.end - 1, len(last.lines[last.end - 1])
+        row = bisect.bisect_right(self.rows, at) - 1
+        if row == len(self.rows) - 1:   # after the last line
+            last = self.parts[-1]
+            return last.file, last.end - 1, len(last.lines[last.end - 1])
+        number = bisect.bisect_right(self.first_rows, row) - 1
+        part = self.parts[number]
+        return part.file, part.start + row - self.first_rows[number], at - self.rows[row]
 
     def offset(self, row, column):
         """The place in the text of a row of the chunk; the end of a line that is shorter."""
-        at = 0
-        for _ in range(row):
-            at = self.text.index(b'\n', at) + 1
-        return min(at + column, self.text.index(b'\n', at))
+        return min(self.rows[row] + column, self.rows[row + 1] - 1)
 
 
 def changes_of(lines):

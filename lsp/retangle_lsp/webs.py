@@ -1,4 +1,6 @@
 """A web of which a file is open: retangle over it, its names, and its faults."""
+import functools
+
 from .documents import position
 from .faults import Folding
 from .files import Unreadable, path_in
@@ -101,6 +103,10 @@ class Web:
     def path(self, name):
         return path_in(self.root.folder, name)
 
+    def uris(self, uri_of):
+        """Gives the URI of a file by its name. Each is looked up once."""
+        return functools.lru_cache(None)(lambda name: uri_of(self.path(name)))
+
     def files_at(self, path):
         """The names by which the web has a file."""
         if self.retangle:
@@ -154,24 +160,23 @@ class Web:
 
     def diagnostics(self, uri_of):
         """The diagnostics of each file that has some, by its URI."""
-        found = {}
+        found, of_file = {}, self.uris(uri_of)
         for group in self.groups:
-            found.setdefault(uri_of(self.path(group.file)), []).append(
-                self.diagnostic(group, uri_of))
+            found.setdefault(of_file(group.file), []).append(self.diagnostic(group, of_file))
         for name, why in self.refusals():
-            found.setdefault(uri_of(self.path(name)), []).append({
+            found.setdefault(of_file(name), []).append({
                 'range': self.range((name, 0, 0), (name, 0, len(self.line(name, 0)))),
                 'severity': ERROR, 'source': SOURCE, 'code': 'not-taken', 'message': why,
                 'data': {'faults': ['%s:1: error: %s' % (shown(name), why)]}})
         return found
 
-    def diagnostic(self, group, uri_of):
+    def diagnostic(self, group, of_file):
         made = {'range': self.range(*group.places), 'severity': group.severity, 'source': SOURCE,
                 'code': group.code, 'message': group.text, 'data': {'faults': group.lines()}}
         related = [] if group.is_typed else group.related()
         if related:
             made['relatedInformation'] = [
-                {'location': self.location(places, uri_of), 'message': text}
+                {'location': self.location(places, of_file), 'message': text}
                 for places, text in related]
         return made
 
@@ -182,8 +187,8 @@ class Web:
     def position(self, name, row, column):
         return position(self.line(name, row), row + 1, column)
 
-    def location(self, places, uri_of):
-        return {'uri': uri_of(self.path(places[0].file)), 'range': self.range(*places)}
+    def location(self, places, of_file):
+        return {'uri': of_file(places[0].file), 'range': self.range(*places)}
 
 
 def is_same(one, other):

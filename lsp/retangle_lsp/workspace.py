@@ -228,8 +228,9 @@ class Workspace:
         found = {}
         for web in self.webs.values():
             for uri, these in web.diagnostics(self.uri).items():
-                known = found.setdefault(uri, [])
-                known += [one for one in these if one not in known]
+                known = found.setdefault(uri, these)
+                if known is not these:          # a file of several webs
+                    found[uri] = list({repr(one): one for one in known + these}.values())
         wanted, self.to_publish = self.to_publish, []
         for uri in dict.fromkeys([*wanted, *self.published, *found]):
             these = found.get(uri, [])
