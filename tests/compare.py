@@ -129,6 +129,8 @@ class Comparison:
     def compare_run(self, name, arguments, folder):
         status, faults, files = tangled(arguments, folder)
         before = files_of(folder)
+        for file in files:                      # a name of a web may be in a folder, which is not made
+            os.makedirs(os.path.join(os.fsencode(folder), os.path.dirname(file)), exist_ok=True)
         done = run([self.program] + arguments, folder)
         same((done.status, done.output, done.errors, files_of(folder)),
              (status, b'', faults, {**before, **files}), name)
