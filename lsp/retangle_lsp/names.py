@@ -101,7 +101,7 @@ class Names:
 
     @functools.cached_property
     def chunks_of_text(self):
-        """For each text of a name the chunks in which it is written so, in their order."""
+        """For each text of a name the chunks that have exactly this text, in their order."""
         found = {}
         for number, scan in enumerate(self.ordered):
             for text in scan.texts:
@@ -109,7 +109,7 @@ class Names:
         return found
 
     def found_as(self, text):
-        """Where a name is written so, in the order of the web."""
+        """Where the web has exactly this text of a name, in its order."""
         return [Found(number, one) for number in self.chunks_of_text.get(text, ())
                 for one in self.ordered[number].by_text[text]]
 
