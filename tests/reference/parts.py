@@ -3,6 +3,7 @@ import re
 from collections import namedtuple
 
 import limits
+from lines_of_c import in_directive
 
 # kind: White, LineEnd, Join or the name of an item; mark: the place of the line mark after a use or @h
 Token = namedtuple('Token', 'kind value at mark')
@@ -47,10 +48,11 @@ class Part:
         return True
 
     def _white(self, after):
-        """White space up to there; a line end inside is a line end of the part."""
+        """White space up to there; a line end inside is a line end of the part, unless it is in a directive."""
+        is_directive = not self.is_macro and in_directive(self.tokens)
         self.tokens.append(Token('White', None, self.at))
         for at in range(self.at, after):
-            if self.text[at] == 10:
+            if self.text[at] == 10 and not is_directive:
                 self.tokens.append(Token('LineEnd', None, at))
                 self.line = []
         self.at = after
@@ -102,6 +104,7 @@ class Part:
             return self._constant()
         if code == 104 and not self.is_macro:
             web.has_all_macros = True
+            self._test_line(at)
             return self._add('Defs', None, at + 2, web.place(at))
         if code == 104:
             web.fault('MisplacedH', at)
@@ -111,10 +114,16 @@ class Part:
 
     def _use(self, code):
         web, at = self.web, self.at
+        self._test_line(at)
         name, end, after = web.name(at + 2)
         if SINGLE_EQUALS.match(self.text, after):
             web.fault('NameEquals', at)
         return self._add('UseOf', web.occurrence(name, code, 'use', at), after, web.place(end))
+
+    def _test_line(self, at):
+        """A use or @h is there, which no directive can have."""
+        if in_directive(self.tokens):
+            self.web.fault('UseInDirective', at)
 
     def _control_text_end(self, at):
         while True:
