@@ -22,6 +22,7 @@ def is_quoted(token):
 # How the token of a kind begins, and whether the fault has the line where it stops.
 TOKENS = {
     'code-in-c': (lambda token: token.lower() in (b'@d', b'@f', b'@s', b'@c', b'@p'), False),
+    'use-in-directive': (lambda token: token.lower() in (b'@<', b'@(', b'@h'), False),
     'misplaced-h': (lambda token: token.lower() == b'@h', False),
     'macro-name': (lambda token: token.lower() == b'@d', False),
     'control-text': (lambda token: CONTROL.match(token) and not CLOSED.fullmatch(token), True),
