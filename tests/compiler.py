@@ -126,7 +126,8 @@ def test_generated():
     pairs = ['%s, %s over a line end of %s' % (one, other, where)
              for one in KINDS for other in KINDS for where in ('a macro', 'a C part')]
     others = ['a backslash at the end', 'a name made by a join', 'a join', 'verbatim text',
-              'a change', 'a comment over a line end', 'parameters']
+              'a change', 'a comment over a line end of a macro',
+              'a comment over a line end of a C part', 'parameters']
     for place in pairs + others:
         check(places[place] >= LEAST, 'generated webs', 'only %d times: %s' % (places[place], place))
 
