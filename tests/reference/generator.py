@@ -166,7 +166,7 @@ def web_lines(chance, included):
     is_wild = is_dense or chance.random() < .6
     for _ in range(chance.randint(1, 6)):
         made = section(chance, is_wild, DENSE if is_dense else WILD)
-        if lines and chance.random() < .08:
+        if lines and chance.random() < .05 and lines[-1][:2] not in (b'@i', b'@I'):
             lines[-1] += chance.choice(ENDS) + made.pop(0)
         lines += made
         if included and chance.random() < .3:
