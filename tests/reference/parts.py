@@ -49,12 +49,11 @@ class Part:
 
     def _white(self, after):
         """White space up to there; a line end inside is a line end of the part, unless it is in a directive."""
-        is_directive = not self.is_macro and in_directive(self.tokens)
         self.tokens.append(Token('White', None, self.at))
-        for at in range(self.at, after):
-            if self.text[at] == 10 and not is_directive:
-                self.tokens.append(Token('LineEnd', None, at))
-                self.line = []
+        ends = [at for at in range(self.at, after) if self.text[at] == 10]
+        if ends and (self.is_macro or not in_directive(self.tokens)):
+            self.tokens += [Token('LineEnd', None, at) for at in ends]
+            self.line = []
         self.at = after
         return True
 
