@@ -134,7 +134,7 @@ definition_count text = if is_ended text then equals_count (after_name text) els
 -- the occurrence of this name in this role
 abbrev pub in_role : OccurrenceRole → Name → OccurrenceOnLine
 in_role role name =
-    record { text = name.text.items; is_file = name.is_file; role = role; line = name.line }
+    record { text = name.text; is_file = name.is_file; role = role; line = name.line }
 
 abbrev pub occurrence_read : OccurrenceRole → ℕ → List Cell → OccurrenceOnLine
 occurrence_read role last text = record {
