@@ -21,7 +21,7 @@ ghost use Rattle.tangle_expansion.specs.Numbers.{expansion_bytes};
 ghost use Rattle.std.specs.List.{AllByRecursion};
 ghost use Rattle.tangle_expansion.specs.Limits.{flat_of, heaviest, IsExpandableNode};
 ghost use Rattle.tangle_expansion.specs.Outputs.{IsTrueToLines};
-ghost use Rattle.tangle_expansion.specs.PieceBytes.{piece_bytes, AreWrittenApart};
+ghost use Rattle.tangle_expansion.specs.PieceBytes.{piece_bytes, AreWrittenAsMeant};
 ghost use Rattle.tangle_expansion.specs.Location.{LocatedSymbol, located, located_shapes};
 ghost use Rattle.tangle_expansion.specs.Location.{AreAtTheirOrigins};
 
@@ -152,11 +152,11 @@ pub fn nodes_are_written_by_pieces()
         (pieces_of web (table_of web) node) }
 {}
 
-/// In what is written, a C compiler reads as two any two items of a macro or of a piece that the
-/// source keeps apart. This holds whatever the used names expand to, and however line marks are
-/// written.
-pub fn what_is_apart_is_written_apart()
+/// In what is written, a C compiler reads the items of each macro and of each piece as the author
+/// means them: together what stands together in the web, and apart what the web keeps apart. This
+/// holds whatever the used names expand to, and however line marks are written.
+pub fn items_are_written_as_meant()
     ensures { (source : SourceRead) (marks : MarkMode) (used : List ℕ → List Symbol)
-        → AreWrittenApart source (web_of source) (table_of (web_of source)) used
+        → AreWrittenAsMeant source (web_of source) (table_of (web_of source)) used
         (numbers_of (web_of source) (table_of (web_of source)) marks) }
 {}

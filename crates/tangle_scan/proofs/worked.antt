@@ -1,4 +1,4 @@
-pub mod WorkedApart
+pub mod WorkedAsMeant
 pub mod WorkedLocations
 pub mod WorkedSegments
 pub mod WorkedWebs

@@ -5,7 +5,7 @@ ghost use Rattle.tangle_scan.specs.Web.{web_of};
 ghost use Rattle.tangle_lexer.specs.Occurrences.{occurrence_of};
 ghost use Rattle.tangle_scan.specs.SourceOrder.{SpansAreInOrder};
 ghost use Rattle.tangle_scan.specs.LineTruth.{PiecesAreAtTheirLines};
-ghost use Rattle.tangle_scan.specs.Apart.{StaysApart};
+ghost use Rattle.tangle_scan.specs.ReadAsMeant.{ItemsAreReadAsMeant};
 ghost use Rattle.tangle_scan.specs.WellFormed.{IsWellFormed};
 ghost use Rattle.tangle_scan.specs.Entries.{RunsAreInRange};
 ghost use Rattle.tangle_scan.specs.Rules.{texts_of};
@@ -57,8 +57,8 @@ fn gather(alloc: Global, source: &Source) -> Result<(WebBuilder, Vec<Occurrence>
 /// where a join removed line ends, and at the end of a continued line if the count does not expect
 /// the next source line. It ends at the next mark, or at the next line end outside quoted texts.
 ///
-/// A C compiler, which joins lines that end in a backslash, reads two items apart if the source
-/// keeps them apart.
+/// A C compiler, which joins lines that end in a backslash, reads together the items that stand
+/// together in the source, and apart those that it keeps apart.
 ///
 /// # Errors
 ///
@@ -68,7 +68,7 @@ pub fn scan<'s, 'a>(alloc: Global, source: &'s Source<'a>) -> Result<Web<'s, 'a>
     ensures well_formed { IfOk result (λ web. IsWellFormed web) }
     ensures order { IfOk result (λ web. SpansAreInOrder web) }
     ensures line_truth { IfOk result (λ web. PiecesAreAtTheirLines source.now web) }
-    ensures apart { IfOk result (λ web. StaysApart source.now web) }
+    ensures as_meant { IfOk result (λ web. ItemsAreReadAsMeant source.now web) }
 {
     let (builder, occurrences) = gather(alloc, source)?;
     Ok(Web::new(source, builder, occurrences))

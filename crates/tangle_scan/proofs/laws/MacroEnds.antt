@@ -1,7 +1,12 @@
 -- The items that are dropped at the end of a macro are those of the tokens that are dropped there.
 use Rattle.std.proofs.Common.{◌≡◌, ℕ, Bool, true, false, ◌&&◌, not, if◌then◌else◌, List, [], ◌∷◌, ◌++◌, refl, ap, sym}
 use Rattle.std.proofs.Common.{◌∙◌}
-use Rattle.std.proofs.Common.{Option, Some, None, is_some}
+use Rattle.std.proofs.Common.{Option, Some, None, is_some, ◌==◌}
+use Rattle.std.proofs.Math.Bool.{and-true}
+use Rattle.std.proofs.lemmas.Bool.{and_parts}
+use Rattle.std.specs.List.{last_or, list_all}
+use Rattle.std.specs.Option.{IfSome}
+use Rattle.tangle_text.specs.Bytes.{backslash}
 use Rattle.tangle_lexer.specs.declared.tokens.Token.{Token}
 use Rattle.tangle_lexer.specs.declared.tokens.Token.TheVariants as token
 use Rattle.tangle_lexer.specs.declared.tokens.SpanKind.{SpanKind}
@@ -10,23 +15,18 @@ use Rattle.tangle_text.specs.declared.spans.Span.{Span}
 use Rattle.tangle_scan.specs.declared.items.Item.{Item}
 use Rattle.tangle_scan.specs.declared.items.Item.TheVariants as item
 use Rattle.tangle_scan.specs.Rules.{next_item, has_blank_at_line_end, is_name_part, macro_blanks, unmarked_items}
-use Rattle.tangle_scan.specs.Rules.{span_item, token_items}
-use Rattle.tangle_scan.specs.MacroBytes.{without_end}
-use Rattle.tangle_scan.proofs.lemmas.MacroItemLemmas.{unmarked-blank}
-use Rattle.tangle_scan.specs.Apart.{is_dropped_token, with_written, written_tokens}
+use Rattle.tangle_scan.specs.Rules.{span_item, token_items, first_byte}
+use Rattle.tangle_scan.specs.MacroBytes.{is_dropped_at_end, without_end}
+use Rattle.tangle_scan.specs.ReadAsMeant.{is_dropped_token, with_written, written_tokens}
 
 module _ (texts : List (List ℕ)) where
   -- The items that rule 3 makes of the tokens of a macro. The arguments before the tokens are those of the rule.
   abbrev pub items_from : Bool → Option Token → Bool → List Token → List Item
   items_from in_name before white es = unmarked_items (macro_blanks texts in_name before white es)
 
-  -- white space, and a blank, if the flag says so
-
+  -- white space, if the flag says so
   abbrev white_if : Bool → List Token
   white_if blank = if blank then token.White ∷ [] else []
-
-  abbrev blank_if : Bool → List Item
-  blank_if blank = if blank then item.Blank ∷ [] else []
 
   -- none of the items is written
   abbrev AreDropped : List Token → Type 0
@@ -54,39 +54,40 @@ module _ (texts : List (List ℕ)) where
         → written_tokens texts es ≡ f ∷ fs → next_item es ≡ next_item (f ∷ fs) → AreWritten es (f ∷ fs)
         → Written es
 
-  dropped-sign : (blank : Bool) (x : Item) (xs : List Item)
-      → without_end texts (x ∷ []) ≡ [] → without_end texts xs ≡ []
-      → without_end texts (blank_if blank ++ x ∷ xs) ≡ []
-  dropped-sign true x xs alone h = rw (h, alone) refl
-  dropped-sign false x xs alone h = rw h alone
+  dropped-items : (xs ys : List Item)
+      → list_all (is_dropped_at_end texts) xs ≡ true → without_end texts ys ≡ [] → without_end texts (xs ++ ys) ≡ []
+  dropped-items [] ys dropped h = h
+  dropped-items (x ∷ xs) ys dropped h =
+      let both = and_parts (is_dropped_at_end texts x) (list_all (is_dropped_at_end texts) xs) dropped in
+      rw (dropped-items xs ys both.1 h, both.0) refl
 
-  dropped-blank : (blank : Bool) (xs : List Item)
-      → without_end texts xs ≡ [] → without_end texts (blank_if blank ++ xs) ≡ []
-  dropped-blank true xs h = rw h refl
-  dropped-blank false xs h = h
+  unmarked-first : (e : Token) (es : List Token) → unmarked_items (e ∷ es) ≡ unmarked_items (e ∷ []) ++ unmarked_items es
+  unmarked-first (token.UseOf line occurrence) es = refl
+  unmarked-first (token.AllMacros line) es = refl
+  unmarked-first e es = cc
+
+  dropped-token : (blank : Bool) (e : Token) (es : List Token)
+      → is_dropped_token texts e ≡ true → without_end texts (unmarked_items es) ≡ []
+      → without_end texts (unmarked_items (white_if blank ++ e ∷ es)) ≡ []
+  dropped-token blank e es dropped h = by blank
+    where
+      all : without_end texts (unmarked_items (e ∷ es)) ≡ []
+      all = rw (unmarked-first e es) (dropped-items (unmarked_items (e ∷ [])) (unmarked_items es) dropped h)
+
+      by : (blank : Bool) → without_end texts (unmarked_items (white_if blank ++ e ∷ es)) ≡ []
+      by true = rw all refl
+      by false = all
 
   -- a token that is dropped, before tokens that are all dropped
   dropped-before : (e : Token) (es : List Token) → is_dropped_token texts e ≡ true → AreDropped es → AreDropped (e ∷ es)
   dropped-before token.White es dropped h in_name before white = h in_name before true
   dropped-before (token.LineEnd line) es dropped h in_name before white =
-      let blank : Bool = has_blank_at_line_end texts in_name before (next_item es) in
-      let rest = macro_blanks texts false None false es in
-      rw (unmarked-blank blank (token.LineEnd line ∷ rest))
-      (dropped-sign blank item.LineEnd (unmarked_items rest) refl (h false None false))
-  dropped-before (token.Span span_kind.Sign s) es dropped h in_name before white =
-      let e = token.Span span_kind.Sign s in
-      let rest = macro_blanks texts (in_name && not white && false) (Some e) false es in
-      rw (unmarked-blank (is_some before && white) (e ∷ rest))
-      (dropped-sign (is_some before && white) (item.Sign s) (unmarked_items rest) (rw dropped refl)
-      (h (in_name && not white && false) (Some e) false))
-  dropped-before (token.Span kind s) es dropped h in_name before white = cc
-  dropped-before (token.AsciiConstant value line) es dropped h in_name before white = cc
-  dropped-before token.QuoteBreak es dropped h in_name before white = cc
+      dropped-token (has_blank_at_line_end texts in_name before (next_item es)) (token.LineEnd line)
+      (macro_blanks texts false None false es) dropped (h false None false)
   dropped-before e es dropped h in_name before white =
-      let rest = macro_blanks texts (in_name && not white && is_name_part e) (Some e) false es in
-      rw (unmarked-blank (is_some before && white) (e ∷ rest))
-      (dropped-blank (is_some before && white) (unmarked_items rest)
-      (h (in_name && not white && is_name_part e) (Some e) false))
+      let after : Bool = in_name && not white && is_name_part e in
+      dropped-token (is_some before && white) e (macro_blanks texts after (Some e) false es) dropped
+      (h after (Some e) false)
 
   -- an item before items none of which is written
   written-at : (e : Token) (x : Item) (es : List Token)
@@ -110,7 +111,7 @@ module _ (texts : List (List ℕ)) where
   written-alone : (kind : SpanKind) (s : Span)
       → is_dropped_token texts (token.Span kind s) ≡ false
       → without_end texts (span_item kind s ∷ []) ≡ span_item kind s ∷ []
-  written-alone span_kind.Sign s kept = rw kept refl
+  written-alone span_kind.Sign s kept = let is = rw (and-true (first_byte texts s == backslash)) at kept in rw is refl
   written-alone _ s kept = refl
 
   written-last : (e : Token) (es : List Token)
@@ -203,9 +204,7 @@ module _ (texts : List (List ℕ)) where
   -- The last of the tokens is an item that is written. If there are no tokens, the token before them is such an item,
   -- or there is none.
   abbrev pub EndsInItem : List Token → Option Token → Type 0
-  EndsInItem [] None = Unit {0}
-  EndsInItem [] (Some e) = is_dropped_token texts e ≡ false
-  EndsInItem (e ∷ es) before = EndsInItem es (Some e)
+  EndsInItem es before = IfSome (last_or before es) (λ e. is_dropped_token texts e ≡ false)
 
   pub ends-before : (e : Token) (es : List Token) (before : Option Token)
       → is_dropped_token texts e ≡ true → EndsInItem es (Some e)
