@@ -47,9 +47,9 @@ as_read true (LineFeed ∷ gap) = as_read false gap
 as_read true (Mark origin ∷ gap) = codes "#line" ++ as_read false gap
 as_read false (x ∷ gap) = line_feed ∷ as_read false gap
 
-abbrev pub is_empty : List ℕ → Bool
+abbrev pub is_empty : {X : Type 0} → List X → Bool
 is_empty [] = true
-is_empty (b ∷ bytes) = false
+is_empty (x ∷ xs) = false
 
 abbrev pub without_spaces : List ℕ → List ℕ
 without_spaces bytes = filter (λ b. not (b == space)) bytes
@@ -179,8 +179,8 @@ module _ (lines : List SourceLine) where
       flat_map (λ b. map (λ items. without_backslashes (texts_of lines)
       (macro_tokens (texts_of lines) b.tokens)) (macro_of lines b)) (blocks 0 (all_tokens lines))
 
--- a C compiler reads the items of each macro and piece as the author means them, whatever is written
--- for uses, line marks and all macros
+-- a C compiler reads the items of each macro and piece as the author means them, whatever is
+-- written for uses, line marks and all macros
 pub record ItemsAreReadAsMeant (source : SourceRead) (web : WebRead) : Type 0 where
   pub macros : AllZip
       (λ items tokens. IsMacroReadAsMeant web.texts tokens (macro_bytes web.texts items))

@@ -9,21 +9,17 @@ use Rattle.tangle_lines.specs.declared.origin.Origin.{Origin}
 use Rattle.tangle_lexer.specs.declared.tokens.Token.{Token}
 use Rattle.tangle_lexer.specs.declared.tokens.Token.TheVariants as token
 use Rattle.tangle_scan.specs.Rules.{is_front_gap, is_name_part, is_continued}
-use Rattle.tangle_scan.specs.ReadAsMeant.{Gap, Space, LineFeed, TakenOut, Mark, gap_bytes, as_read, is_empty, without_spaces, IsReadAs}
+use Rattle.tangle_scan.specs.ReadAsMeant.{Gap, Space, LineFeed, TakenOut, Mark, gap_bytes, as_read, is_empty}
+use Rattle.tangle_scan.specs.ReadAsMeant.{without_spaces, IsReadAs}
 use Rattle.tangle_scan.specs.ReadAsMeant.{needs_white, token_bytes, AreReadAsMeant}
 
--- The first part of a gap hides the backslash before it from what comes after.
+pub some-append : {X : Type 0} (xs : List X) (y : X) (ys : List X) → is_empty (xs ++ y ∷ ys) ≡ false
+some-append [] y ys = refl
+some-append (x ∷ xs) y ys = refl
 
-abbrev pub is_bare : List Gap → Bool
-is_bare [] = true
-is_bare (x ∷ gap) = false
-
-pub bare-append : (gap : List Gap) (x : Gap) (more : List Gap) → is_bare (gap ++ x ∷ more) ≡ false
-bare-append [] x more = refl
-bare-append (y ∷ gap) x more = refl
-
+-- the first part of a gap hides the backslash before it from what comes after
 pub read-append : (after : Bool) (gap more : List Gap)
-    → as_read after (gap ++ more) ≡ as_read after gap ++ as_read (after && is_bare gap) more
+    → as_read after (gap ++ more) ≡ as_read after gap ++ as_read (after && is_empty gap) more
 read-append after [] more = rw (and-true after) refl
 read-append after (x ∷ gap) more = rw (and-false after) (by after x (read-append false gap more))
   where
@@ -34,10 +30,6 @@ read-append after (x ∷ gap) more = rw (and-false after) (by after x (read-appe
     by true LineFeed h = h
     by true (Mark origin) h = ap (λ bytes. codes "#line" ++ bytes) h
     by false x h = ap (λ bytes. line_feed ∷ bytes) h
-
-pub empty-append : (bytes : List ℕ) (b : ℕ) (more : List ℕ) → is_empty (bytes ++ b ∷ more) ≡ false
-empty-append [] b more = refl
-empty-append (c ∷ bytes) b more = refl
 
 pub spaces-append : (xs ys : List ℕ) → without_spaces (xs ++ ys) ≡ without_spaces xs ++ without_spaces ys
 spaces-append xs ys = filter-append (λ b. not (b == space)) xs ys
@@ -56,18 +48,9 @@ bytes-append mark (x ∷ gap) more = by x (bytes-append mark gap more)
         ap (λ bytes. line_feed ∷ (mark origin ++ bytes)) h
         ∙ ap (λ bytes. line_feed ∷ bytes) (sym (append_assoc (mark origin) (gap_bytes mark gap) (gap_bytes mark more)))
 
--- a blank before the end of a gap, if the flag says so, and what is read of it
-
+-- a blank before the end of a gap, if the flag says so
 abbrev pub blank_before : Bool → List Gap → List Gap
 blank_before blank gap = if blank then Space ∷ gap else gap
-
-abbrev pub spaces : Bool → List ℕ
-spaces blank = if blank then space ∷ [] else []
-
-pub read-blank : (after blank : Bool) (gap : List Gap) → ((after : Bool) → as_read after gap ≡ [])
-    → as_read after (blank_before blank gap) ≡ spaces blank
-read-blank after true gap none = ap (λ bytes. space ∷ bytes) (none false)
-read-blank after false gap none = none after
 
 -- an item is read as meant after a gap that is
 pub item-as-meant : (texts : List (List ℕ)) (mark : Origin → List ℕ) (used : Token → List ℕ) (line_end : ℕ)

@@ -14,8 +14,8 @@ use Rattle.tangle_scan.specs.ReadAsMeant.{needs_white, written_tokens, token_byt
 use Rattle.tangle_scan.specs.ReadAsMeant.{EndsMacro, IsMacroReadAsMeant}
 use Rattle.tangle_scan.proofs.lemmas.RuleLemmas.{macro_blanks-item}
 use Rattle.tangle_scan.proofs.laws.MacroEnds.{items_from, end-items, EndsInItem, ends-before, written-ends}
-use Rattle.tangle_scan.proofs.laws.GapReading.{read-append, empty-append, spaces-append, bytes-append}
-use Rattle.tangle_scan.proofs.laws.GapReading.{blank_before, spaces, read-blank, item-as-meant}
+use Rattle.tangle_scan.proofs.laws.GapReading.{some-append, read-append, spaces-append, bytes-append}
+use Rattle.tangle_scan.proofs.laws.GapReading.{blank_before, item-as-meant}
 
 module _ (texts : List (List ℕ)) where
   -- The bytes that rule 3 makes of the tokens of a macro. The arguments before the tokens are those of the rule.
@@ -65,7 +65,7 @@ module _ (texts : List (List ℕ)) where
 
   more-spaces : (meant : List ℕ) (white : Bool) → AreSpaces meant white → AreSpaces (meant ++ space ∷ []) true
   more-spaces meant white are =
-      (spaces-append meant (space ∷ []) ∙ (append-nil (without_spaces meant) ∙ are.0), empty-append meant space [])
+      (spaces-append meant (space ∷ []) ∙ (append-nil (without_spaces meant) ∙ are.0), some-append meant space [])
 
   -- the tokens that follow are read as meant after an item on the same line, or at the front of the macro
   abbrev ReadsOnLine : List Token → Type 0
@@ -115,23 +115,18 @@ module _ (texts : List (List ℕ)) where
   gap-on_line : (in_name white : Bool) (meant : List ℕ) (before : Option Token) (e : Token) → AreSpaces meant white
       → IsReadAs meant (as_read (is_continued texts before) (blank_before (is_some before && white) []))
       (needs_white texts in_name meant before e)
-  gap-on_line in_name white meant before e are =
-      rw (read-blank (is_continued texts before) (is_some before && white) [] (λ after. refl))
-      (record { lines = spaces-lines (is_some before && white) ∙ sym are.0; together = together white are.1; apart = apart before white are.1 })
-    where
-      spaces-lines : (blank : Bool) → without_spaces (spaces blank) ≡ []
-      spaces-lines true = refl
-      spaces-lines false = refl
-
-      together : (white : Bool) → is_empty meant ≡ not white → is_empty meant ≡ true → is_empty (spaces (is_some before && white)) ≡ true
-      together true is none = absurd cc
-      together false is none = rw (and-false (is_some before)) refl
-
-      apart : (before : Option Token) (white : Bool) → is_empty meant ≡ not white
-          → needs_white texts in_name meant before e ≡ true → is_empty (spaces (is_some before && white)) ≡ false
-      apart None white is needed = let wrong = rw (and-false (not (is_empty meant))) at needed in absurd cc
-      apart (Some b) true is needed = refl
-      apart (Some b) false is needed = let wrong = rw is at needed in absurd cc
+  gap-on_line in_name true meant (Some b) e are =
+      record { lines = sym are.0; together = λ none. let some = are.1 in absurd cc; apart = λ needed. refl }
+  gap-on_line in_name true meant None e are = record {
+    lines = sym are.0;
+    together = λ none. refl;
+    apart = λ needed. let wrong = rw (and-false (not (is_empty meant))) at needed in absurd cc;
+  }
+  gap-on_line in_name false meant before e are = rw (and-false (is_some before)) (record {
+    lines = sym are.0;
+    together = λ none. refl;
+    apart = λ needed. let wrong = rw are.1 at needed in absurd cc;
+  })
 
   reads-on_line : (e : Token) (es : List Token) → is_front_gap e ≡ false → ReadsOnLine es → ReadsOnLine (e ∷ es)
   reads-on_line e es item next in_name white meant before are ends =

@@ -22,8 +22,8 @@ use Rattle.tangle_scan.specs.ReadAsMeant.{IsReadAs, without_spaces, is_backslash
 use Rattle.tangle_scan.specs.ReadAsMeant.{AreReadAsMeant, EndsPiece, use_bytes, IsPieceReadAsMeant}
 use Rattle.tangle_scan.proofs.lemmas.ItemsByOrigin.{part_items-by_origin}
 use Rattle.tangle_scan.proofs.lemmas.RuleLemmas.{blanks-item}
-use Rattle.tangle_scan.proofs.laws.GapReading.{is_bare, bare-append, read-append, empty-append, spaces-append}
-use Rattle.tangle_scan.proofs.laws.GapReading.{bytes-append, blank_before, spaces, read-blank, item-as-meant}
+use Rattle.tangle_scan.proofs.laws.GapReading.{some-append, read-append, spaces-append}
+use Rattle.tangle_scan.proofs.laws.GapReading.{bytes-append, blank_before, item-as-meant}
 
 module _ (lines : List SourceLine) (used : ℕ → List ℕ) (mark : Origin → List ℕ) (macros : List ℕ) where
   abbrev texts : List (List ℕ)
@@ -94,7 +94,7 @@ module _ (lines : List SourceLine) (used : ℕ → List ℕ) (mark : Origin → 
     together : is_empty meant ≡ true → (is_empty (read_since last gap) ≡ true) × (white ≡ false)
     apart : (is_some before && white) ≡ false → Serves meant last (read_since last gap)
     front : is_some before ≡ false → (all : List ℕ) → Serves all last (read_since last gap)
-    ended : is_continued texts before ≡ false → (is_continued texts last && is_bare gap) ≡ false
+    ended : is_continued texts before ≡ false → (is_continued texts last && is_empty gap) ≡ false
     closing : is_empty (read_since last gap) ≡ true → is_open texts before ≡ false
         → (gap ≡ []) × (is_open texts last ≡ false)
 
@@ -117,7 +117,7 @@ module _ (lines : List SourceLine) (used : ℕ → List ℕ) (mark : Origin → 
       → IsGap meant white last before gap → IsGap (meant ++ space ∷ []) true last before gap
   white-gap meant white last before gap is = record {
     line_ends = is.line_ends ∙ sym (spaces-append meant (space ∷ []) ∙ append-nil (without_spaces meant));
-    together = λ none. let some = empty-append meant space [] in absurd cc;
+    together = λ none. let some = some-append meant space [] in absurd cc;
     apart = λ blank. is.front (sym (and-true (is_some before)) ∙ blank) (meant ++ space ∷ []);
     front = is.front;
     ended = is.ended;
@@ -134,7 +134,7 @@ module _ (lines : List SourceLine) (used : ℕ → List ℕ) (mark : Origin → 
       let all : read_since last (gap ++ end ∷ []) ≡ read_since last gap ++ line_feed ∷ [] =
       read-append after gap (end ∷ []) ∙ ap (λ bytes. as_read after gap ++ bytes) (rw (is.ended continued) read) in
       let some : is_empty (read_since last (gap ++ end ∷ [])) ≡ false =
-      rw all (empty-append (read_since last gap) line_feed []) in
+      rw all (some-append (read_since last gap) line_feed []) in
       record {
         line_ends = rw (
           all,
@@ -142,10 +142,10 @@ module _ (lines : List SourceLine) (used : ℕ → List ℕ) (mark : Origin → 
           spaces-append meant (line_feed ∷ []),
           is.line_ends,
         ) refl;
-        together = λ none. let other = empty-append meant line_feed [] in absurd cc;
+        together = λ none. let other = some-append meant line_feed [] in absurd cc;
         apart = λ blank f needed. some;
         front = λ none all f needed. some;
-        ended = λ ends. rw (bare-append gap end []) (and-false after);
+        ended = λ ends. rw (some-append gap end []) (and-false after);
         closing = λ none. absurd cc;
       }
 
@@ -154,26 +154,26 @@ module _ (lines : List SourceLine) (used : ℕ → List ℕ) (mark : Origin → 
       → IsGap meant white last before gap → ((after : Bool) → as_read after more ≡ []) → (f : Token)
       → IsReadAs meant (read_since last (gap ++ blank_before (is_some before && white) more))
       (needs_white texts false meant last f)
-  blanked meant white last before gap more is none f =
-      rw (
-        read-append (is_continued texts last) gap (blank_before (is_some before && white) more),
-        read-blank (is_continued texts last && is_bare gap) (is_some before && white) more none,
-      ) (by (is_some before && white) refl)
+  blanked meant white last before gap more is none f = by (is_some before && white) refl
     where
+      after : Bool
+      after = is_continued texts last
+
       by : (blank : Bool) → (is_some before && white) ≡ blank
-          → IsReadAs meant (read_since last gap ++ spaces blank) (needs_white texts false meant last f)
-      by true has = record {
+          → IsReadAs meant (read_since last (gap ++ blank_before blank more)) (needs_white texts false meant last f)
+      by true has = rw (read-append after gap (Space ∷ more), none false) (record {
         lines = spaces-append (read_since last gap) (space ∷ [])
             ∙ (append-nil (without_spaces (read_since last gap)) ∙ is.line_ends);
         together = λ nothing.
             let wrong = rw ((is.together nothing).1, and-false (is_some before)) at has in absurd cc;
-        apart = λ needed. empty-append (read_since last gap) space [];
-      }
-      by false has = rw (append-nil (read_since last gap)) (record {
-        lines = is.line_ends;
-        together = λ nothing. (is.together nothing).0;
-        apart = is.apart has f;
+        apart = λ needed. some-append (read_since last gap) space [];
       })
+      by false has =
+          rw (read-append after gap more, none (after && is_empty gap), append-nil (read_since last gap)) (record {
+            lines = is.line_ends;
+            together = λ nothing. (is.together nothing).0;
+            apart = is.apart has f;
+          })
 
   -- The items of the tokens that follow are read as meant.
 
@@ -213,10 +213,12 @@ module _ (lines : List SourceLine) (used : ℕ → List ℕ) (mark : Origin → 
           record {
             gap = gap ++ Space ∷ [];
             is = sym (bytes-append mark gap (Space ∷ []));
-            lines = rw (all, spaces-append (read_since last gap) (space ∷ []), append-nil (without_spaces (read_since last gap))) is.line_ends;
+            lines =
+                rw (all, spaces-append (read_since last gap) (space ∷ []))
+                (append-nil (without_spaces (read_since last gap)) ∙ is.line_ends);
             closing = λ none.
                 let some : is_empty (read_since last (gap ++ Space ∷ [])) ≡ false =
-                rw all (empty-append (read_since last gap) space []) in
+                rw all (some-append (read_since last gap) space []) in
                 absurd cc;
           }
       by false closed = record {
@@ -314,9 +316,9 @@ module _ (lines : List SourceLine) (used : ℕ → List ℕ) (mark : Origin → 
           ∙ ap (λ bs. gap_bytes mark gap ++ bs) (append_assoc (blank_bytes blank) (backslash ∷ []) (line_feed ∷ []))))
           joined is_last line_ends))
         where
-          not_bare : (b : Bool) → is_bare (gap ++ blank_before b (TakenOut ∷ [])) ≡ false
-          not_bare true = bare-append gap Space (TakenOut ∷ [])
-          not_bare false = bare-append gap TakenOut []
+          not_empty : (b : Bool) → is_empty (gap ++ blank_before b (TakenOut ∷ [])) ≡ false
+          not_empty true = some-append gap Space (TakenOut ∷ [])
+          not_empty false = some-append gap TakenOut []
 
           joined : (line : ℕ) → IsGap meant false last (Some (token.LineEnd line)) (gap ++ blank_before blank (TakenOut ∷ []))
           joined line =
@@ -326,7 +328,7 @@ module _ (lines : List SourceLine) (used : ℕ → List ℕ) (mark : Origin → 
                 together = λ none. ((here e).together none, refl);
                 apart = λ no_blank f. (here f).apart;
                 front = λ none. absurd cc;
-                ended = λ ends. rw (not_bare blank) (and-false (is_continued texts last));
+                ended = λ ends. rw (not_empty blank) (and-false (is_continued texts last));
                 closing = λ none closed. absurd cc;
               }
 

@@ -42,7 +42,8 @@ module _ (lines : List SourceLine) where
       each : List (List Token)
       each = flat_map (λ b. map (λ items. tokens_of_macro b) (macro_of lines b)) bs
 
-      kept : (is_kept : Bool) → AllZip IsMacroOf all each → AllZip IsMacroOf ((if is_kept then macro_items texts b.tokens ∷ [] else []) ++ all)
+      kept : (is_kept : Bool) → AllZip IsMacroOf all each
+          → AllZip IsMacroOf ((if is_kept then macro_items texts b.tokens ∷ [] else []) ++ all)
           (map (λ items. tokens_of_macro b) (if is_kept then macro_items texts b.tokens ∷ [] else []) ++ each)
       kept true rest = (macro-as-meant texts (tokens_of_macro b), rest)
       kept false rest = rest
