@@ -9,7 +9,7 @@ ghost use Rattle.tangle_text.specs.declared.regions.Region.TheVariants as region
 ghost use Rattle.tangle_text.specs.declared.regions.Unit.TheVariants as unit;
 ghost use Rattle.tangle_faults.specs.declared.faults.FaultKind.TheVariants as fault;
 ghost use Rattle.tangle_lexer.specs.declared.tokens.Token.TheVariants as token;
-ghost use Rattle.tangle_lexer.specs.Lexemes.{fault_if, in_mode};
+ghost use Rattle.tangle_lexer.specs.Lexemes.{fault_if, in_mode, is_in_directive};
 ghost use Rattle.tangle_lexer.specs.declared.modes.Mode.TheVariants as mode;
 ghost use Rattle.tangle_lexer.specs.declared.occurrences.OccurrenceRole.TheVariants as role;
 ghost use Rattle.tangle_lexer.specs.Reads.{PassesEquals, ReadsLexeme};
@@ -275,24 +275,28 @@ fn has_single_equals(reader: &Reader) -> bool
     matches!(equals_at(&further), Equals::Single)
 }
 
-/// Adds a use of this name, which is the occurrence of this number, and the faults of the use.
+/// Adds a use of this name, which is the next occurrence, and the faults of the use.
 fn push_use(
     tokens: &mut Vec<Token>,
     name: &Name,
-    number: usize,
+    state: LexerState,
     has_single_equals: bool,
 ) -> Result<(), AllocError>
     ensures { OnOk result (tokens.new.items ≡ tokens.old.items
-        ++ token.UseOf name.now.end_line number
-        ∷ fault_if (not name.now.is_ended) fault.NameEnd name.now.end_line
+        ++ token.UseOf name.now.end_line state.occurrences
+        ∷ fault_if (is_in_directive state) fault.UseInDirective name.now.line
+        ++ fault_if (not name.now.is_ended) fault.NameEnd name.now.end_line
         ++ fault_if has_single_equals fault.NameEquals name.now.line) }
 {
-    tokens.push(Token::UseOf(name.end_line, number))?;
+    tokens.push(Token::UseOf(name.end_line, state.occurrences))?;
+    let in_directive = state.is_in_directive();
+    push_fault_if(tokens, in_directive, FaultKind::UseInDirective, name.line)?;
     push_fault_if(tokens, !name.is_ended, FaultKind::NameEnd, name.end_line)?;
     push_fault_if(tokens, has_single_equals, FaultKind::NameEquals, name.line)
 }
 
-/// Reads a name in C text. It is a use, even if it looks like a definition, which is a fault.
+/// Reads a name in C text. It is a use, even if it is in a directive or looks like a definition,
+/// which are faults.
 pub fn use_of_name(
     source: &Source,
     buffers: &mut LexerBuffers,
@@ -303,16 +307,15 @@ pub fn use_of_name(
     ensures { IfOk result (λ after. ReadsLexeme source.now.lines buffers.old buffers.new
         reader.old reader.new after (spec.use_of_name state reader.old)) }
 {
-    let number = state.occurrences;
     let name = read_name(*buffers.occurrences.allocator(), reader, state.last_line)?;
     let equals = has_single_equals(reader);
-    push_use(&mut buffers.tokens, &name, number, equals)?;
+    push_use(&mut buffers.tokens, &name, state, equals)?;
     let after = push_occurrence(
         source,
         &mut buffers.occurrences,
         name,
         OccurrenceRole::Use,
-        state.elsewhere(),
+        state.after_use(),
     )?;
     Ok(after)
 }

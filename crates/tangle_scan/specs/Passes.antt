@@ -23,7 +23,7 @@ use Rattle.tangle_scan.specs.declared.parts.Last.TheVariants as last
 use Rattle.tangle_scan.specs.declared.spacing.Stage.TheVariants as stage
 use Rattle.tangle_text.specs.Bytes.{backslash, slash, is_word_byte}
 use Rattle.tangle_lines.specs.Reading.{SourceLine, origin_at}
-use Rattle.tangle_scan.specs.Rules.{without_faults, without_front_gaps, may_follow_name, is_gap}
+use Rattle.tangle_scan.specs.Rules.{without_faults, clean_tokens, without_front_gaps, may_follow_name, is_gap}
 use Rattle.tangle_scan.specs.Rules.{would_merge, is_constant, may_merge, full_stop, has_join}
 use Rattle.tangle_scan.specs.Rules.{without_joins, left_of_run, blanks, is_open, is_continued, at_line_front}
 use Rattle.tangle_scan.specs.Rules.{texts_of, first_byte, last_byte, span_item, next_line}
@@ -77,12 +77,13 @@ is_skipped stage.Front token.White = true
 is_skipped stage.Front (token.LineEnd line) = true
 is_skipped at e = false
 
--- a fault, a join or an ASCII constant: without them rules 1 and 2 change at most the front of a
--- macro
+-- a fault, a join, an ASCII constant or a line end of a directive: without them rules 1 and 2 change
+-- at most the front of a macro
 abbrev pub needs_pass : Token → Bool
 needs_pass (token.Fault kind line) = true
 needs_pass token.Join = true
 needs_pass (token.AsciiConstant value line) = true
+needs_pass (token.InnerLineEnd line) = true
 needs_pass e = false
 
 -- the second token needs no white space before it, where the first is the name of a macro
@@ -195,7 +196,7 @@ items_after lines before counted white es =
 
 -- the tokens that rule 1 makes of those after a token
 abbrev pub spaced_after : List (List ℕ) → Token → List Token → List Token
-spaced_after texts before es = with_white_space texts stage.Inside before (without_faults es)
+spaced_after texts before es = with_white_space texts stage.Inside before (clean_tokens es)
 
 -- what is before a position, if white space and faults are left out
 

@@ -2,7 +2,7 @@
 -- turn, so that it can be read, and proved, alone.
 use Rattle.std.specs.Prelude.{ℕ, ◌+◌, Bool, true, false, ◌==◌, nat_le, ◌&&◌, ◌||◌, not, ◌-◌}
 use Rattle.std.specs.Prelude.{if◌then◌else◌, codes, Option, None, Some, is_some}
-use Rattle.std.specs.Prelude.{List, [], ◌∷◌, ◌++◌, length, get_or}
+use Rattle.std.specs.Prelude.{List, [], ◌∷◌, ◌++◌, map, length, get_or}
 use Rattle.std.specs.List.{list_any}
 use Rattle.tangle_lines.specs.declared.origin.Origin.{Origin}
 use Rattle.tangle_lines.specs.Reading.{SourceLine, origin_at}
@@ -36,6 +36,17 @@ abbrev pub without_faults : List Token → List Token
 without_faults [] = []
 without_faults (token.Fault kind line ∷ es) = without_faults es
 without_faults (e ∷ es) = e ∷ without_faults es
+
+-- A line end inside a comment or a control text of a directive is white space, since the directive
+-- ends where the author ended it.
+
+abbrev pub white_inner_end : Token → Token
+white_inner_end (token.InnerLineEnd line) = token.White
+white_inner_end e = e
+
+-- the tokens without faults, and with white space for such line ends
+abbrev pub clean_tokens : List Token → List Token
+clean_tokens tokens = map white_inner_end (without_faults tokens)
 
 -- Rule 1: white space is put between an ASCII constant and another one, a word, a verbatim text, a
 -- full stop or a backslash that touch, in either order. The constant is written as a number, and a C
@@ -84,6 +95,8 @@ with_name_space texts [] = []
 with_name_space texts (token.White ∷ es) = token.White ∷ with_name_space texts es
 with_name_space texts (token.LineEnd line ∷ es) = token.LineEnd line ∷ with_name_space texts es
 with_name_space texts (token.Join ∷ es) = token.Join ∷ with_name_space texts es
+with_name_space texts (token.InnerLineEnd line ∷ es) =
+    token.InnerLineEnd line ∷ with_name_space texts es
 with_name_space texts (e ∷ es) = with_space_after texts e es
 
 -- Rule 2: each run of joins, white space and line ends that has a join is removed.
@@ -96,6 +109,7 @@ abbrev pub is_gap : Token → Bool
 is_gap token.Join = true
 is_gap token.White = true
 is_gap (token.LineEnd line) = true
+is_gap (token.InnerLineEnd line) = true
 is_gap _ = false
 
 abbrev pub has_join : List Token → Bool
@@ -318,7 +332,7 @@ with_needed_marks counted (x ∷ items) = x ∷ with_needed_marks counted items
 
 -- the tokens of a C part after rules 1 and 2
 abbrev pub part_tokens : List (List ℕ) → List Token → List Token
-part_tokens texts tokens = without_joins [] (with_spaces texts (without_faults tokens))
+part_tokens texts tokens = without_joins [] (with_spaces texts (clean_tokens tokens))
 
 -- The items of a C part whose head ends on this line. The origin of that line is counted first.
 abbrev pub part_items : List SourceLine → ℕ → List Token → List Item

@@ -1,9 +1,10 @@
 //! The entries of a C part, in one pass over its tokens. White space becomes a blank between two
-//! items of a line, and at the start of a line that continues another; other white space is dropped.
-//! A join removes the white space and the line ends around it: line ends are added at once, and
-//! removed again if a join follows in their gap. A blank goes between a word and an ASCII constant
-//! that touch, in either order, and between two constants that touch. A line mark follows each use
-//! and each `@h`. It also replaces a line end if a compiler would count another origin for the next
+//! items of a line, and at the start of a line that continues another; other white space is
+//! dropped. A line end inside a comment or a control text of a directive is white space. A join
+//! removes the white space and the line ends around it: line ends are added at once, and removed
+//! again if a join follows in their gap. A blank goes between a word and an ASCII constant that
+//! touch, in either order, and between two constants that touch. A line mark follows each use and
+//! each `@h`. It also replaces a line end if a compiler would count another origin for the next
 //! source line, except at the end of a continued line.
 ghost use Rattle.std.specs.Prelude.{◌≡◌, ◌≤◌, ◌<◌, ◌+◌, ◌^◌, ◌++◌, ◌∷◌, ◌&&◌, ◌||◌, [], map};
 ghost use Rattle.std.specs.Prelude.{List, max, if◌then◌else◌, true, false, None, take, flat_map};
@@ -584,7 +585,7 @@ fn add_token(
         ++ own_fault source.now.files source.now.lines token.now) }
 {
     match *token {
-        Token::White => {
+        Token::White | Token::InnerLineEnd(_) => {
             at.has_white = true;
             Ok(())
         }

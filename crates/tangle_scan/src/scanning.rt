@@ -53,9 +53,10 @@ fn gather(alloc: Global, source: &Source) -> Result<(WebBuilder, Vec<Occurrence>
 /// between a range of a piece and one of a macro.
 ///
 /// A C compiler that counts by the marks and line ends of a piece counts for each text the line
-/// that the text is on, except in stretches. A stretch begins at a line end inside a quoted text,
-/// where a join removed line ends, and at the end of a continued line if the count does not expect
-/// the next source line. It ends at the next mark, or at the next line end outside quoted texts.
+/// that the text is on, except in stretches. A stretch begins at a line end inside a quoted text or
+/// inside a comment or a control text of a directive, where a join removed line ends, and at the end
+/// of a continued line if the count does not expect the next source line. It ends at the next mark,
+/// or at the next other line end.
 ///
 /// A C compiler, which joins lines that end in a backslash, reads two items apart if the source
 /// keeps them apart.

@@ -19,7 +19,10 @@ use tangle_lines::{NoMemory, Source};
 fn is_gap(token: Token) -> bool
     ensures { result ≡ rules.is_gap token }
 {
-    matches!(token, Token::Join | Token::White | Token::LineEnd(_))
+    matches!(
+        token,
+        Token::Join | Token::White | Token::LineEnd(_) | Token::InnerLineEnd(_)
+    )
 }
 
 fn is_join(token: Token) -> bool
@@ -208,14 +211,14 @@ fn space(source: &Source, spaced: &mut Vec<Token>, tokens: &[Token]) -> Result<(
     Ok(())
 }
 
-/// Whether the pass that spaces a macro is needed for this token: a fault, a join or an ASCII
-/// constant.
+/// Whether the pass that spaces a macro is needed for this token: a fault, a join, an ASCII constant
+/// or a line end of a directive, which no macro has.
 fn needs_pass(token: Token) -> bool
     ensures { result ≡ passes.needs_pass token }
 {
     matches!(
         token,
-        Token::Fault(..) | Token::Join | Token::AsciiConstant(..)
+        Token::Fault(..) | Token::Join | Token::AsciiConstant(..) | Token::InnerLineEnd(_)
     )
 }
 

@@ -1,10 +1,11 @@
 -- Rules 1 to 3 keep all tokens other than white space, line ends, joins and faults, in their order.
 use Rattle.std.proofs.Common.{◌≡◌, ℕ, Bool, true, false, ◌&&◌, not, if◌then◌else◌, Option, Some, None, is_some}
-use Rattle.std.proofs.Common.{List, [], ◌∷◌, ◌++◌, flat_map, refl, ap, ◌∙◌}
+use Rattle.std.proofs.Common.{List, [], ◌∷◌, ◌++◌, map, flat_map, refl, ap, ◌∙◌}
 use Rattle.std.proofs.lemmas.Grind.{flat_map-append}
 use Rattle.tangle_lexer.specs.declared.tokens.Token.{Token}
 use Rattle.tangle_lexer.specs.declared.tokens.Token.TheVariants as token
 use Rattle.tangle_scan.specs.Rules.{is_open}
+use Rattle.tangle_scan.specs.Rules.{white_inner_end, clean_tokens}
 use Rattle.tangle_scan.specs.Rules.{without_faults, would_merge, with_spaces, may_follow_name, with_space_after}
 use Rattle.tangle_scan.specs.Rules.{with_name_space, is_gap, has_join, left_of_run, without_joins, part_tokens}
 use Rattle.tangle_scan.specs.Rules.{at_line_front, blanks, next_item, has_blank_at_line_end, is_name_part}
@@ -27,6 +28,11 @@ without_faults-kept [] = refl
 without_faults-kept (token.Fault kind line ∷ es) = without_faults-kept es
 without_faults-kept (e ∷ es) = ap (λ ts. keep e ++ ts) (without_faults-kept es)
 
+inner-kept : (es : List Token) → kept (map white_inner_end es) ≡ kept es
+inner-kept [] = refl
+inner-kept (token.InnerLineEnd line ∷ es) = inner-kept es
+inner-kept (e ∷ es) = ap (λ ts. keep e ++ ts) (inner-kept es)
+
 with_spaces-kept : (texts : List (List ℕ)) (es : List Token) → kept (with_spaces texts es) ≡ kept es
 with_spaces-kept texts [] = refl
 with_spaces-kept texts (e ∷ []) = refl
@@ -47,6 +53,7 @@ with_name_space-kept texts [] = refl
 with_name_space-kept texts (token.White ∷ es) = with_name_space-kept texts es
 with_name_space-kept texts (token.LineEnd line ∷ es) = with_name_space-kept texts es
 with_name_space-kept texts (token.Join ∷ es) = with_name_space-kept texts es
+with_name_space-kept texts (token.InnerLineEnd line ∷ es) = with_name_space-kept texts es
 with_name_space-kept texts (e ∷ es) = with_space_after-kept texts e es
 
 gap-gone : (e : Token) → is_gap e ≡ true → keep e ≡ []
@@ -111,8 +118,9 @@ without_front-kept (_ ∷ es) = refl
 pub part-kept : (texts : List (List ℕ)) (es : List Token) → kept (blanks texts None false (part_tokens texts es)) ≡ kept es
 part-kept texts es =
     blanks-kept texts None false (part_tokens texts es)
-    ∙ without_joins-kept [] (with_spaces texts (without_faults es)) refl
-    ∙ with_spaces-kept texts (without_faults es)
+    ∙ without_joins-kept [] (with_spaces texts (clean_tokens es)) refl
+    ∙ with_spaces-kept texts (clean_tokens es)
+    ∙ inner-kept (without_faults es)
     ∙ without_faults-kept es
 
 -- the tokens of a macro after rules 1 and 2

@@ -9,23 +9,25 @@ use Rattle.tangle_scan.specs.Rules.{without_joins, left_of_run, has_join, is_gap
 use Rattle.tangle_scan.specs.Rules.{blanks, is_name_part, macro_blanks}
 use Rattle.tangle_scan.specs.Passes.{without_joins_from}
 
--- a token other than white space, a line end, a join and a fault
+-- a token other than white space, a line end of any kind, a join and a fault
 
 abbrev pub is_solid : Token → Bool
 is_solid token.White = false
 is_solid (token.LineEnd line) = false
 is_solid token.Join = false
+is_solid (token.InnerLineEnd line) = false
 is_solid (token.Fault kind line) = false
 is_solid e = true
 
 pub solid : (e : Token) → (e ≡ token.White → ⊥) → ((line : ℕ) → e ≡ token.LineEnd line → ⊥) →
-    (e ≡ token.Join → ⊥) → ((kind : FaultKind) (line : ℕ) → e ≡ token.Fault kind line → ⊥) →
+    ((line : ℕ) → e ≡ token.InnerLineEnd line → ⊥) → (e ≡ token.Join → ⊥) → ((kind : FaultKind) (line : ℕ) → e ≡ token.Fault kind line → ⊥) →
     is_solid e ≡ true
-solid token.White white end join fault = absurd (white refl)
-solid (token.LineEnd line) white end join fault = absurd (end line refl)
-solid token.Join white end join fault = absurd (join refl)
-solid (token.Fault kind line) white end join fault = absurd (fault kind line refl)
-solid _ white end join fault = refl
+solid token.White white end inner join fault = absurd (white refl)
+solid (token.LineEnd line) white end inner join fault = absurd (end line refl)
+solid (token.InnerLineEnd line) white end inner join fault = absurd (inner line refl)
+solid token.Join white end inner join fault = absurd (join refl)
+solid (token.Fault kind line) white end inner join fault = absurd (fault kind line refl)
+solid _ white end inner join fault = refl
 
 -- a token other than white space and a line end, and rule 3 at such a token, in a C part and in a macro
 
