@@ -17,7 +17,6 @@ abbrev pub front : LineState
 front = record {
   include = include.AtStart;
   line = line.Empty;
-  line_if_joined = line.Empty;
   at_line_end = Ends;
 }
 
@@ -25,24 +24,42 @@ abbrev pub is_directive : LineOfC → Bool
 is_directive line.Directive = true
 is_directive _ = false
 
+-- the line has no item so far
+abbrev pub is_empty : LineOfC → Bool
+is_empty line.Directive = false
+is_empty line.Other = false
+is_empty _ = true
+
 -- the line after an item, which may be its first
 abbrev pub with_item : Bool → LineOfC → LineOfC
-with_item is_number_sign line.Empty = if is_number_sign then line.Directive else line.Other
-with_item is_number_sign l = l
+with_item is_number_sign line.Directive = line.Directive
+with_item is_number_sign line.Other = line.Other
+with_item is_number_sign _ = if is_number_sign then line.Directive else line.Other
 
 -- after an item; `inc` is how much of #include was read then
 abbrev pub after_item : IncludeState → Bool → Bool → LineState → LineState
 after_item inc is_number_sign is_backslash l = record {
   include = inc;
   line = with_item is_number_sign l.line;
-  line_if_joined = with_item is_number_sign l.line;
   at_line_end = if is_backslash then GoesOn else Ends;
 }
+
+-- the line after the end of a line, before its first item
+abbrev pub next_line : LineOfC → LineOfC
+next_line line.Directive = line.AfterDirective
+next_line line.Other = line.AfterOther
+next_line l = l
+
+-- the line after a join, which removes the line ends after the last item
+abbrev pub joined_line : LineOfC → LineOfC
+joined_line line.AfterDirective = line.Directive
+joined_line line.AfterOther = line.Other
+joined_line l = l
 
 -- The line of C after a line end: the line before goes on after a backslash that is directly before
 -- the line end, white space aside, and where a join removes the line end.
 abbrev pub line_after_end : AtLineEnd → LineOfC → LineOfC
-line_after_end Ends l = line.Empty
+line_after_end Ends l = next_line l
 line_after_end _ l = l
 
 -- a join removes all line ends after it, and a backslash is before the first one alone
@@ -52,19 +69,15 @@ at_next_line_end _ = Ends
 
 -- after a line end of the part, after which #include may begin
 abbrev pub after_line_end : LineState → LineState
-after_line_end l = record l {
+after_line_end l = record {
   include = include.AtStart;
   line = line_after_end l.at_line_end l.line;
   at_line_end = at_next_line_end l.at_line_end;
 }
 
--- after a join, which removes the line ends after the last item
 abbrev pub after_join : LineState → LineState
-after_join l = record l {
-  include = include.Elsewhere;
-  line = l.line_if_joined;
-  at_line_end = Removed;
-}
+after_join l =
+    record { include = include.Elsewhere; line = joined_line l.line; at_line_end = Removed }
 
 -- after a use or @h a line of C begins, but #include can begin on the next line at the earliest
 abbrev pub after_use : LineState

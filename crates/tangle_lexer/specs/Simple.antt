@@ -7,7 +7,6 @@ use Rattle.tangle_lexer.specs.declared.modes.Mode.TheVariants as mode
 use Rattle.tangle_lexer.specs.declared.modes.IncludeState.{IncludeState}
 use Rattle.tangle_lexer.specs.declared.modes.IncludeState.TheVariants as include
 use Rattle.tangle_lexer.specs.declared.modes.LineOfC.{LineOfC}
-use Rattle.tangle_lexer.specs.declared.modes.LineOfC.TheVariants as line
 use Rattle.tangle_lexer.specs.declared.modes.LineState.{LineState}
 use Rattle.tangle_lexer.specs.declared.simple.SimpleLexeme.{SimpleLexeme}
 use Rattle.tangle_lexer.specs.declared.simple.SimpleLexeme.TheVariants as simple
@@ -16,6 +15,7 @@ use Rattle.tangle_lexer.specs.declared.lexeme_kinds.LexemeKind.TheVariants as le
 use Rattle.tangle_text.specs.Bytes.{number_sign, holds, is_opener, is_word_byte}
 use Rattle.tangle_text.specs.Text.{Cell, byte_at}
 use Rattle.tangle_text.specs.Runs.{holds_plain}
+use Rattle.tangle_lexer.specs.LinesOfC.{is_empty}
 use Rattle.tangle_lexer.specs.Lexemes.{is_c_part}
 use Rattle.tangle_lexer.specs.CText.{kind_at}
 
@@ -51,10 +51,6 @@ is_c_text mode.Macro = true
 is_c_text _ = false
 
 -- runs
-
-abbrev pub is_empty : LineOfC → Bool
-is_empty line.Empty = true
-is_empty _ = false
 
 -- Neither #include nor a directive begins with this byte, and #include was not begun on its line.
 abbrev pub is_apart : IncludeState → LineOfC → Option ℕ → Bool

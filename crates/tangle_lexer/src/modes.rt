@@ -35,8 +35,12 @@ pub enum IncludeState {
 /// What a line of C is, by its first item.
 #[derive(Clone, Copy)]
 pub enum LineOfC {
-    /// The line has no item so far.
+    /// The line has no item so far, and is the first one of the part or of those after a use or `@h`.
     Empty,
+    /// The line has no item so far. If a join follows, it is the directive before it.
+    AfterDirective,
+    /// The line has no item so far. If a join follows, it is the other line before it.
+    AfterOther,
     /// A line of the preprocessor: its first item is `#`.
     Directive,
     Other,
@@ -54,16 +58,46 @@ pub enum AtLineEnd {
     Removed,
 }
 
+impl LineOfC {
+    /// The line after the end of this line.
+    #[inline(always)]
+    fn next(self) -> Self
+        ensures { result ≡ lines_of_c.next_line self }
+    {
+        match self {
+            LineOfC::Directive => LineOfC::AfterDirective,
+            LineOfC::Other => LineOfC::AfterOther,
+            line => line,
+        }
+    }
+
+    /// The line after a join, which removes the line ends after the last item.
+    fn joined(self) -> Self
+        ensures { result ≡ lines_of_c.joined_line self }
+    {
+        match self {
+            LineOfC::AfterDirective => LineOfC::Directive,
+            LineOfC::AfterOther => LineOfC::Other,
+            line => line,
+        }
+    }
+
+    /// Whether the line has no item so far.
+    #[inline(always)]
+    pub fn is_empty(self) -> bool
+        ensures { result ≡ lines_of_c.is_empty self }
+    {
+        !matches!(self, LineOfC::Directive | LineOfC::Other)
+    }
+}
+
 /// How a line of C was read so far. A line of C begins at the front of a part, after a line end
 /// where the line before does not go on, and after a use or `@h`, which a line mark follows.
 #[derive(Clone, Copy)]
 pub struct LineState {
     /// How much of `#include` was read on the line.
     pub include: IncludeState,
-    /// What the line of C is.
     pub line: LineOfC,
-    /// What it is if a join follows, which removes the line ends after the last item.
-    pub line_if_joined: LineOfC,
     pub at_line_end: AtLineEnd,
 }
 
@@ -75,7 +109,6 @@ impl LineState {
         LineState {
             include: IncludeState::AtStart,
             line: LineOfC::Empty,
-            line_if_joined: LineOfC::Empty,
             at_line_end: AtLineEnd::Ends,
         }
     }
@@ -86,9 +119,10 @@ impl LineState {
         ensures { result ≡ lines_of_c.after_item include is_number_sign is_backslash self }
     {
         let line = match self.line {
-            LineOfC::Empty if is_number_sign => LineOfC::Directive,
-            LineOfC::Empty => LineOfC::Other,
-            line => line,
+            LineOfC::Directive => LineOfC::Directive,
+            LineOfC::Other => LineOfC::Other,
+            _ if is_number_sign => LineOfC::Directive,
+            _ => LineOfC::Other,
         };
         let at_line_end = if is_backslash {
             AtLineEnd::GoesOn
@@ -98,7 +132,6 @@ impl LineState {
         LineState {
             include,
             line,
-            line_if_joined: line,
             at_line_end,
         }
     }
@@ -109,7 +142,7 @@ impl LineState {
         ensures { result ≡ lines_of_c.after_line_end self }
     {
         let (line, at_line_end) = match self.at_line_end {
-            AtLineEnd::Ends => (LineOfC::Empty, AtLineEnd::Ends),
+            AtLineEnd::Ends => (self.line.next(), AtLineEnd::Ends),
             AtLineEnd::GoesOn => (self.line, AtLineEnd::Ends),
             AtLineEnd::Removed => (self.line, AtLineEnd::Removed),
         };
@@ -117,7 +150,6 @@ impl LineState {
             include: IncludeState::AtStart,
             line,
             at_line_end,
-            ..self
         }
     }
 
@@ -127,9 +159,8 @@ impl LineState {
     {
         LineState {
             include: IncludeState::Elsewhere,
-            line: self.line_if_joined,
+            line: self.line.joined(),
             at_line_end: AtLineEnd::Removed,
-            ..self
         }
     }
 }
@@ -160,6 +191,7 @@ impl LexerState {
     }
 
     /// This state with `line` replaced.
+    #[inline(always)]
     pub fn with_line(self, line: LineState) -> Self
         ensures { result ≡ lexemes.with_line line self }
     {
@@ -167,6 +199,7 @@ impl LexerState {
     }
 
     /// This state after an item that is no part of `#include` and ends in no backslash.
+    #[inline(always)]
     pub fn elsewhere(self) -> Self
         ensures { result ≡ lexemes.elsewhere self }
     {

@@ -9,7 +9,7 @@ ghost use Rattle.tangle_lexer.specs.Simple.{IsSimple, simple_kind};
 ghost use Rattle.tangle_lexer.specs.Simple as spec;
 ghost use Rattle.tangle_lexer.specs.Steps.{c_lexeme};
 
-use crate::modes::{IncludeState, LexerState, LineOfC, LineState, Mode};
+use crate::modes::{IncludeState, LexerState, LineState, Mode};
 use crate::steps::{line_end, sign, white_space, word};
 use crate::tokens::Token;
 use std::alloc::AllocError;
@@ -90,9 +90,7 @@ fn begins_run(state: LexerState, simple: SimpleLexeme, byte: Option<u8>) -> bool
         && matches!(simple, SimpleLexeme::Word | SimpleLexeme::Sign)
         && match state.line.include {
             IncludeState::AtStart => !holds(b'#', byte),
-            IncludeState::Elsewhere => {
-                !(matches!(state.line.line, LineOfC::Empty) && holds(b'#', byte))
-            }
+            IncludeState::Elsewhere => { !(state.line.line.is_empty() && holds(b'#', byte)) }
             _ => false,
         }
 }

@@ -12,7 +12,7 @@ use Rattle.tangle_lines.specs.Reading.{SourceLine, SourceRead, origin_at}
 use Rattle.tangle_lexer.specs.Steps.{all_tokens}
 use Rattle.tangle_scan.specs.Web.{WebRead, BlockKind, blocks}
 use Rattle.tangle_scan.specs.Web.BlockKind.{OfMacro, OfPiece}
-use Rattle.tangle_scan.specs.Rules.{texts_of, without_faults, with_spaces, has_join, map_runs}
+use Rattle.tangle_scan.specs.Rules.{texts_of, without_faults, with_spaces, is_gap, has_join, map_runs}
 use Rattle.tangle_scan.specs.Rules.{is_continued, at_line_front}
 use Rattle.tangle_scan.specs.Rules.{next_line, same_origin, span_item}
 
@@ -55,6 +55,11 @@ has_line_end (token.LineEnd line ∷ es) = true
 has_line_end (token.InnerLineEnd line ∷ es) = true
 has_line_end (e ∷ es) = has_line_end es
 
+-- joins, white space and line ends, also those that are white space in a directive
+abbrev pub is_any_gap : Token → Bool
+is_any_gap (token.InnerLineEnd line) = true
+is_any_gap e = is_gap e
+
 -- what rule 2 leaves of a run, with a join instead of a run with line ends that the rule removes
 abbrev pub left_or_join : List Token → List Token
 left_or_join run = if has_join run then (if has_line_end run then token.Join ∷ [] else []) else run
@@ -62,7 +67,7 @@ left_or_join run = if has_join run then (if has_line_end run then token.Join ∷
 -- the tokens of a C part after rules 1 and 2, with a join where line ends were removed
 abbrev pub tokens_and_joins : List (List ℕ) → List Token → List Token
 tokens_and_joins texts tokens =
-    map_runs left_or_join [] (with_spaces texts (without_faults tokens))
+    map_runs is_any_gap left_or_join [] (with_spaces texts (without_faults tokens))
 
 -- the next source line is the one that the count expects, or there is none
 abbrev pub is_expected : List SourceLine → Origin → ℕ → Bool

@@ -77,13 +77,12 @@ is_skipped stage.Front token.White = true
 is_skipped stage.Front (token.LineEnd line) = true
 is_skipped at e = false
 
--- a fault, a join, an ASCII constant or a line end of a directive: without them rules 1 and 2 change
--- at most the front of a macro
+-- a fault, a join or an ASCII constant: without them rules 1 and 2 change at most the front of a
+-- macro
 abbrev pub needs_pass : Token → Bool
 needs_pass (token.Fault kind line) = true
 needs_pass token.Join = true
 needs_pass (token.AsciiConstant value line) = true
-needs_pass (token.InnerLineEnd line) = true
 needs_pass e = false
 
 -- the second token needs no white space before it, where the first is the name of a macro

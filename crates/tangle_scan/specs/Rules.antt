@@ -95,8 +95,6 @@ with_name_space texts [] = []
 with_name_space texts (token.White ∷ es) = token.White ∷ with_name_space texts es
 with_name_space texts (token.LineEnd line ∷ es) = token.LineEnd line ∷ with_name_space texts es
 with_name_space texts (token.Join ∷ es) = token.Join ∷ with_name_space texts es
-with_name_space texts (token.InnerLineEnd line ∷ es) =
-    token.InnerLineEnd line ∷ with_name_space texts es
 with_name_space texts (e ∷ es) = with_space_after texts e es
 
 -- Rule 2: each run of joins, white space and line ends that has a join is removed.
@@ -109,7 +107,6 @@ abbrev pub is_gap : Token → Bool
 is_gap token.Join = true
 is_gap token.White = true
 is_gap (token.LineEnd line) = true
-is_gap (token.InnerLineEnd line) = true
 is_gap _ = false
 
 abbrev pub has_join : List Token → Bool
@@ -117,18 +114,19 @@ has_join [] = false
 has_join (token.Join ∷ es) = true
 has_join (e ∷ es) = has_join es
 
--- Each run of joins, white space and line ends is replaced by what `f` gives for it. `run` is the
--- part of the first run that is before this list.
-abbrev pub map_runs : (List Token → List Token) → List Token → List Token → List Token
-map_runs f run [] = f run
-map_runs f run (e ∷ es) =
-    if is_gap e then map_runs f (run ++ e ∷ []) es else f run ++ e ∷ map_runs f [] es
+-- Each run of tokens that pass the test is replaced by what `f` gives for it. `run` is the part of
+-- the first run that is before this list.
+abbrev pub map_runs : (Token → Bool) → (List Token → List Token) → List Token → List Token
+    → List Token
+map_runs test f run [] = f run
+map_runs test f run (e ∷ es) =
+    if test e then map_runs test f (run ++ e ∷ []) es else f run ++ e ∷ map_runs test f [] es
 
 abbrev pub left_of_run : List Token → List Token
 left_of_run run = if has_join run then [] else run
 
 abbrev pub without_joins : List Token → List Token → List Token
-without_joins run es = map_runs left_of_run run es
+without_joins run es = map_runs is_gap left_of_run run es
 
 -- Lines that a C compiler joins. Before it reads tokens, it takes out each backslash with a line
 -- feed directly after it. So a line is continued by the next one if its last item is a sign or a

@@ -19,10 +19,7 @@ use tangle_lines::{NoMemory, Source};
 fn is_gap(token: Token) -> bool
     ensures { result ≡ rules.is_gap token }
 {
-    matches!(
-        token,
-        Token::Join | Token::White | Token::LineEnd(_) | Token::InnerLineEnd(_)
-    )
+    matches!(token, Token::Join | Token::White | Token::LineEnd(_))
 }
 
 fn is_join(token: Token) -> bool
@@ -211,14 +208,14 @@ fn space(source: &Source, spaced: &mut Vec<Token>, tokens: &[Token]) -> Result<(
     Ok(())
 }
 
-/// Whether the pass that spaces a macro is needed for this token: a fault, a join, an ASCII constant
-/// or a line end of a directive, which no macro has.
+/// Whether the pass that spaces a macro is needed for this token: a fault, a join or an ASCII
+/// constant.
 fn needs_pass(token: Token) -> bool
     ensures { result ≡ passes.needs_pass token }
 {
     matches!(
         token,
-        Token::Fault(..) | Token::Join | Token::AsciiConstant(..) | Token::InnerLineEnd(_)
+        Token::Fault(..) | Token::Join | Token::AsciiConstant(..)
     )
 }
 

@@ -190,17 +190,17 @@ sign-apart _ l b h = refl
 -- the first item of a line stays its first
 
 item-stays : (first b : Bool) (l : LineOfC) → with_item b (with_item first l) ≡ with_item first l
-item-stays true b line.Empty = refl
-item-stays false b line.Empty = refl
 item-stays first b line.Directive = refl
 item-stays first b line.Other = refl
+item-stays true b _ = refl
+item-stays false b _ = refl
 
 item-apart : (inc : IncludeState) (l : LineOfC) (b : Option ℕ)
     → is_apart inc l b ≡ true → with_item (holds number_sign b) l ≡ with_item false l
 item-apart include.AtStart l b h = rw (not-true _ h) refl
-item-apart include.Elsewhere line.Empty b h = rw (not-true _ h) refl
 item-apart include.Elsewhere line.Directive b h = refl
 item-apart include.Elsewhere line.Other b h = refl
+item-apart include.Elsewhere _ b h = rw (not-true _ h) refl
 item-apart _ l b h = cc
 
 kind-apart : (p : SimpleLexeme) (s : LexerState) (text : List Cell)

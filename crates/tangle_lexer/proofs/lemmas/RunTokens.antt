@@ -175,7 +175,7 @@ in_part l occurrences last = record {
   occurrences = occurrences;
   last_line = last;
   mode = mode.CPart;
-  line = record { include = include.Elsewhere; line = l; line_if_joined = l; at_line_end = Ends };
+  line = record { include = include.Elsewhere; line = l; at_line_end = Ends };
 }
 
 -- these tokens are read from a text on, and no occurrences, up to the front of `rest`

@@ -21,7 +21,7 @@ use Rattle.tangle_scan.specs.Rules.{texts_of, without_faults, would_merge, with_
 use Rattle.tangle_scan.specs.Rules.{left_of_run, part_tokens, span_item}
 use Rattle.tangle_scan.specs.Rules.{is_continued, at_line_front, blanks, next_line, same_origin, part_items}
 use Rattle.tangle_scan.specs.LineTruth.{is_expected, counted_after_line_end}
-use Rattle.tangle_scan.specs.LineTruth.{CountedItem, counted_items, has_line_end, left_or_join, locations}
+use Rattle.tangle_scan.specs.LineTruth.{is_any_gap, CountedItem, counted_items, has_line_end, left_or_join, locations}
 use Rattle.tangle_scan.specs.LineTruth.{part_locations, IsOwn, IsAtItsLine}
 use Rattle.tangle_scan.specs.Passes.{counted_after_token, items_by_origin}
 use Rattle.tangle_scan.proofs.laws.TokenSteps.{line_past, Flows}
@@ -83,10 +83,10 @@ inner-join (_ ∷ run) = inner-join run
 
 -- all tokens of a run are joins, white space and line ends
 abbrev AreGaps : List Token → Type 0
-AreGaps run = list_all is_gap run ≡ true
+AreGaps run = list_all is_any_gap run ≡ true
 
-gaps-push : (run : List Token) (e : Token) → AreGaps run → is_gap e ≡ true → AreGaps (run ++ e ∷ [])
-gaps-push run e gaps gap = rw (list_all-append is_gap run (e ∷ []), gaps, gap) refl
+gaps-push : (run : List Token) (e : Token) → AreGaps run → is_any_gap e ≡ true → AreGaps (run ++ e ∷ [])
+gaps-push run e gaps gap = rw (list_all-append is_any_gap run (e ∷ []), gaps, gap) refl
 
 -- the line after the line ends of a run
 abbrev line_after_tokens : ℕ → List Token → ℕ
@@ -217,7 +217,7 @@ module _ (lines : List SourceLine) where
 
   -- one token other than a join, white space and a line end, before others
   first-true : (e : Token) (es fs gs : List Token)
-      → is_gap e ≡ false → AreTrue es fs gs → AreTrue (e ∷ es) (e ∷ fs) (e ∷ gs)
+      → is_any_gap e ≡ false → AreTrue es fs gs → AreTrue (e ∷ es) (e ∷ fs) (e ∷ gs)
   first-true token.Join es fs gs gap next before counted stretch line here flows = cc
   first-true token.White es fs gs gap next before counted stretch line here flows = cc
   first-true (token.LineEnd at) es fs gs gap next before counted stretch line here flows = cc
@@ -285,16 +285,16 @@ module _ (lines : List SourceLine) where
   -- rule 2 for all tokens of a part
   abbrev RunsAreTrue : List Token → List Token → Type 0
   RunsAreTrue run es =
-      AreTrue (run ++ es) (map_runs left_of_run (map white_inner_end run) (map white_inner_end es))
-      (map_runs left_or_join run es)
+      AreTrue (run ++ es) (map_runs is_gap left_of_run (map white_inner_end run) (map white_inner_end es))
+      (map_runs is_any_gap left_or_join run es)
 
   run-pushed : (run : List Token) (e : Token) (es : List Token) → RunsAreTrue (run ++ e ∷ []) es
       → AreTrue (run ++ e ∷ es)
-      (map_runs left_of_run (map white_inner_end run ++ white_inner_end e ∷ []) (map white_inner_end es))
-      (map_runs left_or_join (run ++ e ∷ []) es)
+      (map_runs is_gap left_of_run (map white_inner_end run ++ white_inner_end e ∷ []) (map white_inner_end es))
+      (map_runs is_any_gap left_or_join (run ++ e ∷ []) es)
   run-pushed run e es h =
-      let left : List Token → List Token = λ r. map_runs left_of_run r (map white_inner_end es) in
-      let right : List Token = map_runs left_or_join (run ++ e ∷ []) es in
+      let left : List Token → List Token = λ r. map_runs is_gap left_of_run r (map white_inner_end es) in
+      let right : List Token = map_runs is_any_gap left_or_join (run ++ e ∷ []) es in
       subst (λ ts. AreTrue ts (left (map white_inner_end run ++ white_inner_end e ∷ [])) right)
       (append_assoc run (e ∷ []) es)
       (subst (λ r. AreTrue ((run ++ e ∷ []) ++ es) (left r) right) (map-append white_inner_end run (e ∷ [])) h)
@@ -318,8 +318,8 @@ module _ (lines : List SourceLine) where
       (map_runs-true (run ++ token.InnerLineEnd at ∷ []) es (gaps-push run (token.InnerLineEnd at) gaps refl))
       before counted stretch line here flows
   map_runs-true run (e ∷ es) gaps before counted stretch line here flows =
-      let left : List Token = map_runs left_of_run [] (map white_inner_end es) in
-      let right : List Token = map_runs left_or_join [] es in
+      let left : List Token = map_runs is_gap left_of_run [] (map white_inner_end es) in
+      let right : List Token = map_runs is_any_gap left_or_join [] es in
       run-true run (e ∷ es) (e ∷ left) (e ∷ right) gaps (first-true e es left right refl (map_runs-true [] es refl))
       before counted stretch line here flows
 

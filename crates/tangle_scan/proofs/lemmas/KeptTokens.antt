@@ -14,6 +14,7 @@ use Rattle.tangle_scan.specs.Rules.{macro_blanks, without_front_gaps, macro_toke
 -- a token that the rules keep, as a list
 abbrev pub keep : Token → List Token
 keep (token.Fault kind line) = []
+keep (token.InnerLineEnd line) = []
 keep e = if is_gap e then [] else e ∷ []
 
 abbrev pub kept : List Token → List Token
@@ -53,11 +54,11 @@ with_name_space-kept texts [] = refl
 with_name_space-kept texts (token.White ∷ es) = with_name_space-kept texts es
 with_name_space-kept texts (token.LineEnd line ∷ es) = with_name_space-kept texts es
 with_name_space-kept texts (token.Join ∷ es) = with_name_space-kept texts es
-with_name_space-kept texts (token.InnerLineEnd line ∷ es) = with_name_space-kept texts es
 with_name_space-kept texts (e ∷ es) = with_space_after-kept texts e es
 
 gap-gone : (e : Token) → is_gap e ≡ true → keep e ≡ []
 gap-gone (token.Fault kind line) h = refl
+gap-gone (token.InnerLineEnd line) h = refl
 gap-gone _ h = cc
 
 left-kept : (run : List Token) → kept run ≡ [] → kept (left_of_run run) ≡ []

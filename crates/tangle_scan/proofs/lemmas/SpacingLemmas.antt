@@ -79,10 +79,6 @@ name-spaced : (texts : List (List ℕ)) (es : List Token)
     ≡ with_white_space texts stage.BeforeName token.White es
 name-spaced texts [] = refl
 name-spaced texts (token.White ∷ es) = ap (λ t. token.White ∷ t) (name-spaced texts es)
-name-spaced texts (token.InnerLineEnd line ∷ es) =
-    let end = token.InnerLineEnd line in
-    rw (after-gap texts stage.Inside end es refl, after-gap texts stage.BeforeName end es refl)
-    (ap (λ t. token.InnerLineEnd line ∷ t) (name-spaced texts es))
 name-spaced texts (token.LineEnd line ∷ es) =
     let end = token.LineEnd line in
     rw (after-gap texts stage.Inside end es refl, after-gap texts stage.BeforeName end es refl)
@@ -152,7 +148,6 @@ unchanged-without_joins : (gap es : List Token)
     → has_join gap ≡ false → list_any needs_pass es ≡ false → without_joins gap es ≡ gap ++ es
 unchanged-without_joins gap [] h k = rw h (sym (append-nil gap))
 unchanged-without_joins gap (token.Join ∷ es) h k = cc
-unchanged-without_joins gap (token.InnerLineEnd line ∷ es) h k = cc
 unchanged-without_joins gap (token.White ∷ es) h k =
     unchanged-without_joins (gap ++ token.White ∷ []) es (has_join-push gap token.White ∙ rw h refl) k
     ∙ append_assoc gap (token.White ∷ []) es
@@ -182,7 +177,6 @@ named-stays texts [] h k = refl
 named-stays texts (token.White ∷ es) h k = named-stays texts es h k
 named-stays texts (token.LineEnd line ∷ es) h k = named-stays texts es h k
 named-stays texts (token.Join ∷ es) h k = cc
-named-stays texts (token.InnerLineEnd line ∷ es) h k = cc
 named-stays texts (e ∷ es) h k = name-stays texts e es k
 
 pub unchanged-macro : (texts : List (List ℕ)) (es : List Token)
