@@ -154,7 +154,7 @@ MISTAKEN = {
     'a rule is another one': (
         'tangle_names', 'specs', 'Names.antt', '-- the name begins with', '-- the name ends with'),
     'a function has another name': (
-        'tangle_scan', 'code', 'spacing.rt', 'fn may_follow_name', 'fn may_come_next'),
+        'tangle_scan', 'code', 'macro_items.rt', 'fn may_follow_name', 'fn may_come_next'),
 }
 
 

@@ -10,7 +10,6 @@ mod macro_items;
 mod parts;
 mod pieces;
 mod scanning;
-mod spacing;
 mod touching;
 mod views;
 mod web_builder;

@@ -196,20 +196,9 @@ pub(crate) fn line_end_item(
     }
 }
 
-/// The blank before an item, if there is white space and it is kept.
-#[inline(always)]
-pub(crate) fn blank(keeps_white: bool, has_white: bool) -> Option<Item>
-    ensures { option_to_list result ≡ (if keeps_white && has_white then item.Blank ∷ [] else []) }
-{
-    if keeps_white && has_white {
-        return Some(Item::Blank);
-    }
-    None
-}
-
 /// The item for a span of this kind.
 #[inline(always)]
-pub(crate) fn span_item(kind: SpanKind, span: Span) -> Item
+fn span_item(kind: SpanKind, span: Span) -> Item
     ensures { result ≡ rules.span_item kind span }
 {
     match kind {
@@ -291,19 +280,8 @@ pub(crate) fn token_items(source: &Source, counted: CountedOrigin, token: Token)
     }
 }
 
-/// Adds an item, if there is one.
-// It is inlined, so that no item is made where the caller knows that there is none.
-#[inline(always)]
-pub(crate) fn push_some(items: &mut Vec<Item>, item: Option<Item>) -> Result<(), NoMemory>
-    ensures { OnOk result (items.new.items ≡ items.old.items ++ option_to_list item) }
-{
-    if let Some(item) = item {
-        items.push(item)?;
-    }
-    Ok(())
-}
-
 /// Adds an item as an entry, if there is one.
+// It is inlined, so that no item is made where the caller knows that there is none.
 #[inline(always)]
 fn push_entry(entries: &mut Vec<Entry>, item: Option<Item>) -> Result<(), NoMemory>
     ensures { OnOk result (entries.new.items

@@ -11,7 +11,7 @@ ghost use Rattle.tangle_scan.specs.Entries.{RunsAreInRange};
 ghost use Rattle.tangle_scan.specs.Rules.{texts_of};
 ghost use Rattle.tangle_scan.specs.WebBuilder.{nothing, builder_read, builder_with};
 
-use crate::web_builder::{MacroBuffer, WebBuilder};
+use crate::web_builder::WebBuilder;
 use crate::webs::Web;
 use std::alloc::Global;
 use tangle_lexer::{LexerBuffers, Occurrence, first_state, next_block};
@@ -27,7 +27,6 @@ fn gather(alloc: Global, source: &Source) -> Result<(WebBuilder, Vec<Occurrence>
         (λ r. r.1.items ≡ map (occurrence_of source.now.lines) (all_occurrences source.now.lines)) }
 {
     let mut builder = WebBuilder::new(alloc);
-    let mut macro_buffer = MacroBuffer::new(alloc);
     let mut buffers = LexerBuffers {
         tokens: Vec::new(alloc),
         occurrences: Vec::new(alloc),
@@ -40,7 +39,7 @@ fn gather(alloc: Global, source: &Source) -> Result<(WebBuilder, Vec<Occurrence>
     // One block of tokens is held at a time, in buffers that each block uses again.
     while let Some(head) = next_head {
         (state, next_head) = next_block(source, &mut buffers, &mut reader, state)?;
-        builder.add_block(alloc, source, &mut macro_buffer, head, &buffers.tokens)?;
+        builder.add_block(alloc, source, head, &buffers.tokens)?;
     }
     Ok((builder, buffers.occurrences))
 }
