@@ -244,15 +244,15 @@ pub(crate) fn macro_items(
     ensures { IfOk result (λ items. items.items
         ≡ rules.macro_items (texts_of source.now.lines) tokens.now) }
 {
-    let mut items = Vec::with_capacity(alloc, tokens.len())?;
+    // Nothing is left of the gap before the first item.
+    let (_, mut left) = read_gap(tokens);
+    let mut items = Vec::with_capacity(alloc, left.len())?;
     let mut at = MacroState {
         is_first: true,
         item: None,
         in_name: true,
         gap: no_gap(),
     };
-    // Nothing is left of the gap before the first item.
-    let (_, mut left) = read_gap(tokens);
     while let [token, rest @ ..] = left {
         let (gap, next) = gap_after(source, at.is_first, *token, rest);
         at = add_token(source, &mut items, at, *token, gap)?;
