@@ -76,7 +76,7 @@ CALLS = {
     'expand_next': ['tangle_affected/keeping.rt: expand_list'],
     'expand': ['tangle_affected/keeping.rt: expand_next', 'tangle_graph/store.rt: expand'],
     'expansion_of': ['tangle_expansion/expanding.rt: expand'],
-    'plan_node': ['tangle_graph/bodies.rt: body_after'],
+    'make': ['tangle_graph/bodies.rt: body_after'],
     'write_text_after': ['tangle_expansion/writing.rt: write_text_after', 'tangle_expansion/writing.rt: write_text',
                          'tangle_expansion/outputs.rt: write_file'],
     'write_text': [],
