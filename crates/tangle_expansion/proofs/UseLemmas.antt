@@ -1,26 +1,17 @@
 -- The uses of a plan, one after another, and the plan filled with their symbols.
-use Rattle.std.proofs.Common.{◌≡◌, ℕ, ◌+◌, ◌<◌, ◌≤◌, List, [], ◌∷◌, ◌++◌, map, drop, length, get_or}
-use Rattle.std.proofs.Common.{refl, ap, append_assoc, append-nil, arith}
+use Rattle.std.proofs.Common.{◌≡◌, ℕ, ◌≤◌, List, [], ◌∷◌, ◌++◌, map, drop, length}
+use Rattle.std.proofs.Common.{refl, ap, append-nil, arith}
 use Rattle.std.specs.Prelude.{Option, unwrap_or}
-use Rattle.std.proofs.lemmas.List.{map-append, drop_all}
+use Rattle.std.proofs.lemmas.List.{drop_all}
 use Rattle.std.proofs.lemmas.Grind.{flat_map-append}
 use Rattle.tangle_files.specs.Bytes.{space}
 use Rattle.tangle_plans.specs.Shapes.{Title}
 use Rattle.tangle_plans.specs.Flat.{Symbol, Byte}
 use Rattle.tangle_plans.specs.Meaning.{bytes_between, plan_flat, own_symbols, pieces_after_step, marks_after_step}
 use Rattle.tangle_plans.specs.Meaning.{bytes_after_step}
-use Rattle.tangle_plans.specs.Slots.{Own, slots, filled_slot, filled, step_uses, uses_of}
+use Rattle.tangle_plans.specs.Slots.{Own, slots, filled_slot, filled, uses_of}
 use Rattle.tangle_plans.specs.declared.steps.Step.{Step}
 use Rattle.tangle_plans.specs.declared.steps.Step.TheVariants as step
-use Rattle.tangle_plans.proofs.DropLemmas.{drop_at}
-
-pub uses_next : {X : Type 0} (symbols : ℕ → X) (plan seen : List Step) (i : ℕ) (s : Step) (done : List X)
-    → seen ≡ plan → i < length seen → s ≡ get_or seen i s
-    → done ++ map symbols (uses_of (drop i plan)) ≡ map symbols (uses_of plan)
-    → (done ++ map symbols (step_uses s)) ++ map symbols (uses_of (drop (i + 1) plan)) ≡ map symbols (uses_of plan)
-uses_next symbols plan seen i s done same h is e =
-    let next : drop i plan ≡ s ∷ drop (i + 1) plan = rw same at (drop_at seen i s h is) in
-    rw (append_assoc, ← map-append) (rw next at e)
 
 pub uses_end : {X : Type 0} (symbols : ℕ → X) (plan seen : List Step) (i : ℕ) (done : List X)
     → seen ≡ plan → length seen ≤ i
