@@ -2,7 +2,6 @@
 use Rattle.std.proofs.Common.{◌≡◌, ◌∙◌, ◌<◌, ◌≤◌, ◌+◌, ◌⊎◌, ℕ, suc, min, List, [], ◌∷◌, length, get_or, refl, ap, sym}
 use Rattle.std.proofs.Common.{subst, inl, inr, arith}
 use Rattle.std.specs.Prelude.{Contains, All, sum_by}
-use Rattle.std.proofs.lemmas.List.{get_or_default}
 use Rattle.std.proofs.lemmas.List.Elements.{All-contains}
 use Rattle.std.proofs.lemmas.List.Sums.{sum_by-cons}
 use Rattle.digraph.specs.Graph.{Graph, HasUse, row_at}
@@ -30,7 +29,6 @@ use Rattle.tangle_graph.proofs.LimitLemmas.{shape_size}
 use Rattle.tangle_graph.proofs.MeasureLemmas.{pieces_depth-met}
 use Rattle.tangle_graph.proofs.NodeLemmas.{title_inside}
 use Rattle.tangle_graph.proofs.WeightLemmas.{weight_counted}
-use Rattle.tangle_graph.proofs.OrderLemmas.{among}
 
 one_level : 1 ≤ levels
 unfolding levels
@@ -46,16 +44,6 @@ sum_by_same f g (x ∷ xs) same =
       same x (here x xs),
       sum_by_same f g xs (λ y c. same y (there x xs y c)),
     )
-
--- each known value is within the cap, if all values are
-pub measured_capped : (value : ℕ → ℕ) (cap : ℕ) (values nodes : List ℕ) → ((n : ℕ) → value n ≤ cap)
-    → AreMeasured value cap values nodes → All (λ v. v ≤ cap) values
-measured_capped value cap values nodes within is n d low =
-    let read = get_or_default values n d 0 low in
-    elim (among nodes n) [
-      | inl c ↦ (let e = is.listed n c in let h = within n in omega (arith, read, e, h))
-      | inr none ↦ (let e = is.unlisted n low none in omega (arith, read, e))
-    ]
 
 module _ (web : WebRead) (table : TableRead) (rows : List (List ℕ)) (uses : Graph)
     (graph : IsGraphOf web table rows uses) (done : List Node) (n : Node) (low : n < length uses)
