@@ -1,10 +1,10 @@
-# 4,000 generated webs (and one that is too large), short webs, long lines, webs cut after every
-# byte, in a folder and by the edits of a session, 4,000 projects with scripts (and one that is too
-# large), each of which sets the marks and has a list of edits, and 500 webs of which edits move the
-# borders of runs, against the reference tangler (tests/compare.py).
+# 4,000 generated webs, short webs, long lines, webs cut after every byte, in a folder and by the
+# edits of a session, 4,000 projects with scripts, each of which sets the marks and has a list of
+# edits, and 500 webs of which edits move the borders of runs, against the reference tangler
+# (tests/compare.py).
 
 test_comparison() {
-    run_python 'generated webs' compare.py generated "$temporary/ctangle" 0 4001
+    run_python 'generated webs' compare.py generated "$temporary/ctangle" 0 4000
     run_python 'short webs' compare.py short "$temporary/ctangle" 50
     run_python 'long lines' compare.py long_lines "$temporary/ctangle"
 }
@@ -19,7 +19,7 @@ test_cuts() {
 
 test_scripts() {
     find_retangle scripts || return
-    run_python scripts compare.py scripts "$retangle" 0 4001
+    run_python scripts compare.py scripts "$retangle" 0 4000
     run_python 'borders of runs' compare.py borders "$retangle" 0 500
     run_python 'edits of long lines' compare.py edited_long_lines "$retangle"
 }

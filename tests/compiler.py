@@ -7,9 +7,10 @@ usage: compiler.py CTANGLE TOP        TOP is the folder of the repository
 - tests/compiler/NAME: the list for in/a.w, less that of an empty file, is the file macros. Or what
   the compiler reads of its C are the tokens in the file tokens. A program is compiled and run, with
   and without its change file if it has one, and prints the file printed.
-- Generated webs: each macro is also written on one line, with one space wherever the web keeps two
-  items apart. The compiler's lists of these lines and of what ctangle makes have the same macros,
-  of the same C tokens. The lines are made from what the web is made of, and not from any output.
+- Generated webs: each macro, or each line for the preprocessor, is also written on one line, with
+  one space wherever the web keeps two items apart. The compiler's lists of these lines and of what
+  ctangle makes have the same macros, of the same C tokens; or it reads the same tokens of both. The
+  lines are made from what the web is made of, and not from any output.
 
 The last line is 'N passed, M failed'.
 """
@@ -21,6 +22,7 @@ import tempfile
 from collections import Counter
 
 ctangle, top = (os.path.abspath(path) for path in sys.argv[1:3])
+import random_directives
 from c_tokens import tokens
 from checks import check, lay, read, run_all, same
 from random_macros import KINDS, Web
@@ -28,6 +30,7 @@ from running import run
 
 STORED = os.path.join(top, 'tests', 'compiler')
 WEBS = 400
+DIRECTIVES = 300        # webs with lines for the preprocessor
 TOGETHER = 50           # how many webs one run of the compiler reads
 LEAST = 20              # so often each pair of kinds, and each other place, is in the generated webs
 
@@ -52,6 +55,13 @@ def listed(name, folder, file):
     return sorted((lists[1] - lists[0]).elements())
 
 
+def preprocessed(name, folder, file):
+    """The tokens that the preprocessor makes of a file, which it has to read without a warning."""
+    text, errors, status = run(['cc', '-E', '-P', '-I.', file], folder)
+    check(status == 0 and not errors, name, errors.decode(errors='replace')[:1000])
+    return tokens(text)
+
+
 # ---------------------------------------------------------------------- stored webs
 
 def test_stored_lists():
@@ -64,13 +74,11 @@ def test_stored_lists():
 
 def test_stored_tokens():
     for name in ('slashes-at-the-ends-of-pieces', 'constants-that-touch', 'backslashes-in-macros',
-                 'heads-with-comments-and-codes'):
+                 'heads-with-comments-and-codes', 'directives-over-several-lines'):
         with tempfile.TemporaryDirectory() as folder:
             lay(folder, {'a.w': read(STORED, name, 'in', 'a.w')})
             tangle(name, folder)
-            text, errors, status = run(['cc', '-E', '-P', 'a.c'], folder)
-            check(status == 0 and not errors, name, errors.decode(errors='replace')[:1000])
-            same(tokens(text), read(STORED, name, 'tokens').split(), name)
+            same(preprocessed(name, folder, 'a.c'), read(STORED, name, 'tokens').split(), name)
 
 
 def test_program_of_slashes():
@@ -118,7 +126,8 @@ def test_generated():
     pairs = ['%s, %s over a line end of %s' % (one, other, where)
              for one in KINDS for other in KINDS for where in ('a macro', 'a C part')]
     others = ['a backslash at the end', 'a name made by a join', 'a join', 'verbatim text',
-              'a change', 'a comment over a line end', 'parameters']
+              'a change', 'a comment over a line end of a macro',
+              'a comment over a line end of a C part', 'parameters']
     for place in pairs + others:
         check(places[place] >= LEAST, 'generated webs', 'only %d times: %s' % (places[place], place))
 
@@ -142,8 +151,24 @@ def check_webs(name, folder, webs):
             same(ours.get(macro), expected.get(macro), 'generated web %d, %s' % (web.number, macro.decode()))
 
 
+def test_generated_directives():
+    places, chance = Counter(), random.Random(68)
+    for number in range(DIRECTIVES):
+        name, web = 'generated directives %d' % number, random_directives.Web(chance)
+        with tempfile.TemporaryDirectory() as folder:
+            lay(folder, {**web.files(), 'lines.c': b''.join(line + b'\n' for line in web.lines_in_c())})
+            tangle(name, folder, 'a')
+            expected, ours = (preprocessed(name, folder, file) for file in ('lines.c', 'a.c'))
+            same(ours, expected, name)
+        places.update(web.places)
+    names = [b'define', b'undef', b'include', b'if', b'ifdef', b'ifndef', b'elif', b'else', b'endif']
+    for place in ['a line end in #%s' % name.decode() for name in names] + ['a change']:
+        check(places[place] >= LEAST, 'generated directives', 'only %d times: %s' % (places[place], place))
+
+
 def main():
-    return run_all((test_stored_lists, test_stored_tokens, test_program, test_program_of_slashes, test_generated))
+    return run_all((test_stored_lists, test_stored_tokens, test_program, test_program_of_slashes, test_generated,
+                    test_generated_directives))
 
 
 if __name__ == '__main__':

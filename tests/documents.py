@@ -23,6 +23,8 @@ usage: documents.py [FOLDER]      the folder of the repository
 - crates/*/must-fail and tests/wrong-bodies: each public function that is no law has an edit of its own, or of a private
   function that it calls, unless docs/wrong-bodies.md has it in a row '| `CRATE` | without an edit: `TYPE::NAME`, `NAME` |
   why |'. Each text that an edit replaces is once in its file.
+- docs/wrong-bodies.md: a table has each edit of the gate, with the clause that refuses it. Each of these has a right
+  twin in tests/right-bodies, and each twin replaces the same texts as the edit of its name.
 - The crates from the expansions upwards: works are begun, nodes expanded and expansions written where
   CALLS and MADE say, and nowhere else; bugs that are planted in a copy of the code are seen.
 The last line is 'N passed, M failed'.
@@ -76,7 +78,7 @@ CALLS = {
     'expand_next': ['tangle_affected/keeping.rt: expand_list'],
     'expand': ['tangle_affected/keeping.rt: expand_next', 'tangle_graph/store.rt: expand'],
     'expansion_of': ['tangle_expansion/expanding.rt: expand'],
-    'plan_node': ['tangle_graph/bodies.rt: body_after'],
+    'make': ['tangle_graph/bodies.rt: body_after'],
     'write_text_after': ['tangle_expansion/writing.rt: write_text_after', 'tangle_expansion/writing.rt: write_text',
                          'tangle_expansion/outputs.rt: write_file'],
     'write_text': [],
@@ -154,7 +156,7 @@ MISTAKEN = {
     'a rule is another one': (
         'tangle_names', 'specs', 'Names.antt', '-- the name begins with', '-- the name ends with'),
     'a function has another name': (
-        'tangle_scan', 'code', 'spacing.rt', 'fn may_follow_name', 'fn may_come_next'),
+        'tangle_scan', 'code', 'macro_items.rt', 'fn may_follow_name', 'fn may_come_next'),
 }
 
 
@@ -419,11 +421,49 @@ def check_edits(crate, here, excused):
             check(edited & reached(one, private), '%s/must-fail' % crate, '%s of %s has no edit' % (name, kind or file))
 
 
+def turns_of(edit):
+    """What an edit replaces, in turn: the file if it is named anew, the old text and the new one."""
+    return re.findall(r'^(?:file: src/(\S+)\n)?old: ?(.*)\nnew: ?(.*)', edit, re.M)
+
+
+def has_clause(here, cell):
+    """Whether a crate has what a cell names: `CLAUSE` of `FUNCTION`, `FUNCTION` alone if its clause has no name, or the
+    invariant of `TYPE`."""
+    *clause, name = CODED.findall(cell) or ['']
+    kind, _, called = name.rpartition('::')
+    if cell.startswith('the invariant of '):
+        return re.search(r'^impl Model for %s \{\n(?:    .*\n|\n)*    ghost invariant = ' % name, here.whole, re.M)
+    texts = [one[5] for one in functions_of(here) if one[3] == called and kind in ('', one[2])]
+    return any(re.search(r'\bensures\s+%s\s*\{' % ''.join(clause), text) for text in texts)
+
+
+def check_gate_table(crates, page):
+    """The rows CRATE | EDIT | CLAUSE are the edits of the gate, each with a clause that is there. Each edit has a twin."""
+    name = 'docs/wrong-bodies.md'
+    table = re.search(r'^\| Crate \| Edit \| Refused at \|\n.*\n((?:\|.*\n)*)', page, re.M)
+    rows = re.findall(r'^\| `(\w+)` \| `([\w-]+)` \| (.*) \|$', table.group(1) if table else '', re.M)
+    edits = [(crate, edit[:-len('.edit')]) for crate, here in crates.items() for edit in here.edits]
+    check([row[:2] for row in rows] == edits, name, 'its table does not have just the edits of the gate')
+    for crate, edit, cell in rows:
+        check(crate in crates and has_clause(crates[crate], cell), name, '%s: no such clause: %s' % (edit, cell))
+    for crate, edit in edits:
+        check(edit + '.edit' in crates[crate].twins, name, '%s has no twin' % edit)
+
+
+def check_twins(crate, here):
+    """Each twin has the name of an edit, and replaces the same texts."""
+    edits = {**here.edits, **here.further_edits}
+    for name, twin in here.twins.items():
+        olds = [turn[:2] for turn in turns_of(twin)]
+        check(olds and olds == [turn[:2] for turn in turns_of(edits.get(name, ''))],
+              'tests/right-bodies/%s/%s' % (crate, name), 'no edit of this name replaces the same texts')
+
+
 def check_edits_apply(crate, here):
     """Each text that an edit replaces is once in its file, when its turn comes."""
-    for name, edit in [*here.edits.items(), *here.further_edits.items()]:
+    for name, edit in [*here.edits.items(), *here.further_edits.items(), *here.twins.items()]:
         texts, file = dict(here.code), None
-        turns = re.findall(r'^(?:file: src/(\S+)\n)?old: ?(.*)\nnew: ?(.*)', edit, re.M)
+        turns = turns_of(edit)
         check(turns, '%s/must-fail/%s' % (crate, name), 'nothing is replaced')
         for named, old, new in turns:
             file = named or file
@@ -551,8 +591,11 @@ def main():
     check_names(crates, top, 'CONTRIBUTING.md')
     check_quotes(top, 'CONTRIBUTING.md')
     check_forms(crates, top)
-    rows = re.findall(r'^\| `(\w+)` \| without an edit: ([^|]*)', page_in(top, 'docs/wrong-bodies.md'), re.M)
+    page = page_in(top, 'docs/wrong-bodies.md')
+    rows = re.findall(r'^\| `(\w+)` \| without an edit: ([^|]*)', page, re.M)
+    check_gate_table(crates, page)
     for crate, here in crates.items():
+        check_twins(crate, here)
         check_edits(crate, here, {name for row in rows if row[0] == crate for name in CODED.findall(row[1])})
         check_edits_apply(crate, here)
     check_calls(crates)

@@ -346,6 +346,11 @@ expect_joined_words() {
     printf '/*1:*/\n#line 2 "a.w"\n\nxy\n/*:1*/\n' >"$case/expected/a.c"
 }
 
+# A directive with line ends inside comments, and z on this line.
+expect_directive() { # DIRECTIVE LINE
+    printf '/*1:*/\n#line 2 "a.w"\n\n%s\n#line %d "a.w"\nz\n/*:1*/\n' "$1" "$2" >"$case/expected/a.c"
+}
+
 # Parts with so many joins, ASCII constants and line ends that a look at all others from each takes too long.
 test_rare_tokens() {
     begin_case a
@@ -391,6 +396,26 @@ test_rare_tokens() {
     } >"$case/in/a.w"
     expect_joined_words
     run_timed_case 'joins and line ends in turn' 1000000
+
+    begin_case a
+    {
+        printf '@ P.\n@c\n#define M x'
+        repeated 300000 '/*
+*/'
+        printf 'y\nz\n'
+    } >"$case/in/a.w"
+    expect_directive '#define M x y' 300004
+    run_timed_case 'directive with 300,000 comments over a line end' 1000000
+
+    begin_case a
+    {
+        printf '@ P.\n@c\n#if x\n'
+        repeated 300000 '/*
+*/'
+        printf '@&y\nz\n'
+    } >"$case/in/a.w"
+    expect_directive '#if xy' 300005
+    run_timed_case 'directive with 300,000 comments and a join after them' 1000000
 }
 
 # A part of 100 lines with 10,000 words each, with TEXT after each word, and of one word more. WRITTEN

@@ -5,6 +5,8 @@ is one space in C if it keeps the two apart, and nothing if it does not. All mac
 """
 from collections import Counter
 
+from changed_lines import ChangedLines
+
 
 def as_they_are(text):
     return [(item, item) for item in text.split()]
@@ -25,7 +27,8 @@ NEVER_TOUCHING = {b'/', b'*', b'#', b'%', b':', b'\\', b'w\\', b'65', b"'c'"}
 ON_A_LINE = [b' ', b' ', b'\t', b' /* c */', b'@,', b' @q c@> ', b'@^i@>']
 JOINS = [b'@&', b' @& ', b'@&\n', b'@&\n  ', b'\n  @&', b' /* c */@&@,']
 BEFORE = [b'', b'', b'', b' ', b'\t', b' /* c */', b'@,', b'@^i@>']
-LINE_ENDS = [b'\n'] * 6 + [b' // c\n', b' /* c\nd */', b'@^i\nj@>']
+INNER_ENDS = [b' /* c\nd */', b'@^i\nj@>']
+LINE_ENDS = [b'\n'] * 6 + [b' // c\n']
 SEVERAL_ENDS = [b'\n\n', b'\n \n', b'\n/* c\n\nd */']
 FRONTS = [b'', b'', b'', b'  ', b'\t', b'/* c */', b'@,', b'@^i@>']
 BACKSLASHES = [(b'\\', b'')] * 4 + [(b'@=\\@>', b''), (b'@=w\\@>', b'w')]
@@ -78,7 +81,7 @@ class Macro:
     def _keep_apart(self, kinds=None):
         """Puts something between two items, which are of these kinds, or after the name."""
         if self.chance.random() < .25:
-            self._add(self.chance.choice(ON_A_LINE), b' ')
+            self._add(self._on_a_line(), b' ')
         elif self._add_line_end() and kinds:
             self.places['%s, %s over a line end of %s' % (*kinds, self.WHERE)] += 1
 
@@ -92,10 +95,12 @@ class Macro:
     def _touch(self):
         pass
 
-    def _line_end(self):
-        made = self.chance.choice(LINE_ENDS)
-        self.places['a comment over a line end'] += made[-1:] != b'\n'
-        return made
+    def _on_a_line(self):
+        return self.chance.choice(ON_A_LINE)
+
+    def _inner_end(self):
+        self.places['a comment over a line end of ' + self.WHERE] += 1
+        return self.chance.choice(INNER_ENDS)
 
 
 class DefinedByCode(Macro):
@@ -111,6 +116,9 @@ class DefinedByCode(Macro):
         self.places['a name made by a join'] += web != self.name
         self.name += more
         self._add(b'@d ' + web, self.name)
+
+    def _line_end(self):
+        return self._inner_end() if self.chance.random() < .2 else self.chance.choice(LINE_ENDS)
 
     def _add_line_end(self):
         if self.web.endswith(b'\\'):           # a backslash before a line end is the line end's own
@@ -134,6 +142,10 @@ class DefinedInC(Macro):
         start = self.chance.choice([b'#define ', b'# define\t', b'#define \\\n', b'#define\\\n  '])
         self._add(start + self.name, self.name)
 
+    def _on_a_line(self):
+        """A line end inside a comment of a directive is white space."""
+        return self._inner_end() if self.chance.random() < .3 else super()._on_a_line()
+
     def _add_line_end(self, is_apart=True):
         """White space before the backslash keeps apart, and at the front of the next line; elsewhere it does not.
         Whether only that is between the items, and no text."""
@@ -144,7 +156,8 @@ class DefinedInC(Macro):
         elif text or not front:         # a text may be after the macro's name
             before = before or b' '
         spaces = b' ' if before else b'', b' ' if front else b''
-        self._add(before + backslash + self.chance.choice(AFTER_BACKSLASH) + self._line_end() + front,
+        end = self.chance.choice(AFTER_BACKSLASH) + self.chance.choice(LINE_ENDS)
+        self._add(before + backslash + end + front,
                   text.join(spaces) if text else max(spaces))
         self.places['verbatim text'] += backslash != b'\\'
         return not text
@@ -171,20 +184,11 @@ class Web:
         text = b'@ Macros.\n' + b''.join(macro.web for macro in self.macros[:5])
         text += chance.choice([b'@c\n', b'@c\n@<Lines@>\n@ @<Lines@>=\n'])
         text += b''.join(macro.web + b'int v%s;\n' % macro.name for macro in self.macros[5:])
-        self.lines, self.changes = text.split(b'\n')[:-1], []
-        for at in range(1, len(self.lines)):
-            if chance.random() < .15:
-                self._change(at)
-
-    def _change(self, at):
-        """The line is another one in the web, and comes from the change file."""
-        old = b'old line %d' % at
-        self.changes += [b'@x', old, b'@y', self.lines[at], b'@z']
-        self.lines[at] = old
-        self.places['a change'] += 1
+        self.source = ChangedLines(chance, text)
+        self.places['a change'] += bool(self.source.changes)
 
     def files(self):
-        return {'a.w': b'\n'.join(self.lines) + b'\n', 'a.ch': b''.join(line + b'\n' for line in self.changes)}
+        return self.source.files()
 
     def names(self):
         return [macro.name for macro in self.macros]

@@ -19,11 +19,12 @@ def texts_in(folder, ending):
 
 class Crate:
     def __init__(self, folder):
-        further = os.path.join(folder, '../../tests/wrong-bodies', os.path.basename(folder))
+        tests, name = os.path.join(folder, '../../tests'), os.path.basename(folder)
         self.specs = texts_in(os.path.join(folder, 'specs'), '.antt')
         self.code = texts_in(os.path.join(folder, 'src'), '.rt')
         self.edits = texts_in(os.path.join(folder, 'must-fail'), '.edit')
-        self.further_edits = texts_in(further, '.edit')
+        self.further_edits = texts_in(os.path.join(tests, 'wrong-bodies', name), '.edit')
+        self.twins = texts_in(os.path.join(tests, 'right-bodies', name), '.edit')
         self.whole = '\n'.join(self.code.values())
 
 

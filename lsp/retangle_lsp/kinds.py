@@ -26,6 +26,7 @@ OTHERS = {
     b'too many lines': 'source-too-long',
     b'code before the first section': 'limbo-code',
     b'definition code in C text': 'code-in-c',
+    b'section name or @h in a preprocessor line': 'use-in-directive',
     b'section name in a macro': 'name-in-macro',
     b'@h in a macro': 'misplaced-h',
     b'macro must start with an identifier': 'macro-name',

@@ -8,6 +8,7 @@ from .scanning import USE, Scan
 
 CLOSED = re.compile(rb'"(?:[^"\\]|\\.)*"|\'(?:[^\'\\]|\\.)*\'|/\*.*\*/|@[=^.:tTqQ].*@>', re.S)
 CONTROL = re.compile(rb'@[\^.:tTqQ]')
+CODES_IN_TEXT = re.compile(rb'^@=|@@|@>$')
 
 CHANGE_CODES = {'stray-mark', 'missing-y', 'missing-z', 'empty-old', 'change-unused',
                 'change-mismatch'}
@@ -19,13 +20,18 @@ def is_quoted(token):
     return token[:1] in (b'"', b"'")
 
 
+def is_text(token):
+    return is_quoted(token) or token.startswith(b'@=')
+
+
 # How the token of a kind begins, and whether the fault has the line where it stops.
 TOKENS = {
     'code-in-c': (lambda token: token.lower() in (b'@d', b'@f', b'@s', b'@c', b'@p'), False),
+    'use-in-directive': (lambda token: token.lower() in (b'@<', b'@(', b'@h'), False),
     'misplaced-h': (lambda token: token.lower() == b'@h', False),
     'macro-name': (lambda token: token.lower() == b'@d', False),
     'control-text': (lambda token: CONTROL.match(token) and not CLOSED.fullmatch(token), True),
-    'string-at': (lambda token: is_quoted(token) and b'@' in token.replace(b'@@', b''), False),
+    'string-at': (lambda token: is_text(token) and b'@' in CODES_IN_TEXT.sub(b'', token), False),
     'string-end': (lambda token: is_quoted(token) and not CLOSED.fullmatch(token), True),
     'verbatim-end': (lambda token: token.startswith(b'@=') and not CLOSED.fullmatch(token), True),
     'ascii-bad': (lambda token: token.startswith(b"@'"), False),

@@ -18,26 +18,36 @@ CODE = re.compile(rb'@(.)', re.S)
 STARTS = frozenset((b'*', b' ', b'\t', b'\r', b'\v', b'\f', b'\n'))
 MACRO_ENDS = frozenset(b'd f s c p < ('.split())
 NAME = re.compile(rb'@[<(]((?:[^@]+|@[^<(>* \t\r\v\f\n])*)(@>)?')
-# What counts as white space in C on one line, a piece at a time.
+# What counts as white space in C, a piece at a time: on one line, and with line ends in comments
+# and control texts.
 BLANK = rb'''[ \t\r\v\f]
     | /\*(?:[^*@\n]|\*(?!/)|@[^* \t\r\v\f\n])*\*/
     | @[\^.:tTqQ](?:[^@\n]|@@)*@>
     | @[^@<(^.:tTqQ=&hH'dDfFsScCpP* \t\r\v\f\n]'''
+BLANK_OVER_LINES = BLANK.replace(rb'[^*@\n]', rb'[^*@]').replace(rb'[^@\n]', rb'[^@]')
 HEAD = re.compile(rb'(?:' + BLANK + rb')*(?:\+(?:' + BLANK + rb')*)?==?', re.S | re.X)
 # The same with the codes that would end a macro.
 BEGINNING = re.compile(rb'(?:@[dfscp]|' + BLANK + rb')*', re.S | re.X | re.I)
-# Each alternative begins with a byte of its own, so that the search passes over all others fast.
-C_TEXT = re.compile(rb'''
+
+
+def pattern_of_c(blank):
+    """All that is no single byte in C, where this is white space between #, include and a header.
+    Each alternative begins with a byte of its own, so that the search passes over all others fast."""
+    return re.compile(rb'''
     /(?:\*(?:[^*@]+|\*(?!/)|@[^* \t\r\v\f\n])*(?:\*/)?         # comments
       | /(?:[^@\n]+|@[^* \t\r\v\f\n])*)
     | "(?:[^"\\\n]+|\\[^@]|\\)*"?                             # quoted texts
     | '(?:[^'\\\n]+|\\[^@]|\\)*'?
-    | \#(?:''' + BLANK + rb''')*include(?:''' + BLANK + rb''')*<[^>\n]*
+    | \#(?:''' + blank + rb''')*include(?:''' + blank + rb''')*<[^>\n]*
     | @(?:'(?:(?:@@|\\[0-7]{1,3}|\\["'?\\abtnvfr]|[^\\'@\n])'|[^'\n]*'?)
         | =(?:[^@\n]+|@@|@(?![@>]))*(?:@>)?                   # verbatim texts
         | [\^.:tTqQ](?:[^@]+|@@)*(?:@>)?                      # control texts
         | (.))
     ''', re.S | re.X)
+
+
+# A line end in a comment ends no line for the preprocessor, and in a macro one does.
+C_TEXT, MACRO_TEXT = pattern_of_c(BLANK_OVER_LINES), pattern_of_c(BLANK)
 
 
 def plain_name(text):
@@ -112,9 +122,9 @@ class Scan:
 
     def c_text(self, at, is_macro):
         """Scans a C part or a macro: where it ends."""
-        first, last = at, (at, at)
+        first, last, pattern = at, (at, at), MACRO_TEXT if is_macro else C_TEXT
         while True:
-            found = C_TEXT.search(self.text, at)
+            found = pattern.search(self.text, at)
             if found is None:
                 return len(self.text)
             code, start, at = found[1], found.start(), found.end()

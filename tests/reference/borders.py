@@ -25,10 +25,11 @@ RUN = re.compile(rb'(?:[^ \t\r\v\f"\'/@]| (?=[^ \t\r\v\f"\'/@])|/(?![*/]))+')
 
 WORD = re.compile(rb'[A-Za-z0-9_$\x80-\xff]+|[-+*=;,.]')
 
-# The ways of a gap, the plain one first.
+# The ways of a gap, the plain one first. INNER_END is a blank in a directive.
 NOTHING = [b'', b'@&', b' @&', b'@& ', b'\t@&@&', b'@&/* j */', b'@;@&', b'@& @& ']
 BLANK = [b' ', b'  ', b'\t', b'\r', b'\x0b', b'\x0c', b' \t', b'\t ', b'/* c */', b' /* c */ ', b'/**/ ', b' /* a b */',
          b'@;', b' @;', b'@, ', b'@/', b'@|', b'@#', b' @+ ', b'@!', b'@^i x@>', b' @q c@>', b'@t a@> ', b'@;@;']
+INNER_END = [b' /* c\nd */', b'/* c\nd */ ', b'/*\nc d */', b' /* c d\n*/ ', b'@^x\ny@>', b'@; @q c\nd@>\t']
 LINE_END = [b'\n', b'\t\n', b'\n ', b'\n   ', b' @;\n\t', b' // c d\n', b'//\n', b' /* c */\n', b'\n/* c */ ',
             b'/* c\nd */', b'/* c\n d */ ', b'@;\n', b'\n@; ', b' @^x\ny@>', b'@,\n@/', b'\x0c\n\x0b']
 FRONT = [b' ', b'', b'\t', b'  ', b' /* c */', b'@;', b'@&', b' @& ', b'/* c */ ']
@@ -122,18 +123,20 @@ class Web:
             self.parts.append(chance.choice(SIGNS if drawn < .5 else WORDS))
 
     def _add_directive(self):
-        """The front of a line for the preprocessor, some with a header."""
+        """The front of a line for the preprocessor, some with a header. A blank in it may have a line end inside a
+        comment or a control text."""
+        blank = INNER_END if self.chance.random() < .4 else BLANK
         self.parts.append(b'#')
         if self.chance.random() < .4:
-            self._gap(BLANK)
+            self._gap(blank)
         if self.chance.random() < .5:
             self.parts.append(b'define')
-            self._gap(BLANK)
+            self._gap(blank)
         else:
             self.parts.append(b'include')
-            self._gap(BLANK if self.chance.random() < .6 else NOTHING)
+            self._gap(blank if self.chance.random() < .6 else NOTHING)
             self.parts.append(self.chance.choice([b'<p.h>', b'<p q>', b'<a/b.h>', b'"p q"', b'<']))
-            self._gap(BLANK)
+            self._gap(blank)
 
 
 def joined(lines):

@@ -20,6 +20,7 @@ WORDINGS = {
     'ChangeUnused': b'change never used',
     'LimboCode': b'code before the first section',
     'CodeInC': b'definition code in C text',
+    'UseInDirective': b'section name or @h in a preprocessor line',
     'NameInMacro': b'section name in a macro',
     'MisplacedH': b'@h in a macro',
     'MacroName': b'macro must start with an identifier',

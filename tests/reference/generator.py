@@ -6,6 +6,7 @@ usage: generator.py SEED
 import random
 import sys
 
+from directives import directive_lines
 from files import Roles, add
 from line_ends import continued_lines, continuing, macro_over_lines, with_other_front
 from reading import Reading
@@ -49,6 +50,9 @@ DENSE = [(.30, WORDS), (.40, SIGNS), (.56, SPACES), (.70, [b'@&', b' @&', b'@& '
 # What may be white space of a head, or almost.
 HEAD_SPACES = [b' ', b'\t', b'@,', b'@;', b'@/ ', b'@|', b'@^i@>', b'@q=@@@>', b'@t', b'@:x@,@>', b'/* = */', b'/*@<=*/', b'/*@',
                b'//', b'/*', b'/', b'@&', b'@h', b'@@', b"@'a'", b'@=v@>', b'@d', b'@<u@>', b'"+"', b'+', b'@']
+
+# What a piece ends in, where the next section begins on the same line.
+ENDS = [b'/', b'x /', b'/ ', b'//', b'@=/@>', b'@=a@@/@>', b'/@&', b'/@,', b'"/', b'x', b'@<A@>/']
 
 LIMBO = [b'limbo', b'% top', b'@q x@>', b'@@', b'', b'@s a b', b'@<no@>', b'@i', b'@l d @L', b'@d N 1 @F x int', b' @i b.w',
          b'@(x@>=@c', b'@Q@D @> @^']
@@ -139,6 +143,8 @@ def section(chance, is_wild, kinds=WILD):
         lines.append(wild_text(chance, 7, kinds) if is_wild else tame_text(chance, 6))
         if chance.random() < .1:
             lines += continued_lines(chance)
+        if chance.random() < .05:
+            lines += directive_lines(chance)
     return lines
 
 
@@ -159,7 +165,10 @@ def web_lines(chance, included):
     is_dense = chance.random() < 1 / 3
     is_wild = is_dense or chance.random() < .6
     for _ in range(chance.randint(1, 6)):
-        lines += section(chance, is_wild, DENSE if is_dense else WILD)
+        made = section(chance, is_wild, DENSE if is_dense else WILD)
+        if lines and chance.random() < .05 and lines[-1][:2] not in (b'@i', b'@I'):
+            lines[-1] += chance.choice(ENDS) + made.pop(0)
+        lines += made
         if included and chance.random() < .3:
             lines.append(inclusion(chance, included))
     return list(map(clean, lines))

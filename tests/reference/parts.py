@@ -3,6 +3,7 @@ import re
 from collections import namedtuple
 
 import limits
+from lines_of_c import in_directive
 
 # kind: White, LineEnd, Join or the name of an item; mark: the place of the line mark after a use or @h
 Token = namedtuple('Token', 'kind value at mark')
@@ -47,12 +48,12 @@ class Part:
         return True
 
     def _white(self, after):
-        """White space up to there; a line end inside is a line end of the part."""
+        """White space up to there; a line end inside is a line end of the part, unless it is in a directive."""
         self.tokens.append(Token('White', None, self.at))
-        for at in range(self.at, after):
-            if self.text[at] == 10:
-                self.tokens.append(Token('LineEnd', None, at))
-                self.line = []
+        ends = [at for at in range(self.at, after) if self.text[at] == 10]
+        if ends and (self.is_macro or not in_directive(self.tokens)):
+            self.tokens += [Token('LineEnd', None, at) for at in ends]
+            self.line = []
         self.at = after
         return True
 
@@ -102,6 +103,7 @@ class Part:
             return self._constant()
         if code == 104 and not self.is_macro:
             web.has_all_macros = True
+            self._test_line(at)
             return self._add('Defs', None, at + 2, web.place(at))
         if code == 104:
             web.fault('MisplacedH', at)
@@ -111,10 +113,16 @@ class Part:
 
     def _use(self, code):
         web, at = self.web, self.at
+        self._test_line(at)
         name, end, after = web.name(at + 2)
         if SINGLE_EQUALS.match(self.text, after):
             web.fault('NameEquals', at)
         return self._add('UseOf', web.occurrence(name, code, 'use', at), after, web.place(end))
+
+    def _test_line(self, at):
+        """A use or @h is there, which no directive can have."""
+        if in_directive(self.tokens):
+            self.web.fault('UseInDirective', at)
 
     def _control_text_end(self, at):
         while True:

@@ -1,6 +1,7 @@
 """The five rules of spacing: from the tokens of a part or macro to its items (docs/scanning.md)."""
 from collections import namedtuple
 
+from lines_of_c import GAP, continues
 from parts import Token
 
 # at: the position in the web's text at which its own text begins
@@ -35,11 +36,6 @@ def would_merge(one, other):
                for constant, token in pairs)
 
 
-def continues(token):
-    """Whether a C compiler takes a line end after this item away, with the backslash before it."""
-    return token.kind in ('Sign', 'Verbatim') and token.value.endswith(b'\\')
-
-
 def macro_items(tokens):
     kept = without_backslashes(without_joins(with_spaces(tokens, True)))
     return [Item(token.kind, token.value, token.at) for token in with_blanks(kept, True)]
@@ -54,12 +50,12 @@ def with_spaces(tokens, is_macro):
     """White space between words and constants that touch, and after a macro's name."""
     made, has_name = [], not is_macro
     for token, after in zip(tokens, list(tokens[1:]) + [None]):
-        is_name = not has_name and token.kind not in SPACE + ('Join',)
+        is_name = not has_name and token.kind not in GAP
         has_name = has_name or is_name
         made.append(token)
         if after is None:
             break
-        if would_merge(token, after) or (is_name and after.kind not in SPACE + ('Join',) and after.value != b'('):
+        if would_merge(token, after) or (is_name and after.kind not in GAP and after.value != b'('):
             made.append(Token('White', None, after.at))
     return made
 
@@ -79,7 +75,7 @@ def runs(tokens, kinds):
 def without_joins(tokens):
     """Without the runs that hold a join."""
     kept = []
-    for is_run, run, _ in runs(tokens, SPACE + ('Join',)):
+    for is_run, run, _ in runs(tokens, GAP):
         if not is_run or all(token.kind != 'Join' for token in run):
             kept += run
     return kept

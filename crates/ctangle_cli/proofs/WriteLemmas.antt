@@ -30,10 +30,6 @@ pub with_created-append : (old : Option (List File)) (xs ys : List File)
 with_created-append None xs ys = refl
 with_created-append (Some old) xs ys = ap Some (append_assoc old xs ys)
 
-pub with_created-none : (old : Option (List File)) → with_created old [] ≡ old
-with_created-none None = refl
-with_created-none (Some old) = ap Some (append-nil old)
-
 -- the created file has the bytes that its sink took
 pub wrote : (a b c : Option (List File)) (s t : Option (List ℕ)) (name bytes : List ℕ)
     → Begins a s → b ≡ with_created a ((name, []) ∷ []) → Appends s t bytes → Closes b c t

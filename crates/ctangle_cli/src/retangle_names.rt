@@ -1,5 +1,5 @@
 //! The arguments of a run of `retangle`, which are read by `clap`.
-ghost use Rattle.std.specs.Prelude.{◌≡◌, [], Some, codes, false, is_some, map, true, IfErr, IfOk};
+ghost use Rattle.std.specs.Prelude.{◌≡◌, ◌↔◌, [], Some, codes, false, is_some, map, true, IfErr, IfOk};
 ghost use Rattle.std.specs.Option.{option_copied, option_map};
 ghost use Rattle.clap.specs.Built.{TakesValue};
 ghost use Rattle.clap.specs.Words.{IsParsedFrom, IsPlainArg, app_of, args_of, first_value};
@@ -41,7 +41,7 @@ impl From<Error> for RetangleFault {
     ghost use Rattle.clap.specs.declared.error.kind.ErrorKind.TheVariants.{OutOfMemory};
     ghost use Rattle.ctangle_cli.specs.declared.retangle_names.RetangleFault.TheVariants.{NoMemory};
 
-    ghost from_gives = { λ error fault. kind_of error ≡ OutOfMemory → fault ≡ NoMemory };
+    ghost from_gives = { λ error fault. (fault ≡ NoMemory) ↔ (kind_of error ≡ OutOfMemory) };
 
     fn from(error: Error) -> RetangleFault {
         match error.kind() {

@@ -108,13 +108,6 @@ nothing_first : (list : List Node) (node : Node) → Contains (take 0 list) node
 nothing_first list node c = absurd (omega (arith, c.1))
 
 module _ (shapes : Shapes) (store : StoreRead) (order : List Node) (ordered : IsOrderIn store order) where
-  pub none_unflagged : (flagged : Node → Bool) (kept : Kept)
-      → ((node : Node) → kept_at kept node ≡ None) → KeepsUnflagged shapes store flagged (take 0 order) kept
-  none_unflagged flagged kept none = record {
-    unflagged = λ node c e is_flagged. absurd (nothing_first order node c);
-    others = λ node e. none node;
-  }
-
   module _ (flagged : Node → Bool) (i : ℕ) (h : i < length order) (node : Node) (at : node ≡ get_or order i node) where
     pub unflagged_more : (before after : Kept) → is_expandable_at store node ≡ true
         → KeepsUnflagged shapes store flagged (take i order) before

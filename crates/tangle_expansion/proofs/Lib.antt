@@ -10,8 +10,7 @@ pub mod OriginLemmas
 pub mod WriteLemmas
 pub mod WrittenLemmas
 pub mod ShortLemmas
-pub mod PlanLemmas
-pub mod UseLemmas
+pub mod CursorLemmas
 pub mod UsedLemmas
 pub mod SameShapes
 pub mod Unaffected

@@ -12,7 +12,7 @@ use Rattle.tangle_scan.specs.declared.items.Item.TheVariants as item
 use Rattle.tangle_scan.specs.declared.items.Entry.{Entry}
 use Rattle.tangle_scan.specs.Entries.{StoredPiece, part_item, entry_items, items_of, piece_read}
 use Rattle.tangle_scan.specs.Web.{PieceRead, is_line_mark}
-use Rattle.tangle_plans.specs.ItemSlots.{no_piece}
+use Rattle.tangle_plans.specs.Nodes.{no_piece}
 use Rattle.tangle_expansion.specs.Numbers.{item_origins}
 
 -- items without a mark have no origins

@@ -42,10 +42,6 @@ pub wrote_same : (a b : Stream) (r s : Result ℕ WriteFault) (left rest whole :
     → Wrote a b r s left whole → left ≡ rest → Wrote a b r s rest whole
 wrote_same a b r s left rest whole w e = record { done = w.done; writes = w.writes; split = rw e at w.split }
 
-pub wrote_whole : (a b : Stream) (r s : Result ℕ WriteFault) (left whole : List ℕ)
-    → Wrote a b r s left whole → left ≡ [] → IsWrittenAfter a b r whole s
-wrote_whole a b r s left whole w e = rw (← w.split, e, append-nil) w.writes
-
 pub wrote_all : (a b c : Stream) (r s t : Result ℕ WriteFault) (left xs whole : List ℕ)
     → Wrote a b r s left whole → left ≡ xs → IsWrittenAfter b c s xs t → IsWrittenAfter a c r whole t
 wrote_all a b c r s t left xs whole w e p = rw (← w.split, e) (writes_then a b c r s t w.done xs w.writes p)

@@ -1,54 +1,67 @@
 -- The symbols of an expansion as it is in memory: there are more of them than in each expansion
 -- that it shares.
-use Rattle.std.specs.Prelude.{ℕ, ◌+◌, ◌≤◌, List, [], ◌∷◌, length, Option, unwrap_or}
+use Rattle.std.specs.Prelude.{ℕ, ◌+◌, ◌≤◌, List, [], ◌∷◌, length, map, take, drop, Option, unwrap_or}
 use Rattle.std.proofs.Common.{arith, length-append}
 use denote.Param.Weighed.{most}
 use Rattle.tangle_plans.specs.Shapes.{Title}
-use Rattle.tangle_plans.specs.Flat.{Symbol}
-use Rattle.tangle_plans.specs.Meaning.{title_of, left_over, plan_flat, own_symbols}
-use Rattle.tangle_plans.specs.Meaning.{pieces_after_step, marks_after_step, bytes_after_step}
-use Rattle.tangle_plans.specs.declared.steps.Step.{Step}
-use Rattle.tangle_plans.specs.declared.steps.Step.TheVariants as step
+use Rattle.tangle_plans.specs.Flat.{Symbol, Byte}
+use Rattle.tangle_plans.specs.Meaning.{left_over, tags_flat, body_flat, own_symbols, with_used}
+use Rattle.tangle_plans.specs.Meaning.{pieces_after, marks_after}
+use Rattle.tangle_plans.specs.declared.tags.ItemKind.{ItemKind}
+use Rattle.tangle_plans.specs.declared.tags.ItemKind.TheVariants as tag
+use Rattle.tangle_plans.specs.declared.tags.ItemTag.{ItemTag}
 use Rattle.tangle_expansion.specs.declared.expansion.Expansion.TheInside.{Inside}
+
+-- the symbols of what is shared for each use; there are none where nothing is
+abbrev pub shared_symbols : List (Option (List Symbol)) → List (List Symbol)
+shared_symbols used = map (λ o. unwrap_or o []) used
 
 abbrev pub expansion_symbols : Inside → List Symbol
 expansion_symbols e =
-    plan_flat (title_of e.shared.value.body.value.name) e.shared.value.body.value.bytes.items
-    0 0 0 e.shared.value.body.value.plan.items e.shared.value.used.items
+    body_flat e.shared.value.body.value (shared_symbols e.shared.value.used.items)
 
 -- a weight of what is shared, which is at most one more than the number of its symbols
 module _ (weight : Option (List Symbol) → ℕ)
     (within : (o : Option (List Symbol)) → weight o ≤ length (unwrap_or o []) + 1) where
   left_over_is_longer : (used : List (Option (List Symbol)))
-      → most weight used ≤ length (left_over used)
+      → most weight used ≤ length (left_over (shared_symbols used))
   left_over_is_longer [] = omega arith
   left_over_is_longer (o ∷ rest) =
       omega (
         arith,
         within o,
         left_over_is_longer rest,
-        length-append (unwrap_or o []) (left_over rest),
+        length-append (unwrap_or o []) (left_over (shared_symbols rest)),
       )
 
-  pub plan_is_longer : (node : Title) (bytes : List ℕ)
-      (piece marks start : ℕ) (plan : List Step) (used : List (Option (List Symbol)))
-      → most weight used ≤ length (plan_flat node bytes piece marks start plan used)
-  plan_is_longer node bytes piece marks start [] used = left_over_is_longer used
-  plan_is_longer node bytes piece marks start (step.Use id ∷ plan) [] = omega arith
-  plan_is_longer node bytes piece marks start (step.Use id ∷ plan) (o ∷ rest) =
+  kind_is_longer : (k : ItemKind) (node : Title) (piece marks : ℕ) (used : List (Option (List Symbol)))
+      (rest : List (List Symbol) → List Symbol)
+      → ((used : List (Option (List Symbol))) → most weight used ≤ length (rest (shared_symbols used)))
+      → most weight used
+      ≤ length (with_used k (own_symbols node piece marks k) (shared_symbols used) rest)
+  kind_is_longer tag.Use node piece marks [] rest longer = omega arith
+  kind_is_longer tag.Use node piece marks (o ∷ used) rest longer =
       omega (
         arith,
         within o,
-        plan_is_longer node bytes piece marks start plan rest,
-        length-append (unwrap_or o []) (plan_flat node bytes piece marks start plan rest),
+        longer used,
+        length-append (unwrap_or o []) (rest (shared_symbols used)),
       )
-  plan_is_longer node bytes piece marks start (s ∷ plan) used =
-      let p = pieces_after_step piece s in
-      let m = marks_after_step marks s in
-      let b = bytes_after_step start s in
+  kind_is_longer k node piece marks used rest longer =
+      omega (arith, longer used, length-append (own_symbols node piece marks k) (rest (shared_symbols used)))
+
+  pub tags_are_longer : (node : Title) (piece marks : ℕ) (bytes : List ℕ) (tags : List ItemTag)
+      (used : List (Option (List Symbol)))
+      → most weight used ≤ length (tags_flat node piece marks bytes tags (shared_symbols used))
+  tags_are_longer node piece marks bytes [] used = left_over_is_longer used
+  tags_are_longer node piece marks bytes (t ∷ tags) used =
+      let rest = tags_flat node (pieces_after piece t.kind)
+      (marks_after marks t.kind) (drop t.size bytes) tags in
       omega (
         arith,
-        plan_is_longer node bytes p m b plan used,
-        length-append (own_symbols node bytes piece marks start s)
-            (plan_flat node bytes p m b plan used),
+        kind_is_longer t.kind node piece marks used rest
+            (λ us. tags_are_longer node (pieces_after piece t.kind)
+            (marks_after marks t.kind) (drop t.size bytes) tags us),
+        length-append (map Byte (take t.size bytes))
+            (with_used t.kind (own_symbols node piece marks t.kind) (shared_symbols used) rest),
       )

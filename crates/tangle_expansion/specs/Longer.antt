@@ -3,7 +3,7 @@ use Rattle.std.specs.Prelude.{ℕ, ◌+◌, ◌≤◌, length, List, [], Option,
 use Rattle.std.proofs.Common.{arith}
 use Rattle.tangle_plans.specs.Flat.{Symbol}
 use Rattle.tangle_plans.specs.Meaning.{title_of}
-use Rattle.tangle_expansion.specs.Expanded.{expansion_symbols, plan_is_longer}
+use Rattle.tangle_expansion.specs.Expanded.{expansion_symbols, tags_are_longer}
 use Rattle.tangle_expansion.specs.declared.expansion.Expansion.TheInside.{Inside}
 use Rattle.tangle_expansion.specs.declared.expansion.Expansion.TheDeep.{deep-Expansion}
 use Rattle.tangle_expansion.specs.declared.expansion.Expansion.TheShapes.{weighed-SharedExpansion-used-at-1}
@@ -18,9 +18,9 @@ within (Some symbols) = omega arith
 
 pub is_longer : (e : Inside) → deep-Expansion e ≤ length (expansion_symbols e)
 is_longer e =
+    let body = e.shared.value.body.value in
     omega (
       arith,
-      plan_is_longer weight_of within (title_of e.shared.value.body.value.name)
-          e.shared.value.body.value.bytes.items
-          0 0 0 e.shared.value.body.value.plan.items e.shared.value.used.items,
+      tags_are_longer weight_of within (title_of body.name)
+          0 0 body.bytes.items body.tags.items e.shared.value.used.items,
     )

@@ -1,14 +1,13 @@
--- The bytes of the pieces of a node; where the source keeps two items of a piece apart, a C
--- compiler reads both in these bytes.
-use Rattle.std.specs.Prelude.{◌≡◌, ℕ, false, List, [], ◌∷◌, ◌++◌, None, drop, flat_map}
+-- The bytes of the pieces of a node, in which a C compiler reads the items as the author means them.
+use Rattle.std.specs.Prelude.{◌≡◌, ℕ, List, [], ◌++◌, drop, flat_map}
 use Rattle.std.specs.Prelude.{slice_index_or}
 use Rattle.std.specs.List.{AllZip}
-use Rattle.tangle_files.specs.Bytes.{space, line_feed}
 use Rattle.tangle_lines.specs.declared.origin.Origin.{Origin}
 use Rattle.tangle_lexer.specs.declared.tokens.Token.{Token}
-use Rattle.tangle_lines.specs.Reading.{SourceRead}
-use Rattle.tangle_scan.specs.Apart.{AreReadApart, EndsPiece, IsMacroReadApart, all_macro_tokens}
-use Rattle.tangle_scan.specs.Apart.{all_piece_tokens, piece_item_bytes, read_tokens}
+use Rattle.tangle_lines.specs.Reading.{SourceLine, SourceRead}
+use Rattle.tangle_scan.specs.ReadAsMeant.{IsMacroReadAsMeant, IsPieceReadAsMeant, all_macro_tokens}
+use Rattle.tangle_scan.specs.ReadAsMeant.{all_piece_tokens}
+use Rattle.tangle_scan.specs.ItemBytes.{piece_item_bytes}
 use Rattle.tangle_scan.specs.MacroBytes.{macro_bytes}
 use Rattle.tangle_scan.specs.Web.{WebRead, PieceRead}
 use Rattle.tangle_scan.specs.declared.items.Item.{Item}
@@ -47,20 +46,24 @@ module _ (numbers : NumbersRead) where
           opening_bytes piece.section ++ mark_bytes_at numbers piece.origin
           ++ items_bytes piece.items ++ closing_bytes piece.section
 
-      -- the bytes of the items of a piece with these tokens are read apart
-      abbrev pub IsWrittenApart : List Token → PieceRead → Type 0
-      IsWrittenApart tokens piece =
-          AreReadApart texts (λ occurrence. space ∷ used_bytes occurrence)
-          (line_feed ∷ numbers.macros) (EndsPiece texts) false false
-          None (read_tokens texts false tokens) (items_bytes piece.items)
+      -- a C compiler reads the items of a piece with these tokens as the author means them, from the
+      -- mark of its opening up to its closing
+      abbrev pub IsWrittenAsMeant : List SourceLine → List Token → PieceRead → Type 0
+      IsWrittenAsMeant lines tokens piece =
+          (bytes : List ℕ)
+          × (piece_bytes piece
+          ≡ opening_bytes piece.section ++ mark_bytes_at numbers piece.origin
+          ++ bytes ++ closing_bytes piece.section)
+          × IsPieceReadAsMeant lines used_bytes bytes_after_mark numbers.macros tokens bytes
 
--- The bytes of the macros are those of each macro, one after another. Where the source keeps two
--- items of a macro or a piece apart, a C compiler reads both in these bytes.
-pub record AreWrittenApart (source : SourceRead) (web : WebRead) (table : TableRead)
+-- The bytes of the macros are those of each macro, one after another. In these bytes and in those of
+-- each piece a C compiler reads the items as the author means them.
+pub record AreWrittenAsMeant (source : SourceRead) (web : WebRead) (table : TableRead)
     (used : List ℕ → List Symbol) (numbers : NumbersRead) : Type 0 where
   pub macros_written : numbers.macros ≡ flat_map (macro_bytes web.texts) web.macros
   pub macros : AllZip
-      (λ items tokens. IsMacroReadApart web.texts tokens (macro_bytes web.texts items))
+      (λ items tokens. IsMacroReadAsMeant web.texts tokens (macro_bytes web.texts items))
       web.macros (all_macro_tokens source.lines)
-  pub pieces : AllZip (λ piece tokens. IsWrittenApart numbers table used web.texts tokens piece)
+  pub pieces : AllZip
+      (λ piece tokens. IsWrittenAsMeant numbers table used web.texts source.lines tokens piece)
       web.pieces (all_piece_tokens source.lines)

@@ -1,49 +1,58 @@
--- What is written from a position in a plan on. Only private contracts cite these definitions.
-use Rattle.std.specs.Prelude.{◌≡◌, ◌+◌, ℕ, List, drop, Option}
+-- Writing a body from one of its tags on. Only private contracts cite these definitions.
+use Rattle.std.specs.Prelude.{◌≡◌, ◌+◌, ◌-◌, ◌^◌, ℕ, Bool, true, false, min, List, [], ◌∷◌, ◌++◌, take, drop}
+use Rattle.std.specs.Prelude.{Result}
+use Rattle.tangle_files.specs.Bytes.{space}
+use Rattle.tangle_streams.specs.declared.failures.WriteFault.{WriteFault}
+use Rattle.tangle_streams.specs.Streams.{Stream, IsWrittenAfter}
 use Rattle.tangle_plans.specs.Flat.{Symbol}
-use Rattle.tangle_plans.specs.Meaning.{title_of, plan_flat, own_symbols, before_use, after_use}
-use Rattle.tangle_plans.specs.Meaning.{PlanCursor, pieces_after_step, marks_after_step}
-use Rattle.tangle_plans.specs.Meaning.{bytes_after_step}
+use Rattle.tangle_plans.specs.Meaning.{title_of, tags_flat, pieces_after, marks_after}
 use Rattle.tangle_plans.specs.declared.nodes.NodeBody.{NodeBody}
-use Rattle.tangle_plans.specs.declared.steps.Step.{Step}
+use Rattle.tangle_plans.specs.declared.tags.ItemKind.{ItemKind}
+use Rattle.tangle_plans.specs.declared.tags.ItemKind.TheVariants as tag
+use Rattle.tangle_plans.specs.declared.tags.ItemTag.{ItemTag}
 use Rattle.tangle_expansion.specs.Numbers.{NumbersRead, expansion_bytes}
 use Rattle.tangle_expansion.specs.declared.cursor.Cursor.{Cursor}
 
--- the cursor after a step
-pub record IsAfterStep (at : Cursor) (s : Step) (next : Cursor) : Type 0 where
-  pub step : next.step ≡ at.step + 1
-  pub piece : next.piece ≡ pieces_after_step at.piece s
-  pub marks : next.marks ≡ marks_after_step at.marks s
-  pub start : next.start ≡ bytes_after_step at.start s
+-- the bytes from one position of a list up to another
+abbrev pub bytes_between : List ℕ → ℕ → ℕ → List ℕ
+bytes_between bytes start end = take (end - start) (drop start bytes)
+
+-- whether a tag of this kind has no symbols besides its bytes
+abbrev pub has_bytes_alone : ItemKind → Bool
+has_bytes_alone tag.PieceStart = false
+has_bytes_alone tag.Mark = false
+has_bytes_alone tag.AllMacros = false
+has_bytes_alone tag.Use = false
+has_bytes_alone tag.NoUse = false
+has_bytes_alone tag.PieceEnd = false
+has_bytes_alone _ = true
+
+-- the cursor after a tag
+pub record IsAfterTag (at : Cursor) (t : ItemTag) (next : Cursor) : Type 0 where
+  pub tag : next.tag ≡ at.tag + 1
+  pub piece : next.piece ≡ pieces_after at.piece t.kind
+  pub marks : next.marks ≡ marks_after at.marks t.kind
+  pub start : next.start ≡ min (at.start + t.size) (2 ^ 64 - 1)
 
 module _ (body : NodeBody) (at : Cursor) where
-  -- the position with the remaining steps, and that after the next use
-  abbrev pub rest_from : PlanCursor
-  rest_from = record {
-    piece = at.piece;
-    marks = at.marks;
-    start = at.start;
-    plan = drop at.step body.plan.items;
-  }
+  -- the symbols of the remaining tags
+  abbrev pub symbols_from : List (List Symbol) → List Symbol
+  symbols_from used =
+      tags_flat (title_of body.name) at.piece at.marks
+      (drop at.start body.bytes.items) (drop at.tag body.tags.items) used
 
-  abbrev pub rest_after_use : PlanCursor
-  rest_after_use = after_use at.piece at.marks at.start (drop at.step body.plan.items)
+  -- their bytes
+  abbrev pub bytes_from : NumbersRead → List (List Symbol) → List ℕ
+  bytes_from numbers used = expansion_bytes numbers (symbols_from used)
 
-  module _ (numbers : NumbersRead) where
-    -- the bytes of a step that is no use
-    abbrev pub step_bytes : Step → List ℕ
-    step_bytes step =
-        expansion_bytes numbers
-        (own_symbols (title_of body.name) body.bytes.items at.piece at.marks at.start step)
-
-    -- the bytes up to the next use, or to the end
-    abbrev pub bytes_to_use : List ℕ
-    bytes_to_use =
-        expansion_bytes numbers (before_use (title_of body.name) body.bytes.items
-        at.piece at.marks at.start (drop at.step body.plan.items))
-
-    -- the bytes of all remaining steps, with these shared expansions
-    abbrev pub bytes_from : List (Option (List Symbol)) → List ℕ
-    bytes_from used =
-        expansion_bytes numbers (plan_flat (title_of body.name) body.bytes.items
-        at.piece at.marks at.start (drop at.step body.plan.items) used)
+-- The text up to a use, or to the end, was written: `whole` are the bytes of all remaining symbols,
+-- and `rest` those after the use, where used names have these symbols. The space of the use, and the
+-- symbols of the name, come next.
+pub record WritesToUse (numbers : NumbersRead) (old new : Stream) (so_far result : Result ℕ WriteFault)
+    (whole rest : List (List Symbol) → List ℕ) : Type 0 where
+  pub done : List ℕ
+  pub writes : IsWrittenAfter old new so_far done result
+  pub none : whole [] ≡ done
+  pub next : (symbols : List Symbol) (used : List (List Symbol))
+      → whole (symbols ∷ used)
+      ≡ done ++ (space ∷ [] ++ (expansion_bytes numbers symbols ++ rest used))

@@ -1,9 +1,8 @@
 //! Makes the expansion of a node from those of the names that it uses.
-ghost use Rattle.std.specs.Prelude.{◌≡◌, ◌++◌, ◌∷◌, [], map};
-ghost use Rattle.std.specs.Prelude.{IfOk, OnOk, OnErr};
+ghost use Rattle.std.specs.Prelude.{◌≡◌, ◌++◌, ◌∷◌, [], map, IfOk, OnOk, OnErr};
 ghost use Rattle.tangle_expansion.specs.Kept.{kept_for, used_symbols};
-ghost use Rattle.tangle_plans.specs.Slots.{filled, step_uses};
-ghost use Rattle.tangle_plans.specs.NodeBodies.{plan_slots};
+ghost use Rattle.tangle_plans.specs.Meaning.{body_flat};
+ghost use Rattle.tangle_plans.specs.NodeBodies.{body_uses};
 
 use crate::expansion::{Expansion, SharedExpansion};
 use crate::kept::Kept;
@@ -12,7 +11,7 @@ use digraph::Node;
 use std::alloc::Global;
 use std::rc::Rc;
 use tangle_lines::NoMemory;
-use tangle_plans::{NodeBody, Step};
+use tangle_plans::NodeBody;
 
 /// Shares the kept expansion of the name with this number, if there is one.
 fn share_kept(kept: &Kept, id: usize) -> Result<Option<Expansion>, NoMemory>
@@ -24,30 +23,16 @@ fn share_kept(kept: &Kept, id: usize) -> Result<Option<Expansion>, NoMemory>
     }
 }
 
-/// Shares the kept expansion of the name that the step uses, if the step is a use.
-fn share_used(used: &mut Vec<Option<Expansion>>, step: Step, kept: &Kept) -> Result<(), NoMemory>
-    ensures { OnOk result (used.new.items ≡ used.old.items
-        ++ map (kept_for kept.now) (step_uses step)) }
-{
-    match step {
-        Step::Use(id) => {
-            used.push(share_kept(kept, id)?)?;
-            Ok(())
-        }
-        Step::Open | Step::Bytes(_) | Step::Mark => Ok(()),
-        Step::AllMacros | Step::Space | Step::Close => Ok(()),
-    }
-}
-
 /// Makes the expansion of a node, which shares the node's body and the kept expansions of the names
 /// that the node uses.
 fn expansion_of(alloc: Global, body: &Rc<NodeBody>, kept: &Kept) -> Result<Expansion, NoMemory>
-    ensures { IfOk result (λ e. e ≡ filled (used_symbols kept.now) (plan_slots body.now.value)) }
+    ensures { IfOk result (λ e. e ≡ body_flat body.now.value
+        (map (used_symbols kept.now) (body_uses body.now.value))) }
 {
     let stored: &NodeBody = body;
-    let mut used = Vec::new(alloc);
-    for step in &stored.plan {
-        share_used(&mut used, *step, kept)?;
+    let mut used = Vec::with_capacity(alloc, stored.uses().len())?;
+    for id in stored.uses() {
+        used.push(share_kept(kept, *id)?)?;
     }
     let body = body.clone()?;
     let shared = Rc::new(alloc, SharedExpansion { body, used })?;
@@ -67,8 +52,8 @@ pub fn expand(
     kept: &Kept,
     work: &mut Work,
 ) -> Result<Expansion, NoMemory>
-    ensures right { IfOk result
-        (λ e. e ≡ filled (used_symbols kept.now) (plan_slots body.now.value)) }
+    ensures right { IfOk result (λ e. e ≡ body_flat body.now.value
+        (map (used_symbols kept.now) (body_uses body.now.value))) }
     ensures listed { OnOk result (work.new ≡ work.old ++ node ∷ []) }
     ensures err { OnErr result (work.new ≡ work.old) }
 {

@@ -1,5 +1,5 @@
 //! Kept expansions, by node.
-ghost use Rattle.std.specs.Prelude.{◌≡◌, None, OnOk, OnErr};
+ghost use Rattle.std.specs.Prelude.{◌≡◌, ◌≤◌, ◌+◌, None, OnOk, OnErr, length, max};
 ghost use Rattle.std.specs.Option.{option_copied};
 ghost use Rattle.digraph.specs.Nodes.{Node};
 ghost use Rattle.tangle_expansion.specs.Kept.{kept_at, PutsKept, SameKept};
@@ -25,9 +25,11 @@ impl Kept {
         }
     }
 
-    /// Makes room for the node, if there is none.
+    /// Makes entries up to that of the node, if it has none, and none beyond it.
     fn make_entry(&mut self, node: Node) -> Result<(), NoMemory>
-        ensures { SameKept self.old self.new }
+        ensures kept { SameKept self.old self.new }
+        ensures length { OnOk result (length self.new.by_node.items
+            ≤ max (length self.old.by_node.items) (node + 1)) }
     {
         let size = node.number().saturating_add(1);
         // All memory is asked for at once, so that a node far beyond a store's makes no entry.

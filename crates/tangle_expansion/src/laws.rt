@@ -1,6 +1,6 @@
 //! Laws of the definitions of expansions and of their bytes.
 ghost use Rattle.std.specs.Prelude.{◌*◌, List, [], slice_index_or, ◌≡◌, ◌≢◌};
-ghost use Rattle.std.specs.Prelude.{◌<◌, ◌≤◌, ℕ, min, length, map, flat_map, Option};
+ghost use Rattle.std.specs.Prelude.{◌<◌, ◌≤◌, ℕ, min, length, map, flat_map, Contains, Option};
 ghost use Rattle.tangle_lines.specs.declared.origin.Origin.{Origin};
 ghost use Rattle.tangle_lines.specs.Reading.{SourceRead};
 ghost use Rattle.tangle_scan.specs.Web.{WebRead, web_of};
@@ -10,8 +10,9 @@ ghost use Rattle.tangle_files.specs.declared.marks.MarkMode.{MarkMode};
 ghost use Rattle.tangle_files.specs.declared.marks.MarkMode.TheVariants.{Full};
 ghost use Rattle.tangle_plans.specs.Shapes.{Title, Named, Shapes, Uses, Reaches};
 ghost use Rattle.tangle_plans.specs.Shapes.{ContainsItself};
-ghost use Rattle.tangle_plans.specs.Slots.{filled};
-ghost use Rattle.tangle_plans.specs.ItemSlots.{pieces_slots};
+ghost use Rattle.tangle_plans.specs.Meaning.{body_flat};
+ghost use Rattle.tangle_plans.specs.NodeBodies.{HoldsShape, body_title, body_uses};
+ghost use Rattle.tangle_plans.specs.declared.nodes.NodeBody.{NodeBody};
 ghost use Rattle.tangle_plans.specs.Flat.{Symbol, flat, weight, depth, pieces_flat};
 ghost use Rattle.tangle_plans.specs.Flat.{pieces_weight, pieces_depth};
 ghost use Rattle.tangle_expansion.specs.Affected.{IsExpandable, IsAffected};
@@ -21,7 +22,7 @@ ghost use Rattle.tangle_expansion.specs.Numbers.{expansion_bytes};
 ghost use Rattle.std.specs.List.{AllByRecursion};
 ghost use Rattle.tangle_expansion.specs.Limits.{flat_of, heaviest, IsExpandableNode};
 ghost use Rattle.tangle_expansion.specs.Outputs.{IsTrueToLines};
-ghost use Rattle.tangle_expansion.specs.PieceBytes.{piece_bytes, AreWrittenApart};
+ghost use Rattle.tangle_expansion.specs.PieceBytes.{piece_bytes, AreWrittenAsMeant};
 ghost use Rattle.tangle_expansion.specs.Location.{LocatedSymbol, located, located_shapes};
 ghost use Rattle.tangle_expansion.specs.Location.{AreAtTheirOrigins};
 
@@ -111,16 +112,16 @@ pub fn expandable_nodes_are_light()
         → length (flat_of shapes node) ≤ heaviest }
 {}
 
-/// A plan whose uses are replaced by the expansions of the used names is the expansion of its node.
-pub fn filled_plans_are_right()
-    ensures { (web : WebRead) (table : TableRead) (symbols : ℕ → List Symbol)
-        (levels : ℕ) (node : Title)
-        → ResolvesInside table → depth levels (shapes web table) node < levels
-        → ((id : ℕ) → id < length table.names → Uses (shapes web table) node
-        (slice_index_or table.names id [])
-        → symbols id ≡ flat levels (shapes web table) (Named (slice_index_or table.names id [])))
-        → filled symbols (pieces_slots web.texts table node 0 (pieces_of web table node))
-        ≡ flat levels (shapes web table) node }
+/// A body that determines the shape of its node gives the expansion of the node, where each use is
+/// replaced by the expansion of the used name.
+pub fn bodies_give_expansions()
+    ensures { (names : List (List ℕ)) (shapes : Shapes) (levels : ℕ) (body : NodeBody)
+        (symbols : ℕ → List Symbol)
+        → HoldsShape names (shapes (body_title body)) body
+        → depth levels shapes (body_title body) < levels
+        → ((id : ℕ) → Contains (body_uses body) id
+        → symbols id ≡ flat levels shapes (Named (slice_index_or names id [])))
+        → body_flat body (map symbols (body_uses body)) ≡ flat levels shapes (body_title body) }
 {}
 
 /// If at most `most` bytes are written for each symbol of a node, at most `most` times the limit of
@@ -152,11 +153,11 @@ pub fn nodes_are_written_by_pieces()
         (pieces_of web (table_of web) node) }
 {}
 
-/// In what is written, a C compiler reads as two any two items of a macro or of a piece that the
-/// source keeps apart. This holds whatever the used names expand to, and however line marks are
-/// written.
-pub fn what_is_apart_is_written_apart()
+/// In what is written, a C compiler reads the items of each macro and of each piece as the author
+/// means them: together what stands together in the web, and apart what the web keeps apart. This
+/// holds whatever the used names expand to, and however line marks are written.
+pub fn items_are_written_as_meant()
     ensures { (source : SourceRead) (marks : MarkMode) (used : List ℕ → List Symbol)
-        → AreWrittenApart source (web_of source) (table_of (web_of source)) used
+        → AreWrittenAsMeant source (web_of source) (table_of (web_of source)) used
         (numbers_of (web_of source) (table_of (web_of source)) marks) }
 {}

@@ -2,20 +2,20 @@
 ghost use Rattle.std.specs.Prelude.{◌≡◌, ◌+◌, ◌^◌, ◌<◌, ◌≤◌, ◌++◌, decimal, length};
 ghost use Rattle.tangle_streams.specs.Streams.{IsWritten, IsWrittenAfter};
 ghost use Rattle.tangle_expansion.specs.Limits.{heaviest};
-ghost use Rattle.tangle_plans.specs.Meaning.{title_of, bytes_between, is_use_step};
+ghost use Rattle.tangle_plans.specs.Meaning.{title_of, own_symbols};
 ghost use Rattle.tangle_expansion.specs.Numbers.{node_numbers};
 ghost use Rattle.tangle_expansion.specs.Numbers.{opening_bytes, mark_bytes_at, expansion_bytes};
 ghost use Rattle.tangle_expansion.specs.SymbolLimits.{SymbolsAreShort};
-ghost use Rattle.tangle_expansion.specs.Writing.{IsAfterStep, rest_from, rest_after_use};
-ghost use Rattle.tangle_expansion.specs.Writing.{step_bytes, bytes_to_use};
+ghost use Rattle.tangle_expansion.specs.Writing.{WritesToUse, bytes_between, bytes_from};
 
 use crate::cursor::{Cursor, first_cursor};
 use crate::expansion::{Expansion, SharedExpansion};
 use crate::node_numbers::{PieceNumbers, mark_origin_at, section_at};
 use crate::numbers::Numbers;
+use crate::passing::{after_bytes, cursor_after};
 use itoa::Buffer;
 use tangle_lines::{MarkMode, Origin, Sink, WriteFault, write_after};
-use tangle_plans::{NodeBody, Step, bytes_after_step, marks_after_step, pieces_after_step};
+use tangle_plans::{ItemKind, NodeBody};
 
 /// What the text of a node is written from: its body, the numbers of its web, and among those the
 /// numbers of its own pieces.
@@ -100,79 +100,52 @@ fn bytes_between(bytes: &[u8], start: usize, end: usize) -> &[u8]
     if start < end { &bytes[start..end] } else { &[] }
 }
 
-fn is_use_step(step: Step) -> bool
-    ensures { result ≡ is_use_step step }
-{
-    match step {
-        Step::Use(_) => true,
-        Step::Open | Step::Bytes(_) | Step::Mark | Step::AllMacros | Step::Space | Step::Close =>
-            false,
-    }
-}
-
-/// Writes the symbols of a step that is no use.
-fn write_step<S: Sink>(
+/// Writes the symbols of a tag of this kind, besides its bytes and those of a used name.
+fn write_symbols<S: Sink>(
     text: &NodeParts,
     at: Cursor,
-    step: Step,
+    kind: ItemKind,
     sink: &mut S,
     so_far: Result<u128, WriteFault>,
 ) -> Result<u128, WriteFault>
     requires ours { text.now.pieces.now
         ≡ node_numbers text.now.numbers.now (title_of text.now.body.now.name) }
-    requires step { at.step + 1 < 2 ^ 64 }
-    ensures { IsWrittenAfter (S.stream sink.old) (S.stream sink.new)
-        so_far (step_bytes text.now.body.now at text.now.numbers.now step) result }
+    requires tag { at.tag + 1 < 2 ^ 64 }
+    ensures { IsWrittenAfter (S.stream sink.old) (S.stream sink.new) so_far
+        (expansion_bytes text.now.numbers.now
+        (own_symbols (title_of text.now.body.now.name) at.piece at.marks kind)) result }
 {
-    match step {
-        Step::Open => write_opening(
+    match kind {
+        ItemKind::PieceStart => write_opening(
             text.numbers,
             section_at(text.pieces, at.piece),
             mark_origin_at(text.pieces, at.piece, 0),
             sink,
             so_far,
         ),
-        Step::Bytes(end) => write_after(
-            sink,
-            so_far,
-            bytes_between(&text.body.bytes, at.start, end),
-        ),
-        Step::Mark => write_mark(
+        ItemKind::Mark => write_mark(
             text.numbers,
             mark_origin_at(text.pieces, at.piece, at.marks + 1),
             sink,
             so_far,
         ),
-        Step::AllMacros => {
+        ItemKind::AllMacros => {
             let opened = write_after(sink, so_far, b"\n");
             write_after(sink, opened, text.numbers.macros())
         }
-        Step::Space => write_after(sink, so_far, b" "),
-        Step::Use(_) => so_far,
-        Step::Close => write_between(
+        ItemKind::Use | ItemKind::NoUse => write_after(sink, so_far, b" "),
+        ItemKind::PieceEnd => write_between(
             b"/*:",
             section_at(text.pieces, at.piece),
             b"*/",
             sink,
             so_far,
         ),
+        _ => so_far,
     }
 }
 
-/// The cursor after a step.
-fn cursor_after(at: Cursor, step: Step) -> Cursor
-    requires { at.step + 1 < 2 ^ 64 }
-    ensures { IsAfterStep at step result }
-{
-    Cursor {
-        step: at.step + 1,
-        piece: pieces_after_step(at.piece, step),
-        marks: marks_after_step(at.marks, step),
-        start: bytes_after_step(at.start, step),
-    }
-}
-
-/// Writes the symbols up to the next use, or to the end. Returns the cursor there.
+/// Writes the text up to the next use, or to the end. Returns the cursor after the use.
 fn write_to_use<S: Sink>(
     text: &NodeParts,
     from: Cursor,
@@ -181,21 +154,35 @@ fn write_to_use<S: Sink>(
 ) -> (Cursor, Result<u128, WriteFault>)
     requires { text.now.pieces.now
         ≡ node_numbers text.now.numbers.now (title_of text.now.body.now.name) }
-    ensures writes { IsWrittenAfter (S.stream sink.old) (S.stream sink.new)
-        so_far (bytes_to_use text.now.body.now from text.now.numbers.now) result.1 }
-    ensures rest { rest_after_use text.now.body.now from ≡ rest_from text.now.body.now result.0 }
+    ensures { WritesToUse text.now.numbers.now (S.stream sink.old) (S.stream sink.new)
+        so_far result.1 (bytes_from text.now.body.now from text.now.numbers.now)
+        (bytes_from text.now.body.now result.0 text.now.numbers.now) }
 {
+    let body = text.body;
     let mut at = from;
+    let mut end = after_bytes(body, at);
     let mut so_far = so_far;
-    while at.step < text.body.plan.len() {
-        let step = text.body.plan[at.step];
-        if is_use_step(step) {
-            return (cursor_after(at, step), so_far);
+    while end.tag < body.tags.len() {
+        let tag = body.tags[end.tag];
+        let next = cursor_after(end, tag);
+        so_far = write_after(
+            sink,
+            so_far,
+            bytes_between(&body.bytes, at.start, next.start),
+        );
+        if let ItemKind::Use = tag.kind {
+            return (next, so_far);
         }
-        so_far = write_step(text, at, step, sink, so_far);
-        at = cursor_after(at, step);
+        so_far = write_symbols(text, end, tag.kind, sink, so_far);
+        at = next;
+        end = after_bytes(body, at);
     }
-    (at, so_far)
+    let all = write_after(
+        sink,
+        so_far,
+        bytes_between(&body.bytes, at.start, end.start),
+    );
+    (end, all)
 }
 
 impl Expansion {

@@ -41,6 +41,10 @@ fn wording(kind: FaultKind) -> (&'static [u8], Ending)
         FaultKind::ChangeUnused => (b"change never used", Ending::Nothing),
         FaultKind::LimboCode => (b"code before the first section", Ending::Nothing),
         FaultKind::CodeInC => (b"definition code in C text", Ending::Nothing),
+        FaultKind::UseInDirective => (
+            b"section name or @h in a preprocessor line",
+            Ending::Nothing,
+        ),
         FaultKind::NameInMacro => (b"section name in a macro", Ending::Nothing),
         FaultKind::MisplacedH => (b"@h in a macro", Ending::Nothing),
         FaultKind::MacroName => (b"macro must start with an identifier", Ending::Nothing),

@@ -36,6 +36,8 @@ pub enum FaultKind {
     LimboCode,
     /// A control code that begins a definition, in C text.
     CodeInC,
+    /// A section name or `@h` in a preprocessor line.
+    UseInDirective,
     /// A section name that ends a macro and begins no definition.
     NameInMacro,
     /// An `@h` in a macro.

@@ -11,6 +11,7 @@ mod line;
 mod marks;
 mod refusal;
 mod roles;
+mod shared_slice;
 mod splicing;
 mod words;
 
@@ -20,4 +21,5 @@ pub use line::Line;
 pub use marks::MarkMode;
 pub use refusal::Refusal;
 pub use roles::Roles;
+pub use shared_slice::SharedSlice;
 pub use words::Words;

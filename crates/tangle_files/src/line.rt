@@ -1,8 +1,9 @@
 //! A line, which shares the text of its file.
-ghost use Rattle.std.specs.Prelude.{◌≡◌, ◌+◌, ◌^◌, ◌<◌, ◌≤◌, length, IfOk};
+ghost use Rattle.std.specs.Prelude.{◌≡◌, ◌+◌, ◌-◌, ◌^◌, ◌<◌, ◌≤◌, length, IfOk};
 ghost use Rattle.tangle_files.specs.Adding.{longest_line};
-ghost use Rattle.tangle_files.specs.Sharing.{slice_of};
+ghost use Rattle.tangle_files.specs.Sharing.{position_of, slice_of};
 
+use crate::shared_slice::SharedSlice;
 use std::alloc::AllocError;
 use std::marker::Model;
 use std::rc::Rc;
@@ -16,7 +17,7 @@ pub(crate) const MOST_POSITIONS: usize = 281_474_976_710_656;
 /// A line without its trailing spaces and its line feed: at most 65,535 bytes. The lines of a file
 /// share the text of the file. The position of a line in the text is stored in two parts, so that a
 /// line takes 16 bytes, although a text may be longer than 4 GiB.
-// An inserted or replaced line has a text of its own. A text is freed with its last line.
+// An inserted or replaced line has a text of its own.
 #[derive(Drop)]
 pub struct Line {
     text: Rc<Vec<u8>>,
@@ -34,6 +35,13 @@ impl Model for Line {
     ghost view = { λ l. slice_of l.text.value.items (position_of l.low l.high) l.size };
 
     ghost invariant = { λ l. position_of l.low l.high + l.size ≤ length l.text.value.items };
+}
+
+/// The position of which these are the two parts.
+fn position(low: u32, high: u16) -> usize
+    ensures { result ≡ position_of low high }
+{
+    low as usize + high as usize * LOW_POSITIONS
 }
 
 impl Line {
@@ -68,7 +76,22 @@ impl Line {
         ensures value { result.now ≡ self.now }
         ensures short { length result.now ≤ longest_line }
     {
-        let position = self.low as usize + self.high as usize * LOW_POSITIONS;
+        let position = position(self.low, self.high);
         &self.text.as_slice()[position..position + self.size as usize]
+    }
+
+    /// The bytes of the line from `start` up to `end`, as far as the line has them. They share the
+    /// text.
+    ///
+    /// # Errors
+    ///
+    /// Fails if the text has too many shares to count.
+    pub fn slice(&self, start: usize, end: usize) -> Result<SharedSlice, AllocError>
+        ensures { IfOk result (λ slice. slice ≡ slice_of self.now start (end - start)) }
+    {
+        let end = end.min(self.size as usize);
+        let start = start.min(end);
+        let position = position(self.low, self.high) + start;
+        Ok(SharedSlice::new(self.text.clone()?, position, end - start))
     }
 }

@@ -1,5 +1,5 @@
 -- Bodies of nodes, and bodies that are read by their number.
-use Rattle.std.proofs.Common.{◌≡◌, ◌∙◌, ◌<◌, ◌≤◌, ℕ, true, false, List, length, map, get_or, ap, sym}
+use Rattle.std.proofs.Common.{◌≡◌, ◌∙◌, ◌<◌, ◌≤◌, ℕ, true, false, List, length, map, get_or, refl, ap, sym}
 use Rattle.std.proofs.Common.{subst, arith}
 use Rattle.std.specs.Prelude.{All, nat_lt, slice_get, None, Some, Option, IfSome}
 use Rattle.std.specs.Borrow.{Bor}
@@ -12,13 +12,12 @@ use Rattle.std.proofs.lemmas.Option.{get_or_from_slice_get, slice_get-get_or, sl
 use Rattle.digraph.specs.Graph.{row_at}
 use Rattle.tangle_scan.specs.Web.{WebRead}
 use Rattle.tangle_names.specs.NameTable.{TableRead}
-use Rattle.tangle_plans.specs.Comparing.{IsPlanned}
-use Rattle.tangle_plans.specs.ItemSlots.{pieces_at, pieces_slots}
-use Rattle.tangle_plans.specs.Nodes.{title_at}
-use Rattle.tangle_plans.specs.NodeBodies.{body_title, body_uses}
+use Rattle.tangle_plans.specs.Nodes.{pieces_at, title_at}
+use Rattle.tangle_plans.specs.NodeBodies.{ItemsRead, AreItemsOf, AreSameItems, body_items, body_title, body_uses, names_at}
 use Rattle.tangle_plans.specs.WebShapes.{ResolvesInside}
+use Rattle.tangle_plans.proofs.HeldLemmas.{names_held}
 use Rattle.tangle_plans.specs.declared.nodes.NodeBody.{NodeBody}
-use Rattle.tangle_graph.specs.Plans.{ArePlanned, AreBodies, IsBodyAt, node_bodies}
+use Rattle.tangle_graph.specs.Plans.{AreTitled, AreBodies, IsBodyAt, node_bodies}
 use Rattle.tangle_graph.proofs.GroupLemmas.{pieces_below}
 
 pub names_inside : (web : WebRead) (table : TableRead) (rows : List (List ℕ)) (node : ℕ) (body : NodeBody)
@@ -30,7 +29,7 @@ names_inside web table rows node body inside is =
 
 -- a body that is read by its number
 module _ (bodies : List (Rc NodeBody Global)) (n : ℕ) where
-  read : (body : Rc NodeBody Global)
+  pub read : (body : Rc NodeBody Global)
       → n < length bodies → body ≡ get_or bodies n body → slice_get (node_bodies bodies) n ≡ Some body.value
   read body low same =
       slice_get-get_or (node_bodies bodies) n body.value
@@ -85,37 +84,36 @@ body_given web table rows bodies n body are low same =
     ∙ get_or_from_slice_get (node_bodies bodies) n body.value body.value (read bodies n body there same))
     found.2
 
--- the body of a node was planned
-pub planned_at : (web : WebRead) (table : TableRead) (rows : List (List ℕ)) (node : ℕ) (body : NodeBody)
-    → IsBodyAt web table rows node body → IsPlanned body
-planned_at web table rows node body is =
-    let pieces = pieces_at web.pieces (row_at rows node) in
-    record {
-      texts = web.texts;
-      table = table;
-      pieces = pieces;
-      items = record { tags = is.shape.tags; bytes = is.shape.bytes; uses = is.uses };
-      plan = is.plan ∙ ap (λ t. pieces_slots web.texts table t 0 pieces) (sym is.title);
-    }
+-- a body with the items of a node's pieces, under the node's name
 
--- the bodies of a web were planned under its names
-pub bodies_planned : (web : WebRead) (table : TableRead) (rows : List (List ℕ)) (bodies : List NodeBody)
-    → AreBodies web table rows bodies → ArePlanned table.names bodies
-bodies_planned web table rows bodies are = record {
-  titles = λ node body low. (let found = are.each node (omega (arith, low, are.size)) in
-      ap body_title (get_or_from_slice_get bodies node found.0 body found.1) ∙ found.2.title);
-  planned = λ node body low. (let found = are.each node (omega (arith, low, are.size)) in
-      subst IsPlanned (sym (get_or_from_slice_get bodies node found.0 body found.1))
-      (planned_at web table rows node found.0 found.2));
+pub same_items_of : (items others : ItemsRead) → others ≡ items → AreSameItems items others
+same_items_of items others e = rw e (record { tags = refl; bytes = refl; uses = refl })
+
+pub body_of_items : (web : WebRead) (table : TableRead) (rows : List (List ℕ)) (node : ℕ) (body : NodeBody)
+    (items : ItemsRead) → body_title body ≡ title_at table.names node
+    → AreItemsOf web.texts table (pieces_at web.pieces (row_at rows node)) items → AreSameItems items (body_items body)
+    → IsBodyAt web table rows node body
+body_of_items web table rows node body items title are same = record {
+  title = title;
+  shape = record {
+    tags = sym same.tags ∙ are.tags;
+    bytes = sym same.bytes ∙ are.bytes;
+    names_used = ap (names_at table.names) (sym same.uses ∙ are.uses)
+        ∙ names_held web.texts table (pieces_at web.pieces (row_at rows node));
+  };
+  uses = sym same.uses ∙ are.uses;
 }
 
--- the old body of a node has the title of the node, and was planned
-module _ (names : List (List ℕ)) (bodies : List NodeBody) (n : ℕ) (body : NodeBody)
-    (is : ArePlanned names bodies) (had : slice_get bodies n ≡ Some body) where
-  pub had_title : body_title body ≡ title_at names n
-  had_title = ap body_title (sym (get_or_from_slice_get bodies n body body had))
-      ∙ is.titles n body (slice_get_within bodies n body had)
+-- the bodies of a web have its names
+pub bodies_titled : (web : WebRead) (table : TableRead) (rows : List (List ℕ)) (bodies : List NodeBody)
+    → AreBodies web table rows bodies → AreTitled table.names bodies
+bodies_titled web table rows bodies are node body low =
+    let found = are.each node (omega (arith, low, are.size)) in
+    ap body_title (get_or_from_slice_get bodies node found.0 body found.1) ∙ found.2.title
 
-  pub had_plan : IsPlanned body
-  had_plan = subst IsPlanned (get_or_from_slice_get bodies n body body had)
-      (is.planned n body (slice_get_within bodies n body had))
+-- the old body of a node has the title of the node
+pub had_title : (names : List (List ℕ)) (bodies : List NodeBody) (n : ℕ) (body : NodeBody)
+    → AreTitled names bodies → slice_get bodies n ≡ Some body → body_title body ≡ title_at names n
+had_title names bodies n body is had =
+    ap body_title (sym (get_or_from_slice_get bodies n body body had))
+    ∙ is n body (slice_get_within bodies n body had)

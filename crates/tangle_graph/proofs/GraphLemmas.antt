@@ -5,10 +5,9 @@ use Rattle.std.specs.Str.{bytes_eq}
 use Rattle.tangle_scan.specs.Web.{WebRead}
 use Rattle.tangle_names.specs.NameTable.{TableRead}
 use Rattle.tangle_names.proofs.ContainsLemmas.{into_map, out_of_map}
-use Rattle.tangle_plans.specs.Nodes.{title_at}
+use Rattle.tangle_plans.specs.Nodes.{pieces_at, no_piece, title_at}
 use Rattle.tangle_plans.specs.Shapes.{Title, Named}
 use Rattle.tangle_plans.specs.Shapes as title
-use Rattle.tangle_plans.specs.ItemSlots.{pieces_at, no_piece}
 use Rattle.tangle_plans.specs.WebShapes.{ResolvesInside, shapes}
 use Rattle.digraph.specs.Graph.{Graph, HasUse, InRange, row_at}
 use Rattle.digraph.specs.Rows.{IsRowsOf}

@@ -4,12 +4,11 @@ use Rattle.std.proofs.lemmas.List.{length-map}
 use Rattle.tangle_scan.specs.Web.{WebRead, PieceRead}
 use Rattle.tangle_names.specs.NameTable.{TableRead}
 use Rattle.tangle_plans.specs.Shapes.{Program}
-use Rattle.tangle_plans.specs.ItemSlots.{no_piece}
+use Rattle.tangle_plans.specs.Nodes.{no_piece, row_has_piece, title_at}
 use Rattle.tangle_plans.specs.WebShapes.{ResolvesInside, pieces_of, shapes, shape_item}
 use Rattle.tangle_plans.specs.declared.nodes.NodeBody.{NodeBody}
 use Rattle.digraph.specs.Graph.{Graph, row_at}
 use Rattle.tangle_graph.specs.Groups.{IsGraphOf}
-use Rattle.tangle_plans.specs.Nodes.{row_has_piece, title_at}
 use Rattle.tangle_graph.specs.Outputs.{shape_has_piece, is_expandable}
 use Rattle.tangle_graph.specs.Measures.{AreDepths, AreWeights}
 use Rattle.tangle_graph.specs.Plans.{AreBodies}

@@ -5,7 +5,7 @@ use Rattle.std.specs.List.{position, position_or_len}
 use Rattle.std.specs.List.{IsDistinct}
 use Rattle.std.specs.Str.{bytes_eq}
 use Rattle.std.proofs.Math.Decide.{dec_lt, ℕ_discrete}
-use Rattle.std.proofs.lemmas.Option.{slice_get-get_or, slice_get_past}
+use Rattle.std.proofs.lemmas.Option.{slice_get-get_or}
 use Rattle.std.proofs.lemmas.Grind.{common_steps}
 use Rattle.std.proofs.lemmas.List.Sums.{fails_before_first}
 use Rattle.std.proofs.lemmas.Map.Keys.{apart_from_distinct}
@@ -18,10 +18,6 @@ use Rattle.tangle_plans.specs.Shapes as title
 pub title_inside : (names : List (List ℕ)) (id : ℕ)
     → id < length names → title_at names (suc id) ≡ Named (get_or names id [])
 title_inside names id h = ap title_of_name (slice_get-get_or names id [] h)
-
-pub title_past : (names : List (List ℕ)) (id : ℕ)
-    → length names ≤ id → title_at names (suc id) ≡ title.Program
-title_past names id h = ap title_of_name (slice_get_past names id h)
 
 -- each name has one number
 pub once_named : (names : List (List ℕ)) (n m : ℕ)
@@ -55,10 +51,6 @@ once_titled names (suc n) (suc m) distinct hn hm e =
     sym (title_inside names n low) ∙ e ∙ title_inside names m within in
     let same : get_or names n [] ≡ get_or names m [] = cc in
     ap suc (once_named names n m distinct low within same)
-
-pub program_only : (n : ℕ) → name_of_node n ≡ None → n ≡ 0
-program_only zero e = refl
-program_only (suc id) e = absurd (let both : Some id ≡ None = e in cc)
 
 pub name_only : (n id : ℕ) → name_of_node n ≡ Some id → n ≡ suc id
 name_only zero id e = absurd (let both : None ≡ Some id = e in cc)

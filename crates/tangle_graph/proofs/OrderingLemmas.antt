@@ -10,8 +10,7 @@ use Rattle.tangle_scan.specs.Web.{WebRead, PieceRead}
 use Rattle.tangle_names.specs.NameTable.{TableRead}
 use Rattle.tangle_plans.specs.Flat.{depth}
 use Rattle.tangle_plans.specs.Shapes.{Title, Program, Named}
-use Rattle.tangle_plans.specs.Nodes.{IsGroupedBy, row_has_piece, title_at}
-use Rattle.tangle_plans.specs.ItemSlots.{pieces_at}
+use Rattle.tangle_plans.specs.Nodes.{IsGroupedBy, pieces_at, row_has_piece, title_at}
 use Rattle.tangle_plans.specs.WebShapes.{shapes, pieces_of}
 use Rattle.tangle_expansion.specs.Limits.{levels, heaviest, depth_of}
 use Rattle.digraph.specs.Graph.{Graph, row_at}

@@ -1,8 +1,7 @@
 -- The weight and the depth of a node, when those of the names that it uses are known.
-use Rattle.std.proofs.Common.{◌≡◌, ◌∙◌, ◌<◌, ◌≤◌, ◌+◌, ◌⊎◌, ℕ, suc, min, List, [], ◌∷◌, length, get_or, refl, ap, sym}
+use Rattle.std.proofs.Common.{◌≡◌, ◌∙◌, ◌<◌, ◌≤◌, ◌+◌, ◌⊎◌, ℕ, suc, min, List, [], ◌∷◌, length, map, get_or, refl, ap, sym}
 use Rattle.std.proofs.Common.{subst, inl, inr, arith}
 use Rattle.std.specs.Prelude.{Contains, All, sum_by}
-use Rattle.std.proofs.lemmas.List.{get_or_default}
 use Rattle.std.proofs.lemmas.List.Elements.{All-contains}
 use Rattle.std.proofs.lemmas.List.Sums.{sum_by-cons}
 use Rattle.digraph.specs.Graph.{Graph, HasUse, row_at}
@@ -12,10 +11,9 @@ use Rattle.tangle_names.specs.NameTable.{TableRead}
 use Rattle.tangle_names.proofs.ContainsLemmas.{here, there}
 use Rattle.tangle_plans.specs.Shapes.{Title, Program, Named, Shape, ShapeItem, UsesInShape, Uses}
 use Rattle.tangle_plans.specs.Flat.{pieces_weight, pieces_depth, depth}
-use Rattle.tangle_plans.specs.ItemSlots.{pieces_at}
+use Rattle.tangle_plans.specs.Nodes.{pieces_at, title_at}
 use Rattle.tangle_plans.specs.ItemTags.{pieces_uses, shape_of}
-use Rattle.tangle_plans.specs.NodeBodies.{body_uses, plan_slots}
-use Rattle.tangle_plans.specs.Nodes.{title_at}
+use Rattle.tangle_plans.specs.NodeBodies.{body_uses}
 use Rattle.tangle_plans.specs.WebShapes.{shapes, ResolvesInside, pieces_of}
 use Rattle.tangle_plans.specs.declared.nodes.NodeBody.{NodeBody}
 use Rattle.tangle_expansion.specs.Limits.{weight_cap, levels, weight_of, depth_of}
@@ -30,7 +28,6 @@ use Rattle.tangle_graph.proofs.LimitLemmas.{shape_size}
 use Rattle.tangle_graph.proofs.MeasureLemmas.{pieces_depth-met}
 use Rattle.tangle_graph.proofs.NodeLemmas.{title_inside}
 use Rattle.tangle_graph.proofs.WeightLemmas.{weight_counted}
-use Rattle.tangle_graph.proofs.OrderLemmas.{among}
 
 one_level : 1 ≤ levels
 unfolding levels
@@ -47,15 +44,10 @@ sum_by_same f g (x ∷ xs) same =
       sum_by_same f g xs (λ y c. same y (there x xs y c)),
     )
 
--- each known value is within the cap, if all values are
-pub measured_capped : (value : ℕ → ℕ) (cap : ℕ) (values nodes : List ℕ) → ((n : ℕ) → value n ≤ cap)
-    → AreMeasured value cap values nodes → All (λ v. v ≤ cap) values
-measured_capped value cap values nodes within is n d low =
-    let read = get_or_default values n d 0 low in
-    elim (among nodes n) [
-      | inl c ↦ (let e = is.listed n c in let h = within n in omega (arith, read, e, h))
-      | inr none ↦ (let e = is.unlisted n low none in omega (arith, read, e))
-    ]
+sum_by_mapped : (f : List ℕ → ℕ) (g : ℕ → List ℕ) (xs : List ℕ) → sum_by (λ x. f (g x)) xs ≡ sum_by f (map g xs)
+sum_by_mapped f g [] = refl
+sum_by_mapped f g (x ∷ xs) =
+    omega (arith, sum_by-cons (λ y. f (g y)) x xs, sum_by-cons f (g x) (map g xs), sum_by_mapped f g xs)
 
 module _ (web : WebRead) (table : TableRead) (rows : List (List ℕ)) (uses : Graph)
     (graph : IsGraphOf web table rows uses) (done : List Node) (n : Node) (low : n < length uses)
@@ -73,17 +65,22 @@ module _ (web : WebRead) (table : TableRead) (rows : List (List ℕ)) (uses : Gr
   pub weight_step : (weights : List ℕ) (body : NodeBody) (result : ℕ) → ResolvesInside table
       → AreMeasured (λ m. weight_of (shapes web table) (title_at table.names m)) weight_cap weights done
       → IsBodyAt web table rows n body
-      → result ≡ min weight_cap (length (plan_slots body) + sum_by (λ id. get_or weights (suc id) 0) (body_uses body))
+      → result
+      ≡ min weight_cap (pieces_weight (λ name. 0) (shape_of web.texts table (pieces_at web.pieces (row_at rows n)))
+      + sum_by (λ id. get_or weights (suc id) 0) (body_uses body))
       → result ≡ weight_of (shapes web table) (title_at table.names n)
   weight_step weights body result inside sofar is e =
-      e ∙ ap (λ s. min weight_cap (length (plan_slots body) + s))
-      (sum_by_same known (λ id. by_name (get_or table.names id [])) (body_uses body) same)
-      ∙ (λ i. min weight_cap (length (is.plan i) + sum_by (λ id. by_name (get_or table.names id [])) (is.uses i)))
-      ∙ ap (min weight_cap) (sym (weight_counted web.texts table by_name
-      (title_at table.names n) 0 (pieces_at web.pieces (row_at rows n))))
+      e ∙ ap (λ s. min weight_cap (pieces_weight (λ name. 0) shape + s))
+      (sum_by_same known (λ id. by_name (get_or table.names id [])) (body_uses body) same
+      ∙ sum_by_mapped by_name (λ id. get_or table.names id []) (body_uses body)
+      ∙ ap (sum_by by_name) is.shape.names_used)
+      ∙ ap (min weight_cap) (sym (weight_counted by_name shape))
       ∙ ap (λ ps. min weight_cap (pieces_weight by_name (shape_of web.texts table ps))) grouped
       ∙ sym (weight_by_uses weight_cap (shapes web table) (title_at table.names n))
     where
+      shape : Shape
+      shape = shape_of web.texts table (pieces_at web.pieces (row_at rows n))
+
       known : ℕ → ℕ
       known id = get_or weights (suc id) 0
 

@@ -3,22 +3,16 @@ use Rattle.std.proofs.Common.{◌≡◌, ◌≢◌, ◌∙◌, ◌<◌, ◌≤�
 use Rattle.std.proofs.Common.{ap, sym, subst, arith}
 use Rattle.std.specs.Prelude.{AllPairs, Some, slice_get}
 use Rattle.std.specs.List.Sorted.{IsStrictlyIncreasing}
-use Rattle.std.proofs.lemmas.List.{get_or-map}
 use Rattle.std.proofs.lemmas.List.Kept.{AllPairs-from_increasing}
-use Rattle.std.proofs.lemmas.Option.{get_or_from_slice_get}
 use Rattle.tangle_scan.specs.Web.{WebRead, PieceRead}
 use Rattle.tangle_names.specs.NameTable.{TableRead}
 use Rattle.tangle_plans.specs.Shapes.{Title, Named, Uses, ContainsItself}
-use Rattle.tangle_plans.specs.Flat.{Symbol}
 use Rattle.tangle_plans.specs.ItemTags.{shape_of}
-use Rattle.tangle_plans.specs.NodeBodies.{HoldsShape, plan_slots}
-use Rattle.tangle_plans.specs.Nodes.{title_at}
-use Rattle.tangle_plans.specs.Slots.{filled}
-use Rattle.tangle_plans.specs.ItemSlots.{pieces_at, pieces_slots}
+use Rattle.tangle_plans.specs.NodeBodies.{HoldsShape}
+use Rattle.tangle_plans.specs.Nodes.{pieces_at, title_at}
 use Rattle.tangle_plans.specs.WebShapes.{ResolvesInside, pieces_of, shapes, shape_item}
 use Rattle.tangle_plans.specs.declared.nodes.NodeBody.{NodeBody}
-use Rattle.tangle_expansion.specs.Limits.{levels, flat_of, weight_of, depth_of, IsExpandableNode}
-use Rattle.tangle_expansion.proofs.FilledLemmas.{node_filled}
+use Rattle.tangle_expansion.specs.Limits.{weight_of, depth_of, IsExpandableNode}
 use Rattle.digraph.specs.Flags.{FlagsJust}
 use Rattle.digraph.specs.Graph.{HasUse, row_at}
 use Rattle.digraph.specs.Reach as graph
@@ -29,7 +23,7 @@ use Rattle.tangle_graph.specs.Groups.{IsGraphOf}
 use Rattle.tangle_graph.specs.Nodes.{UsesTitle}
 use Rattle.tangle_graph.specs.Outputs.{is_expandable}
 use Rattle.tangle_graph.specs.Plans.{AreBodies, IsBodyAt}
-use Rattle.tangle_graph.specs.Stores.{StoreRead, IsStoreOf, UsesNumber}
+use Rattle.tangle_graph.specs.Stores.{StoreRead, IsStoreOf}
 use Rattle.tangle_graph.proofs.LimitLemmas.{shape_size}
 use Rattle.tangle_graph.proofs.NodeLemmas.{title_inside}
 use Rattle.tangle_graph.proofs.ReachLemmas.{contains_by_titles}
@@ -104,31 +98,9 @@ module _ (web : WebRead) (table : TableRead) (made : StoreRead) (inside : Resolv
       → a ≤ length table.names → pieces_at web.pieces (row_at made.pieces a) ≡ pieces_of web table (title a)
   pieces_are a ha = is.pieces a (omega (arith, ha, is.rows_size))
 
-  -- the node's body, by which each list of a part of each body has the node's part
   body_is : (a : ℕ) → a ≤ length table.names
       → (body : NodeBody) × (slice_get made.bodies a ≡ Some body) × IsBodyAt web table made.pieces a body
   body_is a ha = shaped.each a (omega (arith, ha, is.rows_size))
-
-  part_is : {X : Type 0} (part : NodeBody → List X) (a : ℕ) (ha : a ≤ length table.names)
-      → row_at (map part made.bodies) a ≡ part (body_is a ha).0
-  part_is part a ha =
-      let body = (body_is a ha).0 in
-      get_or-map part made.bodies a body [] (omega (arith, ha, shaped.size, is.rows_size))
-      ∙ ap part (get_or_from_slice_get made.bodies a body body (body_is a ha).1)
-
-  plans_are : (a : ℕ) (symbols : ℕ → List Symbol) → a ≤ length table.names
-      → depth_of (shapes web table) (title a) < levels
-      → ((id : ℕ) → UsesNumber (shapes web table) (record made { names = table.names }) a id
-      → symbols id ≡ flat_of (shapes web table) (Named (get_or table.names id [])))
-      → filled symbols (row_at (map plan_slots made.bodies) a) ≡ flat_of (shapes web table) (title a)
-  plans_are a symbols ha shallow right =
-      let row : row_at (map plan_slots made.bodies) a
-      ≡ pieces_slots web.texts table (title a) 0 (pieces_of web table (title a)) =
-      part_is plan_slots a ha ∙ (body_is a ha).2.plan
-      ∙ ap (pieces_slots web.texts table (title a) 0) (pieces_are a ha) in
-      ap (filled symbols) row
-      ∙ node_filled web table symbols levels (title a) inside shallow
-      (λ id low u. right id (record { inside = low; uses = u }))
 
   shapes_are : (a : ℕ) → a ≤ length table.names
       → (body : NodeBody) × (slice_get made.bodies a ≡ Some body)
@@ -160,6 +132,5 @@ module _ (web : WebRead) (table : TableRead) (made : StoreRead) (inside : Resolv
         weights = λ a ha. weighed a (here a ha);
         depths = λ a ha. measured a (here a ha);
         expandable = expandable_at;
-        plans = plans_are;
         shape_held = shapes_are;
       })

@@ -7,8 +7,8 @@ use Rattle.digraph.specs.Rows.{IsRowsOf}
 use Rattle.tangle_scan.specs.Web.{PieceRead, WebRead}
 use Rattle.tangle_names.specs.NameTable.{TableRead}
 use Rattle.tangle_plans.specs.ItemTags.{pieces_uses}
-use Rattle.tangle_plans.specs.ItemSlots.{pieces_at, no_piece}
 use Rattle.tangle_plans.specs.NodeBodies.{body_uses}
+use Rattle.tangle_plans.specs.Nodes.{pieces_at, no_piece}
 use Rattle.tangle_plans.specs.declared.nodes.NodeBody.{NodeBody}
 use Rattle.tangle_graph.specs.Grouping.{positions_of, used_numbers, is_piece_of_node}
 use Rattle.tangle_graph.specs.Plans.{AreBodies}

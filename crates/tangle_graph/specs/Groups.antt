@@ -3,10 +3,9 @@ use Rattle.std.specs.Prelude.{◌≡◌, ◌<◌, ℕ, ◌+◌, List, length, Al
 use Rattle.tangle_scan.specs.Web.{WebRead}
 use Rattle.tangle_names.specs.NameTable.{TableRead}
 use Rattle.tangle_plans.specs.WebShapes.{shapes, pieces_of}
-use Rattle.tangle_plans.specs.ItemSlots.{pieces_at}
+use Rattle.tangle_plans.specs.Nodes.{pieces_at, title_at}
 use Rattle.digraph.specs.Graph.{Graph, InRange, row_at}
 use Rattle.digraph.specs.Titles.{IsTitled}
-use Rattle.tangle_plans.specs.Nodes.{title_at}
 use Rattle.tangle_graph.specs.Nodes.{UsesTitle}
 
 -- for each node, the numbers of its pieces, and the names that it uses

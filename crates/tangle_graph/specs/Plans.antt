@@ -1,6 +1,6 @@
 -- The bodies of the nodes of a web.
 use Rattle.std.specs.Prelude.{◌≡◌, ◌<◌, ◌≤◌, ℕ, Bool, true, false, List, length, map}
-use Rattle.std.specs.Prelude.{All, slice_get, slice_index_or, Some}
+use Rattle.std.specs.Prelude.{slice_get, slice_index_or, Some}
 use Rattle.std.specs.Global.{Global}
 use Rattle.std.specs.declared.rc.Rc.{Rc}
 use Rattle.digraph.specs.Graph.{row_at}
@@ -8,11 +8,8 @@ use Rattle.digraph.specs.Nodes.{Node}
 use Rattle.tangle_scan.specs.Web.{WebRead}
 use Rattle.tangle_names.specs.NameTable.{TableRead}
 use Rattle.tangle_plans.specs.ItemTags.{pieces_uses, shape_of}
-use Rattle.tangle_plans.specs.ItemSlots.{pieces_at, pieces_slots}
-use Rattle.tangle_plans.specs.Comparing.{IsPlanned}
-use Rattle.tangle_plans.specs.NodeBodies.{HoldsShape, body_title, body_uses, plan_slots}
-use Rattle.tangle_plans.specs.NodeBodies.{names_at}
-use Rattle.tangle_plans.specs.Nodes.{title_at}
+use Rattle.tangle_plans.specs.NodeBodies.{HoldsShape, body_title, body_uses, names_at}
+use Rattle.tangle_plans.specs.Nodes.{pieces_at, title_at}
 use Rattle.tangle_plans.specs.declared.nodes.NodeBody.{NodeBody}
 use Rattle.tangle_graph.specs.declared.bodies.OldBodies.{OldBodies}
 
@@ -24,9 +21,6 @@ node_bodies bodies = map (λ (body : Rc NodeBody Global). body.value) bodies
 pub record IsBodyAt (web : WebRead) (table : TableRead)
     (rows : List (List ℕ)) (node : Node) (body : NodeBody) : Type 0 where
   pub title : body_title body ≡ title_at table.names node
-  pub plan : plan_slots body
-      ≡ pieces_slots web.texts table
-      (title_at table.names node) 0 (pieces_at web.pieces (row_at rows node))
   pub shape : HoldsShape table.names
       (shape_of web.texts table (pieces_at web.pieces (row_at rows node))) body
   pub uses : body_uses body ≡ pieces_uses table (pieces_at web.pieces (row_at rows node))
@@ -39,16 +33,14 @@ pub record AreBodies (web : WebRead) (table : TableRead)
       → (body : NodeBody) × (slice_get bodies node ≡ Some body)
       × IsBodyAt web table rows node body
 
--- the body of each node was planned under the node's name
-pub record ArePlanned (names : List (List ℕ)) (bodies : List NodeBody) : Type 0 where
-  pub titles : (node : Node) (body : NodeBody)
-      → node < length bodies → body_title (slice_index_or bodies node body) ≡ title_at names node
-  pub planned : All IsPlanned bodies
+-- the body of each node has the node's name
+abbrev pub AreTitled : List (List ℕ) → List NodeBody → Type 0
+AreTitled names bodies = (node : Node) (body : NodeBody)
+    → node < length bodies → body_title (slice_index_or bodies node body) ≡ title_at names node
 
--- the bodies of a store were planned under its names
+-- the bodies of a store have its names
 abbrev pub AreBodiesBefore : OldBodies → Type 0
-AreBodiesBefore old =
-    ArePlanned old.names.now (node_bodies old.bodies.now)
+AreBodiesBefore old = AreTitled old.names.now (node_bodies old.bodies.now)
 
 -- the body is the one that the old node with the same title had; `names` are the new names
 pub record IsBodyOfBefore (old : OldBodies) (names : List (List ℕ))

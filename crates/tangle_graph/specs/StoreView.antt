@@ -1,7 +1,7 @@
 -- A store, as it is read from its fields.
 use Rattle.std.specs.Prelude.{◌≡◌, ◌<◌, ◌+◌, All, length, map}
 use Rattle.tangle_plans.specs.NodeBodies.{body_uses}
-use Rattle.tangle_graph.specs.Plans.{ArePlanned, node_bodies}
+use Rattle.tangle_graph.specs.Plans.{AreTitled, node_bodies}
 use Rattle.tangle_graph.specs.Ordering.{IsOrderIn}
 use Rattle.tangle_graph.specs.NameGraphs.{IsNameGraphOf}
 use Rattle.tangle_graph.specs.Stores.{StoreRead}
@@ -23,8 +23,8 @@ store_read s = record {
 }
 
 -- The graph of names is that of the uses of the bodies, and its order is one of the store. There is
--- a row of pieces for each node, and a body: its items use names of the store, and it was planned
--- under the node's name.
+-- a row of pieces for each node, and a body: its items use names of the store, and it has the node's
+-- name.
 pub record StoreInvariant (s : Inside) : Type 0 where
   pub size : length s.bodies.items ≡ length s.name_graph.value.names + 1
   pub pieces_size : length s.pieces.value ≡ length s.bodies.items
@@ -33,4 +33,4 @@ pub record StoreInvariant (s : Inside) : Type 0 where
   pub order : IsOrderIn (store_read s) s.name_graph.value.order.items
   pub uses : All (All (λ id. id < length s.name_graph.value.names))
       (map body_uses (node_bodies s.bodies.items))
-  pub planned : ArePlanned s.name_graph.value.names (node_bodies s.bodies.items)
+  pub titled : AreTitled s.name_graph.value.names (node_bodies s.bodies.items)

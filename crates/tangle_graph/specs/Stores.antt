@@ -7,9 +7,8 @@ use Rattle.std.specs.Prelude.{AllPairs, Contains, Option, Some}
 use Rattle.tangle_plans.specs.Shapes.{Title, Named, Shape, Shapes, Uses, ContainsItself}
 use Rattle.tangle_plans.specs.Flat.{Symbol}
 use Rattle.tangle_expansion.specs.Kept.{used_symbols}
+use Rattle.tangle_plans.specs.Meaning.{body_flat}
 use Rattle.tangle_plans.specs.NodeBodies.{HoldsShape, body_uses, names_at}
-use Rattle.tangle_plans.specs.NodeBodies.{plan_slots}
-use Rattle.tangle_plans.specs.Slots.{Slot, filled}
 use Rattle.tangle_expansion.specs.Limits.{levels, heaviest, flat_of, weight_of, depth_of}
 use Rattle.tangle_expansion.specs.Limits.{IsExpandableNode}
 use Rattle.tangle_expansion.specs.Outputs.{OutputRead}
@@ -66,9 +65,10 @@ module _ (store : StoreRead) where
   abbrev pub body_at : Node → Option NodeBody
   body_at node = slice_get store.bodies node
 
-  -- the node's own symbols and the uses between them
-  abbrev pub slots_at : Node → List Slot
-  slots_at node = row_at (map plan_slots store.bodies) node
+  -- the symbols of the node's body, where the names with these numbers have these ones
+  abbrev pub symbols_at : (ℕ → List Symbol) → Node → List Symbol
+  symbols_at symbols node =
+      row_at (map (λ body. body_flat body (map symbols (body_uses body))) store.bodies) node
 
   abbrev pub title_in_store : Node → Title
   title_in_store node = title_at store.names node
@@ -125,12 +125,6 @@ pub record IsStoreOf (shapes : Shapes) (store : StoreRead) : Type 0 where
       → IsNodeIn store a → depth_at store a ≡ depth_of shapes (title_in_store store a)
   pub expandable : (a : Node) → IsNodeIn store a
       → ((is_expandable_at store a ≡ true) ↔ IsExpandableNode shapes (title_in_store store a))
-  -- if each used name is replaced by its own expansion, the plan gives the expansion of the node
-  pub plans : (a : Node) (symbols : ℕ → List Symbol)
-      → IsNodeIn store a → depth_of shapes (title_in_store store a) < levels
-      → ((id : ℕ) → UsesNumber shapes store a id
-      → symbols id ≡ flat_of shapes (Named (slice_index_or store.names id [])))
-      → filled symbols (slots_at store a) ≡ flat_of shapes (title_in_store store a)
   -- the body of a node determines its shape
   pub shape_held : (a : Node) → IsNodeIn store a
       → (body : NodeBody) × (body_at store a ≡ Some body)

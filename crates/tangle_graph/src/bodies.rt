@@ -1,8 +1,8 @@
-//! The body of each node: its bytes and its plan.
+//! The body of each node, and whether it is an old one.
 ghost use Rattle.std.specs.Prelude.{◌≡◌, ◌<◌, ◌+◌, ◌⊎◌, [], IfOk, length, All, IfSome};
 ghost use Rattle.std.specs.Prelude.{true, MatchOption};
 ghost use Rattle.digraph.specs.Graph.{row_at};
-ghost use Rattle.tangle_plans.specs.Comparing.{IsPlanned};
+ghost use Rattle.tangle_plans.specs.Meaning.{title_of};
 ghost use Rattle.tangle_plans.specs.NodeBodies.{body_title, body_uses};
 ghost use Rattle.tangle_plans.specs.Nodes.{title_at};
 ghost use Rattle.tangle_graph.specs.Nodes.{IsNodeOf};
@@ -11,11 +11,11 @@ ghost use Rattle.tangle_graph.specs.Plans.{IsBodyAt, IsBodyOfBefore, node_bodies
 
 use crate::nodes::node_before;
 use digraph::{Node, Rows};
-use std::alloc::Global;
+use std::alloc::{AllocError, Global};
 use std::rc::Rc;
 use tangle_lines::NoMemory;
 use tangle_names::{NameTable, Names};
-use tangle_plans::{BodyBuilder, NodeBody, has_items_of, plan_node};
+use tangle_plans::{BodyBuilder, NodeBody};
 use tangle_scan::Web;
 
 /// What a new store takes from an old one: its names, and the bodies of its nodes.
@@ -58,7 +58,6 @@ fn body_before<'s>(
     requires node { IsNodeOf names.now node }
     ensures title { IfSome result
         (λ body. body_title body.now.value ≡ title_at names.now node) }
-    ensures planned { IfSome result (λ body. IsPlanned body.now.value) }
     ensures before { IfSome result
         (λ body. IsBodyOfBefore old.entry names.now node body.now.value) }
 {
@@ -81,6 +80,16 @@ struct BodyAfter {
     is_old: bool,
 }
 
+/// The name of the node; `None` for the program.
+fn name_of_node(alloc: Global, table: &NameTable, node: Node) -> Result<Option<Vec<u8>>, AllocError>
+    ensures { IfOk result (λ name. title_of name ≡ title_at table.now.names node) }
+{
+    match node.name_number() {
+        Some(id) if id < table.count() => Ok(Some(Vec::from_slice(alloc, table.text(id))?)),
+        _ => Ok(None),
+    }
+}
+
 /// The body of the node: the old one, if its items are those of the node's pieces, else a new one.
 fn body_after(
     alloc: Global,
@@ -95,8 +104,6 @@ fn body_after(
         ≡ length grouped.web.now.occurrences }
     requires title { IfSome before
         (λ body. body_title body.now.value ≡ title_at grouped.table.now.names node) }
-    requires planned { IfSome before
-        (λ body. IsPlanned body.now.value) }
     ensures body { IfOk result
         (λ made. IsBodyAt grouped.entry.web.now grouped.entry.table.now
         grouped.entry.pieces.now node made.body.value) }
@@ -104,14 +111,15 @@ fn body_after(
         → MatchOption before.entry ⊥ (λ body. made.body.value ≡ body.now.value)) }
 {
     let GroupedWeb { web, table, pieces } = grouped;
+    builder.make(web, table, pieces.row(node.number()))?;
     if let Some(body) = before {
-        if has_items_of(body, web, table, pieces.row(node.number())) {
+        if builder.has_made(body) {
             let body = body.clone()?;
             return Ok(BodyAfter { body, is_old: true });
         }
     }
-    let body = plan_node(alloc, builder, web, table, pieces, node)?;
-    let body = Rc::new(alloc, body)?;
+    let name = name_of_node(alloc, table, node)?;
+    let body = Rc::new(alloc, builder.body(alloc, name)?)?;
     Ok(BodyAfter {
         body,
         is_old: false,

@@ -1,12 +1,14 @@
 //! The weight and the depth of each node.
 ghost use Rattle.std.specs.Prelude.{◌≡◌, ◌<◌, ◌≤◌, ◌+◌, ◌⊎◌, ℕ, IfOk, length, vec_len, min, map};
 ghost use Rattle.std.specs.Prelude.{sum_by, slice_index, All, Contains};
-ghost use Rattle.std.specs.Prelude.{◌&&◌, nat_lt, nat_le, suc};
+ghost use Rattle.std.specs.Prelude.{◌&&◌, nat_lt, nat_le, suc, List};
 ghost use Rattle.digraph.specs.Graph.{InRange};
 ghost use Rattle.digraph.specs.Order.{IsOrder};
-ghost use Rattle.tangle_plans.specs.NodeBodies.{body_uses, plan_slots};
+ghost use Rattle.tangle_plans.specs.Flat.{pieces_weight};
+ghost use Rattle.tangle_plans.specs.NodeBodies.{HoldsShape, body_uses};
 ghost use Rattle.tangle_expansion.specs.Limits.{weight_cap, levels, heaviest};
 ghost use Rattle.tangle_plans.specs.Nodes.{row_has_piece};
+ghost use Rattle.tangle_plans.specs.Shapes.{Shape};
 ghost use Rattle.tangle_graph.specs.Measures.{AreDepths, AreWeights};
 ghost use Rattle.tangle_graph.specs.Plans.{node_bodies};
 ghost use Rattle.tangle_graph.specs.Stores.{AreWithin};
@@ -31,11 +33,13 @@ const LEVELS: u16 = 1001;
 fn weight_of_node(weights: &[u32], body: &NodeBody) -> u32
     requires inside { All (λ id. suc id < length weights.now) (body_uses body.now) }
     requires capped { All (λ weight. weight ≤ weight_cap) weights.now }
-    ensures { result ≡ min weight_cap
-        (length (plan_slots body.now) + sum_by (λ id. slice_index weights.now (suc id))
-        (body_uses body.now)) }
+    ensures capped { result ≤ weight_cap }
+    ensures weight { (names : List (List ℕ)) (shape : Shape) → HoldsShape names shape body.now
+        → result ≡ min weight_cap (pieces_weight (λ name. 0) shape
+        + sum_by (λ id. slice_index weights.now (suc id)) (body_uses body.now)) }
 {
-    let mut weight = body.symbol_count().min(WEIGHT_CAP as usize) as u32;
+    let own = body.symbol_count().min(WEIGHT_CAP as usize) as u32;
+    let mut weight = own;
     for id in body.uses() {
         weight = (weight + weights[Node::name(*id).number()]).min(WEIGHT_CAP);
     }

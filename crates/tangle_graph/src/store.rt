@@ -8,14 +8,13 @@ ghost use Rattle.tangle_expansion.specs.Kept.{used_symbols};
 ghost use Rattle.tangle_expansion.specs.Limits.{flat_of};
 ghost use Rattle.tangle_plans.specs.NodeBodies.{body_uses};
 ghost use Rattle.tangle_plans.specs.Shapes.{Shapes};
-ghost use Rattle.tangle_plans.specs.Slots.{filled};
 ghost use Rattle.tangle_graph.specs.Faults.{AreGraphFaults};
 ghost use Rattle.tangle_graph.specs.Grouping.{positions_of};
 ghost use Rattle.tangle_graph.specs.NameGraphs.{IsNameGraphOf};
 ghost use Rattle.tangle_graph.specs.Ordering.{IsOrderIn};
 ghost use Rattle.tangle_graph.specs.Plans.{AreBodies, AreBodiesBefore, node_bodies};
 ghost use Rattle.tangle_graph.specs.Stores.{IsStoreOf, KeepsBodies, KeepsUsed};
-ghost use Rattle.tangle_graph.specs.Stores.{body_at, flag_at, slots_at, title_in_store};
+ghost use Rattle.tangle_graph.specs.Stores.{body_at, flag_at, symbols_at, title_in_store};
 ghost use Rattle.tangle_graph.specs.Stores.{contains_itself_at, is_expandable_at};
 ghost use Rattle.tangle_graph.specs.Stores.{weight_at, depth_at, uses_at, users_at, has_piece_at};
 ghost use Rattle.tangle_graph.specs.WebStores.{IsStoreOfWeb};
@@ -154,7 +153,7 @@ impl Store {
 
     /// The bodies of the nodes, with their names.
     fn bodies(&self) -> OldBodies<'_>
-        ensures planned { AreBodiesBefore result }
+        ensures titled { AreBodiesBefore result }
         ensures names { result.names.now ≡ self.now.names }
         ensures bodies { node_bodies result.bodies.now ≡ self.now.bodies }
     {
@@ -400,7 +399,7 @@ impl Store {
     ) -> Result<Expansion, NoMemory>
         requires expandable { is_expandable_at self.now node ≡ true }
         ensures symbols { IfOk result
-            (λ e. e ≡ filled (used_symbols kept.now) (slots_at self.now node)) }
+            (λ e. e ≡ symbols_at self.now (used_symbols kept.now) node) }
         ensures right { (shapes : Shapes) → IsStoreOf shapes self.now
             → KeepsUsed shapes self.now kept.now node
             → IfOk result (λ e. e ≡ flat_of shapes (title_in_store self.now node)) }

@@ -18,6 +18,7 @@ fn kind_name(kind: FaultKind) -> &'static [u8] {
         FaultKind::ChangeUnused => b"ChangeUnused",
         FaultKind::LimboCode => b"LimboCode",
         FaultKind::CodeInC => b"CodeInC",
+        FaultKind::UseInDirective => b"UseInDirective",
         FaultKind::NameInMacro => b"NameInMacro",
         FaultKind::MisplacedH => b"MisplacedH",
         FaultKind::MacroName => b"MacroName",

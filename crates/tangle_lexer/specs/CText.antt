@@ -1,5 +1,5 @@
 -- C text: what begins at a position, and what is read there.
-use Rattle.std.specs.Prelude.{ℕ, ◌+◌, Bool, ◌==◌, ◌&&◌, ◌||◌, List, [], ◌∷◌, take, drop}
+use Rattle.std.specs.Prelude.{ℕ, ◌+◌, Bool, false, ◌==◌, ◌&&◌, ◌||◌, List, [], ◌∷◌, take, drop}
 use Rattle.std.specs.Prelude.{if◌then◌else◌, Option, Some, None}
 use Rattle.tangle_lines.specs.Bytes.{at_sign, double_quote, is_white}
 use Rattle.tangle_faults.specs.declared.faults.FaultKind.{FaultKind}
@@ -8,6 +8,7 @@ use Rattle.tangle_text.specs.declared.regions.Region.TheVariants as region
 use Rattle.tangle_lexer.specs.declared.modes.Mode.TheVariants as mode
 use Rattle.tangle_lexer.specs.declared.modes.IncludeState.{IncludeState}
 use Rattle.tangle_lexer.specs.declared.modes.IncludeState.TheVariants as include
+use Rattle.tangle_lexer.specs.declared.modes.LineState.{LineState}
 use Rattle.tangle_lexer.specs.declared.modes.LexerState.{LexerState}
 use Rattle.tangle_lexer.specs.declared.lexeme_kinds.ControlCode.{ControlCode}
 use Rattle.tangle_lexer.specs.declared.lexeme_kinds.ControlCode.TheVariants as code
@@ -16,12 +17,13 @@ use Rattle.tangle_lexer.specs.declared.lexeme_kinds.LexemeKind.TheVariants as le
 use Rattle.tangle_lexer.specs.declared.tokens.SpanKind.TheVariants as span_kind
 use Rattle.tangle_lexer.specs.declared.tokens.Token.TheVariants as token
 use Rattle.tangle_text.specs.Bytes.{asterisk, slash, less_sign, left_parenthesis, equals_sign}
-use Rattle.tangle_text.specs.Bytes.{greater_sign, number_sign, apostrophe, holds, is_word_byte}
-use Rattle.tangle_text.specs.Bytes.{lower}
+use Rattle.tangle_text.specs.Bytes.{greater_sign, number_sign, backslash, apostrophe, holds}
+use Rattle.tangle_text.specs.Bytes.{is_word_byte, lower}
 use Rattle.tangle_text.specs.Text.{Cell, byte_at, bytes_of, front_line, span_at}
 use Rattle.tangle_text.specs.Regions.{count_before}
-use Rattle.tangle_lexer.specs.Lexemes.{Lexeme, lexeme_of, in_mode, with_include, elsewhere}
-use Rattle.tangle_lexer.specs.Lexemes.{white_lexeme}
+use Rattle.tangle_lexer.specs.LinesOfC as lines_of_c
+use Rattle.tangle_lexer.specs.Lexemes.{Lexeme, lexeme_of, in_mode, with_line, elsewhere}
+use Rattle.tangle_lexer.specs.Lexemes.{white_lexeme, fault_if, is_in_directive}
 use Rattle.tangle_lexer.specs.Comments.{block_comment, line_comment, control_text}
 use Rattle.tangle_lexer.specs.Quoted.{quoted_text, verbatim_text}
 use Rattle.tangle_lexer.specs.Constants.{ascii_constant}
@@ -89,12 +91,23 @@ include_after_word is_include include.AfterNumberSign =
     if is_include then include.AfterInclude else include.Elsewhere
 include_after_word is_include _ = include.Elsewhere
 
+-- the line after a sign, of which this is the first byte
+abbrev pub line_after_sign : Option ℕ → LineState → LineState
+line_after_sign b l =
+    lines_of_c.after_item (include_after_sign b l.include) (holds number_sign b) (holds backslash b)
+    l
+
+-- the line after a word
+abbrev pub line_after_word : Bool → LineState → LineState
+line_after_word is_include l =
+    lines_of_c.after_item (include_after_word is_include l.include) false false l
+
 -- a word: the cells up to the first without a word byte
 abbrev pub word : LexerState → List Cell → Lexeme
 word s text =
     lexeme_of (token.Span span_kind.Word (span_at (1 + word_more text) text) ∷ []) (word_more text)
-    (with_include
-    (include_after_word (is_include_word (bytes_of (take (1 + word_more text) text))) s.include) s)
+    (with_line
+    (line_after_word (is_include_word (bytes_of (take (1 + word_more text) text))) s.line) s)
 
 -- white space: the cells up to the first without white space
 abbrev pub white_space : LexerState → List Cell → Lexeme
@@ -125,10 +138,14 @@ code_lexeme used code.ControlText s text = control_text s text
 -- @=
 code_lexeme used code.Verbatim s text = verbatim_text s text
 -- @&
-code_lexeme used code.Join s text = lexeme_of (token.Join ∷ []) 1 (elsewhere s)
+code_lexeme used code.Join s text =
+    lexeme_of (token.Join ∷ []) 1 (with_line (lines_of_c.after_join s.line) s)
 -- @h
 code_lexeme used code.AllMacros s text =
-    lexeme_of (token.AllMacros (front_line s.last_line text) ∷ []) 1 (elsewhere s)
+    lexeme_of
+    (token.AllMacros (front_line s.last_line text)
+    ∷ fault_if (is_in_directive s) fault.UseInDirective (front_line s.last_line text))
+    1 (with_line lines_of_c.after_use s)
 -- @'
 code_lexeme used code.AsciiConstant s text = ascii_constant s text
 -- other control codes are white space
@@ -143,10 +160,10 @@ kind_lexeme used lexeme_kind.DoubleQuote s text = quoted_text region.DoubleQuote
 kind_lexeme used lexeme_kind.Apostrophe s text = quoted_text region.Apostrophe apostrophe s text
 kind_lexeme used lexeme_kind.HeaderName s text = quoted_text region.HeaderName greater_sign s text
 kind_lexeme used lexeme_kind.LineEnd s text =
-    lexeme_of (token.LineEnd (front_line s.last_line text) ∷ []) 0 (with_include include.AtStart s)
+    lexeme_of (token.LineEnd (front_line s.last_line text) ∷ []) 0 (with_line (lines_of_c.after_line_end s.line) s)
 kind_lexeme used lexeme_kind.White s text = white_space s text
 kind_lexeme used lexeme_kind.Word s text = word s text
 -- any other byte is a sign
 kind_lexeme used lexeme_kind.Other s text =
     lexeme_of (token.Span span_kind.Sign (span_at 1 text) ∷ []) 0
-    (with_include (include_after_sign (byte_at 0 text) s.include) s)
+    (with_line (line_after_sign (byte_at 0 text) s.line) s)

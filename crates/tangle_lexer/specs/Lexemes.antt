@@ -1,14 +1,17 @@
 -- Lexemes: what one step of the lexer reads, and the state after it.
-use Rattle.std.specs.Prelude.{ℕ, Bool, List, [], ◌∷◌, ◌++◌, if◌then◌else◌, Option, None}
+use Rattle.std.specs.Prelude.{ℕ, Bool, true, false, ◌&&◌, List, [], ◌∷◌, ◌++◌, map, if◌then◌else◌}
+use Rattle.std.specs.Prelude.{Option, None}
 use Rattle.tangle_faults.specs.declared.faults.FaultKind.{FaultKind}
 use Rattle.tangle_lexer.specs.declared.occurrences.OccurrenceRole.{OccurrenceRole}
 use Rattle.tangle_lexer.specs.declared.modes.Mode.{Mode}
-use Rattle.tangle_lexer.specs.declared.modes.IncludeState.{IncludeState}
+use Rattle.tangle_lexer.specs.declared.modes.Mode.TheVariants as mode
 use Rattle.tangle_lexer.specs.declared.modes.IncludeState.TheVariants as include
+use Rattle.tangle_lexer.specs.declared.modes.LineState.{LineState}
 use Rattle.tangle_lexer.specs.declared.modes.LexerState.{LexerState}
 use Rattle.tangle_lexer.specs.declared.tokens.Token.{Token}
 use Rattle.tangle_lexer.specs.declared.tokens.Token.TheVariants as token
 use Rattle.tangle_text.specs.Bytes.{is_line_end}
+use Rattle.tangle_lexer.specs.LinesOfC as lines_of_c
 
 -- an occurrence of a section name as it is read: the text of the name, whether @( opens it, its
 -- role, and the line of its first byte
@@ -33,29 +36,33 @@ lexeme_of tokens more after =
 
 -- a part in this mode begins: #include may be the first thing in it
 abbrev pub in_mode : Mode → LexerState → LexerState
-in_mode mode s = record s { mode = mode; include = include.AtStart }
+in_mode mode s = record s { mode = mode; line = lines_of_c.front }
 
-abbrev pub with_include : IncludeState → LexerState → LexerState
-with_include inc s = record s { include = inc }
+abbrev pub with_line : LineState → LexerState → LexerState
+with_line l s = record s { line = l }
 
--- the state after text that is neither white space nor a part of #include
+-- the state after an item that is no part of #include and ends in no backslash
 abbrev pub elsewhere : LexerState → LexerState
-elsewhere s = with_include include.Elsewhere s
+elsewhere s = with_line (lines_of_c.after_item include.Elsewhere false false s.line) s
+
+abbrev pub is_c_part : Mode → Bool
+is_c_part mode.CPart = true
+is_c_part _ = false
+
+-- a position is in a directive of a C part; macros have none
+abbrev pub is_in_directive : LexerState → Bool
+is_in_directive s = is_c_part s.mode && lines_of_c.is_directive s.line.line
 
 abbrev pub fault_if : Bool → FaultKind → ℕ → List Token
 fault_if b kind line = if b then token.Fault kind line ∷ [] else []
 
--- a line end inside a comment or a control text is a line end of the part
+-- a line end of the part, if the cell is one
 abbrev pub line_end_by : Option ℕ → ℕ → List Token
 line_end_by b line = if is_line_end b then token.LineEnd line ∷ [] else []
-
--- how much of #include was read after white space with these line ends: it may begin after each
-abbrev pub include_over : List Token → IncludeState → IncludeState
-include_over [] inc = inc
-include_over (t ∷ ts) inc = include.AtStart
 
 -- white space, with its line ends and its faults
 abbrev pub white_lexeme : List Token → List Token → ℕ → LexerState → Lexeme
 white_lexeme line_ends faults more s =
-    lexeme_of (token.White ∷ line_ends ++ faults) more
-    (with_include (include_over line_ends s.include) s)
+    let in_directive : Bool = is_in_directive s in
+    lexeme_of (token.White ∷ map (lines_of_c.inner_end_in in_directive) line_ends ++ faults) more
+    (with_line (lines_of_c.after_line_ends in_directive line_ends s.line) s)

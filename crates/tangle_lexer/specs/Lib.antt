@@ -1,4 +1,5 @@
 pub mod Reads
+pub mod LinesOfC
 pub mod Lexemes
 pub mod Comments
 pub mod Quoted

@@ -20,7 +20,9 @@ use Rattle.tangle_lexer.specs.declared.tokens.Token.TheVariants as token
 use Rattle.tangle_text.specs.Bytes.{left_parenthesis, plus_sign, equals_sign, holds, holds_white}
 use Rattle.tangle_text.specs.Text.{Cell, byte_at, front_line}
 use Rattle.tangle_text.specs.Regions.{count_before}
-use Rattle.tangle_lexer.specs.Lexemes.{OccurrenceOnLine, Lexeme, fault_if, in_mode, elsewhere}
+use Rattle.tangle_lexer.specs.LinesOfC.{after_use}
+use Rattle.tangle_lexer.specs.Lexemes.{OccurrenceOnLine, Lexeme, fault_if, in_mode, with_line}
+use Rattle.tangle_lexer.specs.Lexemes.{is_in_directive}
 use Rattle.tangle_lexer.specs.Comments.{has_end_code, two_if}
 use Rattle.tangle_lexer.specs.White.{white_count}
 use Rattle.tangle_text.specs.NameBytes.{name_bytes}
@@ -134,7 +136,7 @@ definition_count text = if is_ended text then equals_count (after_name text) els
 -- the occurrence of this name in this role
 abbrev pub in_role : OccurrenceRole → Name → OccurrenceOnLine
 in_role role name =
-    record { text = name.text.items; is_file = name.is_file; role = role; line = name.line }
+    record { text = name.text; is_file = name.is_file; role = role; line = name.line }
 
 abbrev pub occurrence_read : OccurrenceRole → ℕ → List Cell → OccurrenceOnLine
 occurrence_read role last text = record {
@@ -153,16 +155,17 @@ name_lexeme role tokens more after text = record {
   after = record after { occurrences = after.occurrences + 1 };
 }
 
--- In C text a name is a use, even if it looks like a definition, which is a fault. The use ends on
--- the line on which the name ends.
+-- In C text a name is a use, even if it is in a directive or looks like a definition, which are
+-- faults. The use ends on the line on which the name ends.
 abbrev pub use_of_name : LexerState → List Cell → Lexeme
 use_of_name s text =
     name_lexeme role.Use
     (token.UseOf (front_line s.last_line (name_end text)) s.occurrences
-    ∷ name_faults s.last_line text
+    ∷ fault_if (is_in_directive s) fault.UseInDirective (front_line s.last_line text)
+    ++ name_faults s.last_line text
     ++ fault_if (has_single_equals (after_name text))
     fault.NameEquals (front_line s.last_line text))
-    (name_more text) (elsewhere s) text
+    (name_more text) (with_line after_use s) text
 
 abbrev pub is_macro : Mode → Bool
 is_macro mode.Macro = true

@@ -1,6 +1,6 @@
 -- Quoted and verbatim texts. They are cut after the first @ of each @@ and at a line end inside, so
 -- that the bytes of an item are always a range of a line.
-use Rattle.std.specs.Prelude.{Bool, ◌&&◌, ℕ, ◌+◌, zero, suc, ◌==◌, nat_lt, List, [], ◌∷◌, ◌++◌}
+use Rattle.std.specs.Prelude.{Bool, false, ◌&&◌, ℕ, ◌+◌, zero, suc, ◌==◌, nat_lt, List, [], ◌∷◌, ◌++◌}
 use Rattle.std.specs.Prelude.{drop, if◌then◌else◌, Option}
 use Rattle.tangle_faults.specs.declared.faults.FaultKind.TheVariants as fault
 use Rattle.tangle_text.specs.declared.spans.Span.{Span}
@@ -8,6 +8,7 @@ use Rattle.tangle_text.specs.declared.regions.Region.{Region}
 use Rattle.tangle_text.specs.declared.regions.Region.TheVariants as region
 use Rattle.tangle_text.specs.declared.regions.Unit.{Unit as Unit-of}
 use Rattle.tangle_text.specs.declared.regions.Unit.TheVariants as unit
+use Rattle.tangle_lexer.specs.declared.modes.IncludeState.TheVariants as include
 use Rattle.tangle_lexer.specs.declared.modes.LexerState.{LexerState}
 use Rattle.tangle_lexer.specs.declared.tokens.Token.{Token}
 use Rattle.tangle_lexer.specs.declared.tokens.SpanKind.{SpanKind}
@@ -16,8 +17,9 @@ use Rattle.tangle_lexer.specs.declared.tokens.Token.TheVariants as token
 use Rattle.tangle_lines.specs.Bytes.{at_sign}
 use Rattle.tangle_text.specs.Bytes.{backslash, holds, is_line_end}
 use Rattle.tangle_text.specs.Text.{Cell, byte_at, front_column, span_at}
-use Rattle.tangle_text.specs.Regions.{unit_at, more_by, count_before}
-use Rattle.tangle_lexer.specs.Lexemes.{Lexeme, lexeme_of, elsewhere, fault_if}
+use Rattle.tangle_text.specs.Regions.{unit_at, more_by, units, count_before}
+use Rattle.tangle_lexer.specs.LinesOfC.{after_item}
+use Rattle.tangle_lexer.specs.Lexemes.{Lexeme, lexeme_of, elsewhere, with_line, fault_if}
 use Rattle.tangle_lexer.specs.Comments.{has_end_code, two_if}
 
 -- the kind of the ranges that a region is cut into
@@ -126,9 +128,29 @@ verbatim_tokens text =
     then token.Span span_kind.Verbatim (span_at 0 text) ∷ empty_end text
     else cut_tokens verbatim_end region.Verbatim 0 (front_column text) text
 
+-- the unit is a backslash, by its cells, or by its kind and its first cell
+
+abbrev pub is_backslash : List Cell → Bool
+is_backslash (c ∷ []) = holds backslash c.byte
+is_backslash _ = false
+
+abbrev pub is_backslash_at : Unit-of → Option ℕ → Bool
+is_backslash_at unit.One b = holds backslash b
+is_backslash_at _ b = false
+
+-- the last of these units is a backslash; `last`: the unit before them is one
+abbrev pub last_is_backslash : Bool → List (List Cell) → Bool
+last_is_backslash last [] = last
+last_is_backslash last (u ∷ us) = last_is_backslash (is_backslash u) us
+
+-- the verbatim text at the front ends in a backslash
+abbrev pub ends_in_backslash : List Cell → Bool
+ends_in_backslash text = last_is_backslash false (units region.Verbatim text)
+
 -- @= and the text up to @> on the same line
 abbrev pub verbatim_text : LexerState → List Cell → Lexeme
 verbatim_text s text =
     let inside : ℕ = count_before region.Verbatim (drop 2 text) in
     lexeme_of (verbatim_tokens (drop 2 text))
-    (1 + inside + two_if (has_end_code (drop inside (drop 2 text)))) (elsewhere s)
+    (1 + inside + two_if (has_end_code (drop inside (drop 2 text))))
+    (with_line (after_item include.Elsewhere false (ends_in_backslash (drop 2 text)) s.line) s)

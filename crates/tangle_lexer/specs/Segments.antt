@@ -194,7 +194,7 @@ c_segments _ n text = text_segments false (take n text)
 
 -- the segments of the first `n` cells, by the mode: only the mode CPart reads text of a C part
 abbrev pub segments_in : Mode → LexerState → ℕ → List Cell → List Segment
-segments_in mode.CPart s n text = c_segments (kind_at s.include text) n text
+segments_in mode.CPart s n text = c_segments (kind_at s.line.include text) n text
 segments_in _ s n text = segment Outside (take n text) ∷ []
 
 -- the segments of the lexeme that begins there

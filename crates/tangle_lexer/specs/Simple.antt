@@ -6,6 +6,8 @@ use Rattle.tangle_lexer.specs.declared.modes.Mode.{Mode}
 use Rattle.tangle_lexer.specs.declared.modes.Mode.TheVariants as mode
 use Rattle.tangle_lexer.specs.declared.modes.IncludeState.{IncludeState}
 use Rattle.tangle_lexer.specs.declared.modes.IncludeState.TheVariants as include
+use Rattle.tangle_lexer.specs.declared.modes.LineOfC.{LineOfC}
+use Rattle.tangle_lexer.specs.declared.modes.LineState.{LineState}
 use Rattle.tangle_lexer.specs.declared.simple.SimpleLexeme.{SimpleLexeme}
 use Rattle.tangle_lexer.specs.declared.simple.SimpleLexeme.TheVariants as simple
 use Rattle.tangle_lexer.specs.declared.lexeme_kinds.LexemeKind.{LexemeKind}
@@ -13,6 +15,8 @@ use Rattle.tangle_lexer.specs.declared.lexeme_kinds.LexemeKind.TheVariants as le
 use Rattle.tangle_text.specs.Bytes.{number_sign, holds, is_opener, is_word_byte}
 use Rattle.tangle_text.specs.Text.{Cell, byte_at}
 use Rattle.tangle_text.specs.Runs.{holds_plain}
+use Rattle.tangle_lexer.specs.LinesOfC.{is_empty}
+use Rattle.tangle_lexer.specs.Lexemes.{is_c_part}
 use Rattle.tangle_lexer.specs.CText.{kind_at}
 
 -- the simple lexeme that begins with a byte, unless the byte may open something longer
@@ -48,16 +52,12 @@ is_c_text _ = false
 
 -- runs
 
-abbrev pub is_c_part : Mode → Bool
-is_c_part mode.CPart = true
-is_c_part _ = false
-
--- #include neither begins with this byte nor was begun on its line
-abbrev pub is_apart_from_include : IncludeState → Option ℕ → Bool
-is_apart_from_include include.AtStart b = not (holds number_sign b)
-is_apart_from_include include.Elsewhere b = true
-is_apart_from_include _ b = false
+-- Neither #include nor a directive begins with this byte, and #include was not begun on its line.
+abbrev pub is_apart : IncludeState → LineOfC → Option ℕ → Bool
+is_apart include.AtStart l b = not (holds number_sign b)
+is_apart include.Elsewhere l b = not (is_empty l && holds number_sign b)
+is_apart _ l b = false
 
 -- a simple lexeme with this first byte begins a run
-abbrev pub begins_run : Mode → IncludeState → SimpleLexeme → Option ℕ → Bool
-begins_run m inc kind b = is_c_part m && is_word_or_sign kind && is_apart_from_include inc b
+abbrev pub begins_run : Mode → LineState → SimpleLexeme → Option ℕ → Bool
+begins_run m l kind b = is_c_part m && is_word_or_sign kind && is_apart l.include l.line b

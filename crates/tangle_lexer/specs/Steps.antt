@@ -9,7 +9,6 @@ use Rattle.tangle_faults.specs.declared.faults.FaultKind.TheVariants as fault
 use Rattle.tangle_text.specs.declared.regions.Region.TheVariants as region
 use Rattle.tangle_lexer.specs.declared.modes.Mode.{Mode}
 use Rattle.tangle_lexer.specs.declared.modes.Mode.TheVariants as mode
-use Rattle.tangle_lexer.specs.declared.modes.IncludeState.TheVariants as include
 use Rattle.tangle_lexer.specs.declared.modes.LexerState.{LexerState}
 use Rattle.tangle_lexer.specs.declared.lexeme_kinds.ControlCode.{ControlCode}
 use Rattle.tangle_lexer.specs.declared.lexeme_kinds.ControlCode.TheVariants as code
@@ -20,6 +19,7 @@ use Rattle.tangle_lexer.specs.declared.tokens.Token.TheVariants as token
 use Rattle.tangle_text.specs.Bytes.{holds, lower}
 use Rattle.tangle_text.specs.Text.{Cell, byte_at, front_line, text_from}
 use Rattle.tangle_text.specs.Regions.{count_before}
+use Rattle.tangle_lexer.specs.LinesOfC.{front}
 use Rattle.tangle_lexer.specs.Lexemes.{OccurrenceOnLine, Lexeme, lexeme_of, in_mode, fault_if}
 use Rattle.tangle_lexer.specs.Comments.{starts_section}
 use Rattle.tangle_lexer.specs.CText.{code_at, kind_at, section_start, code_fault, code_lexeme}
@@ -96,8 +96,8 @@ macro_lexeme other s text = c_lexeme other s text
 abbrev pub lexeme_in : Mode → LexerState → List Cell → Lexeme
 lexeme_in mode.Limbo s text = limbo_lexeme s text
 lexeme_in mode.Documentation s text = documentation_lexeme s text
-lexeme_in mode.CPart s text = c_lexeme (kind_at s.include text) s text
-lexeme_in mode.Macro s text = macro_lexeme (kind_at s.include text) s text
+lexeme_in mode.CPart s text = c_lexeme (kind_at s.line.include text) s text
+lexeme_in mode.Macro s text = macro_lexeme (kind_at s.line.include text) s text
 
 unfoldable pub lexeme : LexerState → List Cell → Lexeme
 lexeme s text = lexeme_in s.mode s text
@@ -131,7 +131,7 @@ occurrences_from s text = flat_map (λ l. option_to_list l.occurrence) (lexemes 
 -- the state before the first line of a source with this number of lines
 abbrev pub first_state : ℕ → LexerState
 first_state count =
-    record { mode = mode.Limbo; include = include.AtStart; occurrences = 0; last_line = count - 1 }
+    record { mode = mode.Limbo; line = front; occurrences = 0; last_line = count - 1 }
 
 -- the tokens and the occurrences of a whole source
 abbrev pub all_tokens : List SourceLine → List Token

@@ -8,6 +8,7 @@ use Rattle.tangle_lexer.specs.declared.lexeme_kinds.LexemeKind.{LexemeKind}
 use Rattle.tangle_lexer.specs.declared.tokens.Token.{Token}
 use Rattle.tangle_lexer.specs.declared.tokens.Token.TheVariants as token
 use Rattle.tangle_text.specs.Text.{Cell}
+use Rattle.tangle_lexer.specs.LinesOfC.{after_use}
 use Rattle.tangle_lexer.specs.Lexemes.{Lexeme, lexeme_of}
 use Rattle.tangle_lexer.specs.CText.{kind_at, kind_lexeme}
 
@@ -23,7 +24,7 @@ is_white_alone _ = false
 -- a position after a name in C text; the white space there is that of any other position
 abbrev pub after_a_name : LexerState
 after_a_name =
-    record { mode = mode.CPart; include = include.Elsewhere; occurrences = 0; last_line = 0 }
+    record { mode = mode.CPart; line = after_use; occurrences = 0; last_line = 0 }
 
 -- a lexeme of C text, by its kind; a name is not read
 abbrev pub lexeme_but_name : LexemeKind → List Cell → Lexeme

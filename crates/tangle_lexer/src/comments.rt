@@ -1,63 +1,73 @@
 //! Comments and control texts, which count as white space.
-ghost use Rattle.std.specs.Prelude.{◌≡◌, ◌++◌, true, drop, IfOk, OnOk};
+ghost use Rattle.std.specs.Prelude.{◌≡◌, ◌++◌, true, drop, map, IfOk, OnOk};
 ghost use Rattle.tangle_lexer.specs.Reads.{IsRead};
 ghost use Rattle.tangle_text.specs.Regions.{skips_ordinary, region_end};
-ghost use Rattle.tangle_lexer.specs.Lexemes.{line_end_by, include_over};
+ghost use Rattle.tangle_lexer.specs.LinesOfC.{after_line_ends, inner_end_in};
+ghost use Rattle.tangle_lexer.specs.Lexemes.{line_end_by, is_in_directive};
 ghost use Rattle.tangle_lexer.specs.Comments as spec;
 
-use crate::modes::{IncludeState, LexerState};
+use crate::modes::{LexerState, LineState};
 use crate::tokens::{Token, push_fault_if};
 use std::alloc::AllocError;
 use tangle_lines::FaultKind;
 use tangle_text::{Reader, Region, Unit, holds, is_end_code, is_section_start, unit_of};
 
-/// Adds a line end, if `byte` is one (`None`). `#include` may begin after a line end, so the result
-/// is how much of it was read then.
+/// Adds a line end, if `byte` is one (`None`), and returns how the line of C was read then. In a
+/// directive the line end is white space, which changes nothing of that.
 fn push_line_end(
     tokens: &mut Vec<Token>,
-    include: IncludeState,
+    in_directive: bool,
+    at: LineState,
     byte: Option<u8>,
     line: u32,
-) -> Result<IncludeState, AllocError>
-    ensures tokens { OnOk result (tokens.new.items ≡ tokens.old.items ++ line_end_by byte line) }
-    ensures include { IfOk result (λ after. after ≡ include_over (line_end_by byte line) include) }
+) -> Result<LineState, AllocError>
+    ensures tokens { OnOk result (tokens.new.items
+        ≡ tokens.old.items ++ map (inner_end_in in_directive) (line_end_by byte line)) }
+    ensures line { IfOk result
+        (λ after. after ≡ after_line_ends in_directive (line_end_by byte line) at) }
 {
     if byte.is_some() {
-        return Ok(include);
+        return Ok(at);
+    }
+    if in_directive {
+        tokens.push(Token::InnerLineEnd(line))?;
+        return Ok(at);
     }
     tokens.push(Token::LineEnd(line))?;
-    Ok(IncludeState::AtStart)
+    Ok(at.after_line_end())
 }
 
 /// Advances to the end of a comment or a control text, and adds the line ends in it.
 ///
-/// These are line ends of the part. So the C has as many lines there as the web, and the text after
-/// the comment needs no line mark.
+/// These are line ends of the part, except in a directive. So the C has as many lines there as the
+/// web, and the text after the comment needs no line mark.
 fn pass_line_ends(
     tokens: &mut Vec<Token>,
     reader: &mut Reader,
     region: Region,
     state: LexerState,
-) -> Result<IncludeState, AllocError>
+) -> Result<LineState, AllocError>
     requires { skips_ordinary region ≡ true }
     ensures ahead { OnOk result (reader.new ≡ region_end region reader.old) }
-    ensures tokens { OnOk result
-        (tokens.new.items ≡ tokens.old.items ++ spec.line_ends region reader.old) }
-    ensures include { IfOk result (λ after. after
-        ≡ include_over (spec.line_ends region reader.old) state.include) }
+    ensures tokens { OnOk result (tokens.new.items ≡ tokens.old.items
+        ++ map (inner_end_in (is_in_directive state)) (spec.line_ends region reader.old)) }
+    ensures line { IfOk result (λ after. after
+        ≡ after_line_ends (is_in_directive state) (spec.line_ends region reader.old) state.line) }
 {
-    let mut include = state.include;
+    let in_directive = state.is_in_directive();
+    let mut at = state.line;
     reader.skip_ordinary();
     while let Some(front) = reader.front() {
         let unit = unit_of(region, front.byte, front.next);
         if let Unit::Stop = unit {
-            return Ok(include);
+            return Ok(at);
         }
-        include = push_line_end(tokens, include, front.byte, reader.line(state.last_line))?;
+        let line = reader.line(state.last_line);
+        at = push_line_end(tokens, in_directive, at, front.byte, line)?;
         reader.pass(unit);
         reader.skip_ordinary();
     }
-    Ok(include)
+    Ok(at)
 }
 
 /// Whether the text ahead begins with `*/`.
@@ -130,11 +140,11 @@ fn comment_or_control_text(
 {
     tokens.push(Token::White)?;
     reader.pass(Unit::Two);
-    let include = pass_line_ends(tokens, reader, region, state)?;
+    let at = pass_line_ends(tokens, reader, region, state)?;
     let line = reader.line(state.last_line);
     let is_ended = pass_end(region, reader);
     push_fault_if(tokens, !is_ended, kind, line)?;
-    Ok(LexerState { include, ..state })
+    Ok(state.with_line(at))
 }
 
 /// Reads a comment from `/*` to `*/`. A section start or the end of the source before `*/` is a

@@ -12,7 +12,7 @@ ghost use Rattle.tangle_lexer.specs.Occurrences.{occurrence_of};
 ghost use Rattle.tangle_lexer.specs.Heads.{is_head as is_head_token};
 ghost use Rattle.tangle_lexer.specs.Heads.{HasNoHead, PopsHead};
 
-use crate::modes::{IncludeState, LexerState, Mode};
+use crate::modes::{LexerState, LineState, Mode};
 use crate::simple::read_simple;
 use crate::steps::step;
 use crate::tokens::{LexerBuffers, Token};
@@ -35,7 +35,7 @@ pub fn first_state(source: &Source) -> LexerState
 {
     LexerState {
         mode: Mode::Limbo,
-        include: IncludeState::AtStart,
+        line: LineState::front(),
         occurrences: 0,
         last_line: source.count().saturating_sub(1) as u32,
     }

@@ -1,5 +1,6 @@
 //! The state of the lexer at a position of the text.
 ghost use Rattle.std.specs.Prelude.{◌≡◌};
+ghost use Rattle.tangle_lexer.specs.LinesOfC as lines_of_c;
 ghost use Rattle.tangle_lexer.specs.Lexemes as lexemes;
 ghost use Rattle.tangle_lexer.specs.CText as c_text;
 
@@ -31,6 +32,139 @@ pub enum IncludeState {
     Elsewhere,
 }
 
+/// What a line of C is, by its first item.
+#[derive(Clone, Copy)]
+pub enum LineOfC {
+    /// The line has no item so far, and is the first one of the part or of those after a use or `@h`.
+    Empty,
+    /// The line has no item so far. If a join follows, it is the directive before it.
+    AfterDirective,
+    /// The line has no item so far. If a join follows, it is the other line before it.
+    AfterOther,
+    /// A line of the preprocessor: its first item is `#`.
+    Directive,
+    Other,
+}
+
+/// What a line end at a position of a C part does to the line of C, by what is before it, white
+/// space aside.
+#[derive(Clone, Copy)]
+pub enum AtLineEnd {
+    /// The line of C ends.
+    Ends,
+    /// It goes on: a sign or a verbatim text that ends in a backslash is before the line end.
+    GoesOn,
+    /// It goes on: a join is before the line end, perhaps with others between, and removes it.
+    Removed,
+}
+
+impl LineOfC {
+    /// The line after the end of this line.
+    #[inline(always)]
+    fn next(self) -> Self
+        ensures { result ≡ lines_of_c.next_line self }
+    {
+        match self {
+            LineOfC::Directive => LineOfC::AfterDirective,
+            LineOfC::Other => LineOfC::AfterOther,
+            line => line,
+        }
+    }
+
+    /// The line after a join, which removes the line ends after the last item.
+    fn joined(self) -> Self
+        ensures { result ≡ lines_of_c.joined_line self }
+    {
+        match self {
+            LineOfC::AfterDirective => LineOfC::Directive,
+            LineOfC::AfterOther => LineOfC::Other,
+            line => line,
+        }
+    }
+
+    /// Whether the line has no item so far.
+    #[inline(always)]
+    pub fn is_empty(self) -> bool
+        ensures { result ≡ lines_of_c.is_empty self }
+    {
+        !matches!(self, LineOfC::Directive | LineOfC::Other)
+    }
+}
+
+/// How a line of C was read so far. A line of C begins at the front of a part, after a line end
+/// where the line before does not go on, and after a use or `@h`, which a line mark follows.
+#[derive(Clone, Copy)]
+pub struct LineState {
+    /// How much of `#include` was read on the line.
+    pub include: IncludeState,
+    pub line: LineOfC,
+    pub at_line_end: AtLineEnd,
+}
+
+impl LineState {
+    /// The front of a part.
+    pub fn front() -> Self
+        ensures { result ≡ lines_of_c.front }
+    {
+        LineState {
+            include: IncludeState::AtStart,
+            line: LineOfC::Empty,
+            at_line_end: AtLineEnd::Ends,
+        }
+    }
+
+    /// This state after an item, with `include` replaced.
+    #[inline(always)]
+    pub fn after_item(self, include: IncludeState, is_number_sign: bool, is_backslash: bool) -> Self
+        ensures { result ≡ lines_of_c.after_item include is_number_sign is_backslash self }
+    {
+        let line = match self.line {
+            LineOfC::Directive => LineOfC::Directive,
+            LineOfC::Other => LineOfC::Other,
+            _ if is_number_sign => LineOfC::Directive,
+            _ => LineOfC::Other,
+        };
+        let at_line_end = if is_backslash {
+            AtLineEnd::GoesOn
+        } else {
+            AtLineEnd::Ends
+        };
+        LineState {
+            include,
+            line,
+            at_line_end,
+        }
+    }
+
+    /// This state after a line end of the part.
+    #[inline(always)]
+    pub fn after_line_end(self) -> Self
+        ensures { result ≡ lines_of_c.after_line_end self }
+    {
+        let (line, at_line_end) = match self.at_line_end {
+            AtLineEnd::Ends => (self.line.next(), AtLineEnd::Ends),
+            AtLineEnd::GoesOn => (self.line, AtLineEnd::Ends),
+            AtLineEnd::Removed => (self.line, AtLineEnd::Removed),
+        };
+        LineState {
+            include: IncludeState::AtStart,
+            line,
+            at_line_end,
+        }
+    }
+
+    /// This state after a join.
+    pub fn after_join(self) -> Self
+        ensures { result ≡ lines_of_c.after_join self }
+    {
+        LineState {
+            include: IncludeState::Elsewhere,
+            line: self.line.joined(),
+            at_line_end: AtLineEnd::Removed,
+        }
+    }
+}
+
 /// The state of the lexer at a position of the text.
 #[derive(Clone, Copy)]
 pub struct LexerState {
@@ -40,8 +174,8 @@ pub struct LexerState {
     pub last_line: u32,
     /// The kind of text that is read.
     pub mode: Mode,
-    /// How much of `#include` was read on the line.
-    pub include: IncludeState,
+    /// How the line of C was read so far.
+    pub line: LineState,
 }
 
 impl LexerState {
@@ -51,47 +185,69 @@ impl LexerState {
     {
         LexerState {
             mode,
-            include: IncludeState::AtStart,
+            line: LineState::front(),
             ..self
         }
     }
 
-    /// This state with `include` replaced.
-    pub fn with_include(self, include: IncludeState) -> Self
-        ensures { result ≡ lexemes.with_include include self }
+    /// This state with `line` replaced.
+    #[inline(always)]
+    pub fn with_line(self, line: LineState) -> Self
+        ensures { result ≡ lexemes.with_line line self }
     {
-        LexerState { include, ..self }
+        LexerState { line, ..self }
     }
 
-    /// This state after text that is neither white space nor a part of `#include`.
+    /// This state after an item that is no part of `#include` and ends in no backslash.
+    #[inline(always)]
     pub fn elsewhere(self) -> Self
         ensures { result ≡ lexemes.elsewhere self }
     {
-        self.with_include(IncludeState::Elsewhere)
+        let line = self.line.after_item(IncludeState::Elsewhere, false, false);
+        self.with_line(line)
     }
 
     /// This state after a sign, of which `byte` is the first byte.
     pub fn after_sign(self, byte: Option<u8>) -> Self
-        ensures { result ≡ lexemes.with_include (c_text.include_after_sign byte self.include) self }
+        ensures { result ≡ lexemes.with_line (c_text.line_after_sign byte self.line) self }
     {
-        match self.include {
-            IncludeState::AtStart if holds(b'#', byte) => {
-                self.with_include(IncludeState::AfterNumberSign)
-            }
-            _ => self.elsewhere(),
-        }
+        let is_number_sign = holds(b'#', byte);
+        let include = match self.line.include {
+            IncludeState::AtStart if is_number_sign => IncludeState::AfterNumberSign,
+            _ => IncludeState::Elsewhere,
+        };
+        let line = self
+            .line
+            .after_item(include, is_number_sign, holds(b'\\', byte));
+        self.with_line(line)
     }
 
     /// This state after a word. `is_include` is whether the word is `include`.
     pub fn after_word(self, is_include: bool) -> Self
-        ensures { result ≡ lexemes.with_include (c_text.include_after_word is_include self.include)
-            self }
+        ensures { result ≡ lexemes.with_line (c_text.line_after_word is_include self.line) self }
     {
-        match self.include {
-            IncludeState::AfterNumberSign if is_include => {
-                self.with_include(IncludeState::AfterInclude)
-            }
-            _ => self.elsewhere(),
-        }
+        let include = match self.line.include {
+            IncludeState::AfterNumberSign if is_include => IncludeState::AfterInclude,
+            _ => IncludeState::Elsewhere,
+        };
+        let line = self.line.after_item(include, false, false);
+        self.with_line(line)
+    }
+
+    /// This state after a use or `@h`. A line mark follows, so a line of C begins.
+    pub fn after_use(self) -> Self
+        ensures { result ≡ lexemes.with_line lines_of_c.after_use self }
+    {
+        self.with_line(LineState {
+            include: IncludeState::Elsewhere,
+            ..LineState::front()
+        })
+    }
+
+    /// Whether the position is in a directive of a C part.
+    pub fn is_in_directive(self) -> bool
+        ensures { result ≡ lexemes.is_in_directive self }
+    {
+        matches!(self.mode, Mode::CPart) && matches!(self.line.line, LineOfC::Directive)
     }
 }

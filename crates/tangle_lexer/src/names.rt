@@ -9,7 +9,7 @@ ghost use Rattle.tangle_text.specs.declared.regions.Region.TheVariants as region
 ghost use Rattle.tangle_text.specs.declared.regions.Unit.TheVariants as unit;
 ghost use Rattle.tangle_faults.specs.declared.faults.FaultKind.TheVariants as fault;
 ghost use Rattle.tangle_lexer.specs.declared.tokens.Token.TheVariants as token;
-ghost use Rattle.tangle_lexer.specs.Lexemes.{fault_if, in_mode};
+ghost use Rattle.tangle_lexer.specs.Lexemes.{fault_if, in_mode, is_in_directive};
 ghost use Rattle.tangle_lexer.specs.declared.modes.Mode.TheVariants as mode;
 ghost use Rattle.tangle_lexer.specs.declared.occurrences.OccurrenceRole.TheVariants as role;
 ghost use Rattle.tangle_lexer.specs.Reads.{PassesEquals, ReadsLexeme};
@@ -24,6 +24,7 @@ use crate::tokens::{LexerBuffers, Token, push_fault_if};
 use crate::white::skip_white;
 use bstr::ByteSlice;
 use std::alloc::{AllocError, Global};
+use tangle_files::SharedSlice;
 use tangle_lines::{FaultKind, Source};
 use tangle_text::{Front, Reader, Region, Unit, holds, is_white, unit_of};
 
@@ -40,7 +41,7 @@ pub enum Equals {
 /// A section name that was read, before it has a role.
 #[derive(Drop)]
 struct Name {
-    text: Vec<u8>,
+    text: SharedSlice,
     is_file: bool,
     /// The line of the `@` that opens the name.
     line: u32,
@@ -147,33 +148,34 @@ fn is_name_end(reader: &Reader) -> bool
 const NAME_CAPACITY: usize = 32;
 
 /// Reads the text of a name up to its end, and returns its normal form.
-fn read_text(alloc: Global, reader: &mut Reader) -> Result<Vec<u8>, AllocError>
-    ensures text { IfOk result (λ name. name.items ≡ spec.name_text reader.old) }
+fn read_text(alloc: Global, reader: &mut Reader) -> Result<SharedSlice, AllocError>
+    ensures text { IfOk result (λ name. name ≡ spec.name_text reader.old) }
     ensures ahead { OnOk result (reader.new ≡ region_end region.Name reader.old) }
 {
-    let bytes = reader.take_name_bytes();
+    let slice = reader.take_name_bytes()?;
     // Most names end on their line and are written as they are stored.
-    if is_name_end(reader) && has_single_spaces(bytes) {
-        return Vec::from_slice(alloc, bytes);
+    if is_name_end(reader) && has_single_spaces(slice.bytes()) {
+        return Ok(slice);
     }
     let mut name = Vec::with_capacity(alloc, NAME_CAPACITY)?;
-    let mut white = push_bytes(&mut name, false, bytes)?;
+    let mut white = push_bytes(&mut name, false, slice.bytes())?;
     while let Some(front) = reader.front() {
         let unit = unit_of(Region::Name, front.byte, front.next);
         if let Unit::Stop = unit {
-            return Ok(name);
+            return SharedSlice::whole(alloc, name);
         }
         white = push_name_unit(&mut name, white, unit, front)?;
         reader.pass(unit);
-        white = push_bytes(&mut name, white, reader.take_name_bytes())?;
+        let slice = reader.take_name_bytes()?;
+        white = push_bytes(&mut name, white, slice.bytes())?;
     }
-    Ok(name)
+    SharedSlice::whole(alloc, name)
 }
 
 /// Reads a name with its opening, and with `@>` if that ends it. `last` is the number of the last
 /// source line.
 fn read_name(alloc: Global, reader: &mut Reader, last: u32) -> Result<Name, AllocError>
-    ensures text { IfOk result (λ name. name.text.items ≡ spec.name_text (drop 2 reader.old)) }
+    ensures text { IfOk result (λ name. name.text ≡ spec.name_text (drop 2 reader.old)) }
     ensures is_file { IfOk result
         (λ name. name.is_file ≡ byte.holds byte.left_parenthesis (byte_at 1 reader.old)) }
     ensures line { IfOk result (λ name. name.line ≡ front_line last reader.old) }
@@ -228,7 +230,7 @@ fn push_occurrence(
     ensures state { IfOk result
         (λ after. after ≡ record state { occurrences = state.occurrences + 1 }) }
 {
-    let is_abbreviation = is_abbreviation(&name.text);
+    let is_abbreviation = is_abbreviation(name.text.bytes());
     let origin = source.origin(name.line as usize);
     occurrences.push(Occurrence::new(name.text, is_abbreviation, name.is_file, role, origin))?;
     Ok(LexerState {
@@ -275,24 +277,28 @@ fn has_single_equals(reader: &Reader) -> bool
     matches!(equals_at(&further), Equals::Single)
 }
 
-/// Adds a use of this name, which is the occurrence of this number, and the faults of the use.
+/// Adds a use of this name, which is the next occurrence, and the faults of the use.
 fn push_use(
     tokens: &mut Vec<Token>,
     name: &Name,
-    number: usize,
+    state: LexerState,
     has_single_equals: bool,
 ) -> Result<(), AllocError>
     ensures { OnOk result (tokens.new.items ≡ tokens.old.items
-        ++ token.UseOf name.now.end_line number
-        ∷ fault_if (not name.now.is_ended) fault.NameEnd name.now.end_line
+        ++ token.UseOf name.now.end_line state.occurrences
+        ∷ fault_if (is_in_directive state) fault.UseInDirective name.now.line
+        ++ fault_if (not name.now.is_ended) fault.NameEnd name.now.end_line
         ++ fault_if has_single_equals fault.NameEquals name.now.line) }
 {
-    tokens.push(Token::UseOf(name.end_line, number))?;
+    tokens.push(Token::UseOf(name.end_line, state.occurrences))?;
+    let in_directive = state.is_in_directive();
+    push_fault_if(tokens, in_directive, FaultKind::UseInDirective, name.line)?;
     push_fault_if(tokens, !name.is_ended, FaultKind::NameEnd, name.end_line)?;
     push_fault_if(tokens, has_single_equals, FaultKind::NameEquals, name.line)
 }
 
-/// Reads a name in C text. It is a use, even if it looks like a definition, which is a fault.
+/// Reads a name in C text. It is a use, even if it is in a directive or looks like a definition,
+/// which are faults.
 pub fn use_of_name(
     source: &Source,
     buffers: &mut LexerBuffers,
@@ -303,16 +309,15 @@ pub fn use_of_name(
     ensures { IfOk result (λ after. ReadsLexeme source.now.lines buffers.old buffers.new
         reader.old reader.new after (spec.use_of_name state reader.old)) }
 {
-    let number = state.occurrences;
     let name = read_name(*buffers.occurrences.allocator(), reader, state.last_line)?;
     let equals = has_single_equals(reader);
-    push_use(&mut buffers.tokens, &name, number, equals)?;
+    push_use(&mut buffers.tokens, &name, state, equals)?;
     let after = push_occurrence(
         source,
         &mut buffers.occurrences,
         name,
         OccurrenceRole::Use,
-        state.elsewhere(),
+        state.after_use(),
     )?;
     Ok(after)
 }

@@ -2,6 +2,7 @@
 ghost use Rattle.std.specs.Prelude.{◌≡◌};
 
 use std::marker::Model;
+use tangle_files::SharedSlice;
 use tangle_lines::Origin;
 
 /// What an occurrence of a section name is for.
@@ -18,7 +19,7 @@ pub enum OccurrenceRole {
 /// A section name as it is written at one position of the web.
 #[derive(Drop)]
 pub struct Occurrence {
-    text: Vec<u8>,
+    text: SharedSlice,
     is_abbreviation: bool,
     is_file: bool,
     role: OccurrenceRole,
@@ -31,7 +32,7 @@ impl Model for Occurrence {
     ghost Value = { OccurrenceRead };
 
     ghost view = { λ o. record {
-      text = o.text.items;
+      text = o.text;
       is_abbreviation = o.is_abbreviation;
       is_file = o.is_file;
       role = o.role;
@@ -42,14 +43,14 @@ impl Model for Occurrence {
 impl Occurrence {
     /// An occurrence of the name `text`, which is in normal form.
     pub(crate) fn new(
-        text: Vec<u8>,
+        text: SharedSlice,
         is_abbreviation: bool,
         is_file: bool,
         role: OccurrenceRole,
         origin: Origin,
     ) -> Self
         ensures { result ≡ record {
-          text = text.items;
+          text = text;
           is_abbreviation = is_abbreviation;
           is_file = is_file;
           role = role;
@@ -71,7 +72,7 @@ impl Occurrence {
     pub fn text(&self) -> &[u8]
         ensures { result.now ≡ self.now.text }
     {
-        self.text.as_slice()
+        self.text.bytes()
     }
 
     /// Whether the name is an abbreviation: it ends in three dots.

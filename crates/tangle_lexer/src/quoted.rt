@@ -175,10 +175,7 @@ pub fn quoted_text(
     reader.advance();
     let start = cut(tokens, reader, region, opening, state.last_line)?;
     end_quote(tokens, reader, region, close, start, state.last_line)?;
-    Ok(LexerState {
-        include: IncludeState::Elsewhere,
-        ..state
-    })
+    Ok(state.elsewhere())
 }
 
 /// Adds the last range of a verbatim text, from column `start` on, and a fault if a line end ends
@@ -245,6 +242,30 @@ fn push_verbatim(tokens: &mut Vec<Token>, reader: &mut Reader, last: u32) -> Res
     end_verbatim(tokens, reader, start, last)
 }
 
+/// Whether a unit that begins with this byte is a backslash.
+fn is_backslash_at(unit: Unit, byte: Option<u8>) -> bool
+    ensures { result ≡ spec.is_backslash_at unit byte }
+{
+    matches!(unit, Unit::One) && holds(b'\\', byte)
+}
+
+/// Whether the verbatim text at the position ends in a backslash.
+fn ends_in_backslash(reader: &Reader) -> bool
+    ensures { result ≡ spec.ends_in_backslash reader.now }
+{
+    let mut here = reader.copy();
+    let mut is_backslash = false;
+    while let Some(front) = here.front() {
+        let unit = unit_of(Region::Verbatim, front.byte, front.next);
+        if let Unit::Stop = unit {
+            return is_backslash;
+        }
+        is_backslash = is_backslash_at(unit, front.byte);
+        here.pass(unit);
+    }
+    is_backslash
+}
+
 /// Reads `@=` and the verbatim text through `@>`, or up to the line end, which is a fault.
 pub fn verbatim_text(
     tokens: &mut Vec<Token>,
@@ -255,10 +276,11 @@ pub fn verbatim_text(
         after (spec.verbatim_text state reader.old)) }
 {
     reader.pass(Unit::Two);
+    let is_backslash = ends_in_backslash(reader);
     push_verbatim(tokens, reader, state.last_line)?;
     pass_end(Region::Verbatim, reader);
-    Ok(LexerState {
-        include: IncludeState::Elsewhere,
-        ..state
-    })
+    let line = state
+        .line
+        .after_item(IncludeState::Elsewhere, false, is_backslash);
+    Ok(state.with_line(line))
 }

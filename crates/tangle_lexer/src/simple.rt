@@ -3,13 +3,13 @@
 ghost use Rattle.std.specs.Prelude.{◌≡◌, ◌≤◌, ◌<◌, true, List, length, IfOk, IfSome, OnOk};
 ghost use Rattle.tangle_lines.specs.Reading.{SourceLine};
 ghost use Rattle.tangle_text.specs.Text.{IsRestOf};
-ghost use Rattle.tangle_lexer.specs.Lexemes.{with_include};
+ghost use Rattle.tangle_lexer.specs.Lexemes.{with_line};
 ghost use Rattle.tangle_lexer.specs.Reads.{IsRead, ReadsOn, AddsSimple};
 ghost use Rattle.tangle_lexer.specs.Simple.{IsSimple, simple_kind};
 ghost use Rattle.tangle_lexer.specs.Simple as spec;
 ghost use Rattle.tangle_lexer.specs.Steps.{c_lexeme};
 
-use crate::modes::{IncludeState, LexerState, Mode};
+use crate::modes::{IncludeState, LexerState, LineState, Mode};
 use crate::steps::{line_end, sign, white_space, word};
 use crate::tokens::Token;
 use std::alloc::AllocError;
@@ -81,33 +81,33 @@ fn is_c_text(mode: Mode) -> bool
 }
 
 /// Whether a simple lexeme that begins with this byte begins a run. A word or a sign of a C part
-/// does, unless `#include` begins with it or was begun before it.
+/// does, unless `#include` or a directive begins with it, or `#include` was begun before it.
 #[inline(always)]
 fn begins_run(state: LexerState, simple: SimpleLexeme, byte: Option<u8>) -> bool
-    ensures { result ≡ spec.begins_run state.mode state.include simple byte }
+    ensures { result ≡ spec.begins_run state.mode state.line simple byte }
 {
     matches!(state.mode, Mode::CPart)
         && matches!(simple, SimpleLexeme::Word | SimpleLexeme::Sign)
-        && match state.include {
+        && match state.line.include {
             IncludeState::AtStart => !holds(b'#', byte),
-            IncludeState::Elsewhere => true,
+            IncludeState::Elsewhere => { !(state.line.line.is_empty() && holds(b'#', byte)) }
             _ => false,
         }
 }
 
-/// Reads the run that begins here, or else this simple lexeme. Returns how much of `#include` was
-/// read then.
+/// Reads the run that begins here, or else this simple lexeme. Returns how the line of C was read
+/// then.
 #[inline(always)]
 fn run_or_simple(
     tokens: &mut Vec<Token>,
     reader: &mut Reader,
     state: LexerState,
     simple: SimpleLexeme,
-) -> Result<IncludeState, AllocError>
+) -> Result<LineState, AllocError>
     requires simple { IsSimple reader.old simple }
     requires mode { spec.is_c_text state.mode ≡ true }
-    ensures read { IfOk result (λ include. (lines : List SourceLine) → IsRestOf lines reader.old
-        → ReadsOn lines tokens.old.items tokens.new.items state (with_include include state)
+    ensures read { IfOk result (λ line. (lines : List SourceLine) → IsRestOf lines reader.old
+        → ReadsOn lines tokens.old.items tokens.new.items state (with_line line state)
         reader.old reader.new) }
     ensures adds { OnOk result (AddsSimple state.mode tokens.old.items tokens.new.items) }
     ensures shorter { OnOk result (length reader.new < length reader.old) }
@@ -115,9 +115,9 @@ fn run_or_simple(
     if begins_run(state, simple, reader.byte()) {
         let run = reader.take_run();
         tokens.push(Token::Run(run))?;
-        return Ok(IncludeState::Elsewhere);
+        return Ok(state.elsewhere().line);
     }
-    Ok(simple_step(tokens, reader, state, simple)?.include)
+    Ok(simple_step(tokens, reader, state, simple)?.line)
 }
 
 /// Reads simple lexemes of C text, and in C parts runs in place of those that they consist of, up
@@ -137,13 +137,13 @@ pub fn read_simple(
     if !is_c_text(from.mode) {
         return Ok(from);
     }
-    // `here` and `include` are local, so that they stay in registers in the loop.
+    // `here` and `line` are local, so that they stay in registers in the loop.
     let mut here = reader.copy();
-    let mut include = from.include;
+    let mut line = from.line;
     while let Some(simple) = simple_at(&here) {
-        let state = from.with_include(include);
-        include = run_or_simple(tokens, &mut here, state, simple)?;
+        let state = from.with_line(line);
+        line = run_or_simple(tokens, &mut here, state, simple)?;
     }
     *reader = here;
-    Ok(from.with_include(include))
+    Ok(from.with_line(line))
 }

@@ -168,6 +168,23 @@ fn code_fault(
     Ok(state)
 }
 
+/// Reads `@h`. In a directive it is a fault.
+fn all_macros(
+    tokens: &mut Vec<Token>,
+    reader: &mut Reader,
+    state: LexerState,
+) -> Result<LexerState, AllocError>
+    ensures { IfOk result (λ after. IsRead tokens.old.items tokens.new.items reader.old reader.new
+        after (spec.c_code control_code.AllMacros state reader.old)) }
+{
+    let line = reader.line(state.last_line);
+    tokens.push(Token::AllMacros(line))?;
+    let in_directive = state.is_in_directive();
+    push_fault_if(tokens, in_directive, FaultKind::UseInDirective, line)?;
+    reader.pass(Unit::Two);
+    Ok(state.after_use())
+}
+
 /// Reads a control code in C text, except for one that opens a name.
 fn c_code(
     tokens: &mut Vec<Token>,
@@ -181,7 +198,6 @@ fn c_code(
         reader.old reader.new after (spec.c_code code state reader.old)) }
     ensures no_occurrence { (spec.c_code code state reader.old).occurrence ≡ None }
 {
-    let line = reader.line(state.last_line);
     match code {
         ControlCode::SectionStart => section_start(tokens, reader, state),
         ControlCode::DoubleAt => sign(tokens, reader, Unit::Two, state.elsewhere()),
@@ -190,13 +206,11 @@ fn c_code(
         ControlCode::UnnamedPart => code_fault(tokens, reader, FaultKind::CodeInC, state),
         ControlCode::ControlText => control_text(tokens, reader, state),
         ControlCode::Verbatim => verbatim_text(tokens, reader, state),
-        ControlCode::Join => code_token(tokens, reader, Token::Join, state.elsewhere()),
-        ControlCode::AllMacros => code_token(
-            tokens,
-            reader,
-            Token::AllMacros(line),
-            state.elsewhere(),
-        ),
+        ControlCode::Join => {
+            let after = state.with_line(state.line.after_join());
+            code_token(tokens, reader, Token::Join, after)
+        }
+        ControlCode::AllMacros => all_macros(tokens, reader, state),
         ControlCode::AsciiConstant => ascii_constant(tokens, reader, state),
         ControlCode::Name | ControlCode::Other => code_token(tokens, reader, Token::White, state),
     }
@@ -212,7 +226,7 @@ pub fn word(
     ensures { IfOk result (λ after. IsRead tokens.old.items tokens.new.items reader.old reader.new
         after (c_text.word state reader.old)) }
 {
-    let after = match state.include {
+    let after = match state.line.include {
         IncludeState::AfterNumberSign => state.after_word(reader.begins_include()),
         _ => state.elsewhere(),
     };
@@ -246,7 +260,7 @@ pub fn line_end(
 {
     tokens.push(Token::LineEnd(reader.line(state.last_line)))?;
     reader.advance();
-    Ok(state.with_include(IncludeState::AtStart))
+    Ok(state.with_line(state.line.after_line_end()))
 }
 
 /// Reads a lexeme of this kind in C text.
@@ -337,10 +351,10 @@ pub fn step(
             Ok(state)
         }
         Mode::CPart => {
-            let lexeme_kind = kind_by(state.include, front.byte, front.next);
+            let lexeme_kind = kind_by(state.line.include, front.byte, front.next);
             c_text(source, buffers, reader, state, lexeme_kind)
         }
-        Mode::Macro => match kind_by(state.include, front.byte, front.next) {
+        Mode::Macro => match kind_by(state.line.include, front.byte, front.next) {
             LexemeKind::Control(code) => macro_code(source, buffers, reader, state, code),
             lexeme_kind => c_text(source, buffers, reader, state, lexeme_kind),
         },

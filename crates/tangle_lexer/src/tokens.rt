@@ -48,6 +48,9 @@ pub enum Token {
     White,
     /// A line end of a C part or a macro, with the line that it ends.
     LineEnd(u32),
+    /// A line end inside a comment or a control text of a directive, with the line that it ends. It
+    /// counts as white space.
+    InnerLineEnd(u32),
     /// A use of a name, with the line on which the name ends and the number of its occurrence.
     UseOf(u32, usize),
     /// `@h`, with its line.

@@ -1,14 +1,16 @@
 //! The source: the result of reading a web.
-ghost use Rattle.std.specs.Prelude.{◌≡◌, ◌≤◌, length};
+ghost use Rattle.std.specs.Prelude.{◌≡◌, ◌≤◌, ◌-◌, length, IfOk};
 ghost use Rattle.std.specs.List.{All};
 ghost use Rattle.tangle_files.specs.Lines.{name_at};
 ghost use Rattle.tangle_files.specs.Adding.{longest_line, most_files};
+ghost use Rattle.tangle_files.specs.Sharing.{slice_of};
 ghost use Rattle.tangle_lines.specs.Reading.{line_at, source_line_limit, origin_at, IsShort};
 
 use crate::origin::Origin;
+use std::alloc::AllocError;
 use std::marker::Model;
 use tangle_faults::Fault;
-use tangle_files::{Files, Line};
+use tangle_files::{Files, Line, SharedSlice};
 
 /// A source line, with its origin, and whether it is from the change file. The two numbers of the
 /// origin are fields of the line, so that it takes 16 bytes.
@@ -102,6 +104,25 @@ impl<'a> Source<'a> {
         match self.lines.get(number) {
             Some(line) => line.line.bytes(),
             None => &[],
+        }
+    }
+
+    /// The bytes of the line with this number, from 0, from column `start` up to column `end`, as far
+    /// as the line has them. They share the text of the file. After the last line there are none.
+    ///
+    /// # Errors
+    ///
+    /// Fails if an allocation fails, or if the text has too many shares to count.
+    pub fn slice(&self, number: usize, start: usize, end: usize) -> Result<SharedSlice, AllocError>
+        ensures { IfOk result (λ slice.
+            slice ≡ slice_of (line_at self.now.lines number).bytes start (end - start)) }
+    {
+        match self.lines.get(number) {
+            Some(line) => line.line.slice(start, end),
+            None => {
+                let alloc = *self.lines.allocator();
+                SharedSlice::whole(alloc, Vec::new(alloc))
+            }
         }
     }
 

@@ -1,51 +1,128 @@
--- The number of slots of a plan.
-use Rattle.std.proofs.Common.{◌≡◌, ℕ, ◌+◌, ◌-◌, ◌<◌, ◌≤◌, ◌^◌, min, List, [], ◌∷◌, map, drop, length, refl, ap, arith}
-use Rattle.std.proofs.Common.{length-append, length-drop}
-use Rattle.std.proofs.lemmas.List.{length-map, length-take, drop_all}
-use Rattle.tangle_plans.specs.Shapes.{Title, Program}
-use Rattle.tangle_plans.specs.Flat.{Byte}
-use Rattle.tangle_plans.specs.Meaning.{bytes_between, pieces_after_step, marks_after_step, bytes_after_step}
-use Rattle.tangle_plans.specs.Slots.{Own, step_slots, slots}
-use Rattle.tangle_plans.specs.declared.steps.Step.{Step}
-use Rattle.tangle_plans.specs.declared.steps.Step.TheVariants as step
+-- The number of symbols of a body, where used names have none, is the weight of its shape.
+use Rattle.std.proofs.Common.{◌≡◌, ◌∙◌, ℕ, ◌+◌, ◌<◌, ◌≤◌, ◌^◌, min, List, [], ◌∷◌, ◌++◌, map, take, drop, length, refl, ap}
+use Rattle.std.proofs.Common.{sym, arith, length-append}
+use Rattle.std.specs.Prelude.{flat_map}
+use Rattle.std.proofs.lemmas.List.{drop_all}
+use Rattle.tangle_text.specs.Runs.{chunks, parts_of}
+use Rattle.tangle_text.specs.declared.runs.RunPart.{RunPart}
+use Rattle.tangle_text.specs.declared.runs.RunPart.TheVariants as part
+use Rattle.tangle_plans.specs.Shapes.{Program, Kind, ShapeItem, Written, Mark, AllMacros, Use, NoUse, Shape}
+use Rattle.tangle_plans.specs.Shapes as kind
+use Rattle.tangle_plans.specs.Flat.{item_weight, items_weight, pieces_weight}
+use Rattle.tangle_plans.specs.Meaning.{own_symbols}
+use Rattle.tangle_plans.specs.NodeBodies.{HoldsShape}
+use Rattle.tangle_plans.specs.Tags.{item_tag, item_bytes, piece_end, shape_tags, shape_bytes}
+use Rattle.tangle_plans.specs.UnfoldedTags.{part_tag, run_tags, kind_tags, unfolded_tags}
+use Rattle.tangle_plans.specs.declared.nodes.NodeBody.{NodeBody}
+use Rattle.tangle_plans.specs.declared.tags.ItemKind.{ItemKind}
+use Rattle.tangle_plans.specs.declared.tags.ItemKind.TheVariants as tag
+use Rattle.tangle_plans.specs.declared.tags.ItemTag.{ItemTag}
 
-pub between_counted : (bytes : List ℕ) (start end : ℕ)
-    → length (map (λ b. Own (Byte b)) (bytes_between bytes start end)) ≡ min end (length bytes) - start
-between_counted bytes start end =
+-- the number of symbols of a tag besides its bytes
+abbrev pub own_count : ItemKind → ℕ
+own_count k = length (own_symbols Program 0 0 k)
+
+abbrev pub own_counts : List ItemTag → ℕ
+own_counts [] = 0
+own_counts (t ∷ tags) = own_count t.kind + own_counts tags
+
+own_counts-append : (tags more : List ItemTag) → own_counts (tags ++ more) ≡ own_counts tags + own_counts more
+own_counts-append [] more = omega arith
+own_counts-append (t ∷ tags) more = omega (arith, own_counts-append tags more)
+
+-- the parts of a run have no symbols besides their bytes
+
+parts_count : (ps : List RunPart) → own_counts (map part_tag ps) ≡ 0
+parts_count [] = refl
+parts_count (part.Word s ∷ ps) = omega (arith, parts_count ps)
+parts_count (part.Sign s ∷ ps) = omega (arith, parts_count ps)
+parts_count (part.Space ∷ ps) = omega (arith, parts_count ps)
+
+run_count : (bytes : List ℕ) → own_counts (run_tags bytes) ≡ 0
+unfolding run_tags
+run_count bytes = parts_count (parts_of 0 0 (chunks bytes))
+
+kind_count : (k : ItemKind) (t : ItemTag) (bytes : List ℕ)
+    → t.kind ≡ k → own_counts (kind_tags k t bytes) ≡ own_count t.kind
+kind_count tag.Run t bytes is = run_count bytes ∙ sym (ap own_count is)
+kind_count _ t bytes is = omega arith
+
+unfolded_count : (tags : List ItemTag) (bytes : List ℕ) → own_counts (unfolded_tags tags bytes) ≡ own_counts tags
+unfolded_count [] bytes = refl
+unfolded_count (t ∷ tags) bytes =
     omega (
       arith,
-      length-map (bytes_between bytes start end) (λ b. Own (Byte b)),
-      length-take (end - start) (drop start bytes),
-      length-drop start bytes,
+      own_counts-append (kind_tags t.kind t (take t.size bytes)) (unfolded_tags tags (drop t.size bytes)),
+      kind_count t.kind t (take t.size bytes) refl,
+      unfolded_count tags (drop t.size bytes),
     )
 
--- the number of slots, which depends neither on the node nor on the numbers of pieces and marks
-abbrev pub own_count : List ℕ → ℕ → List Step → ℕ
-own_count bytes start [] = 0
-own_count bytes start (s ∷ plan) =
-    length (step_slots Program bytes 0 0 start s) + own_count bytes (bytes_after_step start s) plan
+-- the weight of a shape, if used names weigh nothing
 
-step_same : (node : Title) (bytes : List ℕ) (piece marks start : ℕ) (s : Step)
-    → length (step_slots node bytes piece marks start s) ≡ length (step_slots Program bytes 0 0 start s)
-step_same node bytes piece marks start step.Open = refl
-step_same node bytes piece marks start _ = refl
+abbrev no_weight : List ℕ → ℕ
+no_weight name = 0
 
-pub counted : (node : Title) (bytes : List ℕ) (piece marks start : ℕ) (plan : List Step)
-    → length (slots node bytes piece marks start plan) ≡ own_count bytes start plan
-counted node bytes piece marks start [] = refl
-counted node bytes piece marks start (s ∷ plan) =
+item_counted : (x : ShapeItem)
+    → own_count (item_tag x).kind + length (item_bytes x) ≡ item_weight no_weight x
+item_counted (Written kind.Word bytes) = omega arith
+item_counted (Written kind.Sign bytes) = omega arith
+item_counted (Written kind.Quoted bytes) = omega arith
+item_counted (Written kind.QuoteBreak bytes) = omega arith
+item_counted (Written kind.Verbatim bytes) = omega arith
+item_counted (Written kind.AsciiConstant bytes) = omega arith
+item_counted (Written kind.Blank bytes) = omega arith
+item_counted (Written kind.LineEnd bytes) = omega arith
+item_counted Mark = refl
+item_counted AllMacros = refl
+item_counted (Use name) = refl
+item_counted NoUse = refl
+
+items_counted : (items : List ShapeItem)
+    → own_counts (map item_tag items ++ piece_end ∷ []) + length (flat_map item_bytes items)
+    ≡ 1 + items_weight no_weight items
+items_counted [] = refl
+items_counted (x ∷ items) =
     omega (
       arith,
-      length-append (step_slots node bytes piece marks start s)
-          (slots node bytes (pieces_after_step piece s) (marks_after_step marks s) (bytes_after_step start s) plan),
-      step_same node bytes piece marks start s,
-      counted node bytes (pieces_after_step piece s) (marks_after_step marks s) (bytes_after_step start s) plan,
+      item_counted x,
+      items_counted items,
+      length-append (item_bytes x) (flat_map item_bytes items),
     )
 
--- after the last step
-pub count_done : (bytes : List ℕ) (plan : List Step) (i count start whole : ℕ) → length plan ≤ i
-    → ((cap : ℕ) → cap < 2 ^ 64 → min cap (count + own_count bytes start (drop i plan)) ≡ min cap whole)
-    → (cap : ℕ) → cap < 2 ^ 64 → min cap count ≡ min cap whole
-count_done bytes plan i count start whole h before cap low =
-    let none : own_count bytes start (drop i plan) ≡ 0 = ap (own_count bytes start) (drop_all i plan h) in
-    omega (arith, none, before cap low)
+shape_counted : (shape : Shape)
+    → own_counts (shape_tags shape) + length (shape_bytes shape) ≡ pieces_weight no_weight shape
+shape_counted [] = refl
+shape_counted (items ∷ pieces) =
+    omega (
+      arith,
+      own_counts-append (map item_tag items ++ piece_end ∷ []) (shape_tags pieces),
+      items_counted items,
+      shape_counted pieces,
+      length-append (flat_map item_bytes items) (shape_bytes pieces),
+    )
+
+body_counted : (names : List (List ℕ)) (shape : Shape) (body : NodeBody) → HoldsShape names shape body
+    → length body.bytes.items + own_counts body.tags.items ≡ pieces_weight no_weight shape
+body_counted names shape body h =
+    omega (
+      arith,
+      unfolded_count body.tags.items body.bytes.items,
+      ap own_counts h.tags,
+      ap length h.bytes,
+      shape_counted shape,
+    )
+
+-- after the last tag
+pub count_done : (names : List (List ℕ)) (shape : Shape) (body : NodeBody) (i count : ℕ)
+    → length body.tags.items ≤ i
+    → ((cap : ℕ) → cap < 2 ^ 64 → min cap (count + own_counts (drop i body.tags.items))
+    ≡ min cap (length body.bytes.items + own_counts body.tags.items))
+    → HoldsShape names shape body
+    → (cap : ℕ) → cap < 2 ^ 64 → min cap count ≡ min cap (pieces_weight (λ name. 0) shape)
+count_done names shape body i count end before h cap low =
+    omega (
+      arith,
+      ap own_counts (drop_all i body.tags.items end),
+      before cap low,
+      body_counted names shape body h,
+    )

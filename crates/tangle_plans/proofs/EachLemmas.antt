@@ -22,8 +22,3 @@ pub each_of_lists : {X Y A : Type 0} (f : Y → List A) (g : X → List Y) (h : 
 each_of_lists f g h same [] = refl
 each_of_lists f g h same (x ∷ xs) =
     flat_map-append f (g x) (flat_map g xs) ∙ (λ i. same x i ++ each_of_lists f g h same xs i)
-
--- what `f` gives for the elements is the same whether `g` or `h` makes them
-pub each_renamed : {X Y A : Type 0} (f : Y → List A) (g h : X → Y)
-    → ((x : X) → f (g x) ≡ f (h x)) → (xs : List X) → flat_map f (map g xs) ≡ flat_map f (map h xs)
-each_renamed f g h same xs = flat_map-map f g xs ∙ each_made (λ x. f (g x)) f h same xs

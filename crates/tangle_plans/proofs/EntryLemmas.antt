@@ -17,13 +17,11 @@ use Rattle.tangle_scan.specs.Web.{PieceRead, WebRead}
 use Rattle.tangle_names.specs.declared.Resolved.{Resolved}
 use Rattle.tangle_names.specs.declared.Resolved.TheVariants.{Name}
 use Rattle.tangle_names.specs.NameTable.{TableRead}
-use Rattle.tangle_plans.specs.Shapes.{Title}
-use Rattle.tangle_plans.specs.Tags.{item_tag, piece_end}
+use Rattle.tangle_plans.specs.Tags.{item_tag, piece_start, piece_end}
 use Rattle.tangle_plans.specs.WebShapes.{name_at, resolved_at, shape_item}
 use Rattle.tangle_plans.specs.ItemTags.{use_tag, tag_in, uses_in}
-use Rattle.tangle_plans.specs.ItemSlots.{items_slots, no_piece}
+use Rattle.tangle_plans.specs.Nodes.{no_piece}
 use Rattle.tangle_plans.specs.Entries.{IsEntryOf, AreEntriesAt, entry_tag, entries_tags, entry_uses, entry_bytes}
-use Rattle.tangle_plans.specs.Entries.{marks_after_entry, entry_slots}
 use Rattle.tangle_plans.specs.UnfoldedTags.{StandFor, kind_tags, unfolded_tags}
 use Rattle.tangle_plans.specs.declared.tags.ItemTag.{ItemTag}
 use Rattle.tangle_scan.proofs.lemmas.StoredPieces.{pieces-count, piece-at}
@@ -31,7 +29,6 @@ use Rattle.tangle_plans.proofs.EachLemmas.{each_of_lists}
 use Rattle.tangle_plans.proofs.HeldLemmas.{span_length, tags_held}
 use Rattle.tangle_plans.proofs.RunItems.{run_items_tags, run_items_uses}
 use Rattle.tangle_plans.proofs.RunLemmas.{run_bytes}
-use Rattle.tangle_plans.proofs.RunSlots.{run_slots}
 
 -- bytes and uses
 
@@ -54,17 +51,6 @@ pub entries_uses : (texts : List (List ℕ)) (table : TableRead) (entries : List
     → flat_map (uses_in table) (items_of texts entries) ≡ flat_map (entry_uses table) entries
 entries_uses texts table entries =
     each_of_lists (uses_in table) (entry_items texts) (entry_uses table) (entry_uses_are texts table) entries
-
--- slots
-
-pub entry_slots_are : (texts : List (List ℕ)) (table : TableRead)
-    (node : Title) (piece marks : ℕ) (e : Entry) (rest : List Item)
-    → items_slots texts table node piece marks (entry_items texts e ++ rest)
-    ≡ entry_slots texts table node piece marks e
-    ++ items_slots texts table node piece (marks_after_entry marks e) rest
-entry_slots_are texts table node piece marks (entry.Item x) rest = refl
-entry_slots_are texts table node piece marks (entry.Run s) rest =
-    run_slots texts table node piece marks s rest
 
 -- tags
 
@@ -123,7 +109,7 @@ module _ (texts : List (List ℕ)) (table : TableRead) where
       → All (IsEntryOf texts table) entries → All (IsInRange texts) (items_of texts entries)
       → StandFor tags bytes before
       → StandFor (tags ++ entries_tags table entries) (bytes ++ flat_map (bytes_in texts) (items_of texts entries))
-      (before ++ (map item_tag (map (shape_item texts table) (items_of texts entries)) ++ piece_end ∷ []))
+      (before ++ (piece_start ∷ map item_tag (map (shape_item texts table) (items_of texts entries)) ++ piece_end ∷ []))
   piece_unfolds entries tags before bytes own spans h = λ more rest.
       let items = items_of texts entries in
       let all = map (entry_tag table) entries ++ piece_end ∷ more in
@@ -131,13 +117,13 @@ module _ (texts : List (List ℕ)) (table : TableRead) where
       let held = sym (tags_held (name_at table) texts table items spans) in
       (λ i. unfolded_tags
       ((append_assoc tags (entries_tags table entries) more
-      ∙ ap (λ l. tags ++ l) (append_assoc (map (entry_tag table) entries) (piece_end ∷ []) more)) i)
+      ∙ ap (λ l. tags ++ piece_start ∷ l) (append_assoc (map (entry_tag table) entries) (piece_end ∷ []) more)) i)
       ((append_assoc bytes (flat_map (bytes_in texts) items) rest
       ∙ ap (λ l. bytes ++ (l ++ rest)) (entries_bytes texts entries)) i))
-      ∙ h all written
-      ∙ ap (λ l. before ++ l) (entries_unfold entries own (piece_end ∷ more) rest)
+      ∙ h (piece_start ∷ all) written
+      ∙ ap (λ l. before ++ piece_start ∷ l) (entries_unfold entries own (piece_end ∷ more) rest)
       ∙ sym (append_assoc before _ (unfolded_tags more rest)
-      ∙ ap (λ l. before ++ l) (append_assoc _ (piece_end ∷ []) (unfolded_tags more rest)
+      ∙ ap (λ l. before ++ piece_start ∷ l) (append_assoc _ (piece_end ∷ []) (unfolded_tags more rest)
       ∙ ap (λ l. l ++ piece_end ∷ unfolded_tags more rest) held))
 
 -- what holds of each item holds of each entry

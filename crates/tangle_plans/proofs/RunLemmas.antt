@@ -24,7 +24,7 @@ use Rattle.tangle_plans.specs.declared.tags.ItemKind.TheVariants as tag
 abbrev pub tag_size : ItemTag → ℕ
 tag_size t = t.size
 
-part_size : (line column : ℕ) (c : List ℕ) → IsChunk c → tag_size (part_tag (part_of line column c)) ≡ length c
+pub part_size : (line column : ℕ) (c : List ℕ) → IsChunk c → tag_size (part_tag (part_of line column c)) ≡ length c
 part_size line column [] h = absurd h
 part_size line column (b ∷ []) h =
     part-by (λ p. tag_size (part_tag p) ≡ 1) line column b []
@@ -54,26 +54,6 @@ parts_tags line column bs = tags_moved line column (chunks bs)
 pub no_run_tags : run_tags [] ≡ []
 unfolding run_tags
 no_run_tags = refl
-
--- the sizes of tags, one after another
-abbrev pub tags_size : List ItemTag → ℕ
-tags_size [] = 0
-tags_size (t ∷ ts) = t.size + tags_size ts
-
-chunks_size : (line column : ℕ) (cs : List (List ℕ)) → AreChunks cs
-    → tags_size (map part_tag (parts_of line column cs)) ≡ length (joined cs)
-chunks_size line column [] h = refl
-chunks_size line column (c ∷ cs) h =
-    omega (
-      arith,
-      part_size line column c h.0,
-      chunks_size line (column + length c) cs h.1,
-      length-append c (joined cs),
-    )
-
-pub run_tags_size : (bs : List ℕ) → tags_size (run_tags bs) ≡ length bs
-unfolding run_tags
-run_tags_size bs = chunks_size 0 0 (chunks bs) (chunks_are bs) ∙ ap length (chunks_joined bs)
 
 -- the first part of a run
 

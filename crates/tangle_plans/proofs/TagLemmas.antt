@@ -36,6 +36,7 @@ item_from_tag tag.AllMacros n bytes names rest = onto AllMacros (rest bytes name
 item_from_tag tag.Use n bytes names rest = onto (Use (first_name names)) (rest bytes (drop 1 names))
 item_from_tag tag.NoUse n bytes names rest = onto NoUse (rest bytes names)
 item_from_tag tag.PieceEnd n bytes names rest = [] ∷ rest bytes names
+item_from_tag tag.PieceStart n bytes names rest = rest bytes names
 item_from_tag tag.Run n bytes names rest = rest bytes names
 
 shape_from_tags : List ItemTag → List ℕ → List (List ℕ) → Shape
@@ -69,10 +70,13 @@ piece_from_tags (NoUse ∷ items) tags bytes names = ap (onto NoUse) (piece_from
 
 shape_from_its_tags : (shape : Shape)
     → shape_from_tags (shape_tags shape) (shape_bytes shape) (shape_names shape) ≡ shape
-unfolding shape_from_tags
+unfolding shape_from_tags item_from_tag
 shape_from_its_tags [] = refl
 shape_from_its_tags (items ∷ pieces) =
-    rw append_assoc (piece_from_tags items (shape_tags pieces) (shape_bytes pieces) (shape_names pieces))
+    ap
+    (λ tags. shape_from_tags tags (flat_map item_bytes items ++ shape_bytes pieces)
+    (flat_map item_names items ++ shape_names pieces)) (append_assoc (map item_tag items) (piece_end ∷ []) (shape_tags pieces))
+    ∙ piece_from_tags items (shape_tags pieces) (shape_bytes pieces) (shape_names pieces)
     ∙ ap (λ l. items ∷ l) (shape_from_its_tags pieces)
 
 pub same_by_tags : (s t : Shape)

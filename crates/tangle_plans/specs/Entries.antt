@@ -1,5 +1,5 @@
 -- What the entries of a piece give a body: the tags as they are in memory, where a run has one, and
--- the bytes, names and slots.
+-- the bytes and names.
 use Rattle.std.specs.Prelude.{◌≡◌, ℕ, ◌-◌, List, [], ◌∷◌, ◌++◌, map, length, slice_index_or}
 use Rattle.std.specs.List.{All}
 use Rattle.tangle_text.specs.declared.spans.Span.{Span}
@@ -12,11 +12,9 @@ use Rattle.tangle_scan.specs.SourceOrder.{IsInRange, IsSpan}
 use Rattle.tangle_scan.specs.Web.{WebRead}
 use Rattle.tangle_scan.specs.WellFormed.{IsUseBelow}
 use Rattle.tangle_names.specs.NameTable.{TableRead}
-use Rattle.tangle_plans.specs.Shapes.{Title}
-use Rattle.tangle_plans.specs.Slots.{Slot, byte_slots}
 use Rattle.tangle_plans.specs.ItemTags.{tag_in, uses_in}
-use Rattle.tangle_plans.specs.ItemSlots.{marks_after_item, item_slots, no_piece}
-use Rattle.tangle_plans.specs.Tags.{piece_end}
+use Rattle.tangle_plans.specs.Nodes.{no_piece}
+use Rattle.tangle_plans.specs.Tags.{piece_start, piece_end}
 use Rattle.tangle_plans.specs.declared.tags.ItemKind.TheVariants as tag
 use Rattle.tangle_plans.specs.declared.tags.ItemTag.{ItemTag}
 
@@ -34,9 +32,9 @@ module _ (table : TableRead) where
   entry_tag (entry.Item x) = tag_in table x
   entry_tag (entry.Run s) = run_tag s
 
-  -- the tags of entries, and the end of the piece
+  -- the tags of a piece with these entries
   abbrev pub entries_tags : List Entry → List ItemTag
-  entries_tags entries = map entry_tag entries ++ piece_end ∷ []
+  entries_tags entries = piece_start ∷ map entry_tag entries ++ piece_end ∷ []
 
   abbrev pub entry_uses : Entry → List ℕ
   entry_uses (entry.Item x) = uses_in table x
@@ -46,16 +44,6 @@ module _ (texts : List (List ℕ)) where
   abbrev pub entry_bytes : Entry → List ℕ
   entry_bytes (entry.Item x) = bytes_in texts x
   entry_bytes (entry.Run s) = span_text texts s
-
--- the number of marks after an entry, where there are `marks` before it
-abbrev pub marks_after_entry : ℕ → Entry → ℕ
-marks_after_entry marks (entry.Item x) = marks_after_item marks x
-marks_after_entry marks (entry.Run s) = marks
-
-module _ (texts : List (List ℕ)) (table : TableRead) (node : Title) where
-  abbrev pub entry_slots : ℕ → ℕ → Entry → List Slot
-  entry_slots piece marks (entry.Item x) = item_slots texts table node piece marks x
-  entry_slots piece marks (entry.Run s) = byte_slots (span_text texts s)
 
 -- the entries are those of the piece with this number
 pub record AreEntriesAt (web : WebRead) (number : ℕ) (entries : List Entry) : Type 0 where

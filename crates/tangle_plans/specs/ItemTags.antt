@@ -1,5 +1,5 @@
 -- The tags of a web's items, and the numbers of the names that the items use.
-use Rattle.std.specs.Prelude.{ℕ, ◌-◌, List, [], ◌∷◌, ◌++◌, length, map, flat_map, decimal}
+use Rattle.std.specs.Prelude.{ℕ, ◌-◌, List, [], ◌∷◌, length, map, flat_map, decimal}
 use Rattle.tangle_scan.specs.declared.items.Item.{Item}
 use Rattle.tangle_scan.specs.declared.items.Item.TheVariants as item
 use Rattle.tangle_scan.specs.Web.{PieceRead}
@@ -8,7 +8,6 @@ use Rattle.tangle_names.specs.declared.Resolved.TheVariants.{Name}
 use Rattle.tangle_names.specs.NameTable.{TableRead}
 use Rattle.tangle_plans.specs.WebShapes.{resolved_at, shape_item}
 use Rattle.tangle_plans.specs.Shapes.{Shape}
-use Rattle.tangle_plans.specs.Tags.{piece_end}
 use Rattle.tangle_plans.specs.declared.tags.ItemKind.TheVariants as tag
 use Rattle.tangle_plans.specs.declared.tags.ItemTag.{ItemTag}
 
@@ -34,9 +33,6 @@ module _ (table : TableRead) where
   tag_in (item.LineMark origin) = record { kind = tag.Mark; size = 0 }
   tag_in (item.UseOf occurrence) = use_tag (resolved_at table occurrence)
   tag_in item.Defs = record { kind = tag.AllMacros; size = 0 }
-
-  abbrev pub piece_tags : List Item → List ItemTag
-  piece_tags items = map tag_in items ++ piece_end ∷ []
 
   -- the number of the name that an item uses, if it is a use that resolves to one
   abbrev pub uses_in : Item → List ℕ

@@ -3,14 +3,9 @@ pub mod Flat
 pub mod WebShapes
 pub mod Meaning
 pub mod Nodes
-pub mod Slots
 pub mod MakingBodies
-pub mod ItemSlots
 pub mod Tags
 pub mod ItemTags
 pub mod Entries
 pub mod NodeBodies
-pub mod Comparing
-pub mod Fronts
 pub mod UnfoldedTags
-pub mod Remaining

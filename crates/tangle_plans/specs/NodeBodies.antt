@@ -1,12 +1,24 @@
 -- The body of a node, as contracts mention it.
 use Rattle.std.specs.Prelude.{◌≡◌, ℕ, List, [], map, slice_index_or}
+use Rattle.tangle_scan.specs.Web.{PieceRead}
+use Rattle.tangle_names.specs.NameTable.{TableRead}
 use Rattle.tangle_plans.specs.Shapes.{Title, Shape}
 use Rattle.tangle_plans.specs.Tags.{shape_tags, shape_bytes, shape_names}
+use Rattle.tangle_plans.specs.ItemTags.{pieces_uses, shape_of}
 use Rattle.tangle_plans.specs.Meaning.{title_of}
-use Rattle.tangle_plans.specs.Slots.{Slot, slots}
 use Rattle.tangle_plans.specs.declared.tags.ItemTag.{ItemTag}
 use Rattle.tangle_plans.specs.UnfoldedTags.{unfolded_tags}
 use Rattle.tangle_plans.specs.declared.nodes.NodeBody.{NodeBody}
+
+-- a body without its name, as it is in memory: a run has one tag
+pub record ItemsRead : Type 0 where
+  pub tags : List ItemTag
+  pub bytes : List ℕ
+  pub uses : List ℕ
+
+abbrev pub body_items : NodeBody → ItemsRead
+body_items body =
+    record { tags = body.tags.items; bytes = body.bytes.items; uses = body.uses.items }
 
 abbrev pub body_title : NodeBody → Title
 body_title body = title_of body.name
@@ -23,10 +35,6 @@ body_bytes body = body.bytes.items
 abbrev pub body_uses : NodeBody → List ℕ
 body_uses body = body.uses.items
 
--- the node's own symbols, and the uses between them
-abbrev pub plan_slots : NodeBody → List Slot
-plan_slots body = slots (title_of body.name) body.bytes.items 0 0 0 body.plan.items
-
 -- the names with these numbers
 abbrev pub names_at : List (List ℕ) → List ℕ → List (List ℕ)
 names_at names numbers = map (λ id. slice_index_or names id []) numbers
@@ -36,3 +44,16 @@ pub record HoldsShape (names : List (List ℕ)) (shape : Shape) (body : NodeBody
   pub tags : body_tags body ≡ shape_tags shape
   pub bytes : body_bytes body ≡ shape_bytes shape
   pub names_used : names_at names (body_uses body) ≡ shape_names shape
+
+-- these are the items of these pieces
+pub record AreItemsOf (texts : List (List ℕ)) (table : TableRead)
+    (pieces : List PieceRead) (items : ItemsRead) : Type 0 where
+  pub tags : unfolded_tags items.tags items.bytes ≡ shape_tags (shape_of texts table pieces)
+  pub bytes : items.bytes ≡ shape_bytes (shape_of texts table pieces)
+  pub uses : items.uses ≡ pieces_uses table pieces
+
+-- the same items, whatever runs they are in
+pub record AreSameItems (items others : ItemsRead) : Type 0 where
+  pub tags : unfolded_tags items.tags items.bytes ≡ unfolded_tags others.tags others.bytes
+  pub bytes : items.bytes ≡ others.bytes
+  pub uses : items.uses ≡ others.uses

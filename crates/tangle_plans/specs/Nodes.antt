@@ -1,13 +1,12 @@
 -- The nodes of a web: their titles, and the rows of their pieces.
 use Rattle.std.specs.Prelude.{◌≡◌, ◌<◌, ℕ, zero, suc, Bool, true, false, List, [], ◌∷◌, length, map}
-use Rattle.std.specs.Prelude.{slice_get, Option, Some, None}
+use Rattle.std.specs.Prelude.{slice_get, slice_index_or, Option, Some, None}
 use Rattle.std.specs.List.{All}
 use Rattle.digraph.specs.Nodes.{Node}
-use Rattle.tangle_scan.specs.Web.{WebRead}
+use Rattle.tangle_scan.specs.Web.{WebRead, PieceRead}
 use Rattle.tangle_names.specs.NameTable.{TableRead}
 use Rattle.tangle_plans.specs.Shapes.{Title, Program, Named}
 use Rattle.tangle_plans.specs.WebShapes.{pieces_of}
-use Rattle.tangle_plans.specs.ItemSlots.{pieces_at}
 
 abbrev pub title_of_name : Option (List ℕ) → Title
 title_of_name None = Program
@@ -22,6 +21,14 @@ title_at names (suc id) = title_of_name (slice_get names id)
 abbrev pub row_has_piece : List ℕ → Bool
 row_has_piece [] = false
 row_has_piece (n ∷ ns) = true
+
+abbrev pub no_piece : PieceRead
+no_piece =
+    record { section = 0; origin = record { file = 0; line = 0 }; occurrence = None; items = [] }
+
+-- the pieces with these numbers
+abbrev pub pieces_at : List PieceRead → List ℕ → List PieceRead
+pieces_at pieces numbers = map (λ n. slice_index_or pieces n no_piece) numbers
 
 -- the rows have the numbers of the pieces of the program, and then of each name, in the order of
 -- the table

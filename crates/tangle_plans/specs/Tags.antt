@@ -25,15 +25,11 @@ item_tag AllMacros = record { kind = tag.AllMacros; size = 0 }
 item_tag (Use name) = record { kind = tag.Use; size = 0 }
 item_tag NoUse = record { kind = tag.NoUse; size = 0 }
 
--- the tag of a blank
-abbrev pub blank_tag : ItemTag
-blank_tag = record { kind = tag.Blank; size = 1 }
+-- the tags that begin and end a piece
 
--- the tag of a line end
-abbrev pub line_end_tag : ItemTag
-line_end_tag = record { kind = tag.LineEnd; size = 1 }
+abbrev pub piece_start : ItemTag
+piece_start = record { kind = tag.PieceStart; size = 0 }
 
--- the tag that ends a piece
 abbrev pub piece_end : ItemTag
 piece_end = record { kind = tag.PieceEnd; size = 0 }
 
@@ -46,7 +42,7 @@ item_names (Use name) = name ∷ []
 item_names _ = []
 
 abbrev pub shape_tags : Shape → List ItemTag
-shape_tags shape = flat_map (λ items. map item_tag items ++ piece_end ∷ []) shape
+shape_tags shape = flat_map (λ items. piece_start ∷ map item_tag items ++ piece_end ∷ []) shape
 
 abbrev pub shape_bytes : Shape → List ℕ
 shape_bytes shape = flat_map (λ items. flat_map item_bytes items) shape

@@ -29,6 +29,11 @@ unfolded_tags [] bytes = []
 unfolded_tags (t ∷ tags) bytes =
     kind_tags t.kind t (take t.size bytes) ++ unfolded_tags tags (drop t.size bytes)
 
+-- the tags that remain, where these tags and bytes are in memory, and the first bytes, as many as
+-- `run`, are the rest of a run that was begun
+abbrev pub tags_left : List ItemTag → List ℕ → ℕ → List ItemTag
+tags_left tags bytes run = run_tags (take run bytes) ++ unfolded_tags tags (drop run bytes)
+
 -- these tags and bytes, before any others, stand for these tags
 abbrev pub StandFor : List ItemTag → List ℕ → List ItemTag → Type 0
 StandFor tags bytes unfolded = (more : List ItemTag) (rest : List ℕ)

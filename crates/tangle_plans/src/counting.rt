@@ -1,38 +1,39 @@
-//! Counts the symbols that a plan gives without those of used names.
+//! Counts the symbols of a body without those of used names.
 ghost use Rattle.std.specs.Prelude.{◌≡◌, ◌<◌, ◌^◌, ℕ, List, length, min};
-ghost use Rattle.tangle_plans.specs.NodeBodies.{plan_slots};
-ghost use Rattle.tangle_plans.specs.Shapes.{Program};
-ghost use Rattle.tangle_plans.specs.Slots.{step_slots};
+ghost use Rattle.tangle_plans.specs.Flat.{pieces_weight};
+ghost use Rattle.tangle_plans.specs.Meaning.{own_symbols};
+ghost use Rattle.tangle_plans.specs.NodeBodies.{HoldsShape};
+ghost use Rattle.tangle_plans.specs.Shapes.{Program, Shape};
 
 use crate::nodes::NodeBody;
-use crate::steps::{Step, bytes_after_step};
+use crate::tags::ItemKind;
 
-/// The number of symbols that a step gives after `start` of the body's `size` bytes.
-#[tactic(auto, using(crate::proofs::CountLemmas::between_counted))]
-fn symbols_of_step(step: Step, start: usize, size: usize) -> usize
-    ensures { (bytes : List ℕ) → length bytes ≡ size
-        → length (step_slots Program bytes 0 0 start step) ≡ result }
+/// The number of symbols that a tag of this kind gives besides its bytes.
+fn symbols_of_kind(kind: ItemKind) -> usize
+    ensures { result ≡ length (own_symbols Program 0 0 kind) }
 {
-    match step {
-        Step::Bytes(end) => end.min(size).saturating_sub(start),
-        Step::Open => 2,
-        Step::Mark | Step::AllMacros | Step::Space | Step::Use(_) | Step::Close => 1,
+    match kind {
+        ItemKind::PieceStart => 2,
+        ItemKind::Mark
+        | ItemKind::AllMacros
+        | ItemKind::Use
+        | ItemKind::NoUse
+        | ItemKind::PieceEnd => 1,
+        _ => 0,
     }
 }
 
 impl NodeBody {
-    /// The number of the node's own symbols, where each use counts as one.
-    /// At most `usize::MAX` is returned.
+    /// The number of the node's own symbols, where each use counts as one: the weight of its shape,
+    /// if the names that it uses weigh nothing. At most `usize::MAX` is returned.
     pub fn symbol_count(&self) -> usize
-        ensures { (cap : ℕ) → cap < 2 ^ 64 → min cap result
-            ≡ min cap (length (plan_slots self.now)) }
+        ensures { (names : List (List ℕ)) (shape : Shape) → HoldsShape names shape self.now
+            → (cap : ℕ) → cap < 2 ^ 64
+            → min cap result ≡ min cap (pieces_weight (λ name. 0) shape) }
     {
-        let size = self.bytes.len();
-        let mut count: usize = 0;
-        let mut start = 0;
-        for step in self.plan.as_slice() {
-            count = count.saturating_add(symbols_of_step(*step, start, size));
-            start = bytes_after_step(start, *step);
+        let mut count = self.bytes.len();
+        for tag in self.tags.as_slice() {
+            count = count.saturating_add(symbols_of_kind(tag.kind));
         }
         count
     }

@@ -2,11 +2,10 @@
 ghost use Rattle.std.specs.Prelude.{◌≡◌};
 ghost use Rattle.tangle_plans.specs.NodeBodies.{body_uses};
 
-use crate::steps::Step;
 use crate::tags::ItemTag;
 
-/// The body of a node: its name, the bytes of all its items and the plan of its symbols; and, for
-/// comparing shapes, the tags of its items and the numbers of the names that they use.
+/// The body of a node: its name, the bytes of all its items, their tags, by which the node is
+/// written and shapes are compared, and the numbers of the names that they use.
 #[derive(Drop)]
 pub struct NodeBody {
     /// The name, or none for the program.
@@ -14,9 +13,8 @@ pub struct NodeBody {
     pub name: Option<Vec<u8>>,
     /// The bytes of all its items.
     pub bytes: Vec<u8>,
-    /// The plan of its symbols.
-    pub plan: Vec<Step>,
-    pub(crate) tags: Vec<ItemTag>,
+    /// What the bytes are, and what comes between them.
+    pub tags: Vec<ItemTag>,
     pub(crate) uses: Vec<usize>,
 }
 

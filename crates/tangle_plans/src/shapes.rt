@@ -31,7 +31,7 @@ fn same_names(names: &Names, uses: &[usize], other_names: &Names, other_uses: &[
 
 /// Whether the tags that remain are the same on both sides.
 fn same_tags_left(mut left: TagsLeft, mut other: TagsLeft) -> bool
-    ensures { (result ≡ true) ↔ (left.entry.tags ≡ other.entry.tags) }
+    ensures { (result ≡ true) ↔ (left.entry ≡ other.entry) }
 {
     while let Some(tag) = left.next() {
         if !other.pass_tag(tag) {
@@ -43,7 +43,7 @@ fn same_tags_left(mut left: TagsLeft, mut other: TagsLeft) -> bool
 
 /// Whether the items of two bodies have the same kinds and the same bytes. Where the same items are
 /// in other runs, the tags differ, and the items are compared one by one.
-fn same_items(body: &NodeBody, other: &NodeBody) -> bool
+pub(crate) fn same_items(body: &NodeBody, other: &NodeBody) -> bool
     ensures some { result ≡ true → (body_tags body.now ≡ body_tags other.now)
         × (body_bytes body.now ≡ body_bytes other.now) }
     ensures none { result ≡ false → body_tags body.now ≡ body_tags other.now → body_bytes body.now

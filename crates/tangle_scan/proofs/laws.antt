@@ -1,6 +1,6 @@
-pub mod ApartMacros
-pub mod ApartPieces
-pub mod ApartReading
+pub mod MacrosAsMeant
+pub mod PiecesAsMeant
+pub mod GapReading
 pub mod BlockFlows
 pub mod ItemSpans
 pub mod LineTruthLemmas
@@ -10,4 +10,4 @@ pub mod PieceBytes
 pub mod SpanOrder
 pub mod TokenSteps
 pub mod WebLaws
-pub mod WebsApart
+pub mod WebsAsMeant

@@ -1,4 +1,5 @@
-pub mod WorkedApart
+pub mod WorkedAsMeant
+pub mod WorkedDirectives
 pub mod WorkedLocations
 pub mod WorkedSegments
 pub mod WorkedWebs

@@ -8,5 +8,5 @@ pub mod LineTruth
 pub mod KeptBytes
 pub mod ItemBytes
 pub mod MacroBytes
-pub mod Apart
+pub mod ReadAsMeant
 pub mod Entries

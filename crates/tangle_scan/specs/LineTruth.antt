@@ -52,6 +52,7 @@ pub record Location : Type 0 where
 abbrev pub has_line_end : List Token → Bool
 has_line_end [] = false
 has_line_end (token.LineEnd line ∷ es) = true
+has_line_end (token.InnerLineEnd line ∷ es) = true
 has_line_end (e ∷ es) = has_line_end es
 
 -- what rule 2 leaves of a run, with a join instead of a run with line ends that the rule removes
@@ -76,12 +77,15 @@ counted_after_line_end lines continued counted line =
 
 -- The locations of the source items of these tokens. `before` is the token before them on the line,
 -- `counted` the counted origin, and `stretch` whether they are in a stretch. A stretch begins where
--- line ends were removed, at a line end inside a quoted text, and at the end of a continued line if
--- the count does not expect the next source line. It ends at every other line end, and at a mark.
+-- line ends were removed, also one inside a comment or a control text of a directive, at a line end
+-- inside a quoted text, and at the end of a continued line if the count does not expect the next
+-- source line. It ends at every other line end, and at a mark.
 module _ (lines : List SourceLine) where
   abbrev pub locations : Option Token → Origin → Bool → List Token → List Location
   locations before counted stretch [] = []
   locations before counted stretch (token.Join ∷ es) = locations before counted true es
+  locations before counted stretch (token.InnerLineEnd line ∷ es) =
+      locations before counted true es
   locations before counted stretch (token.White ∷ es) = locations before counted stretch es
   locations before counted stretch (token.LineEnd line ∷ es) =
       let continued : Bool = is_continued (texts_of lines) before in

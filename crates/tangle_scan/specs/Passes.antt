@@ -1,29 +1,28 @@
 -- What the rules for items give for the tokens that a pass has not read yet.
-use Rattle.std.specs.Prelude.{◌≡◌, ◌≤◌, ℕ, ◌+◌, max, Bool, true, false, ◌==◌, ◌&&◌, ◌||◌, not}
+use Rattle.std.specs.Prelude.{◌≡◌, ◌≤◌, ℕ, ◌+◌, suc, max, Bool, true, false, ◌==◌, ◌&&◌, ◌||◌, not}
 use Rattle.std.specs.Prelude.{if◌then◌else◌}
-use Rattle.std.specs.Prelude.{List, [], ◌∷◌, ◌++◌, length, take, drop, slice_get, ◌-◌}
+use Rattle.std.specs.Prelude.{List, [], ◌∷◌, ◌++◌, length, take, replicate, slice_get, ◌-◌}
 use Rattle.std.specs.Prelude.{Option, Some, None, is_some, option_to_list}
 use Rattle.tangle_lines.specs.declared.origin.Origin.{Origin}
 use Rattle.tangle_lexer.specs.declared.tokens.Token.{Token}
 use Rattle.tangle_lexer.specs.declared.tokens.Token.TheVariants as token
+use Rattle.tangle_lexer.specs.declared.tokens.SpanKind.TheVariants as span_kind
 use Rattle.tangle_text.specs.declared.spans.Span.{Span}
 use Rattle.tangle_scan.specs.declared.items.Item.{Item}
 use Rattle.tangle_scan.specs.declared.items.Item.TheVariants as item
 use Rattle.tangle_scan.specs.declared.items.Entry.{Entry}
 use Rattle.tangle_scan.specs.declared.items.Entry.TheVariants as entry
-use Rattle.tangle_scan.specs.declared.spacing.Gap.{Gap}
-use Rattle.tangle_scan.specs.declared.spacing.Stage.{Stage}
-use Rattle.tangle_scan.specs.declared.spacing.Spacing.{Spacing}
+use Rattle.tangle_scan.specs.declared.macro_items.Gap.{Gap}
 use Rattle.tangle_scan.specs.declared.macro_items.MacroState.{MacroState}
 use Rattle.tangle_scan.specs.declared.parts.CountedOrigin.{CountedOrigin}
 use Rattle.tangle_scan.specs.declared.parts.PartState.{PartState}
 use Rattle.tangle_scan.specs.declared.parts.Start.{Start}
 use Rattle.tangle_scan.specs.declared.parts.Last.{Last}
 use Rattle.tangle_scan.specs.declared.parts.Last.TheVariants as last
-use Rattle.tangle_scan.specs.declared.spacing.Stage.TheVariants as stage
 use Rattle.tangle_text.specs.Bytes.{backslash, slash, is_word_byte}
 use Rattle.tangle_lines.specs.Reading.{SourceLine, origin_at}
-use Rattle.tangle_scan.specs.Rules.{without_faults, without_front_gaps, may_follow_name, is_gap}
+use Rattle.tangle_scan.specs.Rules.{clean_tokens, white_inner_end, with_spaces, with_name_space}
+use Rattle.tangle_scan.specs.Rules.{may_follow_name, is_gap}
 use Rattle.tangle_scan.specs.Rules.{would_merge, is_constant, may_merge, full_stop, has_join}
 use Rattle.tangle_scan.specs.Rules.{without_joins, left_of_run, blanks, is_open, is_continued, at_line_front}
 use Rattle.tangle_scan.specs.Rules.{texts_of, first_byte, last_byte, span_item, next_line}
@@ -31,65 +30,18 @@ use Rattle.tangle_scan.specs.Entries.{items_of, entry_is_mark}
 use Rattle.std.specs.List.{list_any}
 use Rattle.tangle_scan.specs.LineTruth.{is_expected, counted_after_line_end}
 use Rattle.tangle_scan.specs.Rules.{macro_blanks, unmarked_items, without_backslashes}
+use Rattle.tangle_scan.specs.Rules.{has_blank_at_line_end, next_item, is_name_part}
 
--- `gap` is a gap at the end of a list: it begins inside the list, and its flag says whether it has
--- a join
-pub record IsGap (spaced : List Token) (gap : Gap) : Type 0 where
-  pub start : gap.start ≤ length spaced
-  pub has : gap.has_join ≡ has_join (drop gap.start spaced)
+-- rule 1 for the tokens after another one; `first`: that one is the first item of a macro
 
--- what rule 2 leaves of the tokens `spaced` and then `es`, if a gap that begins at position `start`
--- of `spaced` goes on in `es`
-unfoldable pub without_joins_from : List Token → ℕ → List Token → List Token
-without_joins_from spaced start es = take start spaced ++ without_joins (drop start spaced) es
+abbrev pub needs_space : List (List ℕ) → Bool → Token → Token → Bool
+needs_space texts first before e = first && not (may_follow_name texts e) || would_merge texts before e
 
--- rule 1 for the tokens after another one
-
-abbrev pub needs_space : List (List ℕ) → Stage → Token → Token → Bool
-needs_space texts stage.AfterName before e =
-    would_merge texts before e || not (may_follow_name texts e)
-needs_space texts _ before e = would_merge texts before e
-
-abbrev pub stage_after : Stage → Token → Stage
-stage_after stage.Inside e = stage.Inside
-stage_after stage.AfterName e = stage.Inside
-stage_after _ e = if is_gap e then stage.BeforeName else stage.AfterName
-
-abbrev pub with_white_space : List (List ℕ) → Stage → Token → List Token → List Token
-with_white_space texts at before [] = []
-with_white_space texts at before (e ∷ es) =
-    (if needs_space texts at before e then token.White ∷ [] else [])
-    ++ e ∷ with_white_space texts (stage_after at e) e es
-
--- the tokens without what is removed first: faults, and the white space and line ends at the front
--- of a macro
-abbrev pub without_skipped : Stage → List Token → List Token
-without_skipped stage.Front es = without_front_gaps (without_faults es)
-without_skipped _ es = without_faults es
-
-unfoldable pub spacing_from : List (List ℕ) → List Token → Spacing → List Token → List Token
-spacing_from texts spaced at es = without_joins_from spaced at.gap.start
-    (with_white_space texts at.stage at.before (without_skipped at.stage es))
-
-abbrev pub is_skipped : Stage → Token → Bool
-is_skipped at (token.Fault kind line) = true
-is_skipped stage.Front token.White = true
-is_skipped stage.Front (token.LineEnd line) = true
-is_skipped at e = false
-
--- a fault, a join or an ASCII constant: without them rules 1 and 2 change at most the front of a
--- macro
-abbrev pub needs_pass : Token → Bool
-needs_pass (token.Fault kind line) = true
-needs_pass token.Join = true
-needs_pass (token.AsciiConstant value line) = true
-needs_pass e = false
-
--- the second token needs no white space before it, where the first is the name of a macro
-abbrev pub is_name_spaced : List (List ℕ) → List Token → Bool
-is_name_spaced texts [] = true
-is_name_spaced texts (e ∷ []) = true
-is_name_spaced texts (e ∷ f ∷ es) = may_follow_name texts f
+abbrev pub with_white_space : List (List ℕ) → Bool → Token → List Token → List Token
+with_white_space texts first before [] = []
+with_white_space texts first before (e ∷ es) =
+    (if needs_space texts first before e then token.White ∷ [] else [])
+    ++ e ∷ with_white_space texts false e es
 
 -- a C part
 
@@ -195,7 +147,7 @@ items_after lines before counted white es =
 
 -- the tokens that rule 1 makes of those after a token
 abbrev pub spaced_after : List (List ℕ) → Token → List Token → List Token
-spaced_after texts before es = with_white_space texts stage.Inside before (without_faults es)
+spaced_after texts before es = with_white_space texts false before (clean_tokens es)
 
 -- what is before a position, if white space and faults are left out
 
@@ -300,12 +252,89 @@ pub record IsMarked (entries : List Entry) (at : PartState) : Type 0 where
 abbrev pub highest : PartState → ℕ
 highest at = max at.counted.line at.start.counted.line
 
--- the last item of the current line, if it has one
-abbrev pub item_before : MacroState → Option Token
-item_before at = if at.has_item then Some at.item.now else None
+-- a macro
+
+-- the joins, white space and line ends before the first item of these tokens
+abbrev pub gap_before : List Token → List Token
+gap_before [] = []
+gap_before (token.Fault kind line ∷ es) = gap_before es
+gap_before (e ∷ es) = if is_gap e then white_inner_end e ∷ gap_before es else []
+
+-- these tokens from their first item on
+abbrev pub from_item : List Token → List Token
+from_item [] = []
+from_item (token.Fault kind line ∷ es) = from_item es
+from_item (e ∷ es) = if is_gap e then from_item es else e ∷ es
+
+abbrev pub has_white : List Token → Bool
+has_white [] = false
+has_white (token.White ∷ es) = true
+has_white (e ∷ es) = has_white es
+
+-- the number of line ends among these tokens
+abbrev pub line_ends : List Token → ℕ
+line_ends [] = 0
+line_ends (token.LineEnd line ∷ es) = suc (line_ends es)
+line_ends (e ∷ es) = line_ends es
+
+abbrev pub gap_of : List Token → Gap
+gap_of run = record { has_join = has_join run; has_white = has_white run; line_ends = line_ends run }
+
+-- rule 1 puts white space between a token and the first of these tokens
+abbrev pub is_spaced : List (List ℕ) → Bool → Token → List Token → Bool
+is_spaced texts first before [] = false
+is_spaced texts first before (token.Fault kind line ∷ es) = is_spaced texts first before es
+is_spaced texts first before (e ∷ es) = needs_space texts first before e
+
+-- what rules 1 and 2 leave of the gap between an item and the next one
+abbrev pub left_gap : List (List ℕ) → Bool → Token → List Token → List Token
+left_gap texts first before es = left_of_run
+    ((if is_spaced texts first before es then token.White ∷ [] else []) ++ gap_before es)
+
+-- what rule 1 makes of the tokens of a macro from some token on, and what rule 2 makes of those;
+-- `first`: no item is before them
+
+abbrev pub spaced_from : List (List ℕ) → Bool → List Token → List Token
+spaced_from texts first es =
+    let spaced : List Token = with_spaces texts (clean_tokens es) in
+    if first then with_name_space texts spaced else spaced
+
+abbrev pub joined_from : List (List ℕ) → Bool → List Token → List Token
+joined_from texts first es = without_joins [] (spaced_from texts first es)
+
+-- a token other than white space, a line end of any kind, a join and a fault
+abbrev pub is_solid : Token → Bool
+is_solid token.White = false
+is_solid (token.LineEnd line) = false
+is_solid (token.InnerLineEnd line) = false
+is_solid token.Join = false
+is_solid (token.Fault kind line) = false
+is_solid e = true
+
+-- a token is a backslash before a line end, of which `gap` is left
+abbrev pub is_dropped : List (List ℕ) → Token → Gap → Bool
+is_dropped texts (token.Span span_kind.Sign s) gap =
+    first_byte texts s == backslash && not (gap.line_ends == 0)
+is_dropped texts e gap = false
+
+-- a blank goes before an item, after the last one and what is left of the gap between the two
+abbrev pub has_blank : List (List ℕ) → Bool → Option Token → Gap → Token → Bool
+has_blank texts in_name before gap e =
+    if gap.line_ends == 0 then is_some before && gap.has_white
+    else has_blank_at_line_end texts in_name before (Some e)
+
+-- all items up to this one are the macro's name
+abbrev pub is_in_name : MacroState → Token → Bool
+is_in_name at e = at.in_name && (at.gap.line_ends == 0 && not at.gap.has_white) && is_name_part e
+
+-- the items of what is left of a gap, and of the tokens after it
+abbrev pub items_from : List (List ℕ) → Bool → Option Token → Gap → List Token → List Item
+items_from texts in_name before gap es =
+    if gap.line_ends == 0 then unmarked_items (macro_blanks texts in_name before gap.has_white es)
+    else blank_if (has_blank_at_line_end texts in_name before (next_item es))
+    ++ (replicate gap.line_ends item.LineEnd ++ unmarked_items (macro_blanks texts false None false es))
 
 -- the items of a macro for tokens that were not read yet
-unfoldable pub unmarked_from : List (List ℕ) → MacroState → List Token → List Item
-unmarked_from texts at es =
-    unmarked_items
-    (macro_blanks texts at.in_name (item_before at) at.has_white (without_backslashes texts es))
+unfoldable pub items_ahead : List (List ℕ) → MacroState → List Token → List Item
+items_ahead texts at es = items_from texts at.in_name at.item at.gap
+    (without_backslashes texts (joined_from texts at.is_first es))

@@ -2,7 +2,7 @@
 -- turn, so that it can be read, and proved, alone.
 use Rattle.std.specs.Prelude.{ℕ, ◌+◌, Bool, true, false, ◌==◌, nat_le, ◌&&◌, ◌||◌, not, ◌-◌}
 use Rattle.std.specs.Prelude.{if◌then◌else◌, codes, Option, None, Some, is_some}
-use Rattle.std.specs.Prelude.{List, [], ◌∷◌, ◌++◌, length, get_or}
+use Rattle.std.specs.Prelude.{List, [], ◌∷◌, ◌++◌, map, length, get_or}
 use Rattle.std.specs.List.{list_any}
 use Rattle.tangle_lines.specs.declared.origin.Origin.{Origin}
 use Rattle.tangle_lines.specs.Reading.{SourceLine, origin_at}
@@ -37,6 +37,17 @@ without_faults [] = []
 without_faults (token.Fault kind line ∷ es) = without_faults es
 without_faults (e ∷ es) = e ∷ without_faults es
 
+-- A line end inside a comment or a control text of a directive is white space, since the directive
+-- ends where the author ended it.
+
+abbrev pub white_inner_end : Token → Token
+white_inner_end (token.InnerLineEnd line) = token.White
+white_inner_end e = e
+
+-- the tokens without faults, and with white space for such line ends
+abbrev pub clean_tokens : List Token → List Token
+clean_tokens tokens = map white_inner_end (without_faults tokens)
+
 -- Rule 1: white space is put between an ASCII constant and another one, a word, a verbatim text, a
 -- full stop or a backslash that touch, in either order. The constant is written as a number, and a C
 -- compiler would read both as one number, as in 97...122, or the next line as a part of it, after a
@@ -70,6 +81,7 @@ with_spaces texts (e ∷ f ∷ es) =
 abbrev pub may_follow_name : List (List ℕ) → Token → Bool
 may_follow_name texts token.White = true
 may_follow_name texts (token.LineEnd line) = true
+may_follow_name texts (token.InnerLineEnd line) = true
 may_follow_name texts token.Join = true
 may_follow_name texts (token.Span span_kind.Sign s) = first_byte texts s == left_parenthesis
 may_follow_name texts _ = false
@@ -96,6 +108,7 @@ abbrev pub is_gap : Token → Bool
 is_gap token.Join = true
 is_gap token.White = true
 is_gap (token.LineEnd line) = true
+is_gap (token.InnerLineEnd line) = true
 is_gap _ = false
 
 abbrev pub has_join : List Token → Bool
@@ -318,7 +331,7 @@ with_needed_marks counted (x ∷ items) = x ∷ with_needed_marks counted items
 
 -- the tokens of a C part after rules 1 and 2
 abbrev pub part_tokens : List (List ℕ) → List Token → List Token
-part_tokens texts tokens = without_joins [] (with_spaces texts (without_faults tokens))
+part_tokens texts tokens = without_joins [] (with_spaces texts (clean_tokens tokens))
 
 -- The items of a C part whose head ends on this line. The origin of that line is counted first.
 abbrev pub part_items : List SourceLine → ℕ → List Token → List Item
@@ -348,7 +361,7 @@ unmarked_items (e ∷ es) = token_items e ++ unmarked_items es
 -- the tokens of a macro after rules 1 and 2
 abbrev pub macro_tokens : List (List ℕ) → List Token → List Token
 macro_tokens texts tokens = without_joins []
-    (with_name_space texts (with_spaces texts (without_front_gaps (without_faults tokens))))
+    (with_name_space texts (with_spaces texts (without_front_gaps (clean_tokens tokens))))
 
 abbrev pub macro_items : List (List ℕ) → List Token → List Item
 macro_items texts tokens =

@@ -1,7 +1,6 @@
 //! The scanner: from source lines to the pieces, macros and section names of a web.
 #![tactic(auto)]
 
-mod apart;
 mod faults;
 mod items;
 mod kept_bytes;
@@ -9,18 +8,18 @@ mod line_truth;
 mod macro_items;
 mod parts;
 mod pieces;
+mod read_as_meant;
 mod scanning;
-mod spacing;
 mod touching;
 mod views;
 mod web_builder;
 mod webs;
 
-pub use apart::what_is_apart_stays_apart;
 pub use items::{Entry, Item, OccurrenceNumber};
 pub use kept_bytes::no_byte_is_lost;
 pub use line_truth::pieces_are_at_their_lines;
 pub use pieces::{Macro, Piece};
+pub use read_as_meant::items_are_read_as_meant;
 pub use scanning::scan;
 pub use tangle_lexer::{Occurrence, OccurrenceRole};
 pub use tangle_text::Span;

@@ -1,9 +1,10 @@
 //! The entries of a C part, in one pass over its tokens. White space becomes a blank between two
-//! items of a line, and at the start of a line that continues another; other white space is dropped.
-//! A join removes the white space and the line ends around it: line ends are added at once, and
-//! removed again if a join follows in their gap. A blank goes between a word and an ASCII constant
-//! that touch, in either order, and between two constants that touch. A line mark follows each use
-//! and each `@h`. It also replaces a line end if a compiler would count another origin for the next
+//! items of a line, and at the start of a line that continues another; other white space is
+//! dropped. A line end inside a comment or a control text of a directive is white space. A join
+//! removes the white space and the line ends around it: line ends are added at once, and removed
+//! again if a join follows in their gap. A blank goes between a word and an ASCII constant that
+//! touch, in either order, and between two constants that touch. A line mark follows each use and
+//! each `@h`. It also replaces a line end if a compiler would count another origin for the next
 //! source line, except at the end of a continued line.
 ghost use Rattle.std.specs.Prelude.{◌≡◌, ◌≤◌, ◌<◌, ◌+◌, ◌^◌, ◌++◌, ◌∷◌, ◌&&◌, ◌||◌, [], map};
 ghost use Rattle.std.specs.Prelude.{List, max, if◌then◌else◌, true, false, None, take, flat_map};
@@ -196,20 +197,9 @@ pub(crate) fn line_end_item(
     }
 }
 
-/// The blank before an item, if there is white space and it is kept.
-#[inline(always)]
-pub(crate) fn blank(keeps_white: bool, has_white: bool) -> Option<Item>
-    ensures { option_to_list result ≡ (if keeps_white && has_white then item.Blank ∷ [] else []) }
-{
-    if keeps_white && has_white {
-        return Some(Item::Blank);
-    }
-    None
-}
-
 /// The item for a span of this kind.
 #[inline(always)]
-pub(crate) fn span_item(kind: SpanKind, span: Span) -> Item
+fn span_item(kind: SpanKind, span: Span) -> Item
     ensures { result ≡ rules.span_item kind span }
 {
     match kind {
@@ -291,19 +281,8 @@ pub(crate) fn token_items(source: &Source, counted: CountedOrigin, token: Token)
     }
 }
 
-/// Adds an item, if there is one.
-// It is inlined, so that no item is made where the caller knows that there is none.
-#[inline(always)]
-pub(crate) fn push_some(items: &mut Vec<Item>, item: Option<Item>) -> Result<(), NoMemory>
-    ensures { OnOk result (items.new.items ≡ items.old.items ++ option_to_list item) }
-{
-    if let Some(item) = item {
-        items.push(item)?;
-    }
-    Ok(())
-}
-
 /// Adds an item as an entry, if there is one.
+// It is inlined, so that no item is made where the caller knows that there is none.
 #[inline(always)]
 fn push_entry(entries: &mut Vec<Entry>, item: Option<Item>) -> Result<(), NoMemory>
     ensures { OnOk result (entries.new.items
@@ -584,7 +563,7 @@ fn add_token(
         ++ own_fault source.now.files source.now.lines token.now) }
 {
     match *token {
-        Token::White => {
+        Token::White | Token::InnerLineEnd(_) => {
             at.has_white = true;
             Ok(())
         }

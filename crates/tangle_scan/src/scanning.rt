@@ -5,13 +5,13 @@ ghost use Rattle.tangle_scan.specs.Web.{web_of};
 ghost use Rattle.tangle_lexer.specs.Occurrences.{occurrence_of};
 ghost use Rattle.tangle_scan.specs.SourceOrder.{SpansAreInOrder};
 ghost use Rattle.tangle_scan.specs.LineTruth.{PiecesAreAtTheirLines};
-ghost use Rattle.tangle_scan.specs.Apart.{StaysApart};
+ghost use Rattle.tangle_scan.specs.ReadAsMeant.{ItemsAreReadAsMeant};
 ghost use Rattle.tangle_scan.specs.WellFormed.{IsWellFormed};
 ghost use Rattle.tangle_scan.specs.Entries.{RunsAreInRange};
 ghost use Rattle.tangle_scan.specs.Rules.{texts_of};
 ghost use Rattle.tangle_scan.specs.WebBuilder.{nothing, builder_read, builder_with};
 
-use crate::web_builder::{MacroBuffer, WebBuilder};
+use crate::web_builder::WebBuilder;
 use crate::webs::Web;
 use std::alloc::Global;
 use tangle_lexer::{LexerBuffers, Occurrence, first_state, next_block};
@@ -27,7 +27,6 @@ fn gather(alloc: Global, source: &Source) -> Result<(WebBuilder, Vec<Occurrence>
         (λ r. r.1.items ≡ map (occurrence_of source.now.lines) (all_occurrences source.now.lines)) }
 {
     let mut builder = WebBuilder::new(alloc);
-    let mut macro_buffer = MacroBuffer::new(alloc);
     let mut buffers = LexerBuffers {
         tokens: Vec::new(alloc),
         occurrences: Vec::new(alloc),
@@ -40,7 +39,7 @@ fn gather(alloc: Global, source: &Source) -> Result<(WebBuilder, Vec<Occurrence>
     // One block of tokens is held at a time, in buffers that each block uses again.
     while let Some(head) = next_head {
         (state, next_head) = next_block(source, &mut buffers, &mut reader, state)?;
-        builder.add_block(alloc, source, &mut macro_buffer, head, &buffers.tokens)?;
+        builder.add_block(alloc, source, head, &buffers.tokens)?;
     }
     Ok((builder, buffers.occurrences))
 }
@@ -53,12 +52,13 @@ fn gather(alloc: Global, source: &Source) -> Result<(WebBuilder, Vec<Occurrence>
 /// between a range of a piece and one of a macro.
 ///
 /// A C compiler that counts by the marks and line ends of a piece counts for each text the line
-/// that the text is on, except in stretches. A stretch begins at a line end inside a quoted text,
-/// where a join removed line ends, and at the end of a continued line if the count does not expect
-/// the next source line. It ends at the next mark, or at the next line end outside quoted texts.
+/// that the text is on, except in stretches. A stretch begins at a line end inside a quoted text or
+/// inside a comment or a control text of a directive, where a join removed line ends, and at the end
+/// of a continued line if the count does not expect the next source line. It ends at the next mark,
+/// or at the next other line end.
 ///
-/// A C compiler, which joins lines that end in a backslash, reads two items apart if the source
-/// keeps them apart.
+/// A C compiler, which joins lines that end in a backslash, reads together the items that stand
+/// together in the source, and apart those that it keeps apart.
 ///
 /// # Errors
 ///
@@ -68,7 +68,7 @@ pub fn scan<'s, 'a>(alloc: Global, source: &'s Source<'a>) -> Result<Web<'s, 'a>
     ensures well_formed { IfOk result (λ web. IsWellFormed web) }
     ensures order { IfOk result (λ web. SpansAreInOrder web) }
     ensures line_truth { IfOk result (λ web. PiecesAreAtTheirLines source.now web) }
-    ensures apart { IfOk result (λ web. StaysApart source.now web) }
+    ensures as_meant { IfOk result (λ web. ItemsAreReadAsMeant source.now web) }
 {
     let (builder, occurrences) = gather(alloc, source)?;
     Ok(Web::new(source, builder, occurrences))

@@ -19,10 +19,9 @@ ghost use Rattle.tangle_scan.specs.WebBuilder.{builder_with, with_head};
 
 use crate::faults::{add_fault, add_faults};
 use crate::items::{Entry, Item, OccurrenceNumber};
-use crate::macro_items::fill_macro;
+use crate::macro_items::macro_items;
 use crate::parts::{PartNotes, fill_part};
 use crate::pieces::{Macro, Piece};
-use crate::spacing::macro_tokens;
 use crate::touching::first_byte;
 use std::alloc::Global;
 use std::marker::Model;
@@ -57,37 +56,6 @@ fn part_entries(
     let notes = fill_part(alloc, source, faults, &mut entries, line, tokens)?;
     entries.shrink_to_fit();
     Ok((entries, notes))
-}
-
-/// A buffer that holds the tokens of one macro at a time.
-#[derive(Drop)]
-pub(crate) struct MacroBuffer {
-    tokens: Vec<Token>,
-}
-
-impl MacroBuffer {
-    pub(crate) fn new(alloc: Global) -> Self {
-        MacroBuffer {
-            tokens: Vec::new(alloc),
-        }
-    }
-
-    /// The items of a macro.
-    fn macro_items(
-        &mut self,
-        alloc: Global,
-        source: &Source,
-        tokens: &[Token],
-    ) -> Result<Vec<Item>, NoMemory>
-        ensures { IfOk result (λ items. items.items
-            ≡ rules.macro_items (texts_of source.now.lines) tokens.now) }
-    {
-        let left = macro_tokens(source, &mut self.tokens, tokens)?;
-        let mut items = Vec::with_capacity(alloc, left.len())?;
-        fill_macro(source, &mut items, left)?;
-        items.shrink_to_fit();
-        Ok(items)
-    }
 }
 
 /// Whether items begin with an identifier, as those of a macro have to.
@@ -217,7 +185,6 @@ impl WebBuilder {
         &mut self,
         alloc: Global,
         source: &Source,
-        macro_buffer: &mut MacroBuffer,
         line: u32,
         tokens: &[Token],
     ) -> Result<(), NoMemory>
@@ -231,7 +198,7 @@ impl WebBuilder {
                   ++ flat_map (own_fault source.now.files source.now.lines) tokens.now;
             }) }
     {
-        let items = macro_buffer.macro_items(alloc, source, tokens)?;
+        let items = macro_items(alloc, source, tokens)?;
         if is_macro(source, &items) {
             self.macros.push(Macro::new(items))?;
         } else {
@@ -246,7 +213,6 @@ impl WebBuilder {
         &mut self,
         alloc: Global,
         source: &Source,
-        macro_buffer: &mut MacroBuffer,
         head: Token,
         tokens: &[Token],
     ) -> Result<(), NoMemory>
@@ -265,7 +231,7 @@ impl WebBuilder {
     {
         match head {
             Token::Section => self.add_section(alloc, source, tokens),
-            Token::MacroStart(line) => self.add_macro(alloc, source, macro_buffer, line, tokens),
+            Token::MacroStart(line) => self.add_macro(alloc, source, line, tokens),
             Token::UnnamedPart(line) => self.add_piece(alloc, source, None, line, tokens),
             Token::NamedPart(line, occurrence) => {
                 let occurrence = OccurrenceNumber::new(occurrence);

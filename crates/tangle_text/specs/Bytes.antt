@@ -49,11 +49,13 @@ is_word_byte b =
     is_between 97 122 b || is_between 65 90 b || is_digit b
     || b == 95 || b == 36 || is_between 128 255 b
 
--- a byte that may open something longer
+-- a byte that may open something longer, or may continue a line
 abbrev pub is_opener : ℕ → Bool
-is_opener b = b == at_sign || b == slash || b == double_quote || b == apostrophe || b == less_sign
+is_opener b =
+    b == at_sign || b == slash || b == double_quote || b == apostrophe || b == less_sign
+    || b == backslash
 
--- a byte that is a sign wherever a lexeme begins with it
+-- a byte that is a sign wherever a lexeme begins with it, and no more than that
 abbrev pub is_sign_byte : ℕ → Bool
 is_sign_byte b = not (is_opener b || is_white b || is_word_byte b)
 

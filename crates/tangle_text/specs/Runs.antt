@@ -3,16 +3,18 @@ use Rattle.std.specs.Prelude.{ℕ, ◌+◌, Bool, true, false, ◌==◌, ◌&&�
 use Rattle.std.specs.Prelude.{if◌then◌else◌, List, [], ◌∷◌, length, slice_get, Option, None, Some}
 use Rattle.tangle_files.specs.Bytes.{space}
 use Rattle.tangle_lines.specs.Bytes.{at_sign, double_quote, is_white}
-use Rattle.tangle_text.specs.Bytes.{apostrophe, asterisk, slash, holds, is_word_byte}
+use Rattle.tangle_text.specs.Bytes.{apostrophe, asterisk, slash, backslash, holds, is_word_byte}
 use Rattle.tangle_text.specs.Text.{Cell, byte_at, span_text}
 use Rattle.tangle_text.specs.declared.spans.Span.{Span}
 use Rattle.tangle_text.specs.declared.runs.RunPart.{RunPart}
 use Rattle.tangle_text.specs.declared.runs.RunPart.TheVariants as part
 
--- a byte that opens nothing longer than a word in a C part, and is no white space
+-- a byte that opens nothing longer than a word in a C part, and is no white space and no backslash,
+-- which may continue a line
 abbrev pub is_plain : ℕ → Bool
 is_plain b =
-    not (is_white b || b == double_quote || b == apostrophe || b == slash || b == at_sign)
+    not (is_white b || b == double_quote || b == apostrophe || b == slash || b == at_sign
+    || b == backslash)
 
 abbrev pub holds_plain : Option ℕ → Bool
 holds_plain None = false

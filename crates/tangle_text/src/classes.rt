@@ -37,7 +37,7 @@ const SIGN: ByteClass = ByteClass {
     is_sign: true,
 };
 
-/// `*`, `\` or `>`: a sign with a meaning in comments, quoted texts or file names.
+/// `*` or `>`: a sign with a meaning in comments or file names.
 const SPECIAL: ByteClass = ByteClass {
     is_word: false,
     is_ordinary: false,
@@ -61,7 +61,8 @@ const SLASH: ByteClass = ByteClass {
     is_sign: false,
 };
 
-/// `@`, `"` or `'`, which opens something longer, and has a meaning inside of it.
+/// `@`, `"` or `'`, which opens something longer, and has a meaning inside of it; and `\`, which may
+/// continue a line, and has a meaning in quoted texts.
 const DELIMITER: ByteClass = ByteClass {
     is_word: false,
     is_ordinary: false,
@@ -77,7 +78,7 @@ const CLASSES: [ByteClass; 256] = [
     SIGN, SIGN, SIGN, SLASH, WORD, WORD, WORD, WORD, WORD, WORD, WORD, WORD, WORD, WORD, SIGN,
     SIGN, LESS, SIGN, SPECIAL, SIGN, DELIMITER, WORD, WORD, WORD, WORD, WORD, WORD, WORD, WORD,
     WORD, WORD, WORD, WORD, WORD, WORD, WORD, WORD, WORD, WORD, WORD, WORD, WORD, WORD, WORD, WORD,
-    WORD, WORD, SIGN, SPECIAL, SIGN, SIGN, WORD, SIGN, WORD, WORD, WORD, WORD, WORD, WORD, WORD,
+    WORD, WORD, SIGN, DELIMITER, SIGN, SIGN, WORD, SIGN, WORD, WORD, WORD, WORD, WORD, WORD, WORD,
     WORD, WORD, WORD, WORD, WORD, WORD, WORD, WORD, WORD, WORD, WORD, WORD, WORD, WORD, WORD, WORD,
     WORD, WORD, WORD, SIGN, SIGN, SIGN, SIGN, SIGN, WORD, WORD, WORD, WORD, WORD, WORD, WORD, WORD,
     WORD, WORD, WORD, WORD, WORD, WORD, WORD, WORD, WORD, WORD, WORD, WORD, WORD, WORD, WORD, WORD,
@@ -104,7 +105,8 @@ pub(crate) fn is_ordinary(byte: u8) -> bool
     CLASSES[byte as usize].is_ordinary
 }
 
-/// Whether a byte opens nothing longer than a word in a C part, and is no white space.
+/// Whether a byte opens nothing longer than a word in a C part, and is no white space and no
+/// backslash.
 #[inline(always)]
 pub(crate) fn is_plain(byte: u8) -> bool
     ensures { result ≡ runs.is_plain byte }
@@ -112,8 +114,8 @@ pub(crate) fn is_plain(byte: u8) -> bool
     CLASSES[byte as usize].is_plain
 }
 
-/// Whether a byte is a sign wherever a lexeme begins with it. `/` is not, since it may open a
-/// comment.
+/// Whether a byte is a sign wherever a lexeme begins with it, and no more. `/` is not, since it may
+/// open a comment, and `\` is not, since it may continue a line.
 #[inline(always)]
 pub fn is_sign_byte(byte: u8) -> bool
     ensures { result ≡ spec.is_sign_byte byte }

@@ -1,6 +1,6 @@
 //! Reads the text ahead of a position.
 ghost use Rattle.std.specs.Prelude.{◌≡◌, ◌≤◌, ◌<◌, ◌+◌, ◌^◌, ℕ, List, [], length, take, drop};
-ghost use Rattle.std.specs.Prelude.{get_or, slice_get, IsSome, IfSome, IfNone, true, false};
+ghost use Rattle.std.specs.Prelude.{get_or, slice_get, IsSome, IfOk, IfSome, IfNone, true, false};
 ghost use Rattle.std.specs.List.{prefix_len};
 ghost use Rattle.tangle_files.specs.Adding.{longest_line};
 ghost use Rattle.tangle_lines.specs.Bytes as lines;
@@ -21,7 +21,9 @@ use crate::regions::{Region, Unit, skips_ordinary, unit_of};
 use crate::runs::run_end;
 use crate::spans::Span;
 use memchr::memchr;
+use std::alloc::AllocError;
 use std::marker::Model;
+use tangle_files::SharedSlice;
 use tangle_lines::Source;
 
 /// The first two bytes or line ends from a position on.
@@ -48,7 +50,7 @@ pub struct Reader<'s, 'a> {
 impl<'s, 'a> Model for Reader<'s, 'a> {
     ghost use Rattle.std.specs.Prelude.{List, length, ◌≤◌, ◌<◌, ◌≡◌, false};
     ghost use Rattle.tangle_files.specs.Adding.{longest_line};
-    ghost use Rattle.tangle_lines.specs.Reading.{source_line_limit};
+    ghost use Rattle.tangle_lines.specs.Reading.{line_at, source_line_limit};
     ghost use Rattle.tangle_text.specs.Text.{Cell};
     ghost use Rattle.tangle_text.specs.Ahead.{rest_of};
 
@@ -58,7 +60,8 @@ impl<'s, 'a> Model for Reader<'s, 'a> {
 
     ghost invariant = { λ r. (r.column ≤ length r.bytes.now)
         × ((r.is_done ≡ false → r.line < length r.source.now.lines)
-        × ((r.line ≤ source_line_limit) × (length r.bytes.now ≤ longest_line))) };
+        × ((r.line ≤ source_line_limit) × ((length r.bytes.now ≤ longest_line)
+        × (r.bytes.now ≡ (line_at r.source.now.lines r.line).bytes)))) };
 }
 
 /// The byte at a column of a line; `None` at the line's end.
@@ -404,16 +407,18 @@ impl<'s, 'a> Reader<'s, 'a> {
 
     /// Advances to the next `@` of this line, or to its end. Returns the bytes in between, which
     /// belong to a name if one is being read.
-    pub fn take_name_bytes(&mut self) -> &'a [u8]
-        ensures { BeginsName result.now self.old self.new }
+    ///
+    /// # Errors
+    ///
+    /// Fails if an allocation fails, or if the text has too many shares to count.
+    pub fn take_name_bytes(&mut self) -> Result<SharedSlice, AllocError>
+        ensures { IfOk result (λ bytes. BeginsName bytes self.old self.new) }
     {
-        if self.is_done {
-            return &[];
-        }
         let start = self.column;
-        let end = at_sign_from(self.bytes, start);
-        self.column = end;
-        &self.bytes[start..end]
+        if !self.is_done {
+            self.column = at_sign_from(self.bytes, start);
+        }
+        self.source.slice(self.line, start, self.column)
     }
 
     /// Advances to the next `@` of this line, or to its end.

@@ -20,7 +20,7 @@ fn holds_plain(byte: Option<u8>) -> bool
 }
 
 /// Whether a run goes over the byte at this column, which is not plain.
-#[inline(never)]
+#[inline(always)]
 fn goes_on(bytes: &[u8], column: usize) -> bool
     requires inside { column < length bytes.now }
     requires other { runs.is_plain (get_or bytes.now column 0) ≡ false }

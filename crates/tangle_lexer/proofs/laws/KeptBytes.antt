@@ -1,6 +1,6 @@
 -- The bytes of the segments that are kept are those in the spans of the tokens of C parts.
 use Rattle.std.proofs.Common.{◌≡◌, ℕ, zero, suc, ◌+◌, ◌-◌, Bool, true, false, not, List, [], ◌∷◌, ◌++◌, take, drop}
-use Rattle.std.proofs.Common.{flat_map, Option, Some, None, refl, ap, sym, ◌∙◌, arith, append_assoc, append-nil}
+use Rattle.std.proofs.Common.{flat_map, map, Option, Some, None, refl, ap, sym, ◌∙◌, arith, append_assoc, append-nil}
 use Rattle.std.proofs.Common.{if◌then◌else◌}
 use Rattle.std.proofs.lemmas.Grind.{flat_map-append}
 use Rattle.std.proofs.lemmas.Bool.{cond_both}
@@ -22,12 +22,12 @@ use Rattle.tangle_lines.specs.Bytes.{at_sign, double_quote}
 use Rattle.tangle_text.specs.Bytes.{apostrophe, greater_sign, is_line_end}
 use Rattle.tangle_text.specs.Text.{Cell, byte_at, front_line, span_at}
 use Rattle.tangle_text.specs.Regions.{count_before, units}
-use Rattle.tangle_lexer.specs.Lexemes.{Lexeme, fault_if}
+use Rattle.tangle_lexer.specs.Lexemes.{Lexeme, fault_if, is_c_part, is_in_directive}
 use Rattle.tangle_lexer.specs.Comments.{unit_line_end, line_ends, ends_comment, starts_section, has_end_code}
 use Rattle.tangle_lexer.specs.Constants.{constant_at, constant_lexeme}
 use Rattle.tangle_lexer.specs.Names.{name_end, is_ended, name_faults, after_name, has_single_equals}
 use Rattle.tangle_lexer.specs.Names.{definition_or_mention, definition_count, mention_faults}
-use Rattle.tangle_lexer.specs.Simple.{is_c_part}
+use Rattle.tangle_lexer.specs.LinesOfC.{inner_end_in}
 use Rattle.tangle_lexer.specs.CText.{kind_at}
 use Rattle.tangle_lexer.specs.Steps.{c_lexeme, lexeme, lexemes}
 use Rattle.tangle_lexer.specs.Segments.{Segment, segment, span_points, byte_points, kept_points}
@@ -86,12 +86,21 @@ line_ends-points r text = points-flat unit_line_end one (units r text)
     one [] = refl
     one (c ∷ cs) = cond_both (is_line_end c.byte) _ [] (λ ts. token_points ts ≡ []) (λ e. refl) (λ e. refl)
 
+inner-points : (b : Bool) (ts : List Token) → token_points (map (inner_end_in b) ts) ≡ token_points ts
+inner-points b [] = refl
+inner-points true (token.LineEnd line ∷ ts) = inner-points true ts
+inner-points true (token.Span kind s ∷ ts) = ap (λ ps. span_points s ++ ps) (inner-points true ts)
+inner-points true (_ ∷ ts) = inner-points true ts
+inner-points false (token.Span kind s ∷ ts) = ap (λ ps. span_points s ++ ps) (inner-points false ts)
+inner-points false (_ ∷ ts) = inner-points false ts
+
 -- white space, line ends and the fault of a comment or control text have no points
-white-points : (r : Region) (text : List Cell) (b : Bool) (kind : FaultKind) (line : ℕ)
-    → token_points (token.White ∷ line_ends r text ++ fault_if b kind line) ≡ []
-white-points r text b kind line =
-    points-append (line_ends r text) (fault_if b kind line)
-    ∙ ap (λ ps. ps ++ token_points (fault_if b kind line)) (line_ends-points r text)
+white-points : (r : Region) (text : List Cell) (inner b : Bool) (kind : FaultKind) (line : ℕ)
+    → token_points (token.White ∷ map (inner_end_in inner) (line_ends r text) ++ fault_if b kind line) ≡ []
+white-points r text inner b kind line =
+    points-append (map (inner_end_in inner) (line_ends r text)) (fault_if b kind line)
+    ∙ ap (λ ps. ps ++ token_points (fault_if b kind line))
+    (inner-points inner (line_ends r text) ∙ line_ends-points r text)
     ∙ fault-points b kind line
 
 constant-points : (k : Option AsciiConstant) (s : LexerState) (text : List Cell)
@@ -139,13 +148,18 @@ module _ (width : ℕ → ℕ) (count : ℕ) where
       let text : List Cell = c ∷ cs in
       let others : List Token =
       fault_if (has_single_equals (after_name text)) fault.NameEquals (front_line s.last_line text) in
-      points-append (name_faults s.last_line text) others
-      ∙ ap (λ ps. ps ++ token_points others)
-      (fault-points (not (is_ended text)) fault.NameEnd (front_line s.last_line (name_end text)))
+      let inner : List Token = fault_if (is_in_directive s) fault.UseInDirective (front_line s.last_line text) in
+      points-append (inner ++ name_faults s.last_line text) others
+      ∙ ap (λ ps. ps ++ token_points others) (points-append inner (name_faults s.last_line text)
+      ∙ ap (λ ps. ps ++ token_points (name_faults s.last_line text))
+      (fault-points (is_in_directive s) fault.UseInDirective (front_line s.last_line text))
+      ∙ fault-points (not (is_ended text)) fault.NameEnd (front_line s.last_line (name_end text)))
       ∙ fault-points (has_single_equals (after_name text)) fault.NameEquals (front_line s.last_line text)
+  kind-keeps (lexeme_kind.Control code.AllMacros) s at c cs is o =
+      fault-points (is_in_directive s) fault.UseInDirective c.line
   kind-keeps (lexeme_kind.Control code.ControlText) s at c cs is o =
       let rest : List Cell = drop (count_before region.ControlText (drop 1 cs)) (drop 1 cs) in
-      white-points region.ControlText (drop 1 cs) (not (has_end_code rest))
+      white-points region.ControlText (drop 1 cs) (is_in_directive s) (not (has_end_code rest))
       fault.ControlText (front_line s.last_line rest)
   kind-keeps (lexeme_kind.Control code.Verbatim) s at c cs is o =
       verbatim-keeps width count (after_cells at 2 (c ∷ cs)) (drop 1 cs) (text-after_cells width count at 2 (c ∷ cs) is)
@@ -154,7 +168,7 @@ module _ (width : ℕ → ℕ) (count : ℕ) where
       constant-points (constant_at (drop 1 cs)) s (c ∷ cs)
   kind-keeps lexeme_kind.BlockComment s at c cs is o =
       let rest : List Cell = drop (count_before region.BlockComment (drop 1 cs)) (drop 1 cs) in
-      white-points region.BlockComment (drop 1 cs) (not (ends_comment rest))
+      white-points region.BlockComment (drop 1 cs) (is_in_directive s) (not (ends_comment rest))
       fault.CommentEnd (front_line s.last_line rest)
   kind-keeps lexeme_kind.LineComment s at c cs is o =
       let rest : List Cell = drop (count_before region.LineComment (drop 1 cs)) (drop 1 cs) in
@@ -184,7 +198,8 @@ module _ (width : ℕ → ℕ) (count : ℕ) where
   kind-within (lexeme_kind.Control code.SectionStart) s text m e us = refl
   kind-within (lexeme_kind.Control code.Name) s text m e us =
       part_points-plain true
-      (name_faults s.last_line text
+      (fault_if (is_in_directive s) fault.UseInDirective (front_line s.last_line text)
+      ++ name_faults s.last_line text
       ++ fault_if (has_single_equals (after_name text)) fault.NameEquals (front_line s.last_line text))
       us (use-plain s text).none
       ∙ rw (e, m) refl
@@ -234,10 +249,10 @@ module _ (width : ℕ → ℕ) (count : ℕ) where
       by : (m : Mode)
           → s.mode ≡ m → Keeps m (lexeme s (c ∷ cs)) (segments_in m s (1 + (lexeme s (c ∷ cs)).more) (c ∷ cs))
       by mode.CPart m =
-          let kind : LexemeKind = kind_at s.include (c ∷ cs) in
+          let kind : LexemeKind = kind_at s.line.include (c ∷ cs) in
           rw (lexeme-here s (c ∷ cs) kind m refl)
           (kind-within kind s (c ∷ cs) m
-          (kind-keeps kind s at c cs is (kind-opens s.include c.byte (byte_at 0 cs))))
+          (kind-keeps kind s at c cs is (kind-opens s.line.include c.byte (byte_at 0 cs))))
       by _ m = lexeme-leads s (c ∷ cs) (ap is_c_part m)
 
   -- all lexemes: the points of the spans in C parts are those of the segments that are kept

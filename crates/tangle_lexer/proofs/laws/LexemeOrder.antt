@@ -13,7 +13,7 @@ use Rattle.tangle_lines.specs.Bytes.{double_quote}
 use Rattle.tangle_text.specs.Bytes.{asterisk, slash, apostrophe, greater_sign, holds_white, is_line_end}
 use Rattle.tangle_text.specs.Text.{Cell}
 use Rattle.tangle_text.specs.Regions.{count_before}
-use Rattle.tangle_lexer.specs.Lexemes.{Lexeme}
+use Rattle.tangle_lexer.specs.Lexemes.{Lexeme, is_in_directive}
 use Rattle.tangle_lexer.specs.Names.{use_of_name, definition_count, definition_or_mention, name_in_documentation}
 use Rattle.tangle_lexer.specs.Simple.{is_c_text}
 use Rattle.tangle_lexer.specs.CText.{code_fault}
@@ -103,7 +103,9 @@ module _ (width : ℕ → ℕ) (count : ℕ) where
       verbatim_text-in_order width count s at c cs is (code-bytes code.Verbatim (c ∷ cs) (λ e. cc) o)
   kind-in_order (lexeme_kind.Control code.AllMacros) s at c cs plain o is = (
     is.0.line,
-    bytes-precede width count at 2 (c ∷ cs) is (code-bytes code.AllMacros (c ∷ cs) (λ e. cc) o),
+    faults-in_order width count true true (is_in_directive s) fault.UseInDirective c.line at
+        (after_cells at 2 (c ∷ cs))
+        (bytes-precede width count at 2 (c ∷ cs) is (code-bytes code.AllMacros (c ∷ cs) (λ e. cc) o)),
   )
   kind-in_order (lexeme_kind.Control code.AsciiConstant) s at c cs plain o is =
       ascii_constant-in_order width count s at c cs is (code-bytes code.AsciiConstant (c ∷ cs) (λ e. cc) o)

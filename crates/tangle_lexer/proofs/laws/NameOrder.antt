@@ -1,6 +1,6 @@
 -- The tokens of a use, a mention and a definition lie in the text, in order.
 use Rattle.std.proofs.Common.{◌≡◌, ℕ, ◌+◌, ◌-◌, ◌<◌, ◌≤◌, Bool, true, false, not, List, [], ◌∷◌, ◌++◌, drop, Option}
-use Rattle.std.proofs.Common.{Some, None, inl, inr, ◌⊎◌, refl, ap, sym, ◌∙◌, arith, subst, cond}
+use Rattle.std.proofs.Common.{Some, None, inl, inr, ◌⊎◌, refl, ap, sym, ◌∙◌, arith, subst, cond, append_assoc}
 use Rattle.std.specs.Prelude.{is_some}
 use Rattle.std.proofs.lemmas.Bool.Decides.{eqb_tells}
 use Rattle.std.proofs.Math.Seq.{drop-nil}
@@ -13,7 +13,7 @@ use Rattle.tangle_lexer.specs.declared.names.Equals.TheVariants as equals
 use Rattle.tangle_lines.specs.Bytes.{at_sign}
 use Rattle.tangle_text.specs.Bytes.{greater_sign, equals_sign, holds}
 use Rattle.tangle_text.specs.Text.{Cell, byte_at, front_line}
-use Rattle.tangle_lexer.specs.Lexemes.{Lexeme, fault_if}
+use Rattle.tangle_lexer.specs.Lexemes.{Lexeme, fault_if, is_in_directive}
 use Rattle.tangle_lexer.specs.Comments.{two_if}
 use Rattle.tangle_lexer.specs.Names.{name_count, name_end, is_ended, name_more, after_name, count_before_equals}
 use Rattle.tangle_lexer.specs.Names.{count_through, equals_count, has_single_equals, definition_count, use_of_name}
@@ -87,26 +87,33 @@ module _ (width : ℕ → ℕ) (count : ℕ) where
       ∙ after_cells-add (after_cells at 2 text) n (two_if (is_ended text)) (drop 2 text)
 
   -- the faults of a use
-  use-faults : (stays a b : Bool) (last line : ℕ) (at to : Point) → GoesOn true stays at to
-      → AreInOrder width count true at (fault_if a fault.NameEnd last ++ fault_if b fault.NameEquals line) stays to
-  use-faults stays a b last line at to h =
-      fault-before width count true stays a fault.NameEnd last at to (fault_if b fault.NameEquals line)
-      (faults-in_order width count true stays b fault.NameEquals line at to h)
+  use-faults : (stays inner a b : Bool) (last line : ℕ) (at to : Point) → GoesOn true stays at to
+      → AreInOrder width count true at
+      (fault_if inner fault.UseInDirective line ++ fault_if a fault.NameEnd last ++ fault_if b fault.NameEquals line)
+      stays to
+  use-faults stays inner a b last line at to h =
+      rw (append_assoc (fault_if inner fault.UseInDirective line) (fault_if a fault.NameEnd last)
+      (fault_if b fault.NameEquals line)) (fault-before width count true stays inner fault.UseInDirective line at to
+      (fault_if a fault.NameEnd last ++ fault_if b fault.NameEquals line)
+      (fault-before width count true stays a fault.NameEnd last at to (fault_if b fault.NameEquals line)
+      (faults-in_order width count true stays b fault.NameEquals line at to h)))
 
   -- a use whose name ends where this text begins
-  use-in_order : (s : LexerState) (at p : Point) (text : List Cell) (ended b : Bool) (line : ℕ)
+  use-in_order : (s : LexerState) (at p : Point) (text : List Cell) (inner ended b : Bool) (line : ℕ)
       → s.last_line ≡ count - 1 → at.line < count → IsTextAt width count p text → Precedes at p
       → (ended ≡ true → HoldsBytes 2 text)
       → (AreInOrder width count true at
       (token.UseOf (front_line s.last_line text) s.occurrences
-      ∷ fault_if (not ended) fault.NameEnd (front_line s.last_line text)
+      ∷ fault_if inner fault.UseInDirective line
+      ++ fault_if (not ended) fault.NameEnd (front_line s.last_line text)
       ++ fault_if b fault.NameEquals line) true (after_cells p (two_if ended) text))
       ⊎ ((text ≡ [])
       × AreInOrder width count true at
       (token.UseOf (front_line s.last_line text) s.occurrences
-      ∷ fault_if (not ended) fault.NameEnd (front_line s.last_line text)
+      ∷ fault_if inner fault.UseInDirective line
+      ++ fault_if (not ended) fault.NameEnd (front_line s.last_line text)
       ++ fault_if b fault.NameEquals line) false (after_cells p (two_if ended) text))
-  use-in_order s at p [] ended b line last real is h end =
+  use-in_order s at p [] inner ended b line last real is h end =
       let to : Precedes (jumped at s.last_line) p =
       (omega (arith, last, real, is.1), λ e. absurd (omega (arith, last, real, is.1, e))) in
       inr (
@@ -114,21 +121,21 @@ module _ (width : ℕ → ℕ) (count : ℕ) where
         (
           omega (arith, last, real),
           rw (after_cells-nothing p (two_if ended))
-              (use-faults false (not ended) b s.last_line line (jumped at s.last_line) p to),
+              (use-faults false inner (not ended) b s.last_line line (jumped at s.last_line) p to),
         ),
       )
-  use-in_order s at p (c ∷ cs) ended b line last real is h end =
+  use-in_order s at p (c ∷ cs) inner ended b line last real is h end =
       let j = jumped-precedes at p h in
       let e = end-precedes width count ended p (c ∷ cs) is end in
       let to : PrecedesOnLine (jumped at p.line) (after_cells p (two_if ended) (c ∷ cs)) =
       (e.0, omega (arith, j.1, e.1)) in
       inl (subst (λ l. (at.line ≤ l)
       × AreInOrder width count true (jumped at l)
-      (fault_if (not ended) fault.NameEnd l ++ fault_if b fault.NameEquals line)
+      (fault_if inner fault.UseInDirective line ++ fault_if (not ended) fault.NameEnd l ++ fault_if b fault.NameEquals line)
       true (after_cells p (two_if ended) (c ∷ cs)))
       (sym is.0.line) (
         h.0,
-        use-faults true (not ended) b p.line line (jumped at p.line) (after_cells p (two_if ended) (c ∷ cs)) to,
+        use-faults true inner (not ended) b p.line line (jumped at p.line) (after_cells p (two_if ended) (c ∷ cs)) to,
       ))
 
   pub use_of_name-in_order : (s : LexerState) (at : Point) (c : Cell) (cs : List Cell)
@@ -145,7 +152,7 @@ module _ (width : ℕ → ℕ) (count : ℕ) where
       (precedes-after_cells width count front n (drop 2 text) is2) in
       let ts : List Token = (use_of_name s text).tokens in
       let to = name-after_cells at text in
-      elim (use-in_order s at p (name_end text) (is_ended text) (has_single_equals (after_name text))
+      elim (use-in_order s at p (name_end text) (is_in_directive s) (is_ended text) (has_single_equals (after_name text))
       (front_line s.last_line text) last is.0.real is3 h (are_bytes-hold at_sign greater_sign (name_end text))) [
         | inl ordered ↦ inl (subst (λ q. AreInOrder width count true at ts true q) (sym to) ordered)
         | inr ordered ↦

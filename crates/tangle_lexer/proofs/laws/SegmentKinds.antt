@@ -92,7 +92,7 @@ lexeme-fills s text = by s.mode
   where
     by : (m : Mode)
         → cells_of (segments_in m s (1 + (lexeme_in m s text).more) text) ≡ take (1 + (lexeme_in m s text).more) text
-    by mode.CPart = kind-fills (kind_at s.include text) s text
+    by mode.CPart = kind-fills (kind_at s.line.include text) s text
     by m = append-nil (take (1 + (lexeme_in m s text).more) text)
 
 pub segments-fill : (k : ℕ) (s : LexerState) (text : List Cell) → cells_of (segments k s text) ≡ drop k text
@@ -380,7 +380,7 @@ lexeme-shows s c cs = by s.mode
   where
     by : (m : Mode) → AllShow (segments_in m s (1 + (lexeme_in m s (c ∷ cs)).more) (c ∷ cs))
     by mode.CPart =
-        kind-shows (kind_at s.include (c ∷ cs)) s c cs (kind-opens s.include c.byte (byte_at 0 cs))
+        kind-shows (kind_at s.line.include (c ∷ cs)) s c cs (kind-opens s.line.include c.byte (byte_at 0 cs))
     by _ = (tt, tt)
 
 pub segments-shows : (k : ℕ) (s : LexerState) (text : List Cell) → AllShow (segments k s text)

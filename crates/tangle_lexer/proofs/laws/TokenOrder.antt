@@ -1,10 +1,11 @@
 -- The tokens of a text are in the order of the text.
 use Rattle.std.proofs.Common.{◌≡◌, ℕ, ◌+◌, ◌<◌, ◌≤◌, Bool, true, false, List, [], ◌∷◌, ◌++◌, inl, inr, refl, sym, ◌∙◌}
-use Rattle.std.proofs.Common.{arith, if◌then◌else◌, ◌==◌}
+use Rattle.std.proofs.Common.{arith, map, if◌then◌else◌, ◌==◌}
 use Rattle.std.proofs.lemmas.Bool.Decides.{eqb_tells}
 use Rattle.tangle_text.specs.declared.spans.Span.{Span}
 use Rattle.tangle_lexer.specs.declared.tokens.Token.{Token}
 use Rattle.tangle_lexer.specs.declared.tokens.Token.TheVariants as token
+use Rattle.tangle_lexer.specs.LinesOfC.{inner_end_in}
 use Rattle.tangle_lexer.proofs.laws.Points.{Point, point_at, Precedes, PrecedesOnLine, precedes-trans}
 
 -- A flag says whether a position is inside C text or a macro, or outside, where all tokens are heads and faults.
@@ -48,6 +49,7 @@ module _ (width : ℕ → ℕ) (count : ℕ) where
   Follows rest from at (token.AsciiConstant value line) =
       Inside from ((line ≡ at.line) × ((at.line < count) × rest true at))
   Follows rest from at (token.LineEnd line) = Inside from ((line ≡ at.line) × rest true (point_at (line + 1) 0))
+  Follows rest from at (token.InnerLineEnd line) = Inside from ((line ≡ at.line) × rest true (point_at (line + 1) 0))
   Follows rest from at token.QuoteBreak = Inside from (rest true (point_at (at.line + 1) 0))
   Follows rest from at (token.UseOf line occurrence) = Inside from ((at.line ≤ line) × rest true (jumped at line))
   Follows rest from at (token.AllMacros line) = Inside from ((line ≡ at.line) × rest true at)
@@ -136,6 +138,9 @@ module _ (width : ℕ → ℕ) (count : ℕ) where
     follows-moves from mid a at (token.LineEnd line) near h =
         let p : Point = point_at (line + 1) 0 in
         inside-after from mid a at _ _ near h (λ n l. (l.0 ∙ sym n.0, next true true p p (goes-refl true p) l.1))
+    follows-moves from mid a at (token.InnerLineEnd line) near h =
+        let p : Point = point_at (line + 1) 0 in
+        inside-after from mid a at _ _ near h (λ n l. (l.0 ∙ sym n.0, next true true p p (goes-refl true p) l.1))
     follows-moves from mid a at token.QuoteBreak near h =
         inside-after from mid a at _ _ near h
         (λ n l. next true true (point_at (a.line + 1) 0) (point_at (at.line + 1) 0) (omega (arith, n.0), omega arith) l)
@@ -162,3 +167,22 @@ module _ (width : ℕ → ℕ) (count : ℕ) where
       follows-moves (λ inside q. AreInOrder inside q ts mid p) (λ inside q. AreInOrder inside q (ts ++ us) stays to)
       (λ f g x y n h. in_order-append f x ts mid p us stays to (in_order-after f g x y ts mid p n h) rest)
       from from at at t (goes-refl from at) ordered
+
+  -- line ends of a directive are in order as white space too
+
+  inner-follows : (rest : Bool → Point → Type 0) (b from : Bool) (at : Point) (t : Token)
+      → Follows rest from at t → Follows rest from at (inner_end_in b t)
+  inner-follows rest true from at (token.LineEnd line) h = h
+  inner-follows rest true from at _ h = h
+  inner-follows rest false from at t h = h
+
+  pub inner-in_order : (b from : Bool) (at : Point) (ts : List Token) (stays : Bool) (to : Point)
+      → AreInOrder from at ts stays to → AreInOrder from at (map (inner_end_in b) ts) stays to
+  inner-in_order b from at [] stays to ordered = ordered
+  inner-in_order b from at (t ∷ ts) stays to ordered =
+      let Rest : Bool → Point → Type 0 = λ inside p. AreInOrder inside p ts stays to in
+      let Inner : Bool → Point → Type 0 = λ inside p. AreInOrder inside p (map (inner_end_in b) ts) stays to in
+      inner-follows Inner b from at t
+      (follows-moves Rest Inner
+      (λ f g x y n h. inner-in_order b f x ts stays to (in_order-after f g x y ts stays to n h))
+      from from at at t (goes-refl from at) ordered)

@@ -1,8 +1,9 @@
 -- The tokens of comments, control texts, other white space, words and signs lie in their text, in order.
 use Rattle.std.proofs.Common.{◌≡◌, ℕ, ◌+◌, ◌≤◌, Bool, true, false, not, ◌&&◌, ◌||◌, List, [], ◌∷◌, ◌++◌, drop, Option}
-use Rattle.std.proofs.Common.{Some, None, refl, ap, sym, ◌∙◌, arith, subst, if◌then◌else◌, cond, nat_eq}
+use Rattle.std.proofs.Common.{map, Some, None, refl, ap, sym, ◌∙◌, arith, subst, if◌then◌else◌, cond, nat_eq}
 use Rattle.tangle_faults.specs.declared.faults.FaultKind.{FaultKind}
 use Rattle.tangle_faults.specs.declared.faults.FaultKind.TheVariants as fault
+use Rattle.tangle_lexer.specs.declared.tokens.Token.{Token}
 use Rattle.tangle_lexer.specs.declared.tokens.Token.TheVariants as token
 use Rattle.tangle_lexer.specs.declared.modes.LexerState.{LexerState}
 use Rattle.tangle_text.specs.declared.regions.Region.{Region}
@@ -12,14 +13,15 @@ use Rattle.tangle_lines.specs.Bytes.{at_sign}
 use Rattle.tangle_text.specs.Bytes.{asterisk, slash, apostrophe, greater_sign, holds}
 use Rattle.tangle_text.specs.Text.{Cell, byte_at, front_line, span_at}
 use Rattle.tangle_text.specs.Regions.{unit_by, unit_of, count_before}
-use Rattle.tangle_lexer.specs.Lexemes.{fault_if}
+use Rattle.tangle_lexer.specs.Lexemes.{fault_if, is_in_directive}
+use Rattle.tangle_lexer.specs.LinesOfC.{inner_end_in}
 use Rattle.tangle_lexer.specs.Comments.{line_ends, ends_comment, has_end_code, two_if, block_comment, line_comment}
 use Rattle.tangle_lexer.specs.Comments.{control_text}
 use Rattle.tangle_lexer.specs.Constants.{bad_constant}
 use Rattle.tangle_lexer.specs.CText.{word}
 use Rattle.tangle_lexer.proofs.laws.Points.{Point, point_at, PrecedesOnLine, IsByte, after_cells, HoldsBytes, IsTextAt}
 use Rattle.tangle_lexer.proofs.laws.Points.{text-after_cells, text-within, after_cells-bytes}
-use Rattle.tangle_lexer.proofs.laws.TokenOrder.{AreInOrder, IsFrom, in_order-append}
+use Rattle.tangle_lexer.proofs.laws.TokenOrder.{inner-in_order, AreInOrder, IsFrom, in_order-append}
 use Rattle.tangle_lexer.proofs.laws.RegionOrder.{after_cells-add, holds-byte, are_bytes-hold, more-bytes, region-bytes}
 use Rattle.tangle_lexer.proofs.laws.RegionOrder.{faults-in_order, bytes-precede, end-precedes, line_ends-in_order}
 
@@ -94,12 +96,13 @@ bad_constant-bytes s text h =
 module _ (width : ℕ → ℕ) (count : ℕ) where
   -- a comment or a control text, which begins with two bytes, may have line ends, and may end with two more bytes
   region-in_order : (r : Region) → ((b n : Option ℕ) → unit_of r b n ≡ unit.Two → IsByte n)
-      → (at : Point) (text : List Cell) (closed is_fault : Bool) (kind : FaultKind) (line : ℕ)
+      → (at : Point) (text : List Cell) (inner closed is_fault : Bool) (kind : FaultKind) (line : ℕ)
       → IsTextAt width count at text → HoldsBytes 2 text
       → (closed ≡ true → HoldsBytes 2 (drop (count_before r (drop 2 text)) (drop 2 text)))
-      → AreInOrder width count true at (token.White ∷ line_ends r (drop 2 text) ++ fault_if is_fault kind line)
+      → AreInOrder width count true at
+      (token.White ∷ map (inner_end_in inner) (line_ends r (drop 2 text)) ++ fault_if is_fault kind line)
       true (after_cells at (1 + (1 + count_before r (drop 2 text) + two_if closed)) text)
-  region-in_order r stays at text closed is_fault kind line is front-bytes end =
+  region-in_order r stays at text inner closed is_fault kind line is front-bytes end =
       let rest : List Cell = drop 2 text in
       let inside : ℕ = count_before r rest in
       let front : Point = after_cells at 2 text in
@@ -109,18 +112,20 @@ module _ (width : ℕ → ℕ) (count : ℕ) where
       let is3 = text-after_cells width count front inside rest is2 in
       let opened : AreInOrder width count true at (token.White ∷ []) true front =
       bytes-precede width count at 2 text is front-bytes in
-      let lines = line_ends-in_order width count r stays rest front is2 in
+      let ends : List Token = map (inner_end_in inner) (line_ends r rest) in
+      let lines = inner-in_order width count inner true front (line_ends r rest) true back
+      (line_ends-in_order width count r stays rest front is2) in
       let faults = faults-in_order width count true true is_fault kind line back to
       (end-precedes width count closed back (drop inside rest) is3 end) in
       let all = in_order-append width count true at (token.White ∷ []) true
-      front (line_ends r rest ++ fault_if is_fault kind line) true to opened
-      (in_order-append width count true front (line_ends r rest) true
+      front (ends ++ fault_if is_fault kind line) true to opened
+      (in_order-append width count true front ends true
       back (fault_if is_fault kind line) true to lines faults) in
       let count_all : 1 + (1 + inside + two_if closed) ≡ 2 + (inside + two_if closed) = omega arith in
       let goes : after_cells at (1 + (1 + inside + two_if closed)) text ≡ to =
       ap (λ n. after_cells at n text) count_all ∙ after_cells-add at 2 (inside + two_if closed) text
       ∙ after_cells-add front inside (two_if closed) rest in
-      subst (λ p. AreInOrder width count true at (token.White ∷ line_ends r rest ++ fault_if is_fault kind line) true p)
+      subst (λ p. AreInOrder width count true at (token.White ∷ ends ++ fault_if is_fault kind line) true p)
       (sym goes) all
 
   pub block_comment-in_order : (s : LexerState) (at : Point) (text : List Cell)
@@ -129,7 +134,7 @@ module _ (width : ℕ → ℕ) (count : ℕ) where
       true (after_cells at (1 + (block_comment s text).more) text)
   block_comment-in_order s at text is h =
       let after : List Cell = drop (count_before region.BlockComment (drop 2 text)) (drop 2 text) in
-      region-in_order region.BlockComment comment-stays at text (ends_comment after) (not (ends_comment after))
+      region-in_order region.BlockComment comment-stays at text (is_in_directive s) (ends_comment after) (not (ends_comment after))
       fault.CommentEnd (front_line s.last_line after) is h (are_bytes-hold asterisk slash after)
 
   pub control_text-in_order : (s : LexerState) (at : Point) (text : List Cell)
@@ -138,7 +143,7 @@ module _ (width : ℕ → ℕ) (count : ℕ) where
       true (after_cells at (1 + (control_text s text).more) text)
   control_text-in_order s at text is h =
       let after : List Cell = drop (count_before region.ControlText (drop 2 text)) (drop 2 text) in
-      region-in_order region.ControlText control-stays at text (has_end_code after) (not (has_end_code after))
+      region-in_order region.ControlText control-stays at text (is_in_directive s) (has_end_code after) (not (has_end_code after))
       fault.ControlText (front_line s.last_line after) is h (are_bytes-hold at_sign greater_sign after)
 
   -- white space on one line, with a fault

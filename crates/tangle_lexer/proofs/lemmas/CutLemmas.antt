@@ -1,5 +1,5 @@
 -- Texts that are cut, unit by unit.
-use Rattle.std.proofs.Common.{◌≡◌, ◌<◌, ◌+◌, ℕ, Bool, true, false, nat_eq, List, [], ◌∷◌, ◌++◌, length, drop}
+use Rattle.std.proofs.Common.{◌≡◌, ◌<◌, ◌+◌, ℕ, Bool, true, false, ◌&&◌, ◌||◌, nat_eq, List, [], ◌∷◌, ◌++◌, length, drop}
 use Rattle.std.proofs.Common.{drop-drop, refl, ap, sym, ◌∙◌, arith}
 use Rattle.std.proofs.lemmas.Bool.{ne_eqb, eqb-true}
 use Rattle.tangle_text.specs.declared.regions.Region.{Region}
@@ -7,9 +7,13 @@ use Rattle.tangle_text.specs.declared.regions.Unit.{Unit as Unit-of}
 use Rattle.tangle_text.specs.declared.regions.Unit.TheVariants as unit
 use Rattle.tangle_lexer.specs.declared.tokens.Token.{Token}
 use Rattle.tangle_text.specs.Text.{Cell, byte_at, front_cell}
-use Rattle.tangle_text.specs.Regions.{unit_at, more_by, region_end, count_before}
+use Rattle.tangle_text.specs.declared.regions.Region.TheVariants as region
+use Rattle.tangle_lines.specs.Bytes.{at_sign}
+use Rattle.tangle_text.specs.Bytes.{holds, is_line_end}
+use Rattle.tangle_text.specs.Regions.{unit_at, unit_by, more_by, units, region_end, count_before}
 use Rattle.tangle_text.proofs.UnitLemmas.{count_by, counted, count-is}
 use Rattle.tangle_lexer.specs.Quoted.{cut_tokens, unit_tokens, next_start, ends_at_once, one_if}
+use Rattle.tangle_lexer.specs.Quoted.{is_backslash_at, last_is_backslash}
 use Rattle.tangle_text.proofs.RegionLemmas.{region_end-is}
 
 -- a unit that does not end the region adds its tokens
@@ -33,6 +37,32 @@ cut-stop ends r start (c ∷ cs) h = rw h refl
 pub cut-nothing : (ends : ℕ → List Cell → List Token) (r : Region) (start : ℕ) (text : List Cell) → text ≡ [] →
     cut_tokens ends r 0 start text ≡ ends start text
 cut-nothing ends r start text h = rw h refl
+
+-- whether a verbatim text ends in a backslash, unit by unit
+
+pub backslash-stop : (last : Bool) (text : List Cell) → unit_at region.Verbatim text ≡ unit.Stop
+    → last_is_backslash last (units region.Verbatim text) ≡ last
+backslash-stop last [] h = refl
+backslash-stop last (c ∷ []) h = rw h refl
+backslash-stop last (c ∷ d ∷ cs) h = rw h refl
+
+-- @@ is two cells
+alone-one : (a b : Bool) → unit_by a (b && false) ≡ unit.Two → ⊥
+alone-one true b h = cc
+alone-one false true h = cc
+alone-one false false h = cc
+
+pub backslash-go : (last : Bool) (text : List Cell) (u : Unit-of)
+    → 0 < length text → unit_at region.Verbatim text ≡ u → (u ≡ unit.Stop → ⊥)
+    → last_is_backslash last (units region.Verbatim text)
+    ≡ last_is_backslash (is_backslash_at u (byte_at 0 text)) (units region.Verbatim (drop (more_by u) (drop 1 text)))
+backslash-go last [] u inside h go = absurd (omega (arith, inside))
+backslash-go last text unit.Stop inside h go = absurd (go refl)
+backslash-go last (c ∷ []) unit.One inside h go = rw h refl
+backslash-go last (c ∷ d ∷ cs) unit.One inside h go = rw h refl
+backslash-go last (c ∷ []) unit.Two inside h go =
+    absurd (alone-one (is_line_end c.byte || holds at_sign c.byte && false) (holds at_sign c.byte) h)
+backslash-go last (c ∷ d ∷ cs) unit.Two inside h go = rw h refl
 
 -- a region that ends at the front is empty
 pub at_once-stop : (r : Region) (text : List Cell) → unit_at r text ≡ unit.Stop → ends_at_once r text ≡ true

@@ -19,7 +19,8 @@ use Rattle.tangle_lexer.specs.Lexemes.{Lexeme, lexeme_of, in_mode}
 use Rattle.tangle_lexer.specs.Comments.{starts_section}
 use Rattle.tangle_lexer.specs.Names.{use_of_name, name_in_documentation}
 use Rattle.tangle_lexer.specs.Segments.{OpensWith}
-use Rattle.tangle_lexer.specs.Simple.{is_c_text, is_c_part}
+use Rattle.tangle_lexer.specs.Lexemes.{is_c_part}
+use Rattle.tangle_lexer.specs.Simple.{is_c_text}
 use Rattle.tangle_lexer.specs.CText.{code_at, less_kind, kind_by, kind_at, section_start, code_fault}
 use Rattle.tangle_lexer.specs.Steps.{documentation_code}
 use Rattle.tangle_lexer.specs.Steps.{limbo_code, c_code, c_lexeme, macro_code, macro_lexeme, lexeme_in, lexeme}
@@ -120,9 +121,9 @@ module _ (P : Lexeme → Type 0) (s : LexerState) (text : List Cell) (by : Lexem
       cond_both (holds at_sign (byte_at 0 text)) _ _ P
       (λ e. documentation-by (code_at (byte_at 1 text)) m (e, refl)) (λ e. by.skip (ap is_c_text m) _)
   mode-by mode.CPart m =
-      c-by (kind_at s.include text) m (kind-opens s.include (byte_at 0 text) (byte_at 1 text))
+      c-by (kind_at s.line.include text) m (kind-opens s.line.include (byte_at 0 text) (byte_at 1 text))
   mode-by mode.Macro m =
-      macro-by (kind_at s.include text) m (kind-opens s.include (byte_at 0 text) (byte_at 1 text))
+      macro-by (kind_at s.line.include text) m (kind-opens s.line.include (byte_at 0 text) (byte_at 1 text))
 
   pub lexeme-by : P (lexeme s text)
   unfolding lexeme

@@ -1,18 +1,18 @@
 -- The tokens of the units of a region.
-use Rattle.std.proofs.Common.{◌≡◌, ◌<◌, ℕ, List, [], ◌∷◌, ◌++◌}
+use Rattle.std.proofs.Common.{◌≡◌, ◌<◌, ℕ, Bool, if◌then◌else◌, List, [], ◌∷◌, ◌++◌}
 use Rattle.std.proofs.Common.{length, drop, Option, refl, ap, sym, ◌∙◌, arith}
 use Rattle.tangle_text.specs.declared.regions.Region.{Region}
 use Rattle.tangle_text.specs.declared.regions.Unit.{Unit as Unit-of}
 use Rattle.tangle_text.specs.declared.regions.Unit.TheVariants as unit
-use Rattle.tangle_lexer.specs.declared.modes.IncludeState.{IncludeState}
-use Rattle.tangle_lexer.specs.declared.modes.IncludeState.TheVariants as include
+use Rattle.tangle_lexer.specs.declared.modes.LineState.{LineState}
 use Rattle.tangle_lexer.specs.declared.tokens.Token.{Token}
 use Rattle.tangle_text.specs.Text.{Cell, byte_at, front_cell}
 use Rattle.tangle_text.specs.Regions.{unit_at, more_by}
 use Rattle.tangle_text.specs.NameBytes.{name_bytes}
 use Rattle.tangle_text.proofs.UnitLemmas.{from_units, units-give, name_bytes_of, name_bytes-are}
 use Rattle.tangle_text.specs.declared.regions.Region.TheVariants as region
-use Rattle.tangle_lexer.specs.Lexemes.{include_over, line_end_by}
+use Rattle.tangle_lexer.specs.LinesOfC.{after_line_end, after_line_ends}
+use Rattle.tangle_lexer.specs.Lexemes.{line_end_by}
 use Rattle.tangle_lexer.specs.Comments.{unit_line_end, line_ends}
 
 -- a unit that does not end the region adds the items that `f` gives for it
@@ -66,12 +66,7 @@ name_bytes-go last text u inside h go =
     ∙ ap (λ bs. name_bytes_of u (front_cell last text) (byte_at 1 text) ++ bs)
     (sym (name_bytes-are (drop (more_by u) (drop 1 text))))
 
--- after a line end #include may begin
-include_over-start : (ts : List Token) → include_over ts include.AtStart ≡ include.AtStart
-include_over-start [] = refl
-include_over-start (t ∷ ts) = refl
-
-pub include_over-append : (ts us : List Token) (inc : IncludeState)
-    → include_over (ts ++ us) inc ≡ include_over us (include_over ts inc)
-include_over-append [] us inc = refl
-include_over-append (t ∷ ts) us inc = sym (include_over-start us)
+pub after_line_ends-append : (b : Bool) (ts us : List Token) (l : LineState)
+    → after_line_ends b (ts ++ us) l ≡ after_line_ends b us (after_line_ends b ts l)
+after_line_ends-append b [] us l = refl
+after_line_ends-append b (t ∷ ts) us l = after_line_ends-append b ts us (if b then l else after_line_end l)

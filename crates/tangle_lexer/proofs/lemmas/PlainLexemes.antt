@@ -1,5 +1,5 @@
 -- Lexemes whose tokens are plain, and which leave the mode, the count of occurrences and the last line unchanged.
-use Rattle.std.proofs.Common.{◌≡◌, ℕ, List, [], ◌++◌, drop, refl, Option, None, Some}
+use Rattle.std.proofs.Common.{◌≡◌, ℕ, false, List, [], ◌++◌, drop, refl, Option, None, Some}
 use Rattle.tangle_faults.specs.declared.faults.FaultKind.{FaultKind}
 use Rattle.tangle_faults.specs.declared.faults.FaultKind.TheVariants as fault
 use Rattle.tangle_text.specs.declared.regions.Region.{Region}
@@ -11,7 +11,7 @@ use Rattle.tangle_lexer.specs.declared.lexeme_kinds.LexemeKind.{LexemeKind}
 use Rattle.tangle_lexer.specs.declared.lexeme_kinds.LexemeKind.TheVariants as lexeme_kind
 use Rattle.tangle_lexer.specs.declared.modes.LexerState.{LexerState}
 use Rattle.tangle_lexer.specs.Constants.{constant_at, constant_lexeme}
-use Rattle.tangle_lexer.specs.Lexemes.{Lexeme, fault_if}
+use Rattle.tangle_lexer.specs.Lexemes.{Lexeme, fault_if, is_in_directive}
 use Rattle.tangle_lexer.specs.Names.{name_faults, mention_faults, has_single_equals, after_name, is_macro}
 use Rattle.tangle_lexer.specs.Quoted.{quote_end, quoted_text}
 use Rattle.tangle_lexer.specs.CText.{code_fault}
@@ -35,9 +35,14 @@ plain s here tokens mode none count last =
     record { tokens = tokens; mode = mode; none = none; count = count; last = last }
 
 -- the faults of a name that is used
-pub use-plain : (s : LexerState) (text : List Cell) → ArePlain (name_faults s.last_line text
+pub use-plain : (s : LexerState) (text : List Cell)
+    → ArePlain (fault_if (is_in_directive s) fault.UseInDirective (front_line s.last_line text)
+    ++ name_faults s.last_line text
     ++ fault_if (has_single_equals (after_name text)) fault.NameEquals (front_line s.last_line text))
-use-plain s text = plain-append _ _ (fault_if-plain _ fault.NameEnd _)
+use-plain s text =
+    plain-append _ _
+    (plain-append _ _ (fault_if-plain (is_in_directive s) fault.UseInDirective (front_line s.last_line text))
+    (fault_if-plain _ fault.NameEnd _))
     (fault_if-plain (has_single_equals (after_name text)) fault.NameEquals (front_line s.last_line text))
 
 -- the faults of a name that is mentioned
@@ -69,16 +74,19 @@ pub kind-plain : (kind : LexemeKind) (s : LexerState) (text : List Cell)
 kind-plain (lexeme_kind.Control code.SectionStart) s text h = absurd h
 kind-plain (lexeme_kind.Control code.Name) s text h = absurd h
 kind-plain (lexeme_kind.Control code.ControlText) s text h = plain s _
-    (white-plain _ _ (line_ends-plain region.ControlText (drop 2 text)) (fault_if-plain _ fault.ControlText _))
+    (white-plain _ _ _ (line_ends-plain region.ControlText (drop 2 text)) (fault_if-plain _ fault.ControlText _))
     refl refl refl refl
 kind-plain (lexeme_kind.Control code.Verbatim) s text h =
     plain s _ (text-plain _ (verbatim_tokens-text (drop 2 text))) refl refl refl refl
+kind-plain (lexeme_kind.Control code.AllMacros) s text h =
+    plain s _ (seen _ (fault_if-plain (is_in_directive s) fault.UseInDirective (front_line s.last_line text)).none)
+    refl refl refl refl
 kind-plain (lexeme_kind.Control code.AsciiConstant) s text h = constant-plain (constant_at (drop 2 text)) s text
 kind-plain lexeme_kind.BlockComment s text h = plain s _
-    (white-plain _ _ (line_ends-plain region.BlockComment (drop 2 text)) (fault_if-plain _ fault.CommentEnd _))
+    (white-plain _ _ _ (line_ends-plain region.BlockComment (drop 2 text)) (fault_if-plain _ fault.CommentEnd _))
     refl refl refl refl
 kind-plain lexeme_kind.LineComment s text h =
-    plain s _ (white-plain [] _ (seen [] refl) (fault_if-plain _ fault.CommentEnd _)) refl refl refl refl
+    plain s _ (white-plain false [] _ (seen [] refl) (fault_if-plain _ fault.CommentEnd _)) refl refl refl refl
 kind-plain lexeme_kind.DoubleQuote s text h = quoted-plain region.DoubleQuote _ s text
 kind-plain lexeme_kind.Apostrophe s text h = quoted-plain region.Apostrophe _ s text
 kind-plain lexeme_kind.HeaderName s text h = quoted-plain region.HeaderName _ s text

@@ -1,6 +1,6 @@
 -- Tokens that are neither heads nor uses nor runs.
 use Rattle.std.proofs.Common.{◌≡◌, ℕ, zero, suc, ◌+◌, Bool, true, false, ◌&&◌, nat_lt, List, [], ◌∷◌, ◌++◌, refl, Option}
-use Rattle.std.proofs.Common.{flat_map}
+use Rattle.std.proofs.Common.{flat_map, map}
 use Rattle.std.proofs.lemmas.Bool.{cond_both, or_parts}
 use Rattle.std.specs.List.{list_any}
 use Rattle.std.proofs.lemmas.List.Folds.{list_any-append}
@@ -17,6 +17,7 @@ use Rattle.tangle_text.specs.Bytes.{holds, backslash, is_line_end}
 use Rattle.tangle_faults.specs.declared.faults.FaultKind.TheVariants as fault
 use Rattle.tangle_text.specs.Text.{Cell, byte_at, front_column}
 use Rattle.tangle_text.specs.Regions.{unit_at, more_by, units}
+use Rattle.tangle_lexer.specs.LinesOfC.{inner_end_in}
 use Rattle.tangle_lexer.specs.Lexemes.{fault_if}
 use Rattle.tangle_lexer.specs.Comments.{unit_line_end, line_ends}
 use Rattle.tangle_lexer.specs.Quoted.{range_token, cut_range, unit_tokens, next_start, at_stop, cut_tokens, quote_end}
@@ -73,9 +74,23 @@ line_ends-plain r text = seen _ (none-flat is_not_plain unit_line_end one (units
     one [] = refl
     one (c ∷ cs) = cond_both (is_line_end c.byte) _ [] (HasNone is_not_plain) (λ e. refl) (λ e. refl)
 
-pub white-plain : (ends faults : List Token)
-    → ArePlain ends → ArePlain faults → ArePlain (token.White ∷ ends ++ faults)
-white-plain ends faults h k = seen _ (none-append is_not_plain ends faults h.none k.none)
+-- as white space of a directive they are plain too
+inner-plain : (b : Bool) (t : Token) → is_not_plain (inner_end_in b t) ≡ is_not_plain t
+inner-plain true (token.LineEnd line) = refl
+inner-plain true _ = refl
+inner-plain false t = refl
+
+inner_ends-plain : (b : Bool) (ts : List Token)
+    → HasNone is_not_plain ts → HasNone is_not_plain (map (inner_end_in b) ts)
+inner_ends-plain b [] h = refl
+inner_ends-plain b (t ∷ ts) h =
+    let both = or_parts (is_not_plain t) (list_any is_not_plain ts) h in
+    rw (inner-plain b t, both.0) (inner_ends-plain b ts both.1)
+
+pub white-plain : (b : Bool) (ends faults : List Token)
+    → ArePlain ends → ArePlain faults → ArePlain (token.White ∷ map (inner_end_in b) ends ++ faults)
+white-plain b ends faults h k =
+    seen _ (none-append is_not_plain (map (inner_end_in b) ends) faults (inner_ends-plain b ends h.none) k.none)
 
 -- ranges of quoted and verbatim texts
 

@@ -1,5 +1,5 @@
 -- A run of a C part is read: its token stands for those of the words, signs and spaces that it consists of.
-use Rattle.std.proofs.Common.{◌≡◌, ◌<◌, ◌≤◌, ℕ, zero, suc, ◌+◌, ◌-◌, Bool, true, ◌&&◌, List, [], ◌∷◌, ◌++◌, length}
+use Rattle.std.proofs.Common.{◌≡◌, ◌<◌, ◌≤◌, ℕ, zero, suc, ◌+◌, ◌-◌, Bool, true, false, ◌&&◌, List, [], ◌∷◌, ◌++◌, length}
 use Rattle.std.proofs.Common.{take, drop, map, get_or, slice_get, Option, Some, None, IsSome, ◌⊎◌, inl, inr, refl, ap}
 use Rattle.std.proofs.Common.{sym, ◌∙◌, subst, arith, append_assoc, append-nil, length-drop, option_to_list}
 use Rattle.std.specs.List.{All}
@@ -8,6 +8,7 @@ use Rattle.std.proofs.lemmas.List.Elements.{All-push}
 use Rattle.tangle_lines.specs.Reading.{SourceLine}
 use Rattle.tangle_text.specs.declared.spans.Span.{Span}
 use Rattle.tangle_text.specs.Text.{Cell, line_text, text_from, byte_at, bytes_of, span_at, texts_of}
+use Rattle.tangle_text.specs.Bytes.{number_sign, holds}
 use Rattle.tangle_text.specs.Text.{IsRestOf}
 use Rattle.tangle_text.specs.Words.{is_include_word, word_more}
 use Rattle.tangle_text.specs.Runs.{holds_plain, run_count, run_size, chunks, parts_of, run_parts, has_single_spaces}
@@ -16,17 +17,19 @@ use Rattle.tangle_lexer.specs.declared.modes.Mode.{Mode}
 use Rattle.tangle_lexer.specs.declared.modes.Mode.TheVariants as mode
 use Rattle.tangle_lexer.specs.declared.modes.IncludeState.{IncludeState}
 use Rattle.tangle_lexer.specs.declared.modes.IncludeState.TheVariants as include
+use Rattle.tangle_lexer.specs.declared.modes.LineOfC.{LineOfC}
+use Rattle.tangle_lexer.specs.declared.modes.LineOfC.TheVariants as line
 use Rattle.tangle_lexer.specs.declared.modes.LexerState.{LexerState}
 use Rattle.tangle_lexer.specs.declared.simple.SimpleLexeme.{SimpleLexeme}
 use Rattle.tangle_lexer.specs.declared.simple.SimpleLexeme.TheVariants as simple
 use Rattle.tangle_lexer.specs.declared.tokens.SpanKind.TheVariants as span_kind
 use Rattle.tangle_lexer.specs.declared.tokens.Token.{Token}
 use Rattle.tangle_lexer.specs.declared.tokens.Token.TheVariants as token
-use Rattle.tangle_lexer.specs.Lexemes.{Lexeme, lexeme_of, with_include, elsewhere}
+use Rattle.tangle_lexer.specs.LinesOfC.{with_item}
+use Rattle.tangle_lexer.specs.Lexemes.{Lexeme, lexeme_of, with_line, elsewhere, is_c_part}
 use Rattle.tangle_lexer.specs.Reads.{ReadsOn}
 use Rattle.tangle_lexer.specs.Runs.{part_token, unfolded, IsRunOf, IsRunIn}
-use Rattle.tangle_lexer.specs.Simple.{IsSimple, simple_kind, is_c_text, is_c_part, is_word_or_sign, begins_run}
-use Rattle.tangle_lexer.specs.Simple.{is_apart_from_include}
+use Rattle.tangle_lexer.specs.Simple.{IsSimple, simple_kind, is_c_text, is_word_or_sign, begins_run, is_apart}
 use Rattle.tangle_lexer.specs.CText.{include_after_word, include_after_sign}
 use Rattle.tangle_lexer.specs.Steps.{c_lexeme, lexeme, tokens_from}
 use Rattle.tangle_lexer.specs.Steps.{occurrences_from}
@@ -110,12 +113,12 @@ text-place from (l ∷ ls) k h =
 
 -- the run at the front
 
-pub record IsRunRead (lines : List SourceLine) (s : LexerState) (text : List Cell) : Type 0 where
+pub record IsRunRead (lines : List SourceLine) (s after : LexerState) (text : List Cell) : Type 0 where
   pub some : 0 < run_count text
   pub tokens : tokens_from s text
       ≡ map part_token (run_parts (texts_of lines) (span_at (run_count text) text))
-      ++ tokens_from (elsewhere s) (drop (run_count text) text)
-  pub occurrences : occurrences_from s text ≡ occurrences_from (elsewhere s) (drop (run_count text) text)
+      ++ tokens_from after (drop (run_count text) text)
+  pub occurrences : occurrences_from s text ≡ occurrences_from after (drop (run_count text) text)
   pub run : IsRunOf (texts_of lines) (span_at (run_count text) text)
 
 span-line : (line column n : ℕ) (bs : List ℕ) (rest : List Cell)
@@ -135,23 +138,24 @@ parts-are texts line column n =
     let same : column + n - column ≡ n = omega arith in
     ap (λ k. parts_of line column (chunks (take k (drop column (get_or texts line []))))) same
 
-line-run : (lines : List SourceLine) (occurrences last line column : ℕ) (rest : List Cell)
+line-run : (lines : List SourceLine) (l : LineOfC) (stays : (b : Bool) → with_item b l ≡ l)
+    (occurrences last line column : ℕ) (rest : List Cell)
     → line < length (texts_of lines) → column < length (get_or (texts_of lines) line [])
     → BeginsRun (drop column (get_or (texts_of lines) line []))
-    → IsRunRead lines (in_part occurrences last)
+    → IsRunRead lines (in_part l occurrences last) (in_part l occurrences last)
     (line_text line column (drop column (get_or (texts_of lines) line [])) ++ rest)
-line-run lines occurrences last line column rest real inside begins =
+line-run lines l stays occurrences last line column rest real inside begins =
     let texts = texts_of lines in
     let bytes = drop column (get_or texts line []) in
     let text = line_text line column bytes ++ rest in
     let n : ℕ = run_size bytes in
-    let here : LexerState = in_part occurrences last in
+    let here : LexerState = in_part l occurrences last in
     let span : Span = record { line = line; start = column; end = column + n } in
     let count : run_count text ≡ n = run_count-line line column bytes rest in
     let span_is : span_at (run_count text) text ≡ span
     = ap (λ k. span_at k text) count ∙ span-line line column n bytes rest in
     let parts : run_parts texts span ≡ parts_of line column (chunks (take n bytes)) = parts-are texts line column n in
-    let goes = run-goes occurrences last line rest column bytes in
+    let goes = run-goes l stays occurrences last line rest column bytes in
     let read : Reads here text (map part_token (parts_of line column (chunks (take n bytes)))) (drop n text) = goes.0 in
     record {
       some = omega (arith, count, some-size bytes begins);
@@ -171,34 +175,58 @@ line-run lines occurrences last line column rest real inside begins =
       });
     }
 
--- the first lexeme of a run is read as if #include could not begin on its line
+-- the first lexeme of a run is read as if an item were before it on its line
 
-word-apart : (inc : IncludeState) (b : Option ℕ) (is_include : Bool)
-    → is_apart_from_include inc b ≡ true → include_after_word is_include inc ≡ include.Elsewhere
-word-apart include.AfterNumberSign b is_include h = cc
-word-apart _ b is_include h = refl
+word-apart : (inc : IncludeState) (l : LineOfC) (b : Option ℕ) (is_include : Bool)
+    → is_apart inc l b ≡ true → include_after_word is_include inc ≡ include.Elsewhere
+word-apart include.AfterNumberSign l b is_include h = cc
+word-apart _ l b is_include h = refl
 
-sign-apart : (inc : IncludeState) (b : Option ℕ)
-    → is_apart_from_include inc b ≡ true → include_after_sign b inc ≡ include.Elsewhere
-sign-apart include.AtStart b h = rw (not-true _ h) refl
-sign-apart _ b h = refl
+sign-apart : (inc : IncludeState) (l : LineOfC) (b : Option ℕ)
+    → is_apart inc l b ≡ true → include_after_sign b inc ≡ include.Elsewhere
+sign-apart include.AtStart l b h = rw (not-true _ h) refl
+sign-apart _ l b h = refl
+
+-- the first item of a line stays its first
+
+item-stays : (first b : Bool) (l : LineOfC) → with_item b (with_item first l) ≡ with_item first l
+item-stays first b line.Directive = refl
+item-stays first b line.Other = refl
+item-stays true b _ = refl
+item-stays false b _ = refl
+
+item-apart : (inc : IncludeState) (l : LineOfC) (b : Option ℕ)
+    → is_apart inc l b ≡ true → with_item (holds number_sign b) l ≡ with_item false l
+item-apart include.AtStart l b h = rw (not-true _ h) refl
+item-apart include.Elsewhere line.Directive b h = refl
+item-apart include.Elsewhere line.Other b h = refl
+item-apart include.Elsewhere _ b h = rw (not-true _ h) refl
+item-apart _ l b h = cc
 
 kind-apart : (p : SimpleLexeme) (s : LexerState) (text : List Cell)
-    → is_word_or_sign p ≡ true → is_apart_from_include s.include (byte_at 0 text) ≡ true
+    → is_word_or_sign p ≡ true → is_apart s.line.include s.line.line (byte_at 0 text) ≡ true
     → c_lexeme (simple_kind p) s text ≡ c_lexeme (simple_kind p) (elsewhere s) text
 kind-apart simple.Word s text h apart =
-    ap (λ inc. lexeme_of (token.Span span_kind.Word (span_at (1 + word_more text) text) ∷ []) (word_more text)
-    (with_include inc s))
-    (word-apart s.include (byte_at 0 text) (is_include_word (bytes_of (take (1 + word_more text) text))) apart)
+    ap (λ l. lexeme_of (token.Span span_kind.Word (span_at (1 + word_more text) text) ∷ []) (word_more text)
+    (with_line l s))
+    (rw (
+      word-apart s.line.include s.line.line (byte_at 0 text) (is_include_word (bytes_of (take (1 + word_more text) text)))
+          apart,
+      item-stays false false s.line.line,
+    ) refl)
 kind-apart simple.Sign s text h apart =
-    ap (λ inc. lexeme_of (token.Span span_kind.Sign (span_at 1 text) ∷ []) 0 (with_include inc s))
-    (sign-apart s.include (byte_at 0 text) apart)
+    ap (λ l. lexeme_of (token.Span span_kind.Sign (span_at 1 text) ∷ []) 0 (with_line l s))
+    (rw (
+      sign-apart s.line.include s.line.line (byte_at 0 text) apart,
+      item-apart s.line.include s.line.line (byte_at 0 text) apart,
+      item-stays false (holds number_sign (byte_at 0 text)) s.line.line,
+    ) refl)
 kind-apart simple.White s text h apart = cc
 kind-apart simple.LineEnd s text h apart = cc
 
 lexeme-apart : (s : LexerState) (text : List Cell) (p : SimpleLexeme)
     → IsSimple text p → is_c_text s.mode ≡ true → is_word_or_sign p ≡ true
-    → is_apart_from_include s.include (byte_at 0 text) ≡ true → lexeme s text ≡ lexeme (elsewhere s) text
+    → is_apart s.line.include s.line.line (byte_at 0 text) ≡ true → lexeme s text ≡ lexeme (elsewhere s) text
 lexeme-apart s text p here m h apart =
     lexeme-simple s text p here m
     ∙ (kind-apart p s text h apart ∙ sym (lexeme-simple (elsewhere s) text p here m))
@@ -223,8 +251,8 @@ c_part-is _ h = cc
 
 -- a run that may begin at a simple lexeme is read from there on
 pub run-read : (lines : List SourceLine) (s : LexerState) (text : List Cell) (p : SimpleLexeme)
-    → IsSimple text p → begins_run s.mode s.include p (byte_at 0 text) ≡ true → IsRestOf lines text
-    → IsRunRead lines s text
+    → IsSimple text p → begins_run s.mode s.line p (byte_at 0 text) ≡ true → IsRestOf lines text
+    → IsRunRead lines s (elsewhere s) text
 run-read lines s text p here begins ours =
     let all = and_parts (is_c_part s.mode && is_word_or_sign p) _ begins in
     let both = and_parts (is_c_part s.mode) (is_word_or_sign p) all.0 in
@@ -239,15 +267,17 @@ run-read lines s text p here begins ours =
     = ours.1 ∙ (place.is ∙ ap (λ n. line_text n place.column bytes ++ place.rest) line) in
     let front : holds_plain (slice_get bytes 0) ≡ true
     = ap holds_plain (sym (front-byte place.line place.column bytes place.rest) ∙ ap (byte_at 0) (sym is)) ∙ plain in
-    let run : IsRunRead lines (in_part s.occurrences s.last_line) text
-    = subst (IsRunRead lines (in_part s.occurrences s.last_line)) (sym is)
-    (line-run lines s.occurrences s.last_line place.line place.column place.rest place.real place.inside
-    (plain-begins bytes front)) in
-    let state : elsewhere s ≡ in_part s.occurrences s.last_line
-    = ap (λ x. record { occurrences = s.occurrences; last_line = s.last_line; mode = x; include = include.Elsewhere })
-    m in
+    let part : LexerState = in_part (with_item false s.line.line) s.occurrences s.last_line in
+    let run : IsRunRead lines part part text
+    = subst (IsRunRead lines part part) (sym is)
+    (line-run lines (with_item false s.line.line) (λ b. item-stays false b s.line.line) s.occurrences s.last_line
+    place.line place.column place.rest place.real place.inside (plain-begins bytes front)) in
+    let state : elsewhere s ≡ part
+    = ap (λ x. record { occurrences = s.occurrences; last_line = s.last_line; mode = x; line = (elsewhere s).line }) m
+    in
     let same = lexeme-apart s text p here (ap is_c_text m) both.1 all.1 in
-    let there : IsRunRead lines (elsewhere s) text = subst (λ t. IsRunRead lines t text) (sym state) run in
+    let there : IsRunRead lines (elsewhere s) (elsewhere s) text
+    = subst (λ t. IsRunRead lines t t text) (sym state) run in
     record {
       some = there.some;
       tokens = tokens-apart s (elsewhere s) text here.inside same ∙ there.tokens;
@@ -263,7 +293,7 @@ run-read lines s text p here begins ours =
 pub run-reads-on : (lines : List SourceLine) (old new : List Token)
     (s : LexerState) (text rest : List Cell) (span : Span)
     → new ≡ old ++ token.Run span ∷ [] → span ≡ span_at (run_count text) text → rest ≡ drop (run_count text) text
-    → IsRestOf lines text → IsRunRead lines s text → ReadsOn lines old new s (elsewhere s) text rest
+    → IsRestOf lines text → IsRunRead lines s (elsewhere s) text → ReadsOn lines old new s (elsewhere s) text rest
 run-reads-on lines old new s text rest span added is ahead ours run =
     let texts = texts_of lines in
     let run_is : IsRunOf texts span = subst (IsRunOf texts) (sym is) run.run in

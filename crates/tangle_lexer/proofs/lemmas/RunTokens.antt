@@ -10,7 +10,7 @@ use Rattle.tangle_text.specs.declared.regions.Region.{Region}
 use Rattle.tangle_text.specs.declared.regions.Region.TheVariants as region
 use Rattle.tangle_text.specs.declared.regions.Unit.TheVariants as unit
 use Rattle.tangle_text.specs.Bytes.{apostrophe, asterisk, slash, less_sign, holds, holds_white, holds_word_byte}
-use Rattle.tangle_text.specs.Bytes.{is_word_byte}
+use Rattle.tangle_text.specs.Bytes.{is_word_byte, number_sign, backslash}
 use Rattle.tangle_text.specs.Text.{Cell, line_text, byte_at, span_at}
 use Rattle.tangle_text.specs.Regions.{unit_at, count_before}
 use Rattle.tangle_text.specs.Runs.{is_plain, holds_plain, is_in_run, run_size, chunks, parts_of, has_single_spaces}
@@ -18,12 +18,15 @@ use Rattle.tangle_text.proofs.RunChunks.{differs, alone-chunk, front-chunk, alon
 use Rattle.tangle_text.proofs.UnitLemmas.{count-is, count-one}
 use Rattle.tangle_lexer.specs.declared.modes.Mode.TheVariants as mode
 use Rattle.tangle_lexer.specs.declared.modes.IncludeState.TheVariants as include
+use Rattle.tangle_lexer.specs.declared.modes.LineOfC.{LineOfC}
+use Rattle.tangle_lexer.specs.declared.modes.AtLineEnd.TheVariants.{Ends}
 use Rattle.tangle_lexer.specs.declared.modes.LexerState.{LexerState}
 use Rattle.tangle_lexer.specs.declared.lexeme_kinds.LexemeKind.{LexemeKind}
 use Rattle.tangle_lexer.specs.declared.lexeme_kinds.LexemeKind.TheVariants as lexeme_kind
 use Rattle.tangle_lexer.specs.declared.tokens.SpanKind.TheVariants as span_kind
 use Rattle.tangle_lexer.specs.declared.tokens.Token.{Token}
 use Rattle.tangle_lexer.specs.declared.tokens.Token.TheVariants as token
+use Rattle.tangle_lexer.specs.LinesOfC.{with_item}
 use Rattle.tangle_lexer.specs.Lexemes.{Lexeme}
 use Rattle.tangle_lexer.specs.Runs.{part_token}
 use Rattle.tangle_lexer.specs.CText.{kind_by, kind_at}
@@ -45,17 +48,19 @@ word-plain b h =
       other 39 refl,
       other 47 refl,
       other 64 refl,
+      other 92 refl,
     ) refl
 
 -- the kind of the lexeme that begins with a byte of a run, where no #include was begun
 abbrev kind_of : ℕ → Option ℕ → LexemeKind
 kind_of b next = kind_by include.Elsewhere (Some b) next
 
--- a byte of a run is a word byte, a sign, or a space before a plain byte
+-- a byte of a run is a word byte, a sign other than a backslash, or a space before a plain byte
 abbrev IsRunByte : ℕ → Option ℕ → Type 0
 IsRunByte b next =
     (is_word_byte b ≡ true)
-    ⊎ (((kind_of b next ≡ lexeme_kind.Other) × (is_word_byte b ≡ false) × ((b == space) ≡ false))
+    ⊎ (((kind_of b next ≡ lexeme_kind.Other) × (is_word_byte b ≡ false) × ((b == space) ≡ false)
+    × ((b == backslash) ≡ false))
     ⊎ ((b ≡ space) × (holds_plain next ≡ true)))
 
 pub record ArePlainTests (b : ℕ) : Type 0 where
@@ -65,10 +70,12 @@ pub record ArePlainTests (b : ℕ) : Type 0 where
   pub slash : (b == slash) ≡ false
   pub at_sign : (b == at_sign) ≡ false
   pub space : (b == space) ≡ false
+  pub backslash : (b == backslash) ≡ false
 
 pub plain-tests : (b : ℕ) → is_plain b ≡ true → ArePlainTests b
 plain-tests b h =
-    let all = or_parts _ (b == at_sign) (not-true _ h) in
+    let both = or_parts _ (b == backslash) (not-true _ h) in
+    let all = or_parts _ (b == at_sign) both.0 in
     let slashes = or_parts _ (b == slash) all.0 in
     let apostrophes = or_parts _ (b == apostrophe) slashes.0 in
     let quotes = or_parts (is_white b) (b == double_quote) apostrophes.0 in
@@ -80,6 +87,7 @@ plain-tests b h =
       slash = slashes.1;
       at_sign = all.1;
       space = spaces.0;
+      backslash = both.1;
     }
 
 word-kind : (b : ℕ) (next : Option ℕ) → is_word_byte b ≡ true → kind_of b next ≡ lexeme_kind.Word
@@ -91,12 +99,12 @@ word-kind b next h =
 plain-byte : (b : ℕ) (next : Option ℕ) → is_plain b ≡ true → IsRunByte b next
 plain-byte b next h = by (is_word_byte b) refl (b == less_sign) refl
   where
-    open plain-tests b h use {white, quote, apostrophe, slash, at_sign, space}
+    open plain-tests b h use {white, quote, apostrophe, slash, at_sign, space, backslash}
 
     by : (w : Bool) → is_word_byte b ≡ w → (l : Bool) → (b == less_sign) ≡ l → IsRunByte b next
     by true w l k = inl w
-    by false w true k = inr (inl (rw (at_sign, slash, quote, apostrophe, k) refl, w, space))
-    by false w false k = inr (inl (rw (at_sign, slash, quote, apostrophe, k, white, w) refl, w, space))
+    by false w true k = inr (inl (rw (at_sign, slash, quote, apostrophe, k) refl, w, space, backslash))
+    by false w false k = inr (inl (rw (at_sign, slash, quote, apostrophe, k, white, w) refl, w, space, backslash))
 
 run-byte : (b : ℕ) (next : Option ℕ) → is_in_run b next ≡ true → IsRunByte b next
 run-byte b next h =
@@ -116,7 +124,7 @@ run-byte b next h =
           let neither = or_parts (holds asterisk next) (holds slash next) (not-true _ both.1) in
           elim (eqb_tells b slash) [
             | inl same ↦ subst (λ x. IsRunByte x next) (sym same.1)
-                (inr (inl (rw (neither.0, neither.1) refl, refl, refl)))
+                (inr (inl (rw (neither.0, neither.1) refl, refl, refl, refl)))
             | inr other ↦ let never : false ≡ true = sym other.0 ∙ both.0 in cc
           ]
     ]
@@ -160,11 +168,15 @@ white-stop text h = stop-count region.White text (rw (plain-no_white (byte_at 0 
 word-stop : (text : List Cell) → holds_word_byte (byte_at 0 text) ≡ false → count_before region.Word text ≡ 0
 word-stop text h = stop-count region.Word text (rw h refl)
 
--- lexemes of a C part where no #include was begun
+-- lexemes of a C part where no #include was begun, after an item of a line
 
-abbrev pub in_part : ℕ → ℕ → LexerState
-in_part occurrences last =
-    record { occurrences = occurrences; last_line = last; mode = mode.CPart; include = include.Elsewhere }
+abbrev pub in_part : LineOfC → ℕ → ℕ → LexerState
+in_part l occurrences last = record {
+  occurrences = occurrences;
+  last_line = last;
+  mode = mode.CPart;
+  line = record { include = include.Elsewhere; line = l; at_line_end = Ends };
+}
 
 -- these tokens are read from a text on, and no occurrences, up to the front of `rest`
 pub record Reads (s : LexerState) (text : List Cell) (ts : List Token) (rest : List Cell) : Type 0 where
@@ -223,9 +235,12 @@ nothing-single : (line column : ℕ) (bs : List ℕ) → (BeginsRun bs → ⊥) 
 nothing-single line column bs not true h = absurd (not (h refl))
 nothing-single line column bs not false h = refl
 
-module _ (occurrences last line : ℕ) (rest : List Cell) where
+module _ (l : LineOfC) (stays : (b : Bool) → with_item b l ≡ l) (occurrences last line : ℕ) (rest : List Cell) where
   abbrev here : LexerState
-  here = in_part occurrences last
+  here = in_part l occurrences last
+
+  same-line : (b : Bool) → in_part (with_item b l) occurrences last ≡ here
+  same-line b = ap (λ x. in_part x occurrences last) (stays b)
 
   -- the text of the line from a column on, where these are its bytes
   abbrev at : ℕ → List ℕ → List Cell
@@ -253,17 +268,20 @@ module _ (occurrences last line : ℕ) (rest : List Cell) where
   word-reads column b bs word =
       let text = at column (b ∷ bs) in
       lexeme-reads here text (c_lexeme lexeme_kind.Word here text) (inside column b bs)
-      (lexeme-here here text lexeme_kind.Word refl (kind-at column b bs ∙ word-kind b (slice_get bs 0) word)) refl refl
+      (lexeme-here here text lexeme_kind.Word refl (kind-at column b bs ∙ word-kind b (slice_get bs 0) word)) refl
+      (same-line false)
 
   sign-continues : (column b : ℕ) (bs xs : List ℕ) (after : List Cell)
       → kind_of b (slice_get bs 0) ≡ lexeme_kind.Other → is_word_byte b ≡ false → (b == space) ≡ false
+      → (b == backslash) ≡ false
       → Goes (column + 1) bs xs after → Goes column (b ∷ bs) (b ∷ xs) after
-  sign-continues column b bs xs after kind no_word no_space more =
+  sign-continues column b bs xs after kind no_word no_space no_backslash more =
       let text = at column (b ∷ bs) in
       let sign : Token = token.Span span_kind.Sign (record { line = line; start = column; end = column + 1 }) in
       let first : Reads here text (sign ∷ []) (at (column + 1) bs)
       = lexeme-reads here text (c_lexeme lexeme_kind.Other here text) (inside column b bs)
-      (lexeme-here here text lexeme_kind.Other refl (kind-at column b bs ∙ kind)) refl refl in (
+      (lexeme-here here text lexeme_kind.Other refl (kind-at column b bs ∙ kind)) refl
+      (rw no_backslash (same-line (b == number_sign))) in (
         reads-cons here text (at (column + 1) bs) after sign (tokens_of (column + 1) xs) (tokens_of column (b ∷ xs))
             (rw (alone-chunk b (chunks xs) no_word, no_space, no_word) refl) first more.0,
         λ before h. rw (alone-chunk b (chunks xs) no_word, no_space, no_word) (more.1 false (λ e. cc)),
@@ -396,7 +414,7 @@ module _ (occurrences last line : ℕ) (rest : List Cell) where
             | inl word ↦ word-goes column b bs word more
             | inr other ↦
                 elim other [
-                  | inl sign ↦ sign-continues column b bs (take (run_size bs) bs) _ sign.0 sign.1 sign.2 more
+                  | inl sign ↦ sign-continues column b bs (take (run_size bs) bs) _ sign.0 sign.1 sign.2 sign.3 more
                   | inr spaces ↦
                       subst (λ x. Goes column (x ∷ bs) (x ∷ take (run_size bs) bs)
                       (drop (run_size bs) (at (column + 1) bs))) (sym spaces.0)

@@ -7,15 +7,16 @@ use Rattle.std.proofs.lemmas.Bool.{or_parts}
 use Rattle.tangle_lines.specs.Bytes.{at_sign, double_quote, is_white}
 use Rattle.tangle_lexer.specs.declared.modes.IncludeState.{IncludeState}
 use Rattle.tangle_lexer.specs.declared.lexeme_kinds.LexemeKind.TheVariants as lexeme_kind
-use Rattle.tangle_text.specs.Bytes.{slash, apostrophe, less_sign, is_opener, is_word_byte}
+use Rattle.tangle_text.specs.Bytes.{slash, backslash, apostrophe, less_sign, is_opener, is_word_byte}
 use Rattle.tangle_lexer.specs.declared.modes.Mode.{Mode}
 use Rattle.tangle_lexer.specs.declared.modes.Mode.TheVariants as mode
 use Rattle.tangle_lexer.specs.declared.modes.LexerState.{LexerState}
+use Rattle.tangle_lexer.specs.declared.modes.LineState.{LineState}
 use Rattle.tangle_lexer.specs.declared.simple.SimpleLexeme.{SimpleLexeme}
 use Rattle.tangle_lexer.specs.declared.simple.SimpleLexeme.TheVariants as simple
 use Rattle.tangle_text.specs.Text.{Cell, byte_at}
 use Rattle.tangle_text.specs.Runs.{is_plain}
-use Rattle.tangle_lexer.specs.Lexemes.{Lexeme, with_include}
+use Rattle.tangle_lexer.specs.Lexemes.{Lexeme, with_line}
 use Rattle.tangle_lexer.specs.CText.{kind_by}
 use Rattle.tangle_lexer.specs.Steps.{occurrences_from, lexeme, lexeme_in, c_lexeme, macro_lexeme}
 use Rattle.tangle_lexer.specs.Simple.{IsSimple, simple_of, simple_kind, is_word_or_sign, is_c_text}
@@ -38,27 +39,27 @@ lexeme-simple s text p here h = go s.mode h
     go : (m : Mode) → is_c_text m ≡ true → lexeme_in m s text ≡ c_lexeme (simple_kind p) s text
     go mode.Limbo h = cc
     go mode.Documentation h = cc
-    go mode.CPart h = ap (λ k. c_lexeme k s text) (here.lexeme_kind s.include)
-    go mode.Macro h = ap (λ k. macro_lexeme k s text) (here.lexeme_kind s.include) ∙ alike p
+    go mode.CPart h = ap (λ k. c_lexeme k s text) (here.lexeme_kind s.line.include)
+    go mode.Macro h = ap (λ k. macro_lexeme k s text) (here.lexeme_kind s.line.include) ∙ alike p
 
--- a simple lexeme changes nothing of the state but how much of #include was read
-pub simple-after : (p : SimpleLexeme) (inc : IncludeState) (s : LexerState) (text : List Cell)
-    → (c_lexeme (simple_kind p) (with_include inc s) text).after
-    ≡ with_include (c_lexeme (simple_kind p) (with_include inc s) text).after.include s
-simple-after simple.White inc s text = refl
-simple-after _ inc s text = refl
+-- a simple lexeme changes nothing of the state but how the line was read
+pub simple-after : (p : SimpleLexeme) (l : LineState) (s : LexerState) (text : List Cell)
+    → (c_lexeme (simple_kind p) (with_line l s) text).after
+    ≡ with_line (c_lexeme (simple_kind p) (with_line l s) text).after.line s
+simple-after simple.White l s text = refl
+simple-after _ l s text = refl
 
-pub simple-again : (old new : List Token) (inc : IncludeState)
+pub simple-again : (old new : List Token) (l : LineState)
     (s state after : LexerState) (text rest : List Cell) (p : SimpleLexeme)
-    → state ≡ with_include inc s
+    → state ≡ with_line l s
     → IsRead old new text rest after (c_lexeme (simple_kind p) state text) →
-    IsRead old new text rest (with_include after.include s) (c_lexeme (simple_kind p) (with_include inc s) text)
-simple-again old new inc s state after text rest p is read =
+    IsRead old new text rest (with_line after.line s) (c_lexeme (simple_kind p) (with_line l s) text)
+simple-again old new l s state after text rest p is read =
     let again = subst (λ t. IsRead old new text rest after (c_lexeme (simple_kind p) t text)) is read in
     record {
       tokens = again.tokens;
       ahead = again.ahead;
-      state = ap (λ t. with_include t.include s) again.state ∙ sym (simple-after p inc s text);
+      state = ap (λ t. with_line t.line s) again.state ∙ sym (simple-after p l s text);
     }
 
 -- a simple lexeme has no occurrence, no head and no run
@@ -105,7 +106,8 @@ closed-kind : (inc : IncludeState) (b : ℕ) (next : Option ℕ) → is_opener b
     → kind_by inc (Some b) next
     ≡ (if is_white b then lexeme_kind.White else if is_word_byte b then lexeme_kind.Word else lexeme_kind.Other)
 closed-kind inc b next h =
-    let less = or_parts _ (b == less_sign) h in
+    let backslashes = or_parts _ (b == backslash) h in
+    let less = or_parts _ (b == less_sign) backslashes.0 in
     let apostrophes = or_parts _ (b == apostrophe) less.0 in
     let quotes = or_parts _ (b == double_quote) apostrophes.0 in
     let slashes = or_parts (b == at_sign) (b == slash) quotes.0 in
@@ -113,11 +115,12 @@ closed-kind inc b next h =
 
 closed-plain : (b : ℕ) → is_opener b ≡ false → is_white b ≡ false → is_plain b ≡ true
 closed-plain b h white =
-    let less = or_parts _ (b == less_sign) h in
+    let backslashes = or_parts _ (b == backslash) h in
+    let less = or_parts _ (b == less_sign) backslashes.0 in
     let apostrophes = or_parts _ (b == apostrophe) less.0 in
     let quotes = or_parts _ (b == double_quote) apostrophes.0 in
     let slashes = or_parts (b == at_sign) (b == slash) quotes.0 in
-    rw (white, quotes.1, apostrophes.1, slashes.1, slashes.0) refl
+    rw (white, quotes.1, apostrophes.1, slashes.1, slashes.0, backslashes.1) refl
 
 pub simple-is : (text : List Cell) (b : ℕ)
     → byte_at 0 text ≡ Some b → IfSome (simple_of b) (λ simple. IsSimple text simple)

@@ -17,7 +17,7 @@ use Rattle.tangle_lexer.proofs.lemmas.OccurrencesCounted.{lexeme-keeps}
 
 -- a lexeme of a C part is that of its kind
 pub lexeme-here : (s : LexerState) (text : List Cell) (kind : LexemeKind)
-    → s.mode ≡ mode.CPart → kind_at s.include text ≡ kind → lexeme s text ≡ c_lexeme kind s text
+    → s.mode ≡ mode.CPart → kind_at s.line.include text ≡ kind → lexeme s text ≡ c_lexeme kind s text
 unfolding lexeme
 lexeme-here s text kind m h = ap (λ x. lexeme_in x s text) m ∙ ap (λ x. c_lexeme x s text) h
 

@@ -1,6 +1,6 @@
 -- White space that ends on its line: which lexemes are white space alone, and the text after it.
 use Rattle.std.proofs.Common.{◌≡◌, ◌<◌, ℕ, zero, suc, ◌+◌, Bool, true, false, not, ◌&&◌, List, [], ◌∷◌, ◌++◌}
-use Rattle.std.proofs.Common.{length, drop, drop-drop, Option, Some, None, refl, ap, sym, ◌∙◌}
+use Rattle.std.proofs.Common.{map, length, drop, drop-drop, Option, Some, None, refl, ap, sym, ◌∙◌}
 use Rattle.std.proofs.lemmas.Bool.{or_parts, and_parts}
 use Rattle.std.specs.Prelude.{is_some}
 use Rattle.tangle_faults.specs.declared.faults.FaultKind.{FaultKind}
@@ -21,7 +21,8 @@ use Rattle.tangle_text.specs.Bytes.{is_line_end}
 use Rattle.tangle_text.specs.Text.{Cell, byte_at}
 use Rattle.tangle_text.specs.Regions.{unit_at, more_by, count_before, region_end}
 use Rattle.tangle_text.proofs.RegionLemmas.{region_end-is, region_end-stop, region_end-nothing}
-use Rattle.tangle_lexer.specs.Lexemes.{fault_if}
+use Rattle.tangle_lexer.specs.LinesOfC.{inner_end_in}
+use Rattle.tangle_lexer.specs.Lexemes.{fault_if, is_in_directive}
 use Rattle.tangle_lexer.specs.Comments.{comment_or_control_text, line_comment, line_ends, ends_region, starts_section}
 use Rattle.tangle_lexer.specs.Comments.{is_on_line, ends_on_line, two_if}
 use Rattle.tangle_lexer.specs.Constants.{constant_at, constant_lexeme}
@@ -39,10 +40,16 @@ white-by [] true kind line = refl
 white-by [] false kind line = refl
 white-by (t ∷ ts) is_ended kind line = refl
 
+inner-on_line : (b : Bool) (ends : List Token) → is_on_line (map (inner_end_in b) ends) ≡ is_on_line ends
+inner-on_line b [] = refl
+inner-on_line b (t ∷ ts) = refl
+
 pub region-white : (r : Region) (kind : FaultKind) (s : LexerState) (text : List Cell)
     → is_white_alone (comment_or_control_text r kind s text).tokens ≡ ends_on_line r (drop 2 text)
 region-white r kind s text =
-    white-by (line_ends r (drop 2 text)) _ kind _
+    white-by (map (inner_end_in (is_in_directive s)) (line_ends r (drop 2 text))) _ kind _
+    ∙ ap (λ b. b && ends_region r (drop (count_before r (drop 2 text)) (drop 2 text)))
+    (inner-on_line (is_in_directive s) (line_ends r (drop 2 text)))
     ∙ ap (λ t. is_on_line (line_ends r (drop 2 text)) && ends_region r t) (sym (region_end-is r (drop 2 text)))
 
 -- the text after a region that two cells open, if it ends on its first line

@@ -2,7 +2,8 @@
 use Rattle.std.proofs.Common.{◌≡◌, ℕ, ◌+◌, ◌<◌, Bool, true, false, not, ◌&&◌, ◌||◌, cond, if◌then◌else◌, Option, Some}
 use Rattle.std.proofs.Common.{None, is_some}
 use Rattle.std.proofs.Common.{List, [], ◌∷◌, ◌++◌, length, refl, ap, sym, ◌∙◌, arith, subst, append_assoc, append-nil}
-use Rattle.std.proofs.Common.{inl, inr}
+use Rattle.std.proofs.Common.{inl, inr, map}
+use Rattle.std.proofs.lemmas.List.{map-append}
 use Rattle.std.specs.List.{AllZip, list_all}
 use Rattle.std.proofs.lemmas.List.Folds.{list_all-append}
 use Rattle.std.proofs.lemmas.Bool.Decides.{leb_tells}
@@ -15,7 +16,7 @@ use Rattle.tangle_lexer.specs.declared.tokens.Token.TheVariants as token
 use Rattle.tangle_scan.specs.declared.items.Item.{Item}
 use Rattle.tangle_scan.specs.declared.items.Item.TheVariants as item
 use Rattle.tangle_lines.specs.Reading.{SourceLine, origin_at}
-use Rattle.tangle_scan.specs.Rules.{is_open}
+use Rattle.tangle_scan.specs.Rules.{is_open, is_constant, may_merge, white_inner_end}
 use Rattle.tangle_scan.specs.Rules.{texts_of, without_faults, would_merge, with_spaces, is_gap, has_join, map_runs}
 use Rattle.tangle_scan.specs.Rules.{left_of_run, part_tokens, span_item}
 use Rattle.tangle_scan.specs.Rules.{is_continued, at_line_front, blanks, next_line, same_origin, part_items}
@@ -49,6 +50,37 @@ with_spaces-flows texts count (e ∷ g ∷ es) line f = (
       (with_spaces-flows texts count (g ∷ es) (line_past line e) f.1),
 )
 
+-- rule 1 puts the same white space where line ends of a directive are white space
+
+inner-constant : (e : Token) → is_constant (white_inner_end e) ≡ is_constant e
+inner-constant (token.InnerLineEnd line) = refl
+inner-constant _ = refl
+
+inner-merges : (texts : List (List ℕ)) (e : Token) → may_merge texts (white_inner_end e) ≡ may_merge texts e
+inner-merges texts (token.InnerLineEnd line) = refl
+inner-merges texts _ = refl
+
+inner-spaces : (b : Bool) (es : List Token)
+    → map white_inner_end ((if b then token.White ∷ [] else []) ++ es)
+    ≡ (if b then token.White ∷ [] else []) ++ map white_inner_end es
+inner-spaces true es = refl
+inner-spaces false es = refl
+
+inner-spaced : (texts : List (List ℕ)) (es : List Token)
+    → with_spaces texts (map white_inner_end es) ≡ map white_inner_end (with_spaces texts es)
+inner-spaced texts [] = refl
+inner-spaced texts (e ∷ []) = refl
+inner-spaced texts (e ∷ f ∷ es) =
+    rw (inner-constant e, inner-constant f, inner-merges texts e, inner-merges texts f, inner-spaces (would_merge texts e f))
+    (ap (λ t. white_inner_end e ∷ (if would_merge texts e f then token.White ∷ [] else []) ++ t)
+    (inner-spaced texts (f ∷ es)))
+
+inner-join : (run : List Token) → has_join (map white_inner_end run) ≡ has_join run
+inner-join [] = refl
+inner-join (token.Join ∷ run) = refl
+inner-join (token.InnerLineEnd line ∷ run) = inner-join run
+inner-join (_ ∷ run) = inner-join run
+
 -- all tokens of a run are joins, white space and line ends
 abbrev AreGaps : List Token → Type 0
 AreGaps run = list_all is_gap run ≡ true
@@ -67,6 +99,7 @@ line_after_tokens-same line [] g h = refl
 line_after_tokens-same line (token.Join ∷ run) g h = line_after_tokens-same line run g h
 line_after_tokens-same line (token.White ∷ run) g h = line_after_tokens-same line run g h
 line_after_tokens-same line (token.LineEnd at ∷ run) g h = cc
+line_after_tokens-same line (token.InnerLineEnd at ∷ run) g h = cc
 line_after_tokens-same line (_ ∷ run) g h = cc
 
 flows-after : (count line : ℕ) (run es : List Token)
@@ -188,6 +221,7 @@ module _ (lines : List SourceLine) where
   first-true token.Join es fs gs gap next before counted stretch line here flows = cc
   first-true token.White es fs gs gap next before counted stretch line here flows = cc
   first-true (token.LineEnd at) es fs gs gap next before counted stretch line here flows = cc
+  first-true (token.InnerLineEnd at) es fs gs gap next before counted stretch line here flows = cc
   first-true token.QuoteBreak es fs gs gap next before counted stretch line here flows =
       next (Some token.QuoteBreak) (next_line counted) true (line + 1) (λ e. absurd cc) flows.1
   first-true (token.UseOf at occurrence) es fs gs gap next before counted stretch line here flows =
@@ -208,12 +242,15 @@ module _ (lines : List SourceLine) where
 
   -- a run that rule 2 does not remove, before other tokens
   kept-true : (run es fs gs : List Token)
-      → AreGaps run → has_join run ≡ false → AreTrue es fs gs → AreTrue (run ++ es) (run ++ fs) (run ++ gs)
+      → AreGaps run → has_join run ≡ false → AreTrue es fs gs
+      → AreTrue (run ++ es) (map white_inner_end run ++ fs) (run ++ gs)
   kept-true [] es fs gs gaps none next before counted stretch line here flows =
       next before counted stretch line here flows
   kept-true (token.Join ∷ run) es fs gs gaps none next before counted stretch line here flows = cc
   kept-true (token.White ∷ run) es fs gs gaps none next before counted stretch line here flows =
       kept-true run es fs gs gaps none next before counted stretch line here flows.1
+  kept-true (token.InnerLineEnd at ∷ run) es fs gs gaps none next before counted stretch line here flows =
+      kept-true run es fs gs gaps none next before counted true (line + 1) (λ e. absurd cc) flows.1
   kept-true (token.LineEnd at ∷ run) es fs gs gaps none next before counted stretch line here flows =
       let continued : Bool = is_continued texts before in
       let begins : Bool = continued && not (is_expected lines counted at) in
@@ -221,19 +258,20 @@ module _ (lines : List SourceLine) where
       λ out inside.
       counted_after_line_end-next lines continued counted at out (omega (arith, flows.0, inside))
       ∙ ap (λ l. origin_at lines (l + 1)) flows.0 in
-      rw (seen-line_end before counted at (run ++ fs))
+      rw (seen-line_end before counted at (map white_inner_end run ++ fs))
       (kept-true run es fs gs gaps none next (at_line_front texts before at)
       (counted_after before counted at) begins (line + 1) after flows.1)
   kept-true (_ ∷ run) es fs gs gaps none next before counted stretch line here flows = absurd cc
 
   -- what rule 2 leaves of a run, before other tokens
   run-true : (run es fs gs : List Token)
-      → AreGaps run → AreTrue es fs gs → AreTrue (run ++ es) (left_of_run run ++ fs) (left_or_join run ++ gs)
+      → AreGaps run → AreTrue es fs gs
+      → AreTrue (run ++ es) (left_of_run (map white_inner_end run) ++ fs) (left_or_join run ++ gs)
   run-true run es fs gs gaps next before counted stretch line here flows =
-      by (has_join run) refl (has_line_end run) refl
+      rw (inner-join run) (by (has_join run) refl (has_line_end run) refl)
     where
       by : (j : Bool) → has_join run ≡ j → (b : Bool) → has_line_end run ≡ b
-          → AllZip (IsOwn lines) (seen before counted ((if j then [] else run) ++ fs))
+          → AllZip (IsOwn lines) (seen before counted ((if j then [] else map white_inner_end run) ++ fs))
           (locations lines before counted stretch ((if j then (if b then token.Join ∷ [] else []) else run) ++ gs))
       by true joined true ends =
           next before counted true (line_after_tokens line run)
@@ -245,24 +283,44 @@ module _ (lines : List SourceLine) where
       by false none b ends = kept-true run es fs gs gaps none next before counted stretch line here flows
 
   -- rule 2 for all tokens of a part
-  map_runs-true : (run es : List Token)
-      → AreGaps run → AreTrue (run ++ es) (map_runs left_of_run run es) (map_runs left_or_join run es)
+  abbrev RunsAreTrue : List Token → List Token → Type 0
+  RunsAreTrue run es =
+      AreTrue (run ++ es) (map_runs left_of_run (map white_inner_end run) (map white_inner_end es))
+      (map_runs left_or_join run es)
+
+  run-pushed : (run : List Token) (e : Token) (es : List Token) → RunsAreTrue (run ++ e ∷ []) es
+      → AreTrue (run ++ e ∷ es)
+      (map_runs left_of_run (map white_inner_end run ++ white_inner_end e ∷ []) (map white_inner_end es))
+      (map_runs left_or_join (run ++ e ∷ []) es)
+  run-pushed run e es h =
+      let left : List Token → List Token = λ r. map_runs left_of_run r (map white_inner_end es) in
+      let right : List Token = map_runs left_or_join (run ++ e ∷ []) es in
+      subst (λ ts. AreTrue ts (left (map white_inner_end run ++ white_inner_end e ∷ [])) right)
+      (append_assoc run (e ∷ []) es)
+      (subst (λ r. AreTrue ((run ++ e ∷ []) ++ es) (left r) right) (map-append white_inner_end run (e ∷ [])) h)
+
+  map_runs-true : (run es : List Token) → AreGaps run → RunsAreTrue run es
   map_runs-true run [] gaps before counted stretch line here flows =
-      rw (← append-nil (left_of_run run), ← append-nil (left_or_join run))
+      rw (← append-nil (left_of_run (map white_inner_end run)), ← append-nil (left_or_join run))
       (run-true run [] [] [] gaps (λ b c s l h f. tt) before counted stretch line here flows)
   map_runs-true run (token.Join ∷ es) gaps before counted stretch line here flows =
-      map_runs-true (run ++ token.Join ∷ []) es (gaps-push run token.Join gaps refl)
-      before counted stretch line here (rw append_assoc flows)
+      run-pushed run token.Join es (map_runs-true (run ++ token.Join ∷ []) es (gaps-push run token.Join gaps refl))
+      before counted stretch line here flows
   map_runs-true run (token.White ∷ es) gaps before counted stretch line here flows =
-      map_runs-true (run ++ token.White ∷ []) es (gaps-push run token.White gaps refl)
-      before counted stretch line here (rw append_assoc flows)
+      run-pushed run token.White es (map_runs-true (run ++ token.White ∷ []) es (gaps-push run token.White gaps refl))
+      before counted stretch line here flows
   map_runs-true run (token.LineEnd at ∷ es) gaps before counted stretch line here flows =
-      map_runs-true (run ++ token.LineEnd at ∷ []) es
-      (gaps-push run (token.LineEnd at) gaps refl) before counted stretch line here
-      (rw append_assoc flows)
+      run-pushed run (token.LineEnd at) es
+      (map_runs-true (run ++ token.LineEnd at ∷ []) es (gaps-push run (token.LineEnd at) gaps refl))
+      before counted stretch line here flows
+  map_runs-true run (token.InnerLineEnd at ∷ es) gaps before counted stretch line here flows =
+      run-pushed run (token.InnerLineEnd at) es
+      (map_runs-true (run ++ token.InnerLineEnd at ∷ []) es (gaps-push run (token.InnerLineEnd at) gaps refl))
+      before counted stretch line here flows
   map_runs-true run (e ∷ es) gaps before counted stretch line here flows =
-      run-true run (e ∷ es) (e ∷ map_runs left_of_run [] es) (e ∷ map_runs left_or_join [] es) gaps
-      (first-true e es (map_runs left_of_run [] es) (map_runs left_or_join [] es) refl (map_runs-true [] es refl))
+      let left : List Token = map_runs left_of_run [] (map white_inner_end es) in
+      let right : List Token = map_runs left_or_join [] es in
+      run-true run (e ∷ es) (e ∷ left) (e ∷ right) gaps (first-true e es left right refl (map_runs-true [] es refl))
       before counted stretch line here flows
 
   -- the items of a part are at their own lines if its tokens follow line by line from the opening mark on
@@ -272,5 +330,9 @@ module _ (lines : List SourceLine) where
       let clean : List Token = without_faults es in
       let spaced : Flows (length lines) line (with_spaces (texts_of lines) clean) =
       with_spaces-flows (texts_of lines) (length lines) clean line (without_faults-flows (length lines) es line flows) in
-      rw (part_items-by_origin lines line es, blanks-seen None false (part_tokens (texts_of lines) es) None (origin_at lines line))
+      rw (
+        part_items-by_origin lines line es,
+        blanks-seen None false (part_tokens (texts_of lines) es) None (origin_at lines line),
+        inner-spaced (texts_of lines) clean,
+      )
       (map_runs-true [] (with_spaces (texts_of lines) clean) refl None (origin_at lines line) false line (λ out inside. refl) spaced)

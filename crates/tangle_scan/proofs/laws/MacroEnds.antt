@@ -1,32 +1,28 @@
 -- The items that are dropped at the end of a macro are those of the tokens that are dropped there.
-use Rattle.std.proofs.Common.{◌≡◌, ℕ, Bool, true, false, ◌&&◌, not, if◌then◌else◌, List, [], ◌∷◌, ◌++◌, refl, ap, sym}
+use Rattle.std.proofs.Common.{◌≡◌, ℕ, Bool, true, false, ◌&&◌, not, if◌then◌else◌, List, [], ◌∷◌, ◌++◌, refl, ap}
 use Rattle.std.proofs.Common.{◌∙◌}
 use Rattle.std.proofs.Common.{Option, Some, None, is_some}
+use Rattle.std.proofs.Math.Bool.{and-true}
+use Rattle.std.proofs.lemmas.Bool.{and_parts}
+use Rattle.std.specs.List.{last_or, list_all}
+use Rattle.std.specs.Option.{IfSome}
 use Rattle.tangle_lexer.specs.declared.tokens.Token.{Token}
 use Rattle.tangle_lexer.specs.declared.tokens.Token.TheVariants as token
-use Rattle.tangle_lexer.specs.declared.tokens.SpanKind.{SpanKind}
-use Rattle.tangle_lexer.specs.declared.tokens.SpanKind.TheVariants as span_kind
-use Rattle.tangle_text.specs.declared.spans.Span.{Span}
 use Rattle.tangle_scan.specs.declared.items.Item.{Item}
 use Rattle.tangle_scan.specs.declared.items.Item.TheVariants as item
 use Rattle.tangle_scan.specs.Rules.{next_item, has_blank_at_line_end, is_name_part, macro_blanks, unmarked_items}
-use Rattle.tangle_scan.specs.Rules.{span_item, token_items}
-use Rattle.tangle_scan.specs.MacroBytes.{without_end}
-use Rattle.tangle_scan.proofs.lemmas.MacroItemLemmas.{unmarked-blank}
-use Rattle.tangle_scan.specs.Apart.{is_dropped_token, with_written, written_tokens}
+use Rattle.tangle_scan.specs.Rules.{span_item}
+use Rattle.tangle_scan.specs.MacroBytes.{is_dropped_at_end, without_end, without_end_after}
+use Rattle.tangle_scan.specs.ReadAsMeant.{is_empty, is_dropped_token, with_written, written_tokens}
 
 module _ (texts : List (List ℕ)) where
   -- The items that rule 3 makes of the tokens of a macro. The arguments before the tokens are those of the rule.
   abbrev pub items_from : Bool → Option Token → Bool → List Token → List Item
   items_from in_name before white es = unmarked_items (macro_blanks texts in_name before white es)
 
-  -- white space, and a blank, if the flag says so
-
+  -- white space, if the flag says so
   abbrev white_if : Bool → List Token
   white_if blank = if blank then token.White ∷ [] else []
-
-  abbrev blank_if : Bool → List Item
-  blank_if blank = if blank then item.Blank ∷ [] else []
 
   -- none of the items is written
   abbrev AreDropped : List Token → Type 0
@@ -36,10 +32,8 @@ module _ (texts : List (List ℕ)) where
 
   -- `written` are the items that are written of `items`, and there is at least one
   record IsWritten (items written : List Item) : Type 0 where
-    first : Item
-    rest : List Item
-    some : written ≡ first ∷ rest
-    is : without_end texts items ≡ first ∷ rest
+    is : without_end texts items ≡ written
+    some : is_empty written ≡ false
 
   -- of the items of the tokens `es` those of the tokens `fs` are written
   abbrev AreWritten : List Token → List Token → Type 0
@@ -54,99 +48,106 @@ module _ (texts : List (List ℕ)) where
         → written_tokens texts es ≡ f ∷ fs → next_item es ≡ next_item (f ∷ fs) → AreWritten es (f ∷ fs)
         → Written es
 
-  dropped-sign : (blank : Bool) (x : Item) (xs : List Item)
-      → without_end texts (x ∷ []) ≡ [] → without_end texts xs ≡ []
-      → without_end texts (blank_if blank ++ x ∷ xs) ≡ []
-  dropped-sign true x xs alone h = rw (h, alone) refl
-  dropped-sign false x xs alone h = rw h alone
+  -- the items of a token, and of a blank before it, and then those of others
 
-  dropped-blank : (blank : Bool) (xs : List Item)
-      → without_end texts xs ≡ [] → without_end texts (blank_if blank ++ xs) ≡ []
-  dropped-blank true xs h = rw h refl
-  dropped-blank false xs h = h
+  abbrev own_items : Bool → Token → List Item
+  own_items blank e = unmarked_items (white_if blank ++ e ∷ [])
+
+  items-split : (blank : Bool) (e : Token) (es : List Token)
+      → unmarked_items (white_if blank ++ e ∷ es) ≡ own_items blank e ++ unmarked_items es
+  items-split blank e es = by blank (first e)
+    where
+      first : (e : Token) → unmarked_items (e ∷ es) ≡ unmarked_items (e ∷ []) ++ unmarked_items es
+      first (token.UseOf line occurrence) = refl
+      first (token.AllMacros line) = refl
+      first e = cc
+
+      by : (blank : Bool) → unmarked_items (e ∷ es) ≡ unmarked_items (e ∷ []) ++ unmarked_items es
+          → unmarked_items (white_if blank ++ e ∷ es) ≡ own_items blank e ++ unmarked_items es
+      by true h = ap (λ xs. item.Blank ∷ xs) h
+      by false h = h
+
+  -- items before items none of which is written
+
+  before-dropped : (xs ys : List Item) → without_end texts ys ≡ [] → without_end texts (xs ++ ys) ≡ without_end texts xs
+  before-dropped [] ys h = h
+  before-dropped (x ∷ xs) ys h = ap (without_end_after texts x) (before-dropped xs ys h)
+
+  all-dropped : (xs : List Item) → list_all (is_dropped_at_end texts) xs ≡ true → without_end texts xs ≡ []
+  all-dropped [] dropped = refl
+  all-dropped (x ∷ xs) dropped =
+      let both = and_parts (is_dropped_at_end texts x) (list_all (is_dropped_at_end texts) xs) dropped in
+      rw (all-dropped xs both.1, both.0) refl
+
+  dropped-token : (blank : Bool) (e : Token) (es : List Token)
+      → is_dropped_token texts e ≡ true → without_end texts (unmarked_items es) ≡ []
+      → without_end texts (unmarked_items (white_if blank ++ e ∷ es)) ≡ []
+  dropped-token blank e es dropped h =
+      rw (items-split blank e es)
+      (before-dropped (own_items blank e) (unmarked_items es) h ∙ all-dropped (own_items blank e) (by blank))
+    where
+      by : (blank : Bool) → list_all (is_dropped_at_end texts) (own_items blank e) ≡ true
+      by true = dropped
+      by false = dropped
 
   -- a token that is dropped, before tokens that are all dropped
   dropped-before : (e : Token) (es : List Token) → is_dropped_token texts e ≡ true → AreDropped es → AreDropped (e ∷ es)
   dropped-before token.White es dropped h in_name before white = h in_name before true
   dropped-before (token.LineEnd line) es dropped h in_name before white =
-      let blank : Bool = has_blank_at_line_end texts in_name before (next_item es) in
-      let rest = macro_blanks texts false None false es in
-      rw (unmarked-blank blank (token.LineEnd line ∷ rest))
-      (dropped-sign blank item.LineEnd (unmarked_items rest) refl (h false None false))
-  dropped-before (token.Span span_kind.Sign s) es dropped h in_name before white =
-      let e = token.Span span_kind.Sign s in
-      let rest = macro_blanks texts (in_name && not white && false) (Some e) false es in
-      rw (unmarked-blank (is_some before && white) (e ∷ rest))
-      (dropped-sign (is_some before && white) (item.Sign s) (unmarked_items rest) (rw dropped refl)
-      (h (in_name && not white && false) (Some e) false))
-  dropped-before (token.Span kind s) es dropped h in_name before white = cc
-  dropped-before (token.AsciiConstant value line) es dropped h in_name before white = cc
-  dropped-before token.QuoteBreak es dropped h in_name before white = cc
+      dropped-token (has_blank_at_line_end texts in_name before (next_item es)) (token.LineEnd line)
+      (macro_blanks texts false None false es) dropped (h false None false)
   dropped-before e es dropped h in_name before white =
-      let rest = macro_blanks texts (in_name && not white && is_name_part e) (Some e) false es in
-      rw (unmarked-blank (is_some before && white) (e ∷ rest))
-      (dropped-blank (is_some before && white) (unmarked_items rest)
-      (h (in_name && not white && is_name_part e) (Some e) false))
-
-  -- an item before items none of which is written
-  written-at : (e : Token) (x : Item) (es : List Token)
-      → ((fs : List Token) → unmarked_items (e ∷ fs) ≡ x ∷ unmarked_items fs)
-      → without_end texts (x ∷ []) ≡ x ∷ [] → AreDropped es → (in_name blank : Bool) →
-      IsWritten (unmarked_items (white_if blank ++ e ∷ macro_blanks texts in_name (Some e) false es))
-      (unmarked_items (white_if blank ++ e ∷ []))
-  written-at e x es is alone h in_name true = record {
-    first = item.Blank;
-    rest = x ∷ [];
-    some = ap (λ xs. item.Blank ∷ xs) (is []);
-    is = rw (is (macro_blanks texts in_name (Some e) false es), h in_name (Some e) false, alone) refl;
-  }
-  written-at e x es is alone h in_name false = record {
-    first = x;
-    rest = [];
-    some = is [];
-    is = rw (is (macro_blanks texts in_name (Some e) false es), h in_name (Some e) false) alone;
-  }
-
-  written-alone : (kind : SpanKind) (s : Span)
-      → is_dropped_token texts (token.Span kind s) ≡ false
-      → without_end texts (span_item kind s ∷ []) ≡ span_item kind s ∷ []
-  written-alone span_kind.Sign s kept = rw kept refl
-  written-alone _ s kept = refl
-
-  written-last : (e : Token) (es : List Token)
-      → is_dropped_token texts e ≡ false → AreDropped es → AreWritten (e ∷ es) (e ∷ [])
-  written-last (token.Span kind s) es kept h in_name before white =
-      let e = token.Span kind s in
-      written-at e (span_item kind s) es (λ fs. refl) (written-alone kind s kept) h
-      (in_name && not white && is_name_part e) (is_some before && white)
-  written-last (token.AsciiConstant value line) es kept h in_name before white =
-      written-at (token.AsciiConstant value line) (item.Code value) es
-      (λ fs. refl) refl h (in_name && not white && true) (is_some before && white)
-  written-last token.QuoteBreak es kept h in_name before white =
-      written-at token.QuoteBreak item.QuoteBreak es (λ fs. refl)
-      refl h (in_name && not white && false) (is_some before && white)
-  written-last _ es kept h in_name before white = absurd cc
+      let after : Bool = in_name && not white && is_name_part e in
+      dropped-token (is_some before && white) e (macro_blanks texts after (Some e) false es) dropped
+      (h after (Some e) false)
 
   -- items before items of which some are written
-  more-written : (p : Item) (xs ys : List Item) → IsWritten xs ys → IsWritten (p ∷ xs) (p ∷ ys)
-  more-written p xs ys h =
-      record { first = p; rest = h.first ∷ h.rest; some = ap (λ zs. p ∷ zs) h.some; is = rw h.is refl }
-
   more-items : (ps xs ys : List Item) → IsWritten xs ys → IsWritten (ps ++ xs) (ps ++ ys)
   more-items [] xs ys h = h
-  more-items (p ∷ ps) xs ys h = more-written p (ps ++ xs) (ps ++ ys) (more-items ps xs ys h)
-
-  more-token : (e : Token) (es fs : List Token) → IsWritten (unmarked_items es) (unmarked_items fs) →
-      IsWritten (unmarked_items (e ∷ es)) (unmarked_items (e ∷ fs))
-  more-token (token.UseOf line occurrence) es fs h = h
-  more-token (token.AllMacros line) es fs h = h
-  more-token e es fs h = more-items (token_items e) (unmarked_items es) (unmarked_items fs) h
+  more-items (p ∷ ps) xs ys h =
+      let more = more-items ps xs ys h in
+      record { is = rw more.is (kept (ps ++ ys) more.some); some = refl }
+    where
+      kept : (zs : List Item) → is_empty zs ≡ false → without_end_after texts p zs ≡ p ∷ zs
+      kept [] some = absurd cc
+      kept (z ∷ zs) some = refl
 
   more-tokens : (blank : Bool) (e : Token) (es fs : List Token) → IsWritten (unmarked_items es) (unmarked_items fs) →
       IsWritten (unmarked_items (white_if blank ++ e ∷ es)) (unmarked_items (white_if blank ++ e ∷ fs))
-  more-tokens true e es fs h =
-      more-written item.Blank (unmarked_items (e ∷ es)) (unmarked_items (e ∷ fs)) (more-token e es fs h)
-  more-tokens false e es fs h = more-token e es fs h
+  more-tokens blank e es fs h =
+      rw (items-split blank e es, items-split blank e fs)
+      (more-items (own_items blank e) (unmarked_items es) (unmarked_items fs) h)
+
+  -- a token that is written, before tokens that are all dropped
+
+  kept-item : (x : Item) → list_all (is_dropped_at_end texts) (x ∷ []) ≡ false → IsWritten (x ∷ []) (x ∷ [])
+  kept-item x kept = record { is = let is = rw (and-true (is_dropped_at_end texts x)) at kept in rw is refl; some = refl }
+
+  kept-token : (e : Token) → is_dropped_token texts e ≡ false → IsWritten (own_items false e) (own_items false e)
+  kept-token (token.Span kind s) kept = kept-item (span_item kind s) kept
+  kept-token (token.AsciiConstant value line) kept = kept-item (item.Code value) kept
+  kept-token token.QuoteBreak kept = kept-item item.QuoteBreak kept
+  kept-token _ kept = absurd cc
+
+  written-at : (e : Token) (es : List Token) → is_dropped_token texts e ≡ false → AreDropped es → (in_name blank : Bool)
+      → IsWritten (unmarked_items (white_if blank ++ e ∷ macro_blanks texts in_name (Some e) false es)) (own_items blank e)
+  written-at e es kept h in_name blank =
+      let own = by blank (kept-token e kept) in
+      rw (items-split blank e (macro_blanks texts in_name (Some e) false es)) (record {
+        is = before-dropped (own_items blank e) (items_from in_name (Some e) false es) (h in_name (Some e) false) ∙ own.is;
+        some = own.some;
+      })
+    where
+      by : (blank : Bool) → IsWritten (own_items false e) (own_items false e) → IsWritten (own_items blank e) (own_items blank e)
+      by true h = more-items (item.Blank ∷ []) (own_items false e) (own_items false e) h
+      by false h = h
+
+  written-last : (e : Token) (es : List Token)
+      → is_dropped_token texts e ≡ false → AreDropped es → AreWritten (e ∷ es) (e ∷ [])
+  written-last token.White es kept h in_name before white = absurd cc
+  written-last (token.LineEnd line) es kept h in_name before white = absurd cc
+  written-last e es kept h in_name before white =
+      written-at e es kept h (in_name && not white && is_name_part e) (is_some before && white)
 
   -- a token before tokens of which some are written
   written-before : (e : Token) (es fs : List Token)
@@ -198,14 +199,12 @@ module _ (texts : List (List ℕ)) where
           → without_end texts (items_from in_name before white es)
           ≡ items_from in_name before white (written_tokens texts es)
       by (NoToken none dropped) = rw none (dropped in_name before white)
-      by (SomeTokens f fs are next some) = let h = some in_name before white in rw are (h.is ∙ sym h.some)
+      by (SomeTokens f fs are next some) = let h = some in_name before white in rw are h.is
 
   -- The last of the tokens is an item that is written. If there are no tokens, the token before them is such an item,
   -- or there is none.
   abbrev pub EndsInItem : List Token → Option Token → Type 0
-  EndsInItem [] None = Unit {0}
-  EndsInItem [] (Some e) = is_dropped_token texts e ≡ false
-  EndsInItem (e ∷ es) before = EndsInItem es (Some e)
+  EndsInItem es before = IfSome (last_or before es) (λ e. is_dropped_token texts e ≡ false)
 
   pub ends-before : (e : Token) (es : List Token) (before : Option Token)
       → is_dropped_token texts e ≡ true → EndsInItem es (Some e)

@@ -42,6 +42,7 @@ below-kept : (count : ℕ) (es : List Token) → AreBelow count (kept es) → Ar
 below-kept count [] h = tt
 below-kept count (token.White ∷ es) h = (tt, below-kept count es h)
 below-kept count (token.LineEnd line ∷ es) h = (tt, below-kept count es h)
+below-kept count (token.InnerLineEnd line ∷ es) h = (tt, below-kept count es h)
 below-kept count (token.Join ∷ es) h = (tt, below-kept count es h)
 below-kept count (token.Fault kind line ∷ es) h = (tt, below-kept count es h)
 below-kept count (e ∷ es) h = (h.0, below-kept count es h.1)

@@ -10,6 +10,7 @@ use Rattle.tangle_lexer.proofs.laws.TokenOrder.{Inside, AreInOrder, span_end, ju
 -- a token that has a line is on this line, and a source item on a line of the source; names may end on a later line
 abbrev pub IsOnLine : ℕ → ℕ → Token → Type 0
 IsOnLine count line (token.LineEnd at) = at ≡ line
+IsOnLine count line (token.InnerLineEnd at) = at ≡ line
 IsOnLine count line (token.AllMacros at) = at ≡ line
 IsOnLine count line (token.Span kind s) = (s.line ≡ line) × (line < count)
 IsOnLine count line (token.AsciiConstant b at) = (at ≡ line) × (line < count)
@@ -18,6 +19,7 @@ IsOnLine count line _ = Unit {0}
 -- the line to which a token on this line leads, if it is no head
 abbrev pub line_past : ℕ → Token → ℕ
 line_past line (token.LineEnd at) = line + 1
+line_past line (token.InnerLineEnd at) = line + 1
 line_past line token.QuoteBreak = line + 1
 line_past line (token.UseOf at occurrence) = at
 line_past line _ = line
@@ -116,6 +118,9 @@ module _ (width : ℕ → ℕ) (count : ℕ) where
   in_order-step from at (token.LineEnd line) es stays to ordered =
       let is = from-inside from _ ordered in
       pass at (token.LineEnd line) es stays to is.0 refl (rw (← is.0) is.1)
+  in_order-step from at (token.InnerLineEnd line) es stays to ordered =
+      let is = from-inside from _ ordered in
+      pass at (token.InnerLineEnd line) es stays to is.0 refl (rw (← is.0) is.1)
   in_order-step from at token.QuoteBreak es stays to ordered =
       pass at token.QuoteBreak es stays to tt refl (from-inside from _ ordered)
   in_order-step from at e es stays to ordered = stay from at e es stays to tt refl ordered

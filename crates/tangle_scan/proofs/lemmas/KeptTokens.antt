@@ -1,10 +1,11 @@
 -- Rules 1 to 3 keep all tokens other than white space, line ends, joins and faults, in their order.
 use Rattle.std.proofs.Common.{◌≡◌, ℕ, Bool, true, false, ◌&&◌, not, if◌then◌else◌, Option, Some, None, is_some}
-use Rattle.std.proofs.Common.{List, [], ◌∷◌, ◌++◌, flat_map, refl, ap, ◌∙◌}
+use Rattle.std.proofs.Common.{List, [], ◌∷◌, ◌++◌, map, flat_map, refl, ap, ◌∙◌}
 use Rattle.std.proofs.lemmas.Grind.{flat_map-append}
 use Rattle.tangle_lexer.specs.declared.tokens.Token.{Token}
 use Rattle.tangle_lexer.specs.declared.tokens.Token.TheVariants as token
 use Rattle.tangle_scan.specs.Rules.{is_open}
+use Rattle.tangle_scan.specs.Rules.{white_inner_end, clean_tokens}
 use Rattle.tangle_scan.specs.Rules.{without_faults, would_merge, with_spaces, may_follow_name, with_space_after}
 use Rattle.tangle_scan.specs.Rules.{with_name_space, is_gap, has_join, left_of_run, without_joins, part_tokens}
 use Rattle.tangle_scan.specs.Rules.{at_line_front, blanks, next_item, has_blank_at_line_end, is_name_part}
@@ -26,6 +27,14 @@ without_faults-kept : (es : List Token) → kept (without_faults es) ≡ kept es
 without_faults-kept [] = refl
 without_faults-kept (token.Fault kind line ∷ es) = without_faults-kept es
 without_faults-kept (e ∷ es) = ap (λ ts. keep e ++ ts) (without_faults-kept es)
+
+inner-kept : (es : List Token) → kept (map white_inner_end es) ≡ kept es
+inner-kept [] = refl
+inner-kept (token.InnerLineEnd line ∷ es) = inner-kept es
+inner-kept (e ∷ es) = ap (λ ts. keep e ++ ts) (inner-kept es)
+
+clean-kept : (es : List Token) → kept (clean_tokens es) ≡ kept es
+clean-kept es = inner-kept (without_faults es) ∙ without_faults-kept es
 
 with_spaces-kept : (texts : List (List ℕ)) (es : List Token) → kept (with_spaces texts es) ≡ kept es
 with_spaces-kept texts [] = refl
@@ -111,16 +120,16 @@ without_front-kept (_ ∷ es) = refl
 pub part-kept : (texts : List (List ℕ)) (es : List Token) → kept (blanks texts None false (part_tokens texts es)) ≡ kept es
 part-kept texts es =
     blanks-kept texts None false (part_tokens texts es)
-    ∙ without_joins-kept [] (with_spaces texts (without_faults es)) refl
-    ∙ with_spaces-kept texts (without_faults es)
-    ∙ without_faults-kept es
+    ∙ without_joins-kept [] (with_spaces texts (clean_tokens es)) refl
+    ∙ with_spaces-kept texts (clean_tokens es)
+    ∙ clean-kept es
 
 -- the tokens of a macro after rules 1 and 2
 pub macro-kept : (texts : List (List ℕ)) (es : List Token) → kept (macro_tokens texts es) ≡ kept es
 macro-kept texts es =
-    let front : List Token = without_front_gaps (without_faults es) in
+    let front : List Token = without_front_gaps (clean_tokens es) in
     without_joins-kept [] (with_name_space texts (with_spaces texts front)) refl
     ∙ with_name_space-kept texts (with_spaces texts front)
     ∙ with_spaces-kept texts front
-    ∙ without_front-kept (without_faults es)
-    ∙ without_faults-kept es
+    ∙ without_front-kept (clean_tokens es)
+    ∙ clean-kept es

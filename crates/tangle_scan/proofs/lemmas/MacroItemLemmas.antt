@@ -1,25 +1,22 @@
--- The items of a macro, token by token.
-use Rattle.std.proofs.Common.{◌≡◌, ℕ, Bool, true, false, ◌&&◌, not, List, [], ◌∷◌, ◌++◌, refl, ap, sym, ◌∙◌}
-use Rattle.std.proofs.Common.{if◌then◌else◌, Some, None, is_some, option_to_list, append_assoc, append-nil}
+-- The items of a macro, from item to item.
+use Rattle.std.proofs.Common.{◌≡◌, ℕ, zero, suc, ◌+◌, Bool, true, false, ◌==◌, ◌&&◌, ◌||◌, not, List, [], ◌∷◌, ◌++◌, replicate}
+use Rattle.std.proofs.Common.{refl, ap, ◌∙◌, if◌then◌else◌, Option, Some, None, is_some, option_to_list}
+use Rattle.std.proofs.Common.{append-nil, arith, take}
+use Rattle.std.specs.List.{list_all}
+use Rattle.std.proofs.Math.Bool.{and-false, or-false, or-true}
 use Rattle.tangle_lexer.specs.declared.tokens.Token.{Token}
 use Rattle.tangle_lexer.specs.declared.tokens.Token.TheVariants as token
+use Rattle.tangle_lexer.specs.declared.tokens.SpanKind.TheVariants as span_kind
 use Rattle.tangle_scan.specs.declared.items.Item.{Item}
 use Rattle.tangle_scan.specs.declared.items.Item.TheVariants as item
 use Rattle.tangle_scan.specs.declared.macro_items.MacroState.{MacroState}
-use Rattle.tangle_scan.specs.Rules.{next_item, has_blank_at_line_end, is_name_part, macro_blanks, unmarked_items}
-use Rattle.tangle_scan.specs.Rules.{is_front_gap, is_line_backslash, without_backslashes}
+use Rattle.tangle_scan.specs.declared.macro_items.Gap.{Gap}
+use Rattle.tangle_scan.specs.Rules.{next_item, has_blank_at_line_end, is_name_part, macro_blanks, unmarked_items, macro_items}
+use Rattle.tangle_scan.specs.Rules.{is_front_gap, is_line_backslash, without_backslashes, ends_line}
+use Rattle.tangle_scan.specs.Passes.{item_of, blank_if, from_item, left_gap, joined_from, is_solid, is_dropped}
+use Rattle.tangle_scan.specs.Passes.{has_white, line_ends, gap_of, has_blank, is_in_name, items_from, items_ahead}
 use Rattle.tangle_scan.proofs.lemmas.RuleLemmas.{macro_blanks-item}
-use Rattle.tangle_scan.specs.Passes.{item_before, unmarked_from, item_of}
-
--- the items after a blank and then other items were added
-pub pushed-twice : (old blank middle more new rest : List Item)
-    → middle ≡ old ++ blank → new ≡ middle ++ more → new ++ rest ≡ old ++ (blank ++ (more ++ rest))
-pushed-twice old blank middle more new rest first second = rw (second, first, append_assoc, append_assoc) refl
-
--- At the end of the tokens all items were made. `whole` are the items made so far, with those ahead.
-pub all-made : (items left : List Item) (whole : List Token → List Item) (es : List Token)
-    → es ≡ [] → whole [] ≡ items ++ [] → whole es ≡ left → items ≡ left
-all-made items left whole es none end is = sym (append-nil items) ∙ (sym end ∙ (sym (ap whole none) ∙ is))
+use Rattle.tangle_scan.proofs.lemmas.SpacingLemmas.{item-ahead, macro-begin, left-front_gap}
 
 -- the item of a token other than white space and line ends
 unmarked-step : (e : Token) (es : List Token) → is_front_gap e ≡ false
@@ -33,45 +30,202 @@ pub unmarked-blank : (blank : Bool) (es : List Token)
 unmarked-blank true es = refl
 unmarked-blank false es = refl
 
-pub unmarked-line : (texts : List (List ℕ)) (at next : MacroState) (line : ℕ) (es : List Token) →
-    next.in_name ≡ false → next.has_item ≡ false → next.has_white ≡ false →
-    (if has_blank_at_line_end texts at.in_name (item_before at) (next_item (without_backslashes texts es))
-    then item.Blank ∷ [] else [])
-    ++ item.LineEnd ∷ unmarked_from texts next es
-    ≡ unmarked_from texts at (token.LineEnd line ∷ es)
-unfolding unmarked_from
-unmarked-line texts at next line es name none white =
-    rw (name, none, white)
-    (sym (unmarked-blank (has_blank_at_line_end texts at.in_name (item_before at)
-    (next_item (without_backslashes texts es)))
-    (token.LineEnd line ∷ macro_blanks texts false None false (without_backslashes texts es))))
+-- the items after a gap, of which a part was read
 
--- a backslash before a line end is passed over
-pub unmarked-passed : (texts : List (List ℕ)) (at : MacroState) (e : Token) (es : List Token)
-    → is_line_backslash texts e es ≡ true → unmarked_from texts at es ≡ unmarked_from texts at (e ∷ es)
-unfolding unmarked_from
-unmarked-passed texts at e es is = rw is refl
+front-white : (texts : List (List ℕ)) (es : List Token)
+    → macro_blanks texts false None true es ≡ macro_blanks texts false None false es
+front-white texts [] = refl
+front-white texts (token.White ∷ es) = refl
+front-white texts (token.LineEnd line ∷ es) = refl
+front-white texts (e ∷ es) = refl
 
-before-some : (has : Bool) (e : Token) → is_some (if has then Some e else None) ≡ has
-before-some true e = refl
-before-some false e = refl
+one-more : (n : ℕ) (items : List Item)
+    → replicate n item.LineEnd ++ item.LineEnd ∷ items ≡ replicate (suc n) item.LineEnd ++ items
+one-more zero items = refl
+one-more (suc n) items = ap (λ t. item.LineEnd ∷ t) (one-more n items)
 
-pub unmarked-item : (texts : List (List ℕ)) (at next : MacroState) (e : Token) (es : List Token)
-    → is_line_backslash texts e es ≡ false → is_front_gap e ≡ false → next.in_name ≡ (at.in_name && not at.has_white && is_name_part e) → item_before next ≡ Some e
-    → next.has_white ≡ false
-    → (if at.has_item && at.has_white then item.Blank ∷ [] else [])
-    ++ (option_to_list (item_of e) ++ unmarked_from texts next es)
-    ≡ unmarked_from texts at (e ∷ es)
-unfolding unmarked_from
-unmarked-item texts at next e es kept solid name some white =
-    let before = item_before at in
-    let left = without_backslashes texts es in
-    let rest = macro_blanks texts (at.in_name && not at.has_white && is_name_part e) (Some e) false left in
-    rw (kept, name, some, white)
-    (ap (λ has.
-    (if has && at.has_white then item.Blank ∷ [] else []) ++ (option_to_list (item_of e) ++ unmarked_items rest))
-    (sym (before-some at.has_item at.item.now))
-    ∙ (ap (λ t. (if is_some before && at.has_white then item.Blank ∷ [] else []) ++ t)
-    (sym (unmarked-step e rest solid))
-    ∙ (sym (unmarked-blank (is_some before && at.has_white) (e ∷ rest))
-    ∙ ap unmarked_items (sym (macro_blanks-item texts at.in_name before at.has_white e left solid)))))
+some-ends : (n : ℕ) → (suc n == 0) ≡ false
+some-ends n = grind arith
+
+abbrev after_ends : List (List ℕ) → Bool → Option Token → ℕ → List Token → List Item
+after_ends texts in_name before ends es =
+    blank_if (has_blank_at_line_end texts in_name before (next_item es))
+    ++ (replicate ends item.LineEnd ++ unmarked_items (macro_blanks texts false None false es))
+
+gap-after_ends : (texts : List (List ℕ)) (in_name : Bool) (before : Option Token) (ends : ℕ) (gap es : List Token)
+    → list_all is_front_gap gap ≡ true
+    → after_ends texts in_name before ends (gap ++ es) ≡ after_ends texts in_name before (ends + line_ends gap) es
+gap-after_ends texts in_name before ends [] es h =
+    let same : ends ≡ ends + 0 = omega arith in ap (λ n. after_ends texts in_name before n es) same
+gap-after_ends texts in_name before ends (token.White ∷ gap) es h =
+    rw (front-white texts (gap ++ es)) (gap-after_ends texts in_name before ends gap es h)
+gap-after_ends texts in_name before ends (token.LineEnd line ∷ gap) es h =
+    let more : suc ends + line_ends gap ≡ ends + suc (line_ends gap) = omega arith in
+    ap (λ t. blank_if (has_blank_at_line_end texts in_name before (next_item (gap ++ es))) ++ t)
+    (one-more ends (unmarked_items (macro_blanks texts false None false (gap ++ es))))
+    ∙ (gap-after_ends texts in_name before (suc ends) gap es h ∙ ap (λ n. after_ends texts in_name before n es) more)
+gap-after_ends texts in_name before ends (_ ∷ gap) es h = cc
+
+abbrev gap_with : Bool → ℕ → Gap
+gap_with white ends = record { has_join = false; has_white = white; line_ends = ends }
+
+-- after white space and before line ends
+gap-on_line : (texts : List (List ℕ)) (in_name : Bool) (before : Option Token) (white : Bool) (gap es : List Token)
+    → list_all is_front_gap gap ≡ true
+    → unmarked_items (macro_blanks texts in_name before white (gap ++ es))
+    ≡ items_from texts in_name before (gap_with (white || has_white gap) (line_ends gap)) es
+gap-on_line texts in_name before white [] es h = rw (or-false white) refl
+gap-on_line texts in_name before white (token.White ∷ gap) es h =
+    rw (or-true white) (gap-on_line texts in_name before true gap es h)
+gap-on_line texts in_name before white (token.LineEnd line ∷ gap) es h =
+    let more : 1 + line_ends gap ≡ suc (line_ends gap) = omega arith in
+    rw (some-ends (line_ends gap))
+    (unmarked-blank (has_blank_at_line_end texts in_name before (next_item (gap ++ es)))
+    (token.LineEnd line ∷ macro_blanks texts false None false (gap ++ es))
+    ∙ (gap-after_ends texts in_name before 1 gap es h ∙ ap (λ n. after_ends texts in_name before n es) more))
+gap-on_line texts in_name before white (_ ∷ gap) es h = cc
+
+gap-items : (texts : List (List ℕ)) (in_name : Bool) (before : Option Token) (white : Bool) (ends : ℕ)
+    (gap es : List Token) → list_all is_front_gap gap ≡ true
+    → items_from texts in_name before (gap_with white ends) (gap ++ es)
+    ≡ items_from texts in_name before (gap_with (white || has_white gap) (ends + line_ends gap)) es
+gap-items texts in_name before white zero gap es h =
+    let same : line_ends gap ≡ 0 + line_ends gap = omega arith in
+    gap-on_line texts in_name before white gap es h
+    ∙ ap (λ n. items_from texts in_name before (gap_with (white || has_white gap) n) es) same
+gap-items texts in_name before white (suc n) gap es h =
+    let more : (suc n + line_ends gap == 0) ≡ false = grind arith in
+    rw (some-ends n, more) (gap-after_ends texts in_name before (suc n) gap es h)
+
+-- the items after a gap, at an item and at the end
+
+solid-front : (e : Token) → is_solid e ≡ true → is_front_gap e ≡ false
+solid-front token.White h = cc
+solid-front _ h = cc
+
+next-solid : (e : Token) (es : List Token) → is_solid e ≡ true → next_item (e ∷ es) ≡ Some e
+next-solid token.White es h = cc
+next-solid _ es h = cc
+
+solid-items : (texts : List (List ℕ)) (in_name : Bool) (before : Option Token) (white : Bool) (ends : ℕ) (e : Token)
+    (es : List Token) → is_solid e ≡ true → items_from texts in_name before (gap_with white ends) (e ∷ es)
+    ≡ blank_if (has_blank texts in_name before (gap_with white ends) e) ++ (replicate ends item.LineEnd
+    ++ (option_to_list (item_of e) ++ unmarked_items
+    (macro_blanks texts (in_name && (ends == 0 && not white) && is_name_part e) (Some e) false es)))
+solid-items texts in_name before white zero e es h =
+    let rest = macro_blanks texts (in_name && not white && is_name_part e) (Some e) false es in
+    rw (
+      macro_blanks-item texts in_name before white e es (solid-front e h),
+      unmarked-blank (is_some before && white) (e ∷ rest),
+      unmarked-step e rest (solid-front e h),
+    ) refl
+solid-items texts in_name before white (suc n) e es h =
+    rw (
+      some-ends n,
+      macro_blanks-item texts false None false e es (solid-front e h),
+      next-solid e es h,
+      unmarked-step e (macro_blanks texts false (Some e) false es) (solid-front e h),
+      and-false in_name,
+    ) refl
+
+end-items : (texts : List (List ℕ)) (in_name : Bool) (before : Option Token) (white : Bool) (ends : ℕ)
+    → items_from texts in_name before (gap_with white ends) [] ≡ replicate ends item.LineEnd
+end-items texts in_name before white zero = refl
+end-items texts in_name None white (suc n) = rw (some-ends n) (append-nil (replicate (suc n) item.LineEnd))
+end-items texts in_name (Some e) white (suc n) = rw (some-ends n) (append-nil (replicate (suc n) item.LineEnd))
+
+-- backslashes, of which a gap has none
+
+gap-backslashes : (texts : List (List ℕ)) (gap es : List Token) → list_all is_front_gap gap ≡ true
+    → without_backslashes texts (gap ++ es) ≡ gap ++ without_backslashes texts es
+gap-backslashes texts [] es h = refl
+gap-backslashes texts (token.White ∷ gap) es h = ap (λ t. token.White ∷ t) (gap-backslashes texts gap es h)
+gap-backslashes texts (token.LineEnd line ∷ gap) es h =
+    ap (λ t. token.LineEnd line ∷ t) (gap-backslashes texts gap es h)
+gap-backslashes texts (_ ∷ gap) es h = cc
+
+gap-ends_line : (gap es : List Token) → list_all is_front_gap gap ≡ true → ends_line es ≡ false
+    → ends_line (gap ++ es) ≡ not (line_ends gap == 0)
+gap-ends_line [] es h none = none
+gap-ends_line (token.White ∷ gap) es h none = gap-ends_line gap es h none
+gap-ends_line (token.LineEnd line ∷ gap) es h none = rw (some-ends (line_ends gap)) refl
+gap-ends_line (_ ∷ gap) es h none = cc
+
+item-ends_line : (texts : List (List ℕ)) (es : List Token) → ends_line (joined_from texts false (from_item es)) ≡ false
+item-ends_line texts [] = refl
+item-ends_line texts (token.Fault kind line ∷ es) = item-ends_line texts es
+item-ends_line texts (token.Join ∷ es) = item-ends_line texts es
+item-ends_line texts (token.White ∷ es) = item-ends_line texts es
+item-ends_line texts (token.LineEnd line ∷ es) = item-ends_line texts es
+item-ends_line texts (token.InnerLineEnd line ∷ es) = item-ends_line texts es
+item-ends_line texts (e ∷ es) = rw (item-ahead texts false e es refl) refl
+
+drops : (texts : List (List ℕ)) (e : Token) (gap es : List Token) → list_all is_front_gap gap ≡ true
+    → ends_line es ≡ false → is_line_backslash texts e (gap ++ es) ≡ is_dropped texts e (gap_of gap)
+drops texts (token.Span span_kind.Sign s) gap es h none = rw (gap-ends_line gap es h none) refl
+drops texts _ gap es h none = refl
+
+-- the items ahead of an item, which a backslash before a line end is not
+
+ahead : (texts : List (List ℕ)) (at : MacroState) (e : Token) (es : List Token) → is_solid e ≡ true
+    → items_ahead texts at (e ∷ es) ≡ items_from texts at.in_name at.item at.gap
+    ((if is_dropped texts e (gap_of (left_gap texts at.is_first e es)) then [] else e ∷ [])
+    ++ (left_gap texts at.is_first e es ++ without_backslashes texts (joined_from texts false (from_item es))))
+unfolding items_ahead
+ahead texts at e es h =
+    let left = left_gap texts at.is_first e es in
+    let next = joined_from texts false (from_item es) in
+    let gap = left-front_gap texts at.is_first e es in
+    rw (
+      item-ahead texts at.is_first e es h,
+      drops texts e left next gap (item-ends_line texts es),
+      gap-backslashes texts left next gap,
+    ) refl
+
+pub ahead-item : (texts : List (List ℕ)) (at : MacroState) (e : Token) (es : List Token) → is_solid e ≡ true →
+    let gap : Gap = gap_of (left_gap texts at.is_first e es) in
+    is_dropped texts e gap ≡ false → items_ahead texts at (e ∷ es)
+    ≡ blank_if (has_blank texts at.in_name at.item at.gap e)
+    ++ (replicate at.gap.line_ends item.LineEnd ++ (option_to_list (item_of e)
+    ++ items_ahead texts (record { is_first = false; item = Some e; in_name = is_in_name at e; gap = gap }) (from_item es)))
+unfolding items_ahead
+ahead-item texts at e es h kept =
+    let left = left_gap texts at.is_first e es in
+    let next = without_backslashes texts (joined_from texts false (from_item es)) in
+    ahead texts at e es h
+    ∙ rw (kept, ← gap-on_line texts (is_in_name at e) (Some e) false left next (left-front_gap texts at.is_first e es))
+    (solid-items texts at.in_name at.item at.gap.has_white at.gap.line_ends e (left ++ next) h)
+
+pub ahead-backslash : (texts : List (List ℕ)) (at : MacroState) (e : Token) (es : List Token) → is_solid e ≡ true →
+    let gap : Gap = gap_of (left_gap texts at.is_first e es) in
+    is_dropped texts e gap ≡ true → items_ahead texts at (e ∷ es) ≡ items_ahead texts (record at {
+      is_first = false;
+      gap = gap_with (at.gap.has_white || gap.has_white) (at.gap.line_ends + gap.line_ends);
+    }) (from_item es)
+unfolding items_ahead
+ahead-backslash texts at e es h gone =
+    ahead texts at e es h
+    ∙ rw gone
+    (gap-items texts at.in_name at.item at.gap.has_white at.gap.line_ends (left_gap texts at.is_first e es) _
+    (left-front_gap texts at.is_first e es))
+
+pub ahead-begin : (texts : List (List ℕ)) (at : MacroState) (es : List Token)
+    → at ≡ record { is_first = true; item = None; in_name = true; gap = gap_of [] }
+    → items_ahead texts at (from_item es) ≡ macro_items texts es
+unfolding items_ahead
+ahead-begin texts at es is = rw (is, macro-begin texts es) refl
+
+pub ahead-end : (texts : List (List ℕ)) (at : MacroState) (first : Bool) (es : List Token) → es ≡ []
+    → at.is_first ≡ first → items_ahead texts at es ≡ replicate at.gap.line_ends item.LineEnd
+unfolding items_ahead
+ahead-end texts at true es none is = rw (none, is) (end-items texts at.in_name at.item at.gap.has_white at.gap.line_ends)
+ahead-end texts at false es none is = rw (none, is) (end-items texts at.in_name at.item at.gap.has_white at.gap.line_ends)
+
+pub first-solid : (es : List Token) → list_all is_solid (take 1 (from_item es)) ≡ true
+first-solid [] = refl
+first-solid (token.Fault kind line ∷ es) = first-solid es
+first-solid (token.Join ∷ es) = first-solid es
+first-solid (token.White ∷ es) = first-solid es
+first-solid (token.LineEnd line ∷ es) = first-solid es
+first-solid (token.InnerLineEnd line ∷ es) = first-solid es
+first-solid (_ ∷ es) = refl

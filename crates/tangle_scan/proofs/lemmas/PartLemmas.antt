@@ -26,7 +26,7 @@ use Rattle.tangle_scan.specs.declared.parts.Last.TheVariants as last
 use Rattle.tangle_scan.specs.declared.parts.PartState.{PartState}
 use Rattle.tangle_scan.specs.declared.parts.Start.{Start}
 use Rattle.tangle_scan.specs.Entries.{items_of, part_item}
-use Rattle.tangle_scan.specs.Rules.{without_faults, would_merge, is_constant, first_byte}
+use Rattle.tangle_scan.specs.Rules.{clean_tokens, white_inner_end, would_merge, is_constant, first_byte}
 use Rattle.tangle_scan.specs.Rules.{may_merge, without_joins, is_gap, left_of_run, ends_in, is_open}
 use Rattle.tangle_scan.specs.Rules.{has_join, texts_of, is_continued, at_line_front}
 use Rattle.tangle_text.specs.Bytes.{backslash, slash, is_word_byte}
@@ -53,12 +53,14 @@ white_if b = if b then token.White ∷ [] else []
 apart : (a b : Bool) → (a && false || b && false) ≡ false
 apart a b = rw (and-false a, and-false b) refl
 
-spaced-gap : (texts : List (List ℕ)) (gap : List Token) (prev e : Token) (es : List Token) → is_gap e ≡ true
+spaced-gap : (texts : List (List ℕ)) (gap : List Token) (prev e : Token) (es : List Token)
+    → is_gap e ≡ true → white_inner_end e ≡ e
     → without_joins gap (spaced_after texts prev (e ∷ es)) ≡ without_joins (gap ++ e ∷ []) (spaced_after texts e es)
-spaced-gap texts gap prev token.Join es h = rw (apart (is_constant prev) (may_merge texts prev)) refl
-spaced-gap texts gap prev token.White es h = rw (apart (is_constant prev) (may_merge texts prev)) refl
-spaced-gap texts gap prev (token.LineEnd line) es h = rw (apart (is_constant prev) (may_merge texts prev)) refl
-spaced-gap texts gap prev _ es h = cc
+spaced-gap texts gap prev token.Join es h same = rw (apart (is_constant prev) (may_merge texts prev)) refl
+spaced-gap texts gap prev token.White es h same = rw (apart (is_constant prev) (may_merge texts prev)) refl
+spaced-gap texts gap prev (token.LineEnd line) es h same = rw (apart (is_constant prev) (may_merge texts prev)) refl
+spaced-gap texts gap prev (token.InnerLineEnd line) es h same = cc
+spaced-gap texts gap prev _ es h same = cc
 
 -- faults are left out
 pub passed-fault : (lines : List SourceLine) (whole : List Item) (entries : List Entry) (at : PartState)
@@ -112,8 +114,15 @@ passed-white lines whole entries at es h = record {
     merges = λ e. sym (ap (λ b. b && entries_merge (texts_of lines) entries e) (and-false (is_item at.last)));
   };
   left = h.left
-      ∙ ap (from_gap lines entries at h.read.front) (spaced-gap (texts_of lines) h.read.gap h.read.prev token.White es refl);
+      ∙ ap (from_gap lines entries at h.read.front) (spaced-gap (texts_of lines) h.read.gap h.read.prev token.White es refl refl);
 }
+
+-- a line end of a directive is white space
+pub passed-inner_end : (lines : List SourceLine) (whole : List Item) (entries : List Entry) (at : PartState)
+    (line : ℕ) (es : List Token) → IsPassed lines whole entries at (token.InnerLineEnd line ∷ es)
+    → IsPassed lines whole entries (record at { has_white = true }) es
+passed-inner_end lines whole entries at line es h =
+    passed-white lines whole entries at es (record { read = h.read; left = h.left })
 
 -- a line end
 
@@ -142,7 +151,7 @@ passed-joined-end lines whole entries at line es is h =
         merges = λ e. rw is refl;
       };
       left = h.left
-          ∙ ap (from_gap lines entries at h.read.front) (spaced-gap (texts_of lines) h.read.gap h.read.prev (token.LineEnd line) es refl);
+          ∙ ap (from_gap lines entries at h.read.front) (spaced-gap (texts_of lines) h.read.gap h.read.prev (token.LineEnd line) es refl refl);
     }
 
 after-end : (continued : Bool) → is_after_line_end (last_after_line_end continued) ≡ true
@@ -221,7 +230,7 @@ passed-end lines whole entries at line counted es other is h = record {
     merges = λ e. sym (ap (λ b. b && true && entries_merge texts (entries ++ entry.Item made ∷ []) e)
         (item-end continued));
   };
-  left = h.left ∙ (ap (from_gap lines entries at h.read.front) (spaced-gap texts gap h.read.prev (token.LineEnd line) es refl)
+  left = h.left ∙ (ap (from_gap lines entries at h.read.front) (spaced-gap texts gap h.read.prev (token.LineEnd line) es refl refl)
       ∙ sym (same (without_joins (gap ++ token.LineEnd line ∷ []) (spaced_after texts (token.LineEnd line) es))));
 }
   where
@@ -297,7 +306,7 @@ passed-join lines whole entries at es h =
         before_open = h.read.front_open;
         merges = λ e. refl;
       };
-      left = rw all (h.left ∙ ap (from_gap lines entries at h.read.front) (spaced-gap (texts_of lines) h.read.gap h.read.prev token.Join es refl));
+      left = rw all (h.left ∙ ap (from_gap lines entries at h.read.front) (spaced-gap (texts_of lines) h.read.gap h.read.prev token.Join es refl refl));
     }
   where
     within : (b : Bool) → at.start.entries
@@ -314,6 +323,7 @@ ahead lines e counted es = items_after lines (Some e) counted false (without_joi
 solid-spaced : (texts : List (List ℕ)) (prev e : Token) (es : List Token) → is_solid e ≡ true
     → spaced_after texts prev (e ∷ es) ≡ white_if (would_merge texts prev e) ++ e ∷ spaced_after texts e es
 solid-spaced texts prev (token.Fault kind line) es h = cc
+solid-spaced texts prev (token.InnerLineEnd line) es h = cc
 solid-spaced texts prev _ es h = refl
 
 solid-gap : (e : Token) → is_solid e ≡ true → is_gap e ≡ false
@@ -567,7 +577,7 @@ passed-begin lines line at es front start is_start is = record {
     merges = λ e. rw front refl;
   };
   left = part_items-by_origin lines line es
-      ∙ rw (front, start, is_start, spaced-inside (texts_of lines) (without_faults es)) refl;
+      ∙ rw (front, start, is_start, spaced-inside (texts_of lines) (clean_tokens es)) refl;
 }
 
 last-blank : (lines : List SourceLine) (before : Option Token) (counted : Origin) (b : Bool)

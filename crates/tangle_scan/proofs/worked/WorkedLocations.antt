@@ -62,6 +62,19 @@ quote_break :
     ≡ word_location 2 true ∷ word_location 2 false ∷ []
 quote_break = refl
 
+-- a line end inside a comment of a directive begins a stretch, and one of a run with a join is removed with the run
+inner_line_ends :
+    part_locations (source (origin 2)) 1
+    (word 1 ∷ token.White ∷ token.InnerLineEnd 1 ∷ word 2 ∷ token.LineEnd 2 ∷ word 3 ∷ [])
+    ≡ word_location 1 false ∷ word_location 2 true ∷ word_location 3 false ∷ []
+inner_line_ends = refl
+
+inner_line_end_joined :
+    tokens_and_joins []
+    (word 1 ∷ token.LineEnd 1 ∷ token.White ∷ token.InnerLineEnd 2 ∷ token.Join ∷ word 3 ∷ [])
+    ≡ word 1 ∷ token.Join ∷ word 3 ∷ []
+inner_line_end_joined = refl
+
 -- the end of a continued line begins no stretch, if the next source line is the one that the count expects
 abbrev continued : List Token
 continued = sign 1 ∷ token.White ∷ token.LineEnd 1 ∷ word 2 ∷ token.LineEnd 2 ∷ word 3 ∷ []

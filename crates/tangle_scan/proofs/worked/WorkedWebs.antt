@@ -30,7 +30,7 @@ abbrev web : List (List ℕ) → WebRead
 web texts = web_of (source texts)
 
 -- a fault on a line of a.w
-abbrev on : FaultKind → ℕ → FaultRead
+abbrev pub on : FaultKind → ℕ → FaultRead
 on kind n = fault_at kind (record { file = codes "a.w"; line = n })
 
 -- a number of one or two digits
@@ -61,13 +61,13 @@ abbrev shown_macros : WebRead → List ℕ
 shown_macros w = flat_map (λ m. flat_map (item_shown w.texts) m ++ 10 ∷ []) w.macros
 
 -- what the examples show of a web: its pieces and macros as bytes, and the texts of its occurrences
-record Shown : Type 0 where
-  sections : ℕ
-  pieces : List ℕ
-  macros : List ℕ
-  names : List (List ℕ)
-  has_all_macros : Bool
-  faults : List FaultRead
+pub record Shown : Type 0 where
+  pub sections : ℕ
+  pub pieces : List ℕ
+  pub macros : List ℕ
+  pub names : List (List ℕ)
+  pub has_all_macros : Bool
+  pub faults : List FaultRead
 
 abbrev web_shown : WebRead → Shown
 web_shown w = record {
@@ -79,11 +79,11 @@ web_shown w = record {
   faults = w.faults;
 }
 
-abbrev shown : List (List ℕ) → Shown
+abbrev pub shown : List (List ℕ) → Shown
 shown texts = web_shown (web texts)
 
 -- one section without pieces; an example says what else its web has
-abbrev plain : Shown
+abbrev pub plain : Shown
 plain = record { sections = 1; pieces = []; macros = []; names = []; has_all_macros = false; faults = [] }
 
 -- one C part

@@ -64,7 +64,7 @@ se
 (x) x
 #define VERBATIM x@=y\@>
   z
-#define OVER_COMMENTS else\ /* one
+#define OVER_COMMENTS else/* one
 */ x @^index@>\@^index@>
 @^index@>y
 #define MANY a \

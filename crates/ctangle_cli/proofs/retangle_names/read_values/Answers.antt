@@ -8,7 +8,7 @@ pub returns-in_err-matches-clause-accepted : goal.returns-in_err-matches-clause-
 returns-in_err-matches-clause-accepted g c =
     let arguments : List Text = map g.S.AsStr.text c.args.arguments.now in
     err_gives c.from_residual-in_err-matches.result _ _ c.from_residual-in_err-matches.ensures.1
-    (λ fault gives accepted. gives (c.in_err-matches.ensures.passes
+    (λ fault gives accepted. gives.1 (c.in_err-matches.ensures.passes
     (takes_is c.in_ok-command.command retangle_app arguments c.in_ok-command.ensures.app accepted)))
 
 pub returns-clause-ok : goal.returns-clause-ok

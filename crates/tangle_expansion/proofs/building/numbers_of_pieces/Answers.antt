@@ -1,7 +1,7 @@
 use Rattle.std.proofs.Common.{◌<◌, ◌+◌, ◌++◌, ◌∷◌, [], length, map, drop, get_or, ap, sym, ◌∙◌, subst, All}
 use Rattle.std.proofs.Common.{append_assoc, arith}
 use Rattle.std.proofs.lemmas.List.Elements.{All-push}
-use Rattle.tangle_plans.specs.ItemSlots.{pieces_at}
+use Rattle.tangle_plans.specs.Nodes.{pieces_at}
 use Rattle.tangle_expansion.specs.Numbers.{numbers_of_piece}
 use Rattle.tangle_expansion.specs.SymbolLimits.{IsShort}
 use Rattle.tangle_expansion.proofs.OriginLemmas.{piece-stored, single, number-next}

@@ -1,5 +1,5 @@
 use Rattle.std.proofs.Common.{◌≡◌, ◌++◌, drop, map, All}
-use Rattle.tangle_plans.specs.ItemSlots.{pieces_at}
+use Rattle.tangle_plans.specs.Nodes.{pieces_at}
 use Rattle.tangle_expansion.specs.Numbers.{numbers_of_piece}
 use Rattle.tangle_expansion.specs.SymbolLimits.{IsShort}
 use Rattle.tangle_expansion.proofs.building.numbers_of_pieces.Given as goal

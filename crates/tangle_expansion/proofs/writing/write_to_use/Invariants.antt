@@ -1,17 +1,18 @@
-use Rattle.std.proofs.Common.{◌≡◌, ◌-◌, length}
-use Rattle.tangle_expansion.specs.Writing.{rest_after_use, bytes_to_use}
-use Rattle.tangle_expansion.proofs.WriteLemmas.{Wrote}
+use Rattle.std.proofs.Common.{◌≤◌, ◌-◌, length}
+use Rattle.tangle_expansion.specs.Writing.{bytes_between, bytes_from}
+use Rattle.tangle_expansion.proofs.CursorLemmas.{WroteTo}
 use Rattle.tangle_expansion.proofs.writing.write_to_use.Given as goal
 
-abbrev pub invariant-loop-at : goal.invariant-loop-at
-invariant-loop-at g l =
+abbrev pub invariant-loop-end : goal.invariant-loop-end
+invariant-loop-end g l =
     let t = g.S.Sink.stream in
     record {
-      wrote : Wrote (t l.fn.sink) (t l.sink) l.fn.so_far l.so_far
-          (bytes_to_use l.text.body.now l.at l.text.numbers.now)
-          (bytes_to_use l.text.body.now l.fn.from l.text.numbers.now);
-      rest : rest_after_use l.text.body.now l.fn.from ≡ rest_after_use l.text.body.now l.at;
+      low : l.at.start ≤ l.end.start;
+      wrote : WroteTo (t l.fn.sink) (t l.sink) l.fn.so_far l.so_far
+          (bytes_between l.text.body.now.bytes.items l.at.start l.end.start)
+          (bytes_from l.text.body.now l.end l.text.numbers.now)
+          (bytes_from l.text.body.now l.fn.from l.text.numbers.now);
     }
 
-abbrev pub decreases-loop-at : goal.decreases-loop-at
-decreases-loop-at g l = length l.text.body.now.plan.items - l.at.step
+abbrev pub decreases-loop-end : goal.decreases-loop-end
+decreases-loop-end g l = length l.text.body.now.tags.items - l.end.tag

@@ -1,10 +1,11 @@
 use Rattle.std.proofs.Common.{◌≡◌, ◌∙◌, ◌<◌, ◌≤◌, length, length-set, get_or, suc, take, subst, arith}
 use Rattle.std.proofs.lemmas.List.{get_or_read}
 use Rattle.std.proofs.lemmas.List.Elements.{All-set}
-use Rattle.digraph.specs.Graph.{HasUse}
+use Rattle.digraph.specs.Graph.{HasUse, row_at}
 use Rattle.tangle_expansion.specs.Limits.{weight_cap, weight_of}
 use Rattle.tangle_plans.specs.Flat.{weight}
-use Rattle.tangle_plans.specs.Nodes.{title_at}
+use Rattle.tangle_plans.specs.ItemTags.{shape_of}
+use Rattle.tangle_plans.specs.Nodes.{pieces_at, title_at}
 use Rattle.tangle_plans.specs.WebShapes.{shapes}
 use Rattle.tangle_graph.proofs.OrderLemmas.{heavier, left_out, measured_next, measured_all}
 use Rattle.tangle_graph.proofs.StepLemmas.{weight_step}
@@ -36,7 +37,7 @@ loop-node-preserved c =
     record {
       size = length-set c.loop-node.weights.items n c.weight_of_node.result ∙ c.loop-node.invariant.size;
       capped = All-set (λ weight. weight ≤ weight_cap) c.loop-node.weights.items n c.weight_of_node.result
-          (omega (arith, c.weight_of_node.ensures)) c.loop-node.invariant.capped;
+          (omega (arith, c.weight_of_node.ensures.capped)) c.loop-node.invariant.capped;
       measured = λ web table rows graph bodies inside. (
           let is = body_given web table rows c.args.bodies.now n c.index-bodies-n.result bodies
           (omega (arith, low, graph.rows_size, graph.uses_size)) c.index-bodies-n.is in
@@ -47,7 +48,9 @@ loop-node-preserved c =
           (weight_step web table rows c.args.uses.now graph (take i order) n low
           (λ m u. after_uses.after i m h (subst (λ k. HasUse c.args.uses.now k m) number u))
           c.loop-node.weights.items c.index-bodies-n.result.value c.weight_of_node.result inside measured is
-          (rw (c.deref-in-loop-node.ensures, c.deref.ensures.value) at c.weight_of_node.ensures))).1);
+          (rw (c.deref-in-loop-node.ensures, c.deref.ensures.value) at
+          (c.weight_of_node.ensures.weight table.names (shape_of web.texts table (pieces_at web.pieces (row_at rows n)))
+          (rw c.deref-in-loop-node.ensures is.shape))))).1);
     }
 
 pub returns-clause-weights : goal.returns-clause-weights

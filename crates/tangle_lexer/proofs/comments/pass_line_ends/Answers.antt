@@ -1,9 +1,11 @@
-use Rattle.std.proofs.Common.{ap, sym, ◌∙◌, append-nil, append_assoc, ◌++◌}
+use Rattle.std.proofs.Common.{ap, sym, ◌∙◌, append-nil, append_assoc, ◌++◌, map}
+use Rattle.std.proofs.lemmas.List.{map-append}
 use Rattle.tangle_text.specs.Regions.{region_end}
-use Rattle.tangle_lexer.specs.Lexemes.{include_over}
+use Rattle.tangle_lexer.specs.LinesOfC.{inner_end_in, after_line_ends}
+use Rattle.tangle_lexer.specs.Lexemes.{is_in_directive}
 use Rattle.tangle_lexer.specs.Comments.{line_ends}
 use Rattle.tangle_text.proofs.RegionLemmas.{unit_at-front, region_end-nothing, region_end-stop, region_end-go}
-use Rattle.tangle_lexer.proofs.lemmas.LexemeLemmas.{line_ends-go, line_ends-stop, include_over-append}
+use Rattle.tangle_lexer.proofs.lemmas.LexemeLemmas.{line_ends-go, line_ends-stop, after_line_ends-append}
 use Rattle.tangle_lexer.proofs.lemmas.OrdinaryLemmas.{line_ends-ordinary}
 use Rattle.tangle_text.proofs.OrdinaryBytes.{region_end-ordinary}
 use Rattle.tangle_lexer.proofs.comments.pass_line_ends.Goals as goal
@@ -17,8 +19,10 @@ returns-in-Stop c =
     record {
       ahead = sym (region_end-stop r text stop) ∙ c.loop-front.invariant.end;
       tokens = sym (append-nil c.loop-front.tokens.items)
-          ∙ (ap (λ ts. c.loop-front.tokens.items ++ ts) (sym none) ∙ c.loop-front.invariant.tokens);
-      include = sym (ap (λ ts. include_over ts c.loop-front.include) none) ∙ c.loop-front.invariant.include;
+          ∙ (ap (λ ts. c.loop-front.tokens.items ++ map (inner_end_in (is_in_directive c.args.state)) ts) (sym none)
+          ∙ c.loop-front.invariant.tokens);
+      line = sym (ap (λ ts. after_line_ends (is_in_directive c.args.state) ts c.loop-front.at) none)
+          ∙ c.loop-front.invariant.line;
     }
 
 pub loop-front-init : goal.loop-front-init
@@ -29,8 +33,8 @@ loop-front-init c =
     ap (line_ends c.args.region) skip.1 ∙ line_ends-ordinary c.args.region is skip.0 c.args.reader.now skip.2 in
     record {
       end = ap (region_end c.args.region) skip.1 ∙ region_end-ordinary c.args.region is skip.0 c.args.reader.now skip.2;
-      tokens = ap (λ ts. c.args.tokens.now.items ++ ts) same;
-      include = ap (λ ts. include_over ts c.args.state.include) same;
+      tokens = ap (λ ts. c.args.tokens.now.items ++ map (inner_end_in (is_in_directive c.args.state)) ts) same;
+      line = ap (λ ts. after_line_ends (is_in_directive c.args.state) ts c.args.state.line) same;
     }
 
 pub loop-front-preserved : goal.loop-front-preserved
@@ -49,21 +53,30 @@ loop-front-preserved c =
       tokens =
           let same =
           ap (line_ends c.args.region) skip.1 ∙ line_ends-ordinary c.args.region is skip.0 c.pass.new.self skip.2 in
-          ap (λ ts. c.push_line_end.new.tokens.items ++ ts) same
-          ∙ rw (c.pass.ensures, c.in_ok-include.ensures.tokens, c.line.ensures, ← front.byte, append_assoc, ← given)
-          c.loop-front.invariant.tokens;
-      include =
-          let same =
-          ap (line_ends c.args.region) skip.1 ∙ line_ends-ordinary c.args.region is skip.0 c.pass.new.self skip.2 in
-          ap (λ ts. include_over ts c.in_ok-include.include) same
+          ap (λ ts. c.push_line_end.new.tokens.items ++ map (inner_end_in (is_in_directive c.args.state)) ts) same
           ∙ rw (
             c.pass.ensures,
-            c.in_ok-include.ensures.include,
-            c.line.ensures,
+            c.in_ok-at.ensures.tokens,
+            c.is_in_directive-in_directive.ensures,
+            c.line-line.ensures,
             ← front.byte,
-            ← include_over-append,
+            append_assoc,
+            ← map-append,
             ← given,
-          ) c.loop-front.invariant.include;
+          ) c.loop-front.invariant.tokens;
+      line =
+          let same =
+          ap (line_ends c.args.region) skip.1 ∙ line_ends-ordinary c.args.region is skip.0 c.pass.new.self skip.2 in
+          ap (λ ts. after_line_ends (is_in_directive c.args.state) ts c.in_ok-at.at) same
+          ∙ rw (
+            c.pass.ensures,
+            c.in_ok-at.ensures.line,
+            c.is_in_directive-in_directive.ensures,
+            c.line-line.ensures,
+            ← front.byte,
+            ← after_line_ends-append,
+            ← given,
+          ) c.loop-front.invariant.line;
     }
 
 pub returns-clause-ahead : goal.returns-clause-ahead

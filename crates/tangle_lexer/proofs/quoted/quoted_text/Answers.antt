@@ -19,5 +19,5 @@ returns c =
       ) refl;
       ahead = c.in_ok-end_quote.ensures.ahead ∙ (ap (λ t. drop (one_if (holds c.args.close (byte_at 0 t))) t) end
           ∙ drop-end c.args.region (drop 1 c.args.reader.now) (λ t. holds c.args.close (byte_at 0 t)));
-      state = refl;
+      state = c.elsewhere.ensures;
     }

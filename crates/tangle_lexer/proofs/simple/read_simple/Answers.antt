@@ -1,5 +1,5 @@
 use Rattle.std.proofs.Common.{length, ap, sym, subst, ◌∙◌, arith}
-use Rattle.tangle_lexer.specs.Lexemes.{with_include}
+use Rattle.tangle_lexer.specs.Lexemes.{with_line}
 use Rattle.tangle_lexer.specs.Reads.{ReadsOn, AddsSimple}
 use Rattle.tangle_lexer.proofs.lemmas.BlockLemmas.{reads-nothing, reads-trans}
 use Rattle.tangle_lexer.proofs.simple.read_simple.Goals as goal
@@ -21,17 +21,17 @@ loop-simple-init c = record {
 pub loop-simple-preserved : goal.loop-simple-preserved
 loop-simple-preserved c =
     let before = c.loop-simple.invariant in
-    let step = c.in_ok-include.ensures in
+    let step = c.in_ok-line.ensures in
     let adds = subst (λ t. AddsSimple t.mode c.loop-simple.tokens.items c.run_or_simple.new.tokens.items)
-    c.with_include-state.ensures step.adds in
+    c.with_line-state.ensures step.adds in
     record {
       read = λ lines ours.
           let first = before.read lines ours in
-          reads-trans lines _ _ _ c.args.from (with_include c.loop-simple.include c.args.from) _ c.args.reader.now
+          reads-trans lines _ _ _ c.args.from (with_line c.loop-simple.line c.args.from) _ c.args.reader.now
           c.loop-simple.here _ first
           (subst (λ t. ReadsOn lines c.loop-simple.tokens.items c.run_or_simple.new.tokens.items t
-          (with_include c.in_ok-include.include t) c.loop-simple.here c.run_or_simple.new.reader)
-          c.with_include-state.ensures (step.read lines first.ours));
+          (with_line c.in_ok-line.line t) c.loop-simple.here c.run_or_simple.new.reader)
+          c.with_line-state.ensures (step.read lines first.ours));
       adds = record {
         no_head = λ none. adds.no_head (before.adds.no_head none);
         no_run = λ other none. adds.no_run other (before.adds.no_run other none);
@@ -43,4 +43,4 @@ loop-simple-preserved c =
 pub returns-clause-read : goal.returns-clause-read
 returns-clause-read c = λ lines ours.
     subst (λ t. ReadsOn lines c.args.tokens.now.items c.loop-simple.tokens.items c.args.from t
-    c.args.reader.now c.loop-simple.here) (sym c.with_include.ensures) (c.loop-simple.invariant.read lines ours)
+    c.args.reader.now c.loop-simple.here) (sym c.with_line.ensures) (c.loop-simple.invariant.read lines ours)

@@ -1,5 +1,7 @@
-use Rattle.std.proofs.Common.{◌≡◌, true, length, drop, refl, ap, sym, ◌∙◌, arith, length-drop}
+use Rattle.std.proofs.Common.{◌≡◌, true, length, drop, refl, ap, sym, ◌∙◌, subst, arith, length-drop}
 use Rattle.tangle_text.specs.Text.{byte_at}
+use Rattle.tangle_lexer.specs.Lexemes.{with_line}
+use Rattle.tangle_lexer.specs.Reads.{ReadsOn}
 use Rattle.tangle_lexer.specs.Simple.{begins_run, simple_kind}
 use Rattle.tangle_lexer.specs.Steps.{c_lexeme, lexeme}
 use Rattle.tangle_lexer.proofs.lemmas.BlockLemmas.{no-run, plain-reads-on}
@@ -9,17 +11,19 @@ use Rattle.tangle_lexer.proofs.simple.run_or_simple.Goals as goal
 
 pub returns-then-begins_run-clause-read : goal.returns-then-begins_run-clause-read
 returns-then-begins_run-clause-read c = λ lines ours.
-    let begins : begins_run c.args.state.mode c.args.state.include c.args.simple (byte_at 0 c.args.reader.now) ≡ true
-    = ap (begins_run c.args.state.mode c.args.state.include c.args.simple) (sym c.byte.ensures)
+    let begins : begins_run c.args.state.mode c.args.state.line c.args.simple (byte_at 0 c.args.reader.now) ≡ true
+    = ap (begins_run c.args.state.mode c.args.state.line c.args.simple) (sym c.byte.ensures)
     ∙ (sym c.begins_run.ensures ∙ c.if-begins_run.true) in
-    run-reads-on lines _ _ c.args.state c.args.reader.now _ c.take_run-run.result
+    subst (λ after. ReadsOn lines c.args.tokens.now.items c.push.new.self.items c.args.state
+    (with_line after.line c.args.state) c.args.reader.now c.take_run-run.new.self) (sym c.elsewhere.ensures)
+    (run-reads-on lines _ _ c.args.state c.args.reader.now _ c.take_run-run.result
     c.in_ok-push.ensures.items c.take_run-run.ensures.span c.take_run-run.ensures.ahead ours
-    (run-read lines c.args.state c.args.reader.now c.args.simple c.requires.simple begins ours)
+    (run-read lines c.args.state c.args.reader.now c.args.simple c.requires.simple begins ours))
 
 pub returns-clause-read : goal.returns-clause-read
 returns-clause-read c = λ lines ours.
     let state = c.args.state in
-    let again = simple-again _ _ state.include state state _ c.args.reader.now _ c.args.simple
+    let again = simple-again _ _ state.line state state _ c.args.reader.now _ c.args.simple
     refl c.in_ok-simple_step.ensures in
     let read = simple-read _ _ state _ c.args.reader.now _ c.args.simple c.requires.simple c.requires.mode again in
     plain-reads-on lines _ _ state _ c.args.reader.now _ c.requires.simple.inside read

@@ -1,8 +1,8 @@
 use Rattle.std.proofs.Common.{Result, Ok, Err, IfOk, ap, sym, ◌∙◌, refl, subst}
 use Rattle.tangle_lexer.specs.declared.tokens.LexerBuffers.{LexerBuffers}
-use Rattle.tangle_lexer.specs.Lexemes.{lexeme_of, with_include}
+use Rattle.tangle_lexer.specs.Lexemes.{lexeme_of, with_line}
 use Rattle.tangle_lexer.specs.Reads.{IsRead, ReadsLexeme}
-use Rattle.tangle_lexer.specs.CText.{include_after_sign}
+use Rattle.tangle_lexer.specs.CText.{line_after_sign}
 use Rattle.tangle_lexer.specs.Steps.{c_lexeme}
 use Rattle.tangle_lexer.specs.declared.lexeme_kinds.LexemeKind.TheVariants as lexeme_kind
 use Rattle.tangle_lexer.proofs.steps.c_text.Goals as goal
@@ -28,7 +28,7 @@ returns-in-Other c =
     let text = c.args.reader.now in
     let new : LexerBuffers = record { tokens = c.sign.new.tokens; occurrences = old.occurrences } in
     let state = c.after_sign-after.ensures
-    ∙ ap (λ b. with_include (include_after_sign b s.include) s) c.byte.ensures in
+    ∙ ap (λ b. with_line (line_after_sign b s.line) s) c.byte.ensures in
     let here = c_lexeme lexeme_kind.Other s text in
     if_ok c.sign.result
     (λ after read.

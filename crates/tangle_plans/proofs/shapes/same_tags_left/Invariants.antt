@@ -3,8 +3,8 @@ use Rattle.tangle_plans.proofs.shapes.same_tags_left.Given as goal
 
 abbrev pub invariant-loop-tag : goal.invariant-loop-tag
 invariant-loop-tag l =
-    (l.fn.left.tags ≡ l.fn.other.tags → l.left.tags ≡ l.other.tags)
-    × (l.left.tags ≡ l.other.tags → l.fn.left.tags ≡ l.fn.other.tags)
+    (l.fn.left ≡ l.fn.other → l.left ≡ l.other)
+    × (l.left ≡ l.other → l.fn.left ≡ l.fn.other)
 
 abbrev pub decreases-loop-tag : goal.decreases-loop-tag
-decreases-loop-tag l = length l.left.tags
+decreases-loop-tag l = length l.left

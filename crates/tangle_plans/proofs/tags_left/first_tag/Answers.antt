@@ -1,5 +1,5 @@
 use Rattle.std.proofs.Common.{◌∙◌, ◌-◌, slice_get, ap, sym, arith}
-use Rattle.tangle_plans.proofs.RemainingLemmas.{first_tag_is, no_tag_is}
+use Rattle.tangle_plans.proofs.LeftLemmas.{first_tag_is, no_tag_is}
 use Rattle.tangle_plans.proofs.tags_left.first_tag.Goals as goal
 
 pub returns-in-Some : goal.returns-in-Some

@@ -1,18 +1,23 @@
-use Rattle.std.proofs.Common.{ap, refl, subst}
+use Rattle.std.proofs.Common.{ap, refl, subst, inl, inr}
 use Rattle.tangle_lexer.specs.Runs.{IsRunIn, IsRunOf}
 use Rattle.tangle_scan.specs.declared.items.Entry.TheVariants as entry
 use Rattle.tangle_scan.specs.declared.parts.PartState.{PartState}
 use Rattle.tangle_scan.specs.Rules.{texts_of}
 use Rattle.tangle_scan.proofs.lemmas.EntryLemmas.{marked-item, marked-end, range-items, range-push}
-use Rattle.tangle_scan.proofs.lemmas.PartLemmas.{passed-white, passed-fault, passed-joined-end, passed-end, passed-join}
-use Rattle.tangle_scan.proofs.lemmas.PartLemmas.{passed-item, passed-run}
+use Rattle.tangle_scan.proofs.lemmas.PartLemmas.{passed-white, passed-inner_end, passed-fault, passed-joined-end, passed-end}
+use Rattle.tangle_scan.proofs.lemmas.PartLemmas.{passed-join, passed-item, passed-run}
 use Rattle.tangle_scan.proofs.lemmas.RuleLemmas.{solid}
 use Rattle.tangle_scan.proofs.lemmas.RunItems.{unfolded-one}
 use Rattle.tangle_scan.proofs.parts.add_token.Goals as goal
 
 pub returns-in-White-clause-passed : goal.returns-in-White-clause-passed
 returns-in-White-clause-passed c = λ whole es h.
-    passed-white c.args.source.now.lines whole c.args.entries.now.items c.args.at.now es (rw c.in-White.is at h)
+    elim c.in-White.is [
+      | inl white ↦
+          passed-white c.args.source.now.lines whole c.args.entries.now.items c.args.at.now es (rw white at h)
+      | inr inner ↦
+          passed-inner_end c.args.source.now.lines whole c.args.entries.now.items c.args.at.now _ es (rw inner.1 at h)
+    ]
 
 pub returns-in-Joined-clause-passed : goal.returns-in-Joined-clause-passed
 returns-in-Joined-clause-passed c = λ whole es h.
@@ -68,7 +73,7 @@ returns-in_ok-add_item-in_default-clause-passed c = λ whole es h.
     let e = c.args.token.now in
     let made = c.in_ok-add_item-in_default.ensures in
     passed-item c.args.source.now.lines whole c.args.entries.now.items _ c.args.at.now _ e es
-    (solid e other.not-White other.not-LineEnd other.not-Join other.not-Fault) c.requires.no_head other.not-Run
+    (solid e other.not-White other.not-LineEnd other.not-InnerLineEnd other.not-Join other.not-Fault) c.requires.no_head other.not-Run
     made.entries (ap (λ (s : PartState). s.last) made.at) (ap (λ (s : PartState). s.has_white) made.at)
     (ap (λ (s : PartState). s.start) made.at) made.counted
     (rw (unfolded-one (texts_of c.args.source.now.lines) e other.not-Run) at h)

@@ -4,7 +4,7 @@ use Rattle.tangle_scan.specs.Web.{web_of}
 use Rattle.tangle_scan.specs.WellFormed.{IsWellFormed}
 use Rattle.tangle_scan.proofs.lemmas.ScanLemmas.{web-whole}
 use Rattle.tangle_scan.proofs.laws.WebLaws.{web-in-range, web-in-order, web-line-truth}
-use Rattle.tangle_scan.proofs.laws.WebsApart.{web-apart}
+use Rattle.tangle_scan.proofs.laws.WebsAsMeant.{web-as-meant}
 use Rattle.tangle_scan.proofs.laws.OccurrenceRange.{occurrences-in-range}
 use Rattle.tangle_scan.proofs.scanning.scan.Goals as goal
 
@@ -30,5 +30,5 @@ returns-clause-order c = rw (returns-clause-web c) (web-in-order c.args.source.n
 pub returns-clause-line_truth : goal.returns-clause-line_truth
 returns-clause-line_truth c = rw (returns-clause-web c) (web-line-truth c.args.source.now)
 
-pub returns-clause-apart : goal.returns-clause-apart
-returns-clause-apart c = rw (returns-clause-web c) (web-apart c.args.source.now)
+pub returns-clause-as_meant : goal.returns-clause-as_meant
+returns-clause-as_meant c = rw (returns-clause-web c) (web-as-meant c.args.source.now)

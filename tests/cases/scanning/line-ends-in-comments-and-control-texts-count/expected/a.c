@@ -5,6 +5,5 @@ a
 b
 
 c
-#include
-<p@q>
+#include <p@q>
 /*:1*/

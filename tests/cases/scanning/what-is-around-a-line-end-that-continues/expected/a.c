@@ -1,12 +1,12 @@
 /*1:*/
 #line 2 "a.w"
 
-#define M a \
- b
+#define M a \ b
+#line 5 "a.w"
 #define N a \
  b
-#define P a \
-b
+#define P a \ b
+#line 9 "a.w"
 #define Q a \
  b
 #define R a \
@@ -16,11 +16,11 @@ b
 #define T a \b
 #line 17 "a.w"
 #define U a \
-
-b
+ b
+#line 20 "a.w"
 #define V a\
  /*2:*/
-#line 27 "a.w"
+#line 34 "a.w"
 
 x\
  /*:2*/
@@ -30,5 +30,12 @@ x\
  97
 #define X a \
  b
+m a \
+ b
+p a \
+b
+u a \
+
+b
 z \
  /*:1*/

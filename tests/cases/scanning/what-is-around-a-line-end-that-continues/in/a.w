@@ -23,6 +23,13 @@ two */ b
 	@'a'
 #define X a \
 b
+m a \ /* one
+two */ b
+p a \/* one
+two */b
+u a \
+/* one
+two */ b
 z \
 @ @<b@>=
 x\

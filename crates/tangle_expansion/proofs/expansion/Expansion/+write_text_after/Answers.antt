@@ -1,10 +1,12 @@
-use Rattle.std.proofs.Common.{◌+◌, ◌++◌, List, [], ap, drop, refl, arith}
+use Rattle.std.proofs.Common.{◌+◌, ◌++◌, ◌∙◌, List, [], ap, drop, refl, arith}
 use Rattle.std.specs.Prelude.{Option, unwrap_or}
+use Rattle.std.proofs.lemmas.List.{drop_all}
 use Rattle.tangle_plans.specs.Flat.{Symbol}
+use Rattle.tangle_plans.proofs.DropLemmas.{drop_at}
+use Rattle.tangle_expansion.specs.Expanded.{shared_symbols}
 use Rattle.tangle_expansion.specs.Numbers.{expansion_bytes}
 use Rattle.tangle_expansion.specs.Writing.{bytes_from}
 use Rattle.tangle_expansion.proofs.WriteLemmas.{wrote_at_first, wrote_more, wrote_same, wrote_all}
-use Rattle.tangle_expansion.proofs.PlanLemmas.{written_with, written_without}
 use Rattle.tangle_expansion.proofs.expansion.Expansion.+write_text_after.Goals as goal
 use Rattle.tangle_expansion.proofs.expansion.Expansion.+write_text_after.Goals.{in-Some, in_default}
 
@@ -14,7 +16,7 @@ loop-used-init g t c =
       c.first_cursor-at.ensures.piece,
       c.first_cursor-at.ensures.marks,
       c.first_cursor-at.ensures.start,
-      c.first_cursor-at.ensures.step,
+      c.first_cursor-at.ensures.tag,
       c.deref-used-items.ensures.value,
       c.deref-body.ensures,
       c.deref-shared.ensures,
@@ -24,15 +26,21 @@ loop-used-init g t c =
 
 pub loop-used-preserved : goal.loop-used-preserved
 loop-used-preserved g t c =
-    let left = written_with c.args.numbers.now c.deref-body.result.now c.loop-used.at c.deref-used-items.result.now
-    c.loop-used.used-index c.used-item.result c.write_to_use-before.result.0
-    c.loop-used-test.true c.used-item.is c.write_to_use-before.ensures.rest in
+    let numbers = c.args.numbers.now in
+    let body = c.deref-body.result.now in
+    let used = c.deref-used-items.result.now in
+    let i = c.loop-used.used-index in
+    let o = c.used-item.result in
+    let text = c.write_to_use-before.ensures in
+    let rest = bytes_from body c.write_to_use-before.result.0 numbers (shared_symbols (drop (i + 1) used)) in
+    let left =
+    ap (λ us. bytes_from body c.loop-used.at numbers (shared_symbols us))
+    (drop_at used i o c.loop-used-test.true c.used-item.is)
+    ∙ text.next (unwrap_or o []) (shared_symbols (drop (i + 1) used)) in
     let spaced = wrote_more _ _ _ _ _ _ _ _ _ _
-    (wrote_more _ _ _ _ _ _ _ _ _ _ c.loop-used.invariant left c.write_to_use-before.ensures.writes)
+    (wrote_more _ _ _ _ _ _ _ _ _ _ c.loop-used.invariant left text.writes)
     refl c.write_after-so_far.ensures in
-    let rest = bytes_from c.deref-body.result.now c.write_to_use-before.result.0 c.args.numbers.now
-    (drop (c.loop-used.used-index + 1) c.deref-used-items.result.now) in
-    let shared = λ (o : Option (List Symbol)). expansion_bytes c.args.numbers.now (unwrap_or o []) ++ rest in
+    let shared = λ (o : Option (List Symbol)). expansion_bytes numbers (unwrap_or o []) ++ rest in
     elim c.match-used.branch [
       | in-Some w ↦ rw (w.sink-is, w.at-is, w.so_far-is)
           (wrote_more _ _ _ _ _ _ _ _ _ _ spaced (ap shared w.in-Some.is) w.write_text_after-so_far.ensures.writes)
@@ -42,6 +50,9 @@ loop-used-preserved g t c =
 
 pub returns-clause-writes : goal.returns-clause-writes
 returns-clause-writes g t c =
-    let left = written_without c.args.numbers.now c.deref-body.result.now c.loop-used.at
-    c.deref-used-items.result.now c.loop-used.used-index (omega arith) in
-    wrote_all _ _ _ _ _ _ _ _ _ c.loop-used.invariant left c.write_to_use-all.ensures.writes
+    let text = c.write_to_use-all.ensures in
+    let left =
+    ap (λ us. bytes_from c.deref-body.result.now c.loop-used.at c.args.numbers.now (shared_symbols us))
+    (drop_all c.loop-used.used-index c.deref-used-items.result.now (omega arith))
+    ∙ text.none in
+    wrote_all _ _ _ _ _ _ _ _ _ c.loop-used.invariant left text.writes

@@ -1,4 +1,5 @@
 use Rattle.std.proofs.Common.{drop}
+use Rattle.tangle_expansion.specs.Expanded.{shared_symbols}
 use Rattle.tangle_expansion.specs.Numbers.{expansion_bytes}
 use Rattle.tangle_expansion.specs.Writing.{bytes_from}
 use Rattle.tangle_expansion.proofs.WriteLemmas.{Wrote}
@@ -11,4 +12,5 @@ abbrev pub invariant-loop-used : goal.invariant-loop-used
 invariant-loop-used g l =
     let t = g.S.Sink.stream in
     Wrote (t l.fn.sink) (t l.sink) l.fn.so_far l.so_far
-    (bytes_from l.text.body.now l.at l.numbers (drop l.used-index l.used-items)) (expansion_bytes l.numbers l.fn.self)
+    (bytes_from l.text.body.now l.at l.numbers (shared_symbols (drop l.used-index l.used-items)))
+    (expansion_bytes l.numbers l.fn.self)

@@ -24,7 +24,7 @@ use Rattle.tangle_graph.proofs.FaultLemmas.{reaching_flag}
 use Rattle.tangle_graph.proofs.LimitLemmas.{limited, program_has_piece}
 use Rattle.tangle_graph.proofs.NameGraphLemmas.{graph_over, nodes_inside, uses_inside}
 use Rattle.tangle_graph.proofs.OrderingLemmas.{order_is, grouped_by}
-use Rattle.tangle_graph.proofs.BodyLemmas.{bodies_planned}
+use Rattle.tangle_graph.proofs.BodyLemmas.{bodies_titled}
 use Rattle.tangle_graph.proofs.StoreIs.{store_is}
 use Rattle.tangle_graph.proofs.store.Store.over.Goals as goal
 
@@ -155,5 +155,5 @@ invariant_of-result c =
           (ap length c.requires.names);
       uses = rw c.requires.names
           (uses_inside web table pieces bodies (inside web table c.requires.table) c.requires.bodies);
-      planned = rw c.requires.names (bodies_planned web table pieces bodies c.requires.bodies);
+      titled = rw c.requires.names (bodies_titled web table pieces bodies c.requires.bodies);
     }

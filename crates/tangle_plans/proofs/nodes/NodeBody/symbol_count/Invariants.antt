@@ -1,9 +1,9 @@
-use Rattle.std.proofs.Common.{◌≡◌, ◌+◌, ◌<◌, ◌^◌, ℕ, min, drop}
-use Rattle.tangle_plans.proofs.CountLemmas.{own_count}
+use Rattle.std.proofs.Common.{◌≡◌, ◌+◌, ◌<◌, ◌^◌, ℕ, min, drop, length}
+use Rattle.tangle_plans.proofs.CountLemmas.{own_counts}
 use Rattle.tangle_plans.proofs.nodes.NodeBody.symbol_count.Given as goal
 
-abbrev pub invariant-loop-step : goal.invariant-loop-step
-invariant-loop-step l =
+abbrev pub invariant-loop-tag : goal.invariant-loop-tag
+invariant-loop-tag l =
     (cap : ℕ) → cap < 2 ^ 64
-    → min cap (l.count + own_count l.self.bytes.items l.start (drop l.step-index l.self.plan.items))
-    ≡ min cap (own_count l.self.bytes.items 0 l.self.plan.items)
+    → min cap (l.count + own_counts (drop l.tag-index l.self.tags.items))
+    ≡ min cap (length l.self.bytes.items + own_counts l.self.tags.items)

@@ -3,5 +3,5 @@ use Rattle.tangle_plans.specs.UnfoldedTags.{unfolded_tags}
 use Rattle.tangle_plans.proofs.RunLemmas.{no_run_tags}
 use Rattle.tangle_plans.proofs.tags_left.TagsLeft.new.Goals as goal
 
-pub returns-clause-tags : goal.returns-clause-tags
-returns-clause-tags c = ap (λ ts. ts ++ unfolded_tags c.args.tags.now c.args.bytes.now) no_run_tags
+pub returns : goal.returns
+returns c = ap (λ ts. ts ++ unfolded_tags c.args.tags.now c.args.bytes.now) no_run_tags

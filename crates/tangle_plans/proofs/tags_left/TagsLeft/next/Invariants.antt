@@ -1,11 +1,11 @@
 use Rattle.std.proofs.Common.{◌≡◌, ◌≤◌, length}
-use Rattle.tangle_plans.specs.Remaining.{remaining}
+use Rattle.tangle_plans.specs.UnfoldedTags.{tags_left}
 use Rattle.tangle_plans.proofs.tags_left.TagsLeft.next.Given as goal
 
 abbrev pub invariant-loop-self : goal.invariant-loop-self
 invariant-loop-self l = record {
   within : l.self-inside.run ≤ length l.self-inside.bytes.now;
-  same : remaining l.self-inside.tags.now l.self-inside.bytes.now l.self-inside.run ≡ l.fn.self;
+  same : tags_left l.self-inside.tags.now l.self-inside.bytes.now l.self-inside.run ≡ l.fn.self;
 }
 
 abbrev pub decreases-loop-self : goal.decreases-loop-self

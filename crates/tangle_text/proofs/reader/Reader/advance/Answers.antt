@@ -11,5 +11,5 @@ returns-then-self c =
 pub invariant_of-self-then-next-count : goal.invariant_of-self-then-next-count
 invariant_of-self-then-next-count c = (
   omega arith,
-  (λ _. omega (arith, c.count.ensures.count), (omega (arith, c.count.ensures.limit), c.line-self-inside.ensures.short)),
+  (λ _. omega (arith, c.count.ensures.count), (omega (arith, c.count.ensures.limit), (c.line-self-inside.ensures.short, c.line-self-inside.ensures.bytes))),
 )

@@ -1,10 +1,36 @@
+use Rattle.std.proofs.Common.{◌≡◌, ◌∙◌, ◌-◌, ℕ, List, [], refl, sym, ap, subst, arith}
+use Rattle.std.proofs.lemmas.Result.{IfOk-weaker}
+use Rattle.tangle_files.specs.Sharing.{slice_of}
+use Rattle.tangle_text.specs.Text.{Cell}
+use Rattle.tangle_text.specs.NameBytes.{BeginsName}
 use Rattle.tangle_text.proofs.ChunkLemmas.{bytes_begin}
 use Rattle.tangle_text.proofs.reader.Reader.take_name_bytes.Goals as goal
+use Rattle.tangle_text.proofs.reader.Reader.take_name_bytes.Goals.{then-not-self, else-not-self}
+
+equal_begin : (text rest : List Cell) (bytes read : List ℕ) → read ≡ bytes
+    → BeginsName bytes text rest → BeginsName read text rest
+equal_begin text rest bytes read is = subst (λ b. BeginsName b text rest) (sym is)
+
+nothing_begins : BeginsName [] [] []
+nothing_begins = record { units = refl; end = refl; shorter = omega arith }
 
 pub returns : goal.returns
 returns c =
     let r = c.self.inside in
-    let end = c.at_sign_from-end in
-    rw (← c.self.view_is, c.if-self.false)
-    (bytes_begin r.source.now.lines r.bytes.now r.line r.column
-    end.result end.ensures.low end.ensures.high end.ensures.before)
+    let bytes = c.self.invariant.1.1.1.1 in
+    elim c.if-not-self.branch [
+      | then-not-self w ↦
+          let end = w.at_sign_from-self-inside in
+          let same = ap (λ line. slice_of line r.column (end.result - r.column)) bytes in
+          let begins =
+          bytes_begin r.source.now.lines r.bytes.now r.line r.column
+          end.result end.ensures.low end.ensures.high end.ensures.before in
+          let read = rw (w.self-inside-is) at c.slice.ensures in
+          rw (w.self-inside-is, ← c.self.view_is, w.if-not-self.true)
+          (IfOk-weaker c.slice.result _ _ (λ bytes is. equal_begin _ _ _ bytes (is ∙ sym same) begins) read)
+      | else-not-self w ↦
+          let none : r.column - r.column ≡ 0 = omega arith in
+          let read = rw (w.self-inside-is, none) at c.slice.ensures in
+          rw (w.self-inside-is, ← c.self.view_is, w.if-not-self.false)
+          (IfOk-weaker c.slice.result _ _ (λ bytes is. equal_begin [] [] [] bytes is nothing_begins) read)
+    ]

@@ -1,0 +1,80 @@
+//! Passes tags of a body that is being written.
+ghost use Rattle.std.specs.Prelude.{◌≡◌, ◌≤◌, ◌+◌, ◌<◌, ◌^◌, ◌++◌, List, true};
+ghost use Rattle.tangle_plans.specs.Flat.{Symbol};
+ghost use Rattle.tangle_expansion.specs.Numbers.{NumbersRead};
+ghost use Rattle.tangle_expansion.specs.Writing.{IsAfterTag, bytes_between, bytes_from};
+ghost use Rattle.tangle_expansion.specs.Writing.{has_bytes_alone};
+
+use crate::cursor::Cursor;
+use tangle_plans::{ItemKind, ItemTag, NodeBody};
+
+/// The cursor after a tag that has no symbols besides its bytes.
+fn after_bytes_of(at: Cursor, tag: ItemTag) -> Cursor
+    requires tag { at.tag + 1 < 2 ^ 64 }
+    requires alone { has_bytes_alone tag.kind ≡ true }
+    ensures { IsAfterTag at tag result }
+{
+    Cursor {
+        tag: at.tag + 1,
+        piece: at.piece,
+        marks: at.marks,
+        start: at.start.saturating_add(tag.size as usize),
+    }
+}
+
+/// Whether a tag of this kind has no symbols besides its bytes.
+fn has_bytes_alone(kind: ItemKind) -> bool
+    ensures { result ≡ has_bytes_alone kind }
+{
+    match kind {
+        ItemKind::PieceStart
+        | ItemKind::Mark
+        | ItemKind::AllMacros
+        | ItemKind::Use
+        | ItemKind::NoUse
+        | ItemKind::PieceEnd => false,
+        _ => true,
+    }
+}
+
+/// The cursor after the next tags that have no symbols besides their bytes.
+pub(crate) fn after_bytes(body: &NodeBody, from: Cursor) -> Cursor
+    ensures tag { from.tag ≤ result.tag }
+    ensures start { from.start ≤ result.start }
+    ensures text { (numbers : NumbersRead) (used : List (List Symbol))
+        → bytes_from body.now from numbers used
+        ≡ bytes_between body.now.bytes.items from.start result.start
+        ++ bytes_from body.now result numbers used }
+{
+    let mut at = from;
+    while at.tag < body.tags.len() {
+        let tag = body.tags[at.tag];
+        if !has_bytes_alone(tag.kind) {
+            return at;
+        }
+        at = after_bytes_of(at, tag);
+    }
+    at
+}
+
+/// The cursor after a tag.
+pub(crate) fn cursor_after(at: Cursor, tag: ItemTag) -> Cursor
+    requires { at.tag + 1 < 2 ^ 64 }
+    ensures { IsAfterTag at tag result }
+{
+    let piece = match tag.kind {
+        ItemKind::PieceEnd => at.piece + 1,
+        _ => at.piece,
+    };
+    let marks = match tag.kind {
+        ItemKind::PieceStart | ItemKind::PieceEnd => 0,
+        ItemKind::Mark => at.marks + 1,
+        _ => at.marks,
+    };
+    Cursor {
+        tag: at.tag + 1,
+        piece,
+        marks,
+        start: at.start.saturating_add(tag.size as usize),
+    }
+}

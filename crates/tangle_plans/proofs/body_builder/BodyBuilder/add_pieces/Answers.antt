@@ -1,0 +1,21 @@
+use Rattle.std.proofs.Common.{drop, ◌+◌}
+use Rattle.std.proofs.lemmas.List.{drop_all, drop_more}
+use Rattle.tangle_plans.specs.Nodes.{pieces_at}
+use Rattle.tangle_plans.proofs.AddingEntries.{no_pieces_added, piece_added}
+use Rattle.tangle_plans.proofs.body_builder.BodyBuilder.add_pieces.Goals as goal
+
+pub loop-number-preserved : goal.loop-number-preserved
+loop-number-preserved c = λ new rest.
+    let web = c.args.web.now in
+    let numbers = c.args.numbers.now in
+    let i = c.loop-number.number-index in
+    c.loop-number.invariant new (rw (drop_more numbers i 0 c.loop-number-test.true)
+    (piece_added web c.args.table.now c.loop-number.self c.add_piece.new.self new
+    _ c.entries_at.result.now (pieces_at web.pieces (drop (i + 1) numbers)) c.requires.ours
+    c.entries_at.ensures c.in_ok-add_piece.ensures rest))
+
+pub returns : goal.returns
+returns c =
+    c.loop-number.invariant c.loop-number.self
+    (rw (drop_all c.loop-number.number-index c.args.numbers.now c.loop-number-test.false)
+    (no_pieces_added c.args.web.now.texts c.args.table.now c.loop-number.self))

@@ -1,0 +1,69 @@
+-- What a C compiler reads of gaps that are written one after another.
+use Rattle.std.proofs.Common.{◌≡◌, ℕ, Bool, true, false, ◌&&◌, ◌==◌, not, List, [], ◌∷◌, ◌++◌, Option, Some, refl, ap}
+use Rattle.std.proofs.Common.{codes, ◌∙◌, sym, append_assoc, if◌then◌else◌}
+use Rattle.std.proofs.lemmas.List.Elements.{filter-append}
+use Rattle.std.proofs.Math.Bool.{and-true, and-false}
+use Rattle.tangle_files.specs.Bytes.{space, line_feed}
+use Rattle.tangle_text.specs.Bytes.{backslash}
+use Rattle.tangle_lines.specs.declared.origin.Origin.{Origin}
+use Rattle.tangle_lexer.specs.declared.tokens.Token.{Token}
+use Rattle.tangle_lexer.specs.declared.tokens.Token.TheVariants as token
+use Rattle.tangle_scan.specs.Rules.{is_front_gap, is_name_part, is_continued}
+use Rattle.tangle_scan.specs.ReadAsMeant.{Gap, Space, LineFeed, TakenOut, Mark, gap_bytes, as_read, is_empty}
+use Rattle.tangle_scan.specs.ReadAsMeant.{without_spaces, IsReadAs}
+use Rattle.tangle_scan.specs.ReadAsMeant.{needs_white, token_bytes, AreReadAsMeant}
+
+pub some-append : {X : Type 0} (xs : List X) (y : X) (ys : List X) → is_empty (xs ++ y ∷ ys) ≡ false
+some-append [] y ys = refl
+some-append (x ∷ xs) y ys = refl
+
+-- the first part of a gap hides the backslash before it from what comes after
+pub read-append : (after : Bool) (gap more : List Gap)
+    → as_read after (gap ++ more) ≡ as_read after gap ++ as_read (after && is_empty gap) more
+read-append after [] more = rw (and-true after) refl
+read-append after (x ∷ gap) more = rw (and-false after) (by after x (read-append false gap more))
+  where
+    by : (after : Bool) (x : Gap) → as_read false (gap ++ more) ≡ as_read false gap ++ as_read false more
+        → as_read after (x ∷ (gap ++ more)) ≡ as_read after (x ∷ gap) ++ as_read false more
+    by after Space h = ap (λ bytes. space ∷ bytes) h
+    by after TakenOut h = h
+    by true LineFeed h = h
+    by true (Mark origin) h = ap (λ bytes. codes "#line" ++ bytes) h
+    by false x h = ap (λ bytes. line_feed ∷ bytes) h
+
+pub spaces-append : (xs ys : List ℕ) → without_spaces (xs ++ ys) ≡ without_spaces xs ++ without_spaces ys
+spaces-append xs ys = filter-append (λ b. not (b == space)) xs ys
+
+pub bytes-append : (mark : Origin → List ℕ) (gap more : List Gap)
+    → gap_bytes mark (gap ++ more) ≡ gap_bytes mark gap ++ gap_bytes mark more
+bytes-append mark [] more = refl
+bytes-append mark (x ∷ gap) more = by x (bytes-append mark gap more)
+  where
+    by : (x : Gap) → gap_bytes mark (gap ++ more) ≡ gap_bytes mark gap ++ gap_bytes mark more
+        → gap_bytes mark (x ∷ gap ++ more) ≡ gap_bytes mark (x ∷ gap) ++ gap_bytes mark more
+    by Space h = ap (λ bytes. space ∷ bytes) h
+    by LineFeed h = ap (λ bytes. line_feed ∷ bytes) h
+    by TakenOut h = ap (λ bytes. backslash ∷ line_feed ∷ bytes) h
+    by (Mark origin) h =
+        ap (λ bytes. line_feed ∷ (mark origin ++ bytes)) h
+        ∙ ap (λ bytes. line_feed ∷ bytes) (sym (append_assoc (mark origin) (gap_bytes mark gap) (gap_bytes mark more)))
+
+-- a blank before the end of a gap, if the flag says so
+abbrev pub blank_before : Bool → List Gap → List Gap
+blank_before blank gap = if blank then Space ∷ gap else gap
+
+-- an item is read as meant after a gap that is
+pub item-as-meant : (texts : List (List ℕ)) (mark : Origin → List ℕ) (used : Token → List ℕ) (line_end : ℕ)
+    (AtEnd : Option Token → List ℕ → List ℕ → Type 0)
+    (in_name : Bool) (meant : List ℕ) (before : Option Token) (e : Token) (es : List Token)
+    (gap : List Gap) (rest bytes : List ℕ) → is_front_gap e ≡ false
+    → bytes ≡ gap_bytes mark gap ++ (token_bytes texts used e ++ rest)
+    → IsReadAs meant (as_read (is_continued texts before) gap) (needs_white texts in_name meant before e)
+    → AreReadAsMeant texts mark used line_end AtEnd (in_name && is_empty meant && is_name_part e) [] (Some e) es rest
+    → AreReadAsMeant texts mark used line_end AtEnd in_name meant before (e ∷ es) bytes
+item-as-meant texts mark used line_end AtEnd in_name meant before token.White es gap rest bytes item is read next =
+    absurd cc
+item-as-meant texts mark used line_end AtEnd in_name meant before (token.LineEnd line) es gap rest bytes item is read next =
+    absurd cc
+item-as-meant texts mark used line_end AtEnd in_name meant before _ es gap rest bytes item is read next =
+    (gap, rest, is, read, next)

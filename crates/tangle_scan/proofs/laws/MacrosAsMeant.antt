@@ -1,0 +1,222 @@
+-- A C compiler reads the items of a macro as the author means them.
+use Rattle.std.proofs.Common.{◌≡◌, ℕ, Bool, true, false, ◌&&◌, not, if◌then◌else◌, List, [], ◌∷◌, ◌++◌, flat_map}
+use Rattle.std.proofs.Common.{append_assoc, append-nil, Option, Some, None, is_some, inl, inr, ◌⊎◌, refl, ap, sym, ◌∙◌, subst}
+use Rattle.std.proofs.Math.Bool.{and-false}
+use Rattle.tangle_files.specs.Bytes.{space, line_feed}
+use Rattle.tangle_lexer.specs.declared.tokens.Token.{Token}
+use Rattle.tangle_lexer.specs.declared.tokens.Token.TheVariants as token
+use Rattle.tangle_lexer.specs.declared.tokens.SpanKind.TheVariants as span_kind
+use Rattle.tangle_scan.specs.Rules.{next_item, has_blank_at_line_end, is_name_part, macro_blanks, unmarked_items}
+use Rattle.tangle_scan.specs.Rules.{is_front_gap, is_continued}
+use Rattle.tangle_scan.specs.MacroBytes.{without_end, macro_item_bytes, macro_bytes}
+use Rattle.tangle_scan.specs.ReadAsMeant.{Gap, Space, TakenOut, gap_bytes, as_read, is_empty, without_spaces, IsReadAs}
+use Rattle.tangle_scan.specs.ReadAsMeant.{needs_white, written_tokens, token_bytes, AreReadAsMeant}
+use Rattle.tangle_scan.specs.ReadAsMeant.{EndsMacro, IsMacroReadAsMeant}
+use Rattle.tangle_scan.proofs.lemmas.RuleLemmas.{macro_blanks-item}
+use Rattle.tangle_scan.proofs.laws.MacroEnds.{items_from, end-items, EndsInItem, ends-before, written-ends}
+use Rattle.tangle_scan.proofs.laws.GapReading.{some-append, read-append, spaces-append, bytes-append}
+use Rattle.tangle_scan.proofs.laws.GapReading.{blank_before, item-as-meant}
+
+module _ (texts : List (List ℕ)) where
+  -- The bytes that rule 3 makes of the tokens of a macro. The arguments before the tokens are those of the rule.
+
+  abbrev text_from : Bool → Option Token → Bool → List Token → List ℕ
+  text_from in_name before white es = flat_map (macro_item_bytes texts) (items_from texts in_name before white es)
+
+  abbrev bytes_of : Token → List ℕ
+  bytes_of e = token_bytes texts (λ e. []) e
+
+  abbrev bytes_in_gap : List Gap → List ℕ
+  bytes_in_gap gap = gap_bytes (λ origin. []) gap
+
+  text-blank : (blank : Bool) (es : List Token) →
+      flat_map (macro_item_bytes texts) (unmarked_items ((if blank then token.White ∷ [] else []) ++ es))
+      ≡ bytes_in_gap (blank_before blank []) ++ flat_map (macro_item_bytes texts) (unmarked_items es)
+  text-blank true es = refl
+  text-blank false es = refl
+
+  item-text : (e : Token) (es : List Token) → is_front_gap e ≡ false
+      → flat_map (macro_item_bytes texts) (unmarked_items (e ∷ es))
+      ≡ bytes_of e ++ flat_map (macro_item_bytes texts) (unmarked_items es)
+  item-text (token.Span span_kind.Word s) es item = refl
+  item-text _ es item = cc
+
+  -- the bytes of an item, and of a blank before it
+  text-item : (in_name : Bool) (before : Option Token) (white : Bool) (e : Token) (es : List Token)
+      → is_front_gap e ≡ false
+      → text_from in_name before white (e ∷ es)
+      ≡ bytes_in_gap (blank_before (is_some before && white) [])
+      ++ (bytes_of e ++ text_from (in_name && not white && is_name_part e) (Some e) false es)
+  text-item in_name before white e es item =
+      let rest = macro_blanks texts (in_name && not white && is_name_part e) (Some e) false es in
+      rw (macro_blanks-item texts in_name before white e es item)
+      (text-blank (is_some before && white) (e ∷ rest)
+      ∙ ap (λ bs. bytes_in_gap (blank_before (is_some before && white) []) ++ bs) (item-text e rest item))
+
+  -- The items of the tokens that follow are read as meant, and the line feed at the end of the macro is read.
+
+  abbrev AreRead : Bool → List ℕ → Option Token → List Token → List ℕ → Type 0
+  AreRead in_name meant before es bytes =
+      AreReadAsMeant texts (λ origin. []) (λ e. []) space (EndsMacro texts) in_name meant before es bytes
+
+  -- spaces are meant, if there is white space, or else nothing
+  abbrev AreSpaces : List ℕ → Bool → Type 0
+  AreSpaces meant white = (without_spaces meant ≡ []) × (is_empty meant ≡ not white)
+
+  more-spaces : (meant : List ℕ) (white : Bool) → AreSpaces meant white → AreSpaces (meant ++ space ∷ []) true
+  more-spaces meant white are =
+      (spaces-append meant (space ∷ []) ∙ (append-nil (without_spaces meant) ∙ are.0), some-append meant space [])
+
+  -- the tokens that follow are read as meant after an item on the same line, or at the front of the macro
+  abbrev ReadsOnLine : List Token → Type 0
+  ReadsOnLine es = (in_name white : Bool) (meant : List ℕ) (before : Option Token)
+      → AreSpaces meant white → EndsInItem texts es before →
+      AreRead in_name meant before es (text_from in_name before white es ++ line_feed ∷ [])
+
+  -- `gap` has line ends. The compiler reads spaces of it or, if no white space is needed before the next item, perhaps
+  -- nothing.
+  abbrev IsGap : Bool → Option Token → List Gap → List Token → Type 0
+  IsGap in_name before gap es =
+      (without_spaces (as_read (is_continued texts before) gap) ≡ [])
+      × ((is_empty (as_read (is_continued texts before) gap) ≡ false)
+      ⊎ (has_blank_at_line_end texts in_name before (next_item es) ≡ false))
+
+  abbrev ReadsAfterLineEnds : List Token → Type 0
+  ReadsAfterLineEnds es = (in_name white : Bool) (meant : List ℕ) (before : Option Token) (gap : List Gap)
+      → AreSpaces meant true → IsGap in_name before gap es → EndsInItem texts es (Some token.White) →
+      AreRead in_name meant before es (bytes_in_gap gap ++ (text_from false None white es ++ line_feed ∷ []))
+
+  record Reads (es : List Token) : Type 0 where
+    on_line : ReadsOnLine es
+    after_line_ends : ReadsAfterLineEnds es
+
+  reads-line_end : (line : ℕ) (es : List Token) → ReadsAfterLineEnds es → ReadsOnLine (token.LineEnd line ∷ es)
+  reads-line_end line es next in_name white meant before are ends =
+      by (has_blank_at_line_end texts in_name before (next_item es)) refl
+    where
+      line_text : Bool → List ℕ
+      line_text blank =
+          flat_map (macro_item_bytes texts)
+          (unmarked_items
+          ((if blank then token.White ∷ [] else []) ++ token.LineEnd line ∷ macro_blanks texts false None false es))
+
+      after : (gap : List Gap) → IsGap in_name before gap es → AreRead in_name (meant ++ space ∷ []) before es
+          (bytes_in_gap gap ++ (text_from false None false es ++ line_feed ∷ []))
+      after gap is =
+          next in_name false (meant ++ space ∷ []) before gap (more-spaces meant white are) is
+          (ends-before texts (token.LineEnd line) es (Some token.White) refl ends)
+
+      by : (blank : Bool) → has_blank_at_line_end texts in_name before (next_item es) ≡ blank →
+          AreRead in_name (meant ++ space ∷ []) before es (line_text blank ++ line_feed ∷ [])
+      by true is = after (Space ∷ TakenOut ∷ []) (refl, inl refl)
+      by false is = after (TakenOut ∷ []) (refl, inr is)
+
+  -- the bytes before an item that is on the line of the last one
+  gap-on_line : (in_name white : Bool) (meant : List ℕ) (before : Option Token) (e : Token) → AreSpaces meant white
+      → IsReadAs meant (as_read (is_continued texts before) (blank_before (is_some before && white) []))
+      (needs_white texts in_name meant before e)
+  gap-on_line in_name true meant (Some b) e are =
+      record { lines = sym are.0; together = λ none. let some = are.1 in absurd cc; apart = λ needed. refl }
+  gap-on_line in_name true meant None e are = record {
+    lines = sym are.0;
+    together = λ none. refl;
+    apart = λ needed. let wrong = rw (and-false (not (is_empty meant))) at needed in absurd cc;
+  }
+  gap-on_line in_name false meant before e are = rw (and-false (is_some before)) (record {
+    lines = sym are.0;
+    together = λ none. refl;
+    apart = λ needed. let wrong = rw are.1 at needed in absurd cc;
+  })
+
+  reads-on_line : (e : Token) (es : List Token) → is_front_gap e ≡ false → ReadsOnLine es → ReadsOnLine (e ∷ es)
+  reads-on_line e es item next in_name white meant before are ends =
+      let after : Bool = in_name && not white && is_name_part e in
+      item-as-meant texts (λ origin. []) (λ e. []) space (EndsMacro texts) in_name meant
+      before e es (blank_before (is_some before && white) []) (text_from after (Some e) false es ++ line_feed ∷ [])
+      (text_from in_name before white (e ∷ es) ++ line_feed ∷ []) item
+      (rw (text-item in_name before white e es item, append_assoc, append_assoc) refl)
+      (gap-on_line in_name white meant before e are)
+      (rw are.1 (next after false [] (Some e) (refl, refl) ends))
+
+  -- the bytes before an item that is on a later line than the last one
+  gap-after_line_ends : (in_name : Bool) (meant : List ℕ) (before : Option Token) (gap : List Gap) (e : Token) (es : List Token)
+      → next_item (e ∷ es) ≡ Some e → AreSpaces meant true
+      → IsGap in_name before gap (e ∷ es) →
+      IsReadAs meant (as_read (is_continued texts before) gap) (needs_white texts in_name meant before e)
+  gap-after_line_ends in_name meant before gap e es first are is = record {
+    lines = is.0 ∙ sym are.0;
+    together = λ none. let some = are.1 in absurd cc;
+    apart = apart is.1;
+  }
+    where
+      apart : (is_empty (as_read (is_continued texts before) gap) ≡ false)
+          ⊎ (has_blank_at_line_end texts in_name before (next_item (e ∷ es)) ≡ false)
+          → needs_white texts in_name meant before e ≡ true → is_empty (as_read (is_continued texts before) gap) ≡ false
+      apart (inl some) needed = some
+      apart (inr none) needed =
+          let no_blank = rw first at none in let wrong = rw (no_blank, are.1) at needed in absurd cc
+
+  reads-after_line_ends : (e : Token) (es : List Token)
+      → is_front_gap e ≡ false → next_item (e ∷ es) ≡ Some e → ReadsOnLine es
+      → ReadsAfterLineEnds (e ∷ es)
+  reads-after_line_ends e es item first next in_name white meant before gap are is ends =
+      item-as-meant texts (λ origin. []) (λ e. []) space (EndsMacro texts) in_name meant
+      before e es gap (text_from false (Some e) false es ++ line_feed ∷ [])
+      (bytes_in_gap gap ++ (text_from false None white (e ∷ es) ++ line_feed ∷ [])) item
+      (rw (text-item false None white e es item, append_assoc, append_assoc) refl)
+      (gap-after_line_ends in_name meant before gap e es first are is)
+      (rw (are.1, and-false in_name) (next false false [] (Some e) (refl, refl) ends))
+
+  -- one more line end after line ends
+  reads-more_line_ends : (line : ℕ) (es : List Token)
+      → ReadsAfterLineEnds es → ReadsAfterLineEnds (token.LineEnd line ∷ es)
+  reads-more_line_ends line es next in_name white meant before gap are is ends =
+      subst (AreRead in_name (meant ++ space ∷ []) before es)
+      (ap (λ bytes. bytes ++ (text_from false None false es ++ line_feed ∷ []))
+      (bytes-append (λ origin. []) gap (TakenOut ∷ []))
+      ∙ append_assoc (bytes_in_gap gap) (bytes_in_gap (TakenOut ∷ [])) (text_from false None false es ++ line_feed ∷ []))
+      (next in_name false (meant ++ space ∷ []) before (gap ++ TakenOut ∷ []) (more-spaces meant true are) (rw all is)
+      (ends-before texts (token.LineEnd line) es (Some token.White) refl ends))
+    where
+      all : as_read (is_continued texts before) (gap ++ TakenOut ∷ []) ≡ as_read (is_continued texts before) gap
+      all =
+          read-append (is_continued texts before) gap (TakenOut ∷ [])
+          ∙ append-nil (as_read (is_continued texts before) gap)
+
+  reads : (es : List Token) → Reads es
+  reads [] = record {
+    on_line = λ in_name white meant before are ends. record { line_feed = refl; stays = ends };
+    after_line_ends = λ in_name white meant before gap are is ends. absurd cc;
+  }
+  reads (token.White ∷ es) =
+      let next = reads es in
+      record {
+        on_line = λ in_name white meant before are ends.
+            next.on_line in_name true (meant ++ space ∷ []) before (more-spaces meant white are)
+            (ends-before texts token.White es before refl ends);
+        after_line_ends = λ in_name white meant before gap are is ends.
+            next.after_line_ends in_name true (meant ++ space ∷ []) before gap (more-spaces meant true are) is ends;
+      }
+  reads (token.LineEnd line ∷ es) =
+      let next = reads es in
+      record {
+        on_line = reads-line_end line es next.after_line_ends;
+        after_line_ends = reads-more_line_ends line es next.after_line_ends;
+      }
+  reads (e ∷ es) =
+      let next = reads es in
+      record {
+        on_line = reads-on_line e es refl next.on_line;
+        after_line_ends = reads-after_line_ends e es refl refl next.on_line;
+      }
+
+  -- the items of a whole macro are read as meant
+  pub macro-as-meant : (es : List Token)
+      → IsMacroReadAsMeant texts es (macro_bytes texts (unmarked_items (macro_blanks texts true None false es)))
+  macro-as-meant es =
+      let tokens : List Token = written_tokens texts es in (
+        flat_map (macro_item_bytes texts) (without_end texts (items_from texts true None false es)) ++ line_feed ∷ [],
+        refl,
+        rw (end-items texts es true None false)
+            ((reads tokens).on_line true false [] None (refl, refl) (written-ends texts es)),
+      )

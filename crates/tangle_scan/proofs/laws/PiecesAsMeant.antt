@@ -1,0 +1,385 @@
+-- A C compiler reads the items of a piece as the author means them.
+use Rattle.std.proofs.Common.{◌≡◌, ℕ, ◌+◌, Bool, true, false, ◌&&◌, not, if◌then◌else◌, List, [], ◌∷◌, ◌++◌, flat_map}
+use Rattle.std.proofs.Common.{append_assoc, append-nil, Option, Some, None, is_some, refl, ap, sym, ◌∙◌, subst}
+use Rattle.std.proofs.lemmas.Slice.Eq.{bytes_eq-Decides}
+use Rattle.std.proofs.lemmas.Bool.{and_parts}
+use Rattle.std.proofs.Math.Bool.{and-true, and-false}
+use Rattle.tangle_files.specs.Bytes.{space, line_feed}
+use Rattle.tangle_text.specs.Bytes.{backslash}
+use Rattle.tangle_lines.specs.declared.origin.Origin.{Origin}
+use Rattle.tangle_lines.specs.Reading.{SourceLine, origin_at}
+use Rattle.tangle_lexer.specs.declared.tokens.Token.{Token}
+use Rattle.tangle_lexer.specs.declared.tokens.Token.TheVariants as token
+use Rattle.tangle_lexer.specs.declared.tokens.SpanKind.TheVariants as span_kind
+use Rattle.tangle_scan.specs.declared.items.Item.{Item}
+use Rattle.tangle_scan.specs.Rules.{is_open, texts_of, span_text, ends_in_backslash, is_continued, ends_line}
+use Rattle.tangle_scan.specs.Rules.{is_front_gap, blanks, next_line, part_tokens, part_items}
+use Rattle.tangle_scan.specs.LineTruth.{is_expected}
+use Rattle.tangle_scan.specs.Passes.{counted_after_token, items_by_origin}
+use Rattle.tangle_scan.specs.ItemBytes.{piece_item_bytes}
+use Rattle.tangle_scan.specs.ReadAsMeant.{Gap, Space, LineFeed, TakenOut, Mark, gap_bytes, as_read, is_empty}
+use Rattle.tangle_scan.specs.ReadAsMeant.{IsReadAs, without_spaces, is_backslash, read_tokens, needs_white, token_bytes}
+use Rattle.tangle_scan.specs.ReadAsMeant.{AreReadAsMeant, EndsPiece, use_bytes, IsPieceReadAsMeant}
+use Rattle.tangle_scan.proofs.lemmas.ItemsByOrigin.{part_items-by_origin}
+use Rattle.tangle_scan.proofs.lemmas.RuleLemmas.{blanks-item}
+use Rattle.tangle_scan.proofs.laws.GapReading.{some-append, read-append, spaces-append}
+use Rattle.tangle_scan.proofs.laws.GapReading.{bytes-append, blank_before, item-as-meant}
+
+module _ (lines : List SourceLine) (used : ℕ → List ℕ) (mark : Origin → List ℕ) (macros : List ℕ) where
+  abbrev texts : List (List ℕ)
+  texts = texts_of lines
+
+  abbrev item_bytes : Item → List ℕ
+  item_bytes x = piece_item_bytes texts used mark macros x
+
+  -- The bytes that rules 3 to 5 make of tokens. The arguments before the tokens are those of the rules.
+  abbrev text_from : Option Token → Bool → Origin → List Token → List ℕ
+  text_from before white counted es =
+      flat_map item_bytes (items_by_origin lines before counted (blanks texts before white es))
+
+  abbrev bytes_of : Token → List ℕ
+  bytes_of e = token_bytes texts (use_bytes lines used mark macros) e
+
+  abbrev blank_bytes : Bool → List ℕ
+  blank_bytes blank = gap_bytes mark (blank_before blank [])
+
+  text-blank : (before : Option Token) (counted : Origin) (blank : Bool) (es : List Token) →
+      flat_map item_bytes (items_by_origin lines before counted ((if blank then token.White ∷ [] else []) ++ es))
+      ≡ blank_bytes blank ++ flat_map item_bytes (items_by_origin lines before counted es)
+  text-blank before counted true es = refl
+  text-blank before counted false es = refl
+
+  item-text : (before : Option Token) (counted : Origin) (e : Token) (es : List Token) → is_front_gap e ≡ false →
+      flat_map item_bytes (items_by_origin lines before counted (e ∷ es))
+      ≡ bytes_of e ++ flat_map item_bytes (items_by_origin lines (Some e) (counted_after_token lines counted e) es)
+  item-text before counted (token.Span span_kind.Word s) es item = refl
+  item-text before counted (token.UseOf line occurrence) es item =
+      ap (λ bytes. space ∷ bytes) (sym (append_assoc (used occurrence) (line_feed ∷ mark (origin_at lines line)) _))
+  item-text before counted (token.AllMacros line) es item =
+      ap (λ bytes. line_feed ∷ bytes) (sym (append_assoc macros (line_feed ∷ mark (origin_at lines line)) _))
+  item-text before counted _ es item = cc
+
+  -- the bytes of an item, and of a blank before it
+  text-item : (before : Option Token) (white : Bool) (counted : Origin) (e : Token) (es : List Token)
+      → is_front_gap e ≡ false
+      → text_from before white counted (e ∷ es)
+      ≡ blank_bytes (is_some before && white)
+      ++ (bytes_of e ++ text_from (Some e) false (counted_after_token lines counted e) es)
+  text-item before white counted e es item =
+      let rest = blanks texts (Some e) false es in
+      rw (blanks-item texts before white e es item)
+      (text-blank before counted (is_some before && white) (e ∷ rest)
+      ∙ ap (λ bs. blank_bytes (is_some before && white) ++ bs) (item-text before counted e rest item))
+
+  -- the tokens that the compiler reads, from an item on
+  read-item : (continued : Bool) (e : Token) (es : List Token) → is_front_gap e ≡ false →
+      let continues : Bool = ends_in_backslash texts e && ends_line es in
+      read_tokens texts continued (e ∷ es)
+      ≡ (if continues && is_backslash texts e then [] else e ∷ []) ++ read_tokens texts continues es
+  read-item continued token.White es item = cc
+  read-item continued _ es item = cc
+
+  -- what the compiler reads since the last item
+  abbrev read_since : Option Token → List Gap → List ℕ
+  read_since last gap = as_read (is_continued texts last) gap
+
+  -- what is read after the last item is enough where something keeps the next one apart
+  abbrev Serves : List ℕ → Option Token → List ℕ → Type 0
+  Serves meant last read = (f : Token) → needs_white texts false meant last f ≡ true → is_empty read ≡ false
+
+  -- The compiler reads the gap since the last item as meant, with the blank that is before the next item if there is
+  -- white space. `before`: the token before the white space, if there is one on the line.
+  record IsGap (meant : List ℕ) (white : Bool) (last before : Option Token) (gap : List Gap) : Type 0 where
+    line_ends : without_spaces (read_since last gap) ≡ without_spaces meant
+    together : is_empty meant ≡ true → (is_empty (read_since last gap) ≡ true) × (white ≡ false)
+    apart : (is_some before && white) ≡ false → Serves meant last (read_since last gap)
+    front : is_some before ≡ false → (all : List ℕ) → Serves all last (read_since last gap)
+    ended : is_continued texts before ≡ false → (is_continued texts last && is_empty gap) ≡ false
+    closing : is_empty (read_since last gap) ≡ true → is_open texts before ≡ false
+        → (gap ≡ []) × (is_open texts last ≡ false)
+
+  -- the gap directly after an item, and at the front of a piece
+  no-gap : (last : Option Token) → IsGap [] false last last []
+  no-gap last = record {
+    line_ends = refl;
+    together = λ none. (refl, refl);
+    apart = λ blank f needed. absurd cc;
+    front = front last;
+    ended = λ is. rw is refl;
+    closing = λ none closed. (refl, closed);
+  }
+    where
+      front : (last : Option Token) → is_some last ≡ false → (all : List ℕ) → Serves all last []
+      front None h all f needed = let wrong = rw (and-false (not (is_empty all))) at needed in absurd cc
+      front (Some e) h all f needed = absurd cc
+
+  white-gap : (meant : List ℕ) (white : Bool) (last before : Option Token) (gap : List Gap)
+      → IsGap meant white last before gap → IsGap (meant ++ space ∷ []) true last before gap
+  white-gap meant white last before gap is = record {
+    line_ends = is.line_ends ∙ sym (spaces-append meant (space ∷ []) ∙ append-nil (without_spaces meant));
+    together = λ none. let some = some-append meant space [] in absurd cc;
+    apart = λ blank. is.front (sym (and-true (is_some before)) ∙ blank) (meant ++ space ∷ []);
+    front = is.front;
+    ended = is.ended;
+    closing = is.closing;
+  }
+
+  -- the gap after the end of a line that is not continued
+  line_end-gap : (meant : List ℕ) (white : Bool) (last before : Option Token) (gap : List Gap) (end : Gap)
+      → IsGap meant white last before gap → is_continued texts before ≡ false
+      → as_read false (end ∷ []) ≡ line_feed ∷ []
+      → IsGap (meant ++ line_feed ∷ []) false last None (gap ++ end ∷ [])
+  line_end-gap meant white last before gap end is continued read =
+      let after = is_continued texts last in
+      let all : read_since last (gap ++ end ∷ []) ≡ read_since last gap ++ line_feed ∷ [] =
+      read-append after gap (end ∷ []) ∙ ap (λ bytes. as_read after gap ++ bytes) (rw (is.ended continued) read) in
+      let some : is_empty (read_since last (gap ++ end ∷ [])) ≡ false =
+      rw all (some-append (read_since last gap) line_feed []) in
+      record {
+        line_ends = rw (
+          all,
+          spaces-append (read_since last gap) (line_feed ∷ []),
+          spaces-append meant (line_feed ∷ []),
+          is.line_ends,
+        ) refl;
+        together = λ none. let other = some-append meant line_feed [] in absurd cc;
+        apart = λ blank f needed. some;
+        front = λ none all f needed. some;
+        ended = λ ends. rw (some-append gap end []) (and-false after);
+        closing = λ none. absurd cc;
+      }
+
+  -- the compiler reads the gap with the blank as meant, and after that perhaps what is taken out
+  blanked : (meant : List ℕ) (white : Bool) (last before : Option Token) (gap more : List Gap)
+      → IsGap meant white last before gap → ((after : Bool) → as_read after more ≡ []) → (f : Token)
+      → IsReadAs meant (read_since last (gap ++ blank_before (is_some before && white) more))
+      (needs_white texts false meant last f)
+  blanked meant white last before gap more is none f = by (is_some before && white) refl
+    where
+      after : Bool
+      after = is_continued texts last
+
+      by : (blank : Bool) → (is_some before && white) ≡ blank
+          → IsReadAs meant (read_since last (gap ++ blank_before blank more)) (needs_white texts false meant last f)
+      by true has = rw (read-append after gap (Space ∷ more), none false) (record {
+        lines = spaces-append (read_since last gap) (space ∷ [])
+            ∙ (append-nil (without_spaces (read_since last gap)) ∙ is.line_ends);
+        together = λ nothing.
+            let wrong = rw ((is.together nothing).1, and-false (is_some before)) at has in absurd cc;
+        apart = λ needed. some-append (read_since last gap) space [];
+      })
+      by false has =
+          rw (read-append after gap more, none (after && is_empty gap), append-nil (read_since last gap)) (record {
+            lines = is.line_ends;
+            together = λ nothing. (is.together nothing).0;
+            apart = is.apart has f;
+          })
+
+  -- The items of the tokens that follow are read as meant.
+
+  abbrev AreRead : List ℕ → Option Token → List Token → List ℕ → Type 0
+  AreRead meant last es bytes =
+      AreReadAsMeant texts mark (use_bytes lines used mark macros) line_feed (EndsPiece texts mark)
+      false meant last es bytes
+
+  -- the tokens that follow are read as meant, unless they are at the end of a line after a backslash
+  abbrev ReadsPlain : List Token → Type 0
+  ReadsPlain es = (meant : List ℕ) (white : Bool) (last before : Option Token) (counted : Origin) (gap : List Gap) →
+      IsGap meant white last before gap → (is_continued texts before && ends_line es) ≡ false →
+      AreRead meant last (read_tokens texts false es) (gap_bytes mark gap ++ text_from before white counted es)
+
+  -- The tokens that follow are read as meant after a backslash at the end of a continued line. `front` are the bytes
+  -- since the last item, and `gap` is what they are with the line feed.
+  abbrev ReadsContinued : List Token → Type 0
+  ReadsContinued es =
+      (meant : List ℕ) (white : Bool) (last before : Option Token) (counted : Origin) (front : List ℕ) (gap : List Gap)
+      → gap_bytes mark gap ≡ front ++ line_feed ∷ []
+      → ((line : ℕ) → IsGap meant false last (Some (token.LineEnd line)) gap)
+      → is_continued texts before ≡ true → ends_line es ≡ true →
+      AreRead meant last (read_tokens texts true es) (front ++ text_from before white counted es)
+
+  record Reads (es : List Token) : Type 0 where
+    plain : ReadsPlain es
+    continued : ReadsContinued es
+
+  plain-end : ReadsPlain []
+  plain-end meant white last before counted gap is continued = by (is_open texts before) refl
+    where
+      by : (blank : Bool) → is_open texts before ≡ blank → EndsPiece texts mark last meant (gap_bytes mark gap
+          ++ flat_map item_bytes (items_by_origin lines before counted (if blank then token.White ∷ [] else [])))
+      by true is_open_end =
+          let all : read_since last (gap ++ Space ∷ []) ≡ read_since last gap ++ space ∷ [] =
+          read-append (is_continued texts last) gap (Space ∷ []) in
+          record {
+            gap = gap ++ Space ∷ [];
+            is = sym (bytes-append mark gap (Space ∷ []));
+            lines =
+                rw (all, spaces-append (read_since last gap) (space ∷ []))
+                (append-nil (without_spaces (read_since last gap)) ∙ is.line_ends);
+            closing = λ none.
+                let some : is_empty (read_since last (gap ++ Space ∷ [])) ≡ false =
+                rw all (some-append (read_since last gap) space []) in
+                absurd cc;
+          }
+      by false closed = record {
+        gap = gap;
+        is = append-nil (gap_bytes mark gap);
+        lines = is.line_ends;
+        closing = λ none. is.closing none closed;
+      }
+
+  plain-line_end : (line : ℕ) (es : List Token) → ReadsPlain es → ReadsPlain (token.LineEnd line ∷ es)
+  plain-line_end line es next meant white last before counted gap is continued =
+      by (is_expected lines counted line) refl
+    where
+      ends : is_continued texts before ≡ false
+      ends = sym (and-true (is_continued texts before)) ∙ continued
+
+      -- the line end is a line feed or a mark
+      after : (end : Gap) (counted : Origin) → as_read false (end ∷ []) ≡ line_feed ∷ [] →
+          AreRead (meant ++ line_feed ∷ []) last (read_tokens texts false es)
+          (gap_bytes mark gap ++ (gap_bytes mark (end ∷ []) ++ text_from None false counted es))
+      after end counted read =
+          subst (AreRead (meant ++ line_feed ∷ []) last (read_tokens texts false es))
+          (ap (λ bytes. bytes ++ text_from None false counted es) (bytes-append mark gap (end ∷ []))
+          ∙ append_assoc (gap_bytes mark gap) (gap_bytes mark (end ∷ [])) (text_from None false counted es))
+          (next (meant ++ line_feed ∷ []) false last None counted (gap ++ end ∷ [])
+          (line_end-gap meant white last before gap end is ends read) refl)
+
+      by : (b : Bool) → is_expected lines counted line ≡ b → AreRead (meant ++ line_feed ∷ []) last
+          (read_tokens texts false es) (gap_bytes mark gap ++ text_from before white counted (token.LineEnd line ∷ es))
+      by true at = rw (ends, at) (after LineFeed (next_line counted) refl)
+      by false at =
+          let origin = origin_at lines (line + 1) in
+          rw (ends, at, sym (append-nil (mark origin))) (after (Mark origin) origin refl)
+
+  continued-line_end : (line : ℕ) (es : List Token) → ReadsPlain es → ReadsContinued (token.LineEnd line ∷ es)
+  continued-line_end line es next meant white last before counted front gap bytes is continued ends =
+      let at : Option Token = Some (token.LineEnd line) in
+      rw continued
+      (subst (AreRead meant last (read_tokens texts false es))
+      (ap (λ bs. bs ++ text_from at false (next_line counted) es) bytes
+      ∙ append_assoc front (line_feed ∷ []) (text_from at false (next_line counted) es))
+      (next meant false last at (next_line counted) gap (is line) refl))
+
+  backslash-bytes : (e : Token) → is_backslash texts e ≡ true → bytes_of e ≡ backslash ∷ []
+  backslash-bytes (token.Span span_kind.Sign s) is = (bytes_eq-Decides (span_text texts s) (backslash ∷ [])).0 is
+  backslash-bytes _ is = cc
+
+  plain-item : (e : Token) (es : List Token) → is_front_gap e ≡ false → Reads es → ReadsPlain (e ∷ es)
+  plain-item e es item next meant white last before counted gap is plain =
+      rw (read-item false e es item, text-item before white counted e es item)
+      (by (ends_in_backslash texts e && ends_line es) refl (is_backslash texts e) refl)
+    where
+      counted_after : Origin
+      counted_after = counted_after_token lines counted e
+
+      blank : Bool
+      blank = is_some before && white
+
+      rest : List ℕ
+      rest = text_from (Some e) false counted_after es
+
+      -- the bytes of the gap with the blank and more, before other bytes
+      gap-bytes : (more : List Gap) → gap_bytes mark (gap ++ blank_before blank more)
+          ≡ gap_bytes mark gap ++ (blank_bytes blank ++ gap_bytes mark more)
+      gap-bytes more =
+          bytes-append mark gap (blank_before blank more)
+          ∙ ap (λ bytes. gap_bytes mark gap ++ bytes) (blank-bytes blank)
+        where
+          blank-bytes : (b : Bool) → gap_bytes mark (blank_before b more) ≡ blank_bytes b ++ gap_bytes mark more
+          blank-bytes true = refl
+          blank-bytes false = refl
+
+      -- the case in which the compiler reads the item
+      kept : (fs : List Token) → AreRead [] (Some e) fs rest →
+          AreRead meant last (e ∷ fs) (gap_bytes mark gap ++ (blank_bytes blank ++ (bytes_of e ++ rest)))
+      kept fs more =
+          item-as-meant texts mark (use_bytes lines used mark macros) line_feed (EndsPiece texts mark) false meant last
+          e fs (gap ++ blank_before blank []) rest _ item
+          (sym (ap (λ bytes. bytes ++ (bytes_of e ++ rest)) (bytes-append mark gap (blank_before blank []))
+          ∙ append_assoc (gap_bytes mark gap) (blank_bytes blank) (bytes_of e ++ rest)))
+          (blanked meant white last before gap [] is (λ after. refl) e) more
+
+      -- the case in which the item is a backslash at the end of a continued line
+      taken_out : ends_in_backslash texts e ≡ true → ends_line es ≡ true → bytes_of e ≡ backslash ∷ [] →
+          AreRead meant last (read_tokens texts true es) (gap_bytes mark gap ++ (blank_bytes blank ++ (bytes_of e ++ rest)))
+      taken_out is_last line_ends bytes =
+          rw bytes
+          (subst (AreRead meant last (read_tokens texts true es))
+          (append_assoc (gap_bytes mark gap) (blank_bytes blank ++ backslash ∷ []) rest
+          ∙ ap (λ bs. gap_bytes mark gap ++ bs) (append_assoc (blank_bytes blank) (backslash ∷ []) rest))
+          (next.continued meant false last (Some e) counted_after (gap_bytes mark gap ++ (blank_bytes blank ++ backslash ∷ []))
+          (gap ++ blank_before blank (TakenOut ∷ []))
+          (gap-bytes (TakenOut ∷ [])
+          ∙ sym (append_assoc (gap_bytes mark gap) (blank_bytes blank ++ backslash ∷ []) (line_feed ∷ [])
+          ∙ ap (λ bs. gap_bytes mark gap ++ bs) (append_assoc (blank_bytes blank) (backslash ∷ []) (line_feed ∷ []))))
+          joined is_last line_ends))
+        where
+          not_empty : (b : Bool) → is_empty (gap ++ blank_before b (TakenOut ∷ [])) ≡ false
+          not_empty true = some-append gap Space (TakenOut ∷ [])
+          not_empty false = some-append gap TakenOut []
+
+          joined : (line : ℕ) → IsGap meant false last (Some (token.LineEnd line)) (gap ++ blank_before blank (TakenOut ∷ []))
+          joined line =
+              let here = blanked meant white last before gap (TakenOut ∷ []) is (λ after. refl) in
+              record {
+                line_ends = (here e).lines;
+                together = λ none. ((here e).together none, refl);
+                apart = λ no_blank f. (here f).apart;
+                front = λ none. absurd cc;
+                ended = λ ends. rw (not_empty blank) (and-false (is_continued texts last));
+                closing = λ none closed. absurd cc;
+              }
+
+      -- the gap after a verbatim text at the end of a continued line
+      verbatim-gap : ends_in_backslash texts e ≡ true → (line : ℕ)
+          → IsGap [] false (Some e) (Some (token.LineEnd line)) (LineFeed ∷ [])
+      verbatim-gap is_last line = record {
+        line_ends = rw is_last refl;
+        together = λ none. (rw is_last refl, refl);
+        apart = λ no_blank f needed. absurd cc;
+        front = λ none. absurd cc;
+        ended = λ ends. and-false (ends_in_backslash texts e);
+        closing = λ none closed. absurd cc;
+      }
+
+      by : (continues : Bool) → (ends_in_backslash texts e && ends_line es) ≡ continues → (is_sign : Bool)
+          → is_backslash texts e ≡ is_sign
+          → AreRead meant last ((if continues && is_sign then [] else e ∷ []) ++ read_tokens texts continues es)
+          (gap_bytes mark gap ++ (blank_bytes blank ++ (bytes_of e ++ rest)))
+      by true both true sign = let ends = and_parts _ _ both in taken_out ends.0 ends.1 (backslash-bytes e sign)
+      by true both false other =
+          let ends = and_parts _ _ both in
+          kept (read_tokens texts true es)
+          (next.continued [] false (Some e) (Some e) counted_after [] (LineFeed ∷ []) refl (verbatim-gap ends.0)
+          ends.0 ends.1)
+      by false both is_sign sign =
+          kept (read_tokens texts false es)
+          (next.plain [] false (Some e) (Some e) counted_after [] (no-gap (Some e)) both)
+
+  reads : (es : List Token) → Reads es
+  reads [] =
+      record { plain = plain-end; continued = λ meant white last before counted front gap bytes is continued ends. absurd cc }
+  reads (token.White ∷ es) =
+      let next = reads es in
+      record {
+        plain = λ meant white last before counted gap is.
+            next.plain (meant ++ space ∷ []) true last before counted gap (white-gap meant white last before gap is);
+        continued = λ meant white last before counted. next.continued meant true last before counted;
+      }
+  reads (token.LineEnd line ∷ es) =
+      let next = reads es in
+      record { plain = plain-line_end line es next.plain; continued = continued-line_end line es next.plain }
+  reads (e ∷ es) = record {
+    plain = plain-item e es refl (reads es);
+    continued = λ meant white last before counted front gap bytes is continued ends. absurd cc;
+  }
+
+  -- the items of a whole piece are read as meant
+  pub piece-as-meant : (line : ℕ) (tokens : List Token)
+      → IsPieceReadAsMeant lines used mark macros (part_tokens texts tokens)
+      (flat_map item_bytes (part_items lines line tokens))
+  piece-as-meant line tokens =
+      rw (part_items-by_origin lines line tokens)
+      ((reads (part_tokens texts tokens)).plain [] false None None (origin_at lines line) [] (no-gap None) refl)
