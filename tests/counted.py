@@ -23,10 +23,11 @@ retangle, refuse = (os.path.abspath(path) for path in sys.argv[1:3])
 SIZES = (10, 1000, 10000)
 
 # What an edit takes for a node that it changed, and that uses none: the expansion; and for its body
-# the name, the bytes, the plan, what determines the shape, and what holds these. For the first such
-# node also the list of the affected nodes, that of the work, and two buffers for planning.
-ANOTHER = 6
-ONE_NODE = ANOTHER + 4
+# the name, the bytes, the tags, and what holds these. For the first such node also the list of the
+# affected nodes and that of the work. An edit that changes no node has the buffers too in which
+# bodies are built: the new ones are compared there with the old ones.
+ANOTHER = 5
+ONE_NODE = ANOTHER + 2
 # Allocations of lists with an entry for each node: each of them doubles the capacity of one list.
 DOUBLINGS = 60
 CYCLE = '@<z@>'
