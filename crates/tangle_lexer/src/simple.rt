@@ -95,29 +95,34 @@ fn begins_run(state: LexerState, simple: SimpleLexeme, byte: Option<u8>) -> bool
         }
 }
 
-/// Reads the run that begins here, or else this simple lexeme. Returns how the line of C was read
-/// then.
+/// Reads the run that begins here, or else this simple lexeme. `line` is how the line of C was read
+/// so far.
 #[inline(always)]
 fn run_or_simple(
     tokens: &mut Vec<Token>,
     reader: &mut Reader,
-    state: LexerState,
+    from: LexerState,
+    line: &mut LineState,
     simple: SimpleLexeme,
-) -> Result<LineState, AllocError>
+) -> Result<(), AllocError>
     requires simple { IsSimple reader.old simple }
-    requires mode { spec.is_c_text state.mode ≡ true }
-    ensures read { IfOk result (λ line. (lines : List SourceLine) → IsRestOf lines reader.old
-        → ReadsOn lines tokens.old.items tokens.new.items state (with_line line state)
-        reader.old reader.new) }
-    ensures adds { OnOk result (AddsSimple state.mode tokens.old.items tokens.new.items) }
+    requires mode { spec.is_c_text from.mode ≡ true }
+    ensures read { OnOk result ((lines : List SourceLine) → IsRestOf lines reader.old
+        → ReadsOn lines tokens.old.items tokens.new.items (with_line line.old from)
+        (with_line line.new from) reader.old reader.new) }
+    ensures adds { OnOk result (AddsSimple from.mode tokens.old.items tokens.new.items) }
     ensures shorter { OnOk result (length reader.new < length reader.old) }
 {
+    let state = from.with_line(*line);
     if begins_run(state, simple, reader.byte()) {
         let run = reader.take_run();
         tokens.push(Token::Run(run))?;
-        return Ok(state.elsewhere().line);
+        line.set(state.elsewhere().line);
+        return Ok(());
     }
-    Ok(simple_step(tokens, reader, state, simple)?.line)
+    let after = simple_step(tokens, reader, state, simple)?;
+    line.set(after.line);
+    Ok(())
 }
 
 /// Reads simple lexemes of C text, and in C parts runs in place of those that they consist of, up
@@ -137,12 +142,11 @@ pub fn read_simple(
     if !is_c_text(from.mode) {
         return Ok(from);
     }
-    // `here` and `line` are local, so that they stay in registers in the loop.
+    // `here` and `line` are local, so that their fields stay in registers in the loop.
     let mut here = reader.copy();
     let mut line = from.line;
     while let Some(simple) = simple_at(&here) {
-        let state = from.with_line(line);
-        line = run_or_simple(tokens, &mut here, state, simple)?;
+        run_or_simple(tokens, &mut here, from, &mut line, simple)?;
     }
     *reader = here;
     Ok(from.with_line(line))

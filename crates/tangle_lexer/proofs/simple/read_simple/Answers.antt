@@ -21,20 +21,15 @@ loop-simple-init c = record {
 pub loop-simple-preserved : goal.loop-simple-preserved
 loop-simple-preserved c =
     let before = c.loop-simple.invariant in
-    let step = c.in_ok-line.ensures in
-    let adds = subst (λ t. AddsSimple t.mode c.loop-simple.tokens.items c.run_or_simple.new.tokens.items)
-    c.with_line-state.ensures step.adds in
+    let step = c.in_ok-run_or_simple.ensures in
     record {
       read = λ lines ours.
           let first = before.read lines ours in
           reads-trans lines _ _ _ c.args.from (with_line c.loop-simple.line c.args.from) _ c.args.reader.now
-          c.loop-simple.here _ first
-          (subst (λ t. ReadsOn lines c.loop-simple.tokens.items c.run_or_simple.new.tokens.items t
-          (with_line c.in_ok-line.line t) c.loop-simple.here c.run_or_simple.new.reader)
-          c.with_line-state.ensures (step.read lines first.ours));
+          c.loop-simple.here _ first (step.read lines first.ours);
       adds = record {
-        no_head = λ none. adds.no_head (before.adds.no_head none);
-        no_run = λ other none. adds.no_run other (before.adds.no_run other none);
+        no_head = λ none. step.adds.no_head (before.adds.no_head none);
+        no_run = λ other none. step.adds.no_run other (before.adds.no_run other none);
       };
       shorter = omega (arith, step.shorter, before.shorter);
       mode = before.mode;

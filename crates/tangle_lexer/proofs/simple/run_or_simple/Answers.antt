@@ -1,5 +1,6 @@
-use Rattle.std.proofs.Common.{◌≡◌, true, length, drop, refl, ap, sym, ◌∙◌, subst, arith, length-drop}
+use Rattle.std.proofs.Common.{◌≡◌, true, length, drop, ap, sym, ◌∙◌, subst, arith, length-drop}
 use Rattle.tangle_text.specs.Text.{byte_at}
+use Rattle.tangle_lexer.specs.declared.modes.LexerState.{LexerState}
 use Rattle.tangle_lexer.specs.Lexemes.{with_line}
 use Rattle.tangle_lexer.specs.Reads.{ReadsOn}
 use Rattle.tangle_lexer.specs.Simple.{begins_run, simple_kind}
@@ -11,35 +12,37 @@ use Rattle.tangle_lexer.proofs.simple.run_or_simple.Goals as goal
 
 pub returns-then-begins_run-clause-read : goal.returns-then-begins_run-clause-read
 returns-then-begins_run-clause-read c = λ lines ours.
-    let begins : begins_run c.args.state.mode c.args.state.line c.args.simple (byte_at 0 c.args.reader.now) ≡ true
-    = ap (begins_run c.args.state.mode c.args.state.line c.args.simple) (sym c.byte.ensures)
-    ∙ (sym c.begins_run.ensures ∙ c.if-begins_run.true) in
-    subst (λ after. ReadsOn lines c.args.tokens.now.items c.push.new.self.items c.args.state
-    (with_line after.line c.args.state) c.args.reader.now c.take_run-run.new.self) (sym c.elsewhere.ensures)
-    (run-reads-on lines _ _ c.args.state c.args.reader.now _ c.take_run-run.result
+    let state = with_line c.args.line.now c.args.from in
+    let begins : begins_run state.mode state.line c.args.simple (byte_at 0 c.args.reader.now) ≡ true
+    = ap (begins_run state.mode state.line c.args.simple) (sym c.byte.ensures)
+    ∙ (ap (λ (s : LexerState). begins_run s.mode s.line c.args.simple c.byte.result) (sym c.with_line-state.ensures)
+    ∙ (sym c.begins_run.ensures ∙ c.if-begins_run.true)) in
+    rw (c.set.ensures, c.elsewhere.ensures, c.with_line-state.ensures)
+    (run-reads-on lines _ _ state c.args.reader.now _ c.take_run-run.result
     c.in_ok-push.ensures.items c.take_run-run.ensures.span c.take_run-run.ensures.ahead ours
-    (run-read lines c.args.state c.args.reader.now c.args.simple c.requires.simple begins ours))
+    (run-read lines state c.args.reader.now c.args.simple c.requires.simple begins ours))
 
 pub returns-clause-read : goal.returns-clause-read
 returns-clause-read c = λ lines ours.
-    let state = c.args.state in
-    let again = simple-again _ _ state.line state state _ c.args.reader.now _ c.args.simple
-    refl c.in_ok-simple_step.ensures in
+    let state = with_line c.args.line.now c.args.from in
+    let again = simple-again _ _ c.args.line.now c.args.from _ _ c.args.reader.now _ c.args.simple
+    c.with_line-state.ensures c.in_ok-after.ensures in
     let read = simple-read _ _ state _ c.args.reader.now _ c.args.simple c.requires.simple c.requires.mode again in
-    plain-reads-on lines _ _ state _ c.args.reader.now _ c.requires.simple.inside read
+    rw c.set-2.ensures
+    (plain-reads-on lines _ _ state _ c.args.reader.now _ c.requires.simple.inside read
     (no-run (lexeme state c.args.reader.now).tokens
     (simple-special state c.args.reader.now c.args.simple c.requires.simple c.requires.mode))
     (simple-occurrences_from _ _ state _ c.args.reader.now _ c.args.simple c.requires.simple c.requires.mode again)
-    ours
+    ours)
 
 pub returns-clause-shorter : goal.returns-clause-shorter
 returns-clause-shorter c =
     let text = c.args.reader.now in
-    let here = c_lexeme (simple_kind c.args.simple) c.args.state text in
+    let here = c_lexeme (simple_kind c.args.simple) c.with_line-state.result text in
     omega (
       arith,
       c.requires.simple.inside,
-      ap length c.in_ok-simple_step.ensures.ahead,
+      ap length c.in_ok-after.ensures.ahead,
       length-drop here.more (drop 1 text),
       length-drop 1 text,
     )
