@@ -2,7 +2,7 @@
 ghost use Rattle.std.specs.Prelude.{◌≡◌, ◌++◌, IfOk, OnOk, decimal, flat_map};
 ghost use Rattle.std.specs.List.{All};
 ghost use Rattle.tangle_scan.specs.Rules.{first_byte};
-ghost use Rattle.tangle_scan.specs.SourceOrder.{IsInRange};
+ghost use Rattle.tangle_scan.specs.ItemSpans.{IsInRange};
 ghost use Rattle.tangle_scan.specs.ItemBytes.{bytes_in};
 ghost use Rattle.tangle_scan.specs.MacroBytes.{is_dropped_at_end, without_end};
 ghost use Rattle.tangle_scan.specs.MacroBytes.{macro_item_bytes, macro_bytes};

@@ -19,9 +19,7 @@ pub record IsNameGraphOf (ids : List (List ℕ)) (name_graph : NameGraph) : Type
   pub range : InRange name_graph.uses
   pub users : IsReversed name_graph.uses name_graph.users
   pub order : IsOrder name_graph.uses name_graph.order.items
-  pub containing_size : length name_graph.self_containing.items ≡ length name_graph.uses
   pub containing : FlagsJust name_graph.uses name_graph.self_containing.items
       (ContainsItself (HasUse name_graph.uses))
-  pub reaching_size : length name_graph.reaching_cycles.items ≡ length name_graph.uses
   pub reaching : FlagsJust name_graph.uses name_graph.reaching_cycles.items
       (ReachesCycle (HasUse name_graph.uses))

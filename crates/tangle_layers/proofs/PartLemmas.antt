@@ -3,7 +3,7 @@ use Rattle.std.proofs.Common.{◌≡◌, ◌<◌, ℕ, List, map, length, get_or
 use Rattle.std.proofs.Common.{ap, sym, ◌∙◌, subst, arith, All}
 use Rattle.std.proofs.lemmas.List.{get_or-map, length-map}
 use Rattle.tangle_scan.specs.Entries.{StoredPiece, items_of, piece_read}
-use Rattle.tangle_scan.specs.SourceOrder.{IsInRange}
+use Rattle.tangle_scan.specs.ItemSpans.{IsInRange}
 use Rattle.tangle_scan.specs.Web.{WebRead, PieceRead}
 use Rattle.tangle_scan.specs.WellFormed.{IsWellFormed}
 

@@ -1,7 +1,7 @@
 //! The pieces and macros of a web, with their items.
 ghost use Rattle.std.specs.List.{All};
 ghost use Rattle.tangle_scan.specs.Entries.{IsEntryInRange, items_of};
-ghost use Rattle.tangle_scan.specs.SourceOrder.{IsInRange, IsSpan};
+ghost use Rattle.tangle_scan.specs.ItemSpans.{IsInRange, IsSpan};
 
 use crate::listing::Listing;
 use tangle_lines::{Origin, Sink};

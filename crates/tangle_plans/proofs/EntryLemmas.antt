@@ -11,7 +11,7 @@ use Rattle.tangle_scan.specs.declared.items.Entry.{Entry}
 use Rattle.tangle_scan.specs.declared.items.Entry.TheVariants as entry
 use Rattle.tangle_scan.specs.Entries.{StoredPiece, IsEntryInRange, entry_items, items_of, piece_read}
 use Rattle.tangle_scan.specs.ItemBytes.{bytes_in}
-use Rattle.tangle_scan.specs.SourceOrder.{IsInRange}
+use Rattle.tangle_scan.specs.ItemSpans.{IsInRange}
 use Rattle.tangle_scan.specs.WellFormed.{IsUseBelow, IsWellFormed}
 use Rattle.tangle_scan.specs.Web.{PieceRead, WebRead}
 use Rattle.tangle_names.specs.declared.Resolved.{Resolved}

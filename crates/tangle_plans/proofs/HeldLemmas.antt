@@ -8,7 +8,7 @@ use Rattle.tangle_scan.specs.declared.items.Item.{Item}
 use Rattle.tangle_scan.specs.declared.items.Item.TheVariants as item
 use Rattle.tangle_scan.specs.ItemBytes.{bytes_in}
 use Rattle.tangle_scan.specs.Rules.{span_text}
-use Rattle.tangle_scan.specs.SourceOrder.{IsSpan, IsInRange}
+use Rattle.tangle_scan.specs.ItemSpans.{IsSpan, IsInRange}
 use Rattle.tangle_scan.specs.Web.{PieceRead}
 use Rattle.tangle_names.specs.declared.Resolved.{Resolved}
 use Rattle.tangle_names.specs.declared.Resolved.TheVariants.{Name}

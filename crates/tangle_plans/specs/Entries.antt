@@ -8,7 +8,7 @@ use Rattle.tangle_scan.specs.declared.items.Entry.{Entry}
 use Rattle.tangle_scan.specs.declared.items.Entry.TheVariants as entry
 use Rattle.tangle_scan.specs.Entries.{items_of}
 use Rattle.tangle_scan.specs.ItemBytes.{bytes_in}
-use Rattle.tangle_scan.specs.SourceOrder.{IsInRange, IsSpan}
+use Rattle.tangle_scan.specs.ItemSpans.{IsInRange, IsSpan}
 use Rattle.tangle_scan.specs.Web.{WebRead}
 use Rattle.tangle_scan.specs.WellFormed.{IsUseBelow}
 use Rattle.tangle_names.specs.NameTable.{TableRead}

@@ -2,7 +2,7 @@
 ghost use Rattle.std.specs.Prelude.{◌≡◌, ◌↔◌, ◌<◌, ◌^◌, ◌++◌, ◌∷◌, [], IfOk, OnOk, true, length};
 ghost use Rattle.std.specs.List.{All};
 ghost use Rattle.tangle_scan.specs.Rules.{span_text};
-ghost use Rattle.tangle_scan.specs.SourceOrder.{IsInRange, IsSpan};
+ghost use Rattle.tangle_scan.specs.ItemSpans.{IsInRange, IsSpan};
 ghost use Rattle.tangle_scan.specs.WellFormed.{IsUseBelow};
 ghost use Rattle.tangle_scan.specs.declared.items.Entry.TheVariants as entry;
 ghost use Rattle.tangle_plans.specs.Entries.{IsEntryOf, run_tag};

@@ -5,7 +5,7 @@ use Rattle.tangle_lines.specs.Reading.{SourceRead}
 use Rattle.tangle_text.specs.Text.{text_from}
 use Rattle.tangle_lexer.specs.Segments.{span_points, kept_points, ShowsKind, all_segments}
 use Rattle.tangle_scan.specs.Web.{WebRead}
-use Rattle.tangle_scan.specs.SourceOrder.{item_spans}
+use Rattle.tangle_scan.specs.ItemSpans.{item_spans}
 
 -- the first point is before the second: on an earlier line, or further left on the same line
 abbrev pub IsEarlier : ℕ × ℕ → ℕ × ℕ → Type 0

@@ -2,7 +2,7 @@ pub mod Rules
 pub mod Passes
 pub mod Web
 pub mod WebBuilder
-pub mod SourceOrder
+pub mod ItemSpans
 pub mod WellFormed
 pub mod LineTruth
 pub mod KeptBytes

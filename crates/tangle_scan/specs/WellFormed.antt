@@ -6,7 +6,7 @@ use Rattle.std.specs.Option.{IfSome}
 use Rattle.tangle_scan.specs.declared.items.Item.{Item}
 use Rattle.tangle_scan.specs.declared.items.Item.TheVariants as item
 use Rattle.tangle_scan.specs.Web.{WebRead}
-use Rattle.tangle_scan.specs.SourceOrder.{SpansAreInRange}
+use Rattle.tangle_scan.specs.ItemSpans.{SpansAreInRange}
 
 -- an item is not a use, or the number of its occurrence is below `count`
 abbrev pub IsUseBelow : ℕ → Item → Type 0

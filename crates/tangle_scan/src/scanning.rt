@@ -3,7 +3,6 @@ ghost use Rattle.std.specs.Prelude.{◌≡◌, map, IfOk};
 ghost use Rattle.tangle_lexer.specs.Steps.{all_tokens, all_occurrences};
 ghost use Rattle.tangle_scan.specs.Web.{web_of};
 ghost use Rattle.tangle_lexer.specs.Occurrences.{occurrence_of};
-ghost use Rattle.tangle_scan.specs.SourceOrder.{SpansAreInOrder};
 ghost use Rattle.tangle_scan.specs.LineTruth.{PiecesAreAtTheirLines};
 ghost use Rattle.tangle_scan.specs.ReadAsMeant.{ItemsAreReadAsMeant};
 ghost use Rattle.tangle_scan.specs.WellFormed.{IsWellFormed};
@@ -47,9 +46,7 @@ fn gather(alloc: Global, source: &Source) -> Result<(WebBuilder, Vec<Occurrence>
 /// Scans the lines of a source: finds its sections, C parts, macros and section names, by the rules
 /// of `docs/scanning.md`. No source is refused: what breaks a rule is a fault of the web.
 ///
-/// The web borrows the source. The text of an item is a range of a source line. The ranges of all
-/// pieces are in the order of the source, and so are those of all macros. No order is promised
-/// between a range of a piece and one of a macro.
+/// The web borrows the source. The text of an item is a range of a source line.
 ///
 /// A C compiler that counts by the marks and line ends of a piece counts for each text the line
 /// that the text is on, except in stretches. A stretch begins at a line end inside a quoted text or
@@ -66,7 +63,6 @@ fn gather(alloc: Global, source: &Source) -> Result<(WebBuilder, Vec<Occurrence>
 pub fn scan<'s, 'a>(alloc: Global, source: &'s Source<'a>) -> Result<Web<'s, 'a>, NoMemory>
     ensures web { IfOk result (λ web. web ≡ web_of source.now) }
     ensures well_formed { IfOk result (λ web. IsWellFormed web) }
-    ensures order { IfOk result (λ web. SpansAreInOrder web) }
     ensures line_truth { IfOk result (λ web. PiecesAreAtTheirLines source.now web) }
     ensures as_meant { IfOk result (λ web. ItemsAreReadAsMeant source.now web) }
 {

@@ -3,7 +3,7 @@ ghost use Rattle.std.specs.Prelude.{◌≡◌, ◌++◌, [], map, drop, slice_ge
 ghost use Rattle.std.specs.List.{All};
 ghost use Rattle.tangle_scan.specs.Entries.{part_item, items_of, IsEntryInRange};
 ghost use Rattle.tangle_scan.specs.Rules.{texts_of};
-ghost use Rattle.tangle_scan.specs.SourceOrder.{IsSpan};
+ghost use Rattle.tangle_scan.specs.ItemSpans.{IsSpan};
 ghost use Rattle.tangle_text.specs.Runs.{run_parts};
 
 use crate::items::{Entry, Item};

@@ -4,7 +4,7 @@ ghost use Rattle.std.specs.List.{All};
 ghost use Rattle.tangle_scan.specs.Entries.{IsEntryInRange, RunsAreInRange, items_of, piece_read};
 ghost use Rattle.tangle_files.specs.Adding.{most_files};
 ghost use Rattle.tangle_scan.specs.Rules.{span_text, texts_of};
-ghost use Rattle.tangle_scan.specs.SourceOrder.{IsSpan};
+ghost use Rattle.tangle_scan.specs.ItemSpans.{IsSpan};
 ghost use Rattle.tangle_scan.specs.WellFormed.{IsWellFormed};
 ghost use Rattle.tangle_scan.specs.WebBuilder.{stored_web};
 

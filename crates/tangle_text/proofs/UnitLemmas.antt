@@ -42,14 +42,9 @@ count-is r (c ∷ d ∷ cs) = by (unit_at r (c ∷ d ∷ cs)) (count-is r (d ∷
     by unit.Two one two = omega (arith, two)
 
 -- by the unit at the front
-
 pub count-one : (r : Region) (c : Cell) (cs : List Cell)
     → unit_at r (c ∷ cs) ≡ unit.One → count_before r (c ∷ cs) ≡ 1 + count_before r cs
 count-one r c cs e = rw (count-is r (c ∷ cs), e, count-is r cs) refl
-
-pub count-two : (r : Region) (c d : Cell) (cs : List Cell)
-    → unit_at r (c ∷ d ∷ cs) ≡ unit.Two → count_before r (c ∷ d ∷ cs) ≡ 1 + (1 + count_before r cs)
-count-two r c d cs e = rw (count-is r (c ∷ d ∷ cs), e, count-is r cs) refl
 
 -- What `f` gives for each unit of a region, in order. `k` cells at the front belong to an earlier unit.
 abbrev pub from_units : {A : Type 0} → (Unit-of → Cell → Option ℕ → List A) → Region → ℕ → List Cell → List A

@@ -81,10 +81,6 @@ module _ (r : Region) (text whole : List Cell)
       ap (ends_region r) (sym (region_end-stop r text stop) ∙ end)
       ∙ sym (ap (λ e. is_on_line e && ends_region r (region_end r whole)) (sym ends ∙ line_ends-stop r text stop))
 
-  pub ends-later : (u : Unit-of) → 0 < length text → unit_at r text ≡ u → (u ≡ unit.Stop → ⊥)
-      → is_line_end (byte_at 0 text) ≡ true → ends_on_line r whole ≡ false
-  ends-later u inside here go none = rw (← ends, line_ends-go r 0 text u inside here go, none) refl
-
   pub never-ends : text ≡ [] → ends_on_line r whole ≡ false
   never-ends is =
       ap (λ t. is_on_line (line_ends r whole) && ends_region r t)
@@ -166,7 +162,3 @@ white-goes [] h = white-nothing (next_but_name []).more
 white-goes (c ∷ cs) h =
     let more = (next_but_name (c ∷ cs)).more in
     rw h (sym (drop-drop (white_count more cs) 1 (c ∷ cs)) ∙ skipped more cs)
-
-pub white-stops : (text : List Cell) → is_white_alone (next_but_name text).tokens ≡ false → white_end text ≡ text
-white-stops [] h = refl
-white-stops (c ∷ cs) h = rw h refl

@@ -15,7 +15,7 @@ use Rattle.tangle_scan.specs.Rules.{first_byte, ends_line, without_backslashes}
 use Rattle.tangle_text.specs.Bytes.{backslash}
 use Rattle.tangle_scan.specs.LineTruth.{counted_after_line_end}
 use Rattle.tangle_scan.specs.Passes.{counted_after_token, items_by_origin}
-use Rattle.tangle_scan.specs.SourceOrder.{item_spans}
+use Rattle.tangle_scan.specs.ItemSpans.{item_spans}
 use Rattle.tangle_scan.proofs.lemmas.ItemsByOrigin.{by-line_item, part_items-by_origin}
 use Rattle.tangle_scan.proofs.lemmas.KeptTokens.{kept, part-kept, macro_blanks-kept, macro-kept}
 

@@ -14,7 +14,7 @@ use Rattle.tangle_lexer.specs.Segments.{columns_from, span_points, kept_points, 
 use Rattle.tangle_scan.specs.Web.{web_of, Block, blocks, body, piece_of}
 use Rattle.tangle_scan.specs.Web.BlockKind.{OfPiece}
 use Rattle.tangle_scan.specs.Rules.{part_items}
-use Rattle.tangle_scan.specs.SourceOrder.{item_spans}
+use Rattle.tangle_scan.specs.ItemSpans.{item_spans}
 use Rattle.tangle_scan.specs.KeptBytes.{IsEarlier, KeepsEachByte}
 use Rattle.tangle_lexer.proofs.laws.Points.{Point, point_at, text-is}
 use Rattle.tangle_lexer.proofs.laws.TokenOrder.{span_end}

@@ -2,13 +2,9 @@
 -- of its blocks.
 use Rattle.std.proofs.Common.{◌≡◌, ℕ, ◌+◌, ◌<◌, ◌≤◌, Bool, true, List, [], ◌∷◌, ◌++◌, flat_map, inl, inr}
 use Rattle.std.proofs.Common.{◌∙◌, arith, Some, None}
-use Rattle.std.specs.List.{All, AllPairs}
-use Rattle.std.proofs.lemmas.List.Elements.{All-nil, All-cons}
-use Rattle.std.proofs.lemmas.List.Kept.{AllPairs-cons}
 use Rattle.tangle_text.specs.declared.spans.Span.{Span}
 use Rattle.tangle_lexer.specs.declared.tokens.Token.{Token}
 use Rattle.tangle_lexer.specs.declared.tokens.Token.TheVariants as token
-use Rattle.tangle_scan.specs.SourceOrder.{IsBefore}
 use Rattle.tangle_scan.specs.Web.{Block, BlockKind, blocks, body}
 use Rattle.tangle_scan.specs.Web.BlockKind.{OfMacro, OfPiece}
 use Rattle.tangle_lexer.proofs.laws.Points.{Point, Precedes, precedes-trans}
@@ -136,13 +132,3 @@ module _ (width : ℕ → ℕ) (count : ℕ) where
     pub some-ordered : (n : ℕ) (es : List Token)
         → AreOrdered width count (token_spans es) → AreOrdered width count (flat_map f (blocks n es))
     some-ordered n es h = ordered-suffix (token_spans (body es)) (flat_map f (blocks n es)) (blocks-ordered n es h)
-
-  -- the order of spans in the terms of the law of webs
-
-  after-all : (s : Span) (ss : List Span) → AreAfter (span_end s) ss → All (IsBefore s) ss
-  after-all s [] h = All-nil (IsBefore s)
-  after-all s (t ∷ ss) h = All-cons (IsBefore s) t ss h.0 (after-all s ss h.1)
-
-  pub ordered-pairs : (ss : List Span) → AreOrdered width count ss → AllPairs IsBefore ss
-  ordered-pairs [] h = λ i j d k l. absurd (omega (arith, l))
-  ordered-pairs (s ∷ ss) h = AllPairs-cons IsBefore s ss (after-all s ss h.1.0) (ordered-pairs ss h.1.1)

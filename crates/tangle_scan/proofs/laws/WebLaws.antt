@@ -1,4 +1,4 @@
--- The laws of a web: its spans are in range and in order, and its source items are at their lines.
+-- The laws of a web: its spans are in range, and its source items are at their lines.
 use Rattle.std.proofs.Common.{◌≡◌, ◌≤◌, ℕ, Bool, true, false, List, [], ◌∷◌, ◌++◌, length, get_or, flat_map, cond, inl}
 use Rattle.std.proofs.Common.{inr, ◌⊎◌, refl, ap, sym, ◌∙◌, arith, subst, append-nil, zero-add}
 use Rattle.std.specs.List.{All, AllZip}
@@ -16,13 +16,12 @@ use Rattle.tangle_lexer.specs.Steps.{first_state, tokens_from, all_tokens}
 use Rattle.tangle_scan.specs.Web.{web_of, PieceRead, Block, BlockKind, blocks, piece_of, kind_piece, macro_of}
 use Rattle.tangle_scan.specs.Web.{kind_macro}
 use Rattle.tangle_scan.specs.Web.BlockKind.{OfMacro, OfPiece}
-use Rattle.tangle_scan.specs.SourceOrder.{IsSpan, IsInRange, SpansAreInRange, item_spans, SpansAreInOrder}
+use Rattle.tangle_scan.specs.ItemSpans.{IsSpan, IsInRange, SpansAreInRange, item_spans}
 use Rattle.tangle_scan.specs.LineTruth.{Location, IsAtItsLine, kind_locations, PiecesAreAtTheirLines}
 use Rattle.tangle_lexer.proofs.laws.Points.{point_at, text-is}
 use Rattle.tangle_lexer.proofs.laws.LexemeOrder.{AreSomewhere, lexemes-in_order}
 use Rattle.tangle_scan.proofs.laws.ItemSpans.{token_spans, IsPart, part-none, part-whole, part-spans, macro-spans}
 use Rattle.tangle_scan.proofs.laws.SpanOrder.{AreOrdered, IsRange, in_order-ordered, some-ordered, ordered-suffix}
-use Rattle.tangle_scan.proofs.laws.SpanOrder.{ordered-pairs}
 use Rattle.tangle_scan.proofs.laws.BlockFlows.{kind_flows, AllFlow, blocks-flow}
 use Rattle.tangle_scan.proofs.laws.LineTruthLemmas.{part-true}
 
@@ -150,13 +149,6 @@ pub web-in-range : (source : SourceRead) → SpansAreInRange (web_of source)
 web-in-range source = record {
   pieces = all-in-range source.lines (λ p. p.items) _ (pieces-ordered source.lines);
   macros = all-in-range source.lines (λ m. m) _ (macros-ordered source.lines);
-}
-
--- the spans of a web are in the order of the source
-pub web-in-order : (source : SourceRead) → SpansAreInOrder (web_of source)
-web-in-order source = record {
-  pieces = ordered-pairs (width source.lines) (length source.lines) _ (pieces-ordered source.lines);
-  macros = ordered-pairs (width source.lines) (length source.lines) _ (macros-ordered source.lines);
 }
 
 -- the source items of each piece are at their own origins, outside stretches

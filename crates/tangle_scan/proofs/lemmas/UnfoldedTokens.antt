@@ -81,10 +81,6 @@ pub unfolded-no_head : (texts : List (List ℕ)) (ts : List Token) → list_any 
     → list_any is_head (unfolded texts ts) ≡ false
 unfolded-no_head texts ts none = any-unfolded is_head texts refl (λ kind s. refl) (λ s. refl) ts ∙ none
 
-pub unfolded-whole : (texts : List (List ℕ)) (ts : List Token) → list_any is_head ts ≡ false
-    → body (unfolded texts ts) ≡ unfolded texts ts
-unfolded-whole texts ts none = body-whole (unfolded texts ts) (unfolded-no_head texts ts none)
-
 -- tokens without a run
 pub unfolded-same : (texts : List (List ℕ)) (ts : List Token) → HasNoRun ts → unfolded texts ts ≡ ts
 unfolded-same texts [] none = refl

@@ -178,8 +178,3 @@ pub macro-gathered : (source : SourceRead) (before : WebBuilderRead) (line : ℕ
 macro-gathered source before line es none =
     ap (with_faults source es) (macro-added source before line es (body-whole es none))
     ∙ block-whole source before (token.MacroStart line) es none
-
--- a head begins one section at most
-pub section_after-limit : (n : ℕ) (e : Token) → section_after n e ≤ n + 1
-section_after-limit n token.Section = omega arith
-section_after-limit n _ = omega arith

@@ -1,5 +1,5 @@
 use Rattle.std.proofs.Common.{All, subst, sym}
-use Rattle.tangle_scan.specs.SourceOrder.{IsInRange}
+use Rattle.tangle_scan.specs.ItemSpans.{IsInRange}
 use Rattle.tangle_expansion.proofs.MacroEndLemmas.{All-without_end}
 use Rattle.tangle_expansion.proofs.macros.push_macro.Goals as goal
 

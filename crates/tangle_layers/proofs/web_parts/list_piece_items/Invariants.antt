@@ -1,5 +1,5 @@
 use Rattle.std.proofs.Common.{length, All}
-use Rattle.tangle_scan.specs.SourceOrder.{IsInRange}
+use Rattle.tangle_scan.specs.ItemSpans.{IsInRange}
 use Rattle.tangle_layers.proofs.web_parts.list_piece_items.Given as goal
 
 abbrev pub invariant-loop-item : goal.invariant-loop-item

@@ -3,7 +3,7 @@ use Rattle.tangle_lines.specs.Reading.{SourceRead}
 use Rattle.tangle_scan.specs.Web.{web_of}
 use Rattle.tangle_scan.specs.WellFormed.{IsWellFormed}
 use Rattle.tangle_scan.proofs.lemmas.ScanLemmas.{web-whole}
-use Rattle.tangle_scan.proofs.laws.WebLaws.{web-in-range, web-in-order, web-line-truth}
+use Rattle.tangle_scan.proofs.laws.WebLaws.{web-in-range, web-line-truth}
 use Rattle.tangle_scan.proofs.laws.WebsAsMeant.{web-as-meant}
 use Rattle.tangle_scan.proofs.laws.OccurrenceRange.{occurrences-in-range}
 use Rattle.tangle_scan.proofs.scanning.scan.Goals as goal
@@ -23,9 +23,6 @@ returns-clause-web c =
 
 pub returns-clause-well_formed : goal.returns-clause-well_formed
 returns-clause-well_formed c = rw (returns-clause-web c) (web-well-formed c.args.source.now)
-
-pub returns-clause-order : goal.returns-clause-order
-returns-clause-order c = rw (returns-clause-web c) (web-in-order c.args.source.now)
 
 pub returns-clause-line_truth : goal.returns-clause-line_truth
 returns-clause-line_truth c = rw (returns-clause-web c) (web-line-truth c.args.source.now)

@@ -1,6 +1,6 @@
--- The texts of items are ranges of source lines, in the order of the source.
-use Rattle.std.specs.Prelude.{◌≡◌, ◌≤◌, ℕ, List, [], ◌∷◌, flat_map}
-use Rattle.std.specs.List.{All, AllPairs}
+-- The texts of items are ranges of source lines.
+use Rattle.std.specs.Prelude.{ℕ, List, [], ◌∷◌}
+use Rattle.std.specs.List.{All}
 use Rattle.tangle_text.specs.declared.spans.Span.{Span}
 use Rattle.tangle_scan.specs.declared.items.Item.{Item}
 use Rattle.tangle_scan.specs.declared.items.Item.TheVariants as item
@@ -28,14 +28,3 @@ item_spans (item.Sign s ∷ items) = s ∷ item_spans items
 item_spans (item.Quoted s ∷ items) = s ∷ item_spans items
 item_spans (item.Verbatim s ∷ items) = s ∷ item_spans items
 item_spans (_ ∷ items) = item_spans items
-
--- one span ends before the other begins: it is on an earlier line, or further left on the same line
-abbrev pub IsBefore : Span → Span → Type 0
-IsBefore s t = (s.line ≤ t.line) × (s.line ≡ t.line → s.end ≤ t.start)
-
--- In the list of the spans of all pieces, each span is before all later ones, and so it is in the
--- list of the spans of all macros. No order between the two lists is stated, since no definition
--- reads the spans of both together.
-pub record SpansAreInOrder (web : WebRead) : Type 0 where
-  pub pieces : AllPairs IsBefore (flat_map (λ p. item_spans p.items) web.pieces)
-  pub macros : AllPairs IsBefore (flat_map item_spans web.macros)
