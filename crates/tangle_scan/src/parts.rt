@@ -470,6 +470,15 @@ fn note_gap(entries: &[Entry], at: &mut PartState)
     }
 }
 
+/// Notes a line end inside a comment or a control text of a directive. It is white space, and no
+/// line end of the C: the count stays.
+#[inline(always)]
+fn note_inner_line_end(at: &mut PartState)
+    ensures { at.new ≡ record at.old { has_white = true } }
+{
+    at.has_white = true;
+}
+
 /// Adds the item for the end of a source line, which no join before it in its gap removes.
 #[inline(always)]
 fn add_line_end(
@@ -563,8 +572,12 @@ fn add_token(
         ++ own_fault source.now.files source.now.lines token.now) }
 {
     match *token {
-        Token::White | Token::InnerLineEnd(_) => {
+        Token::White => {
             at.has_white = true;
+            Ok(())
+        }
+        Token::InnerLineEnd(_) => {
+            note_inner_line_end(at);
             Ok(())
         }
         Token::LineEnd(line) => {

@@ -1,6 +1,6 @@
 -- The laws of a web: its spans are in range, and its source items are at their lines.
-use Rattle.std.proofs.Common.{◌≡◌, ◌≤◌, ℕ, Bool, true, false, List, [], ◌∷◌, ◌++◌, length, get_or, flat_map, cond, inl}
-use Rattle.std.proofs.Common.{inr, ◌⊎◌, refl, ap, sym, ◌∙◌, arith, subst, append-nil, zero-add}
+use Rattle.std.proofs.Common.{◌≡◌, ◌≤◌, ℕ, Bool, true, false, List, [], ◌∷◌, ◌++◌, length, get_or, flat_map, cond}
+use Rattle.std.proofs.Common.{refl, ap, sym, ◌∙◌, arith, subst, append-nil, zero-add}
 use Rattle.std.specs.List.{All, AllZip}
 use Rattle.std.proofs.lemmas.List.Elements.{All-nil, All-cons}
 use Rattle.std.proofs.lemmas.Grind.{flat_map-append}

@@ -18,9 +18,8 @@ use Rattle.tangle_lexer.specs.declared.tokens.SpanKind.{SpanKind}
 use Rattle.tangle_lexer.specs.declared.tokens.SpanKind.TheVariants as span_kind
 use Rattle.tangle_lexer.specs.Heads.{is_head}
 use Rattle.tangle_lexer.specs.Runs.{part_token, unfolded_token, unfolded, is_run, HasNoRun}
-use Rattle.tangle_scan.specs.Web.{is_all_macros, body}
+use Rattle.tangle_scan.specs.Web.{is_all_macros}
 use Rattle.tangle_scan.specs.WebBuilder.{own_fault}
-use Rattle.tangle_scan.proofs.lemmas.WebBuilderLemmas.{body-whole}
 
 -- a test that neither a run nor a part of one passes: the parts are white space, words and signs
 

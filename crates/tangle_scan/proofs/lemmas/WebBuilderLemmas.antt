@@ -1,4 +1,4 @@
-use Rattle.std.proofs.Common.{◌≡◌, ◌≤◌, ℕ, ◌+◌, true, false, List, [], ◌∷◌, ◌++◌, refl, ap, sym, ◌∙◌, arith, if◌then◌else◌}
+use Rattle.std.proofs.Common.{◌≡◌, ℕ, ◌+◌, true, false, List, [], ◌∷◌, ◌++◌, refl, ap, sym, ◌∙◌, if◌then◌else◌}
 use Rattle.std.proofs.Common.{append_assoc, append-nil, ◌||◌, Option, None, Some}
 use Rattle.std.specs.List.{list_any, flat_map}
 use Rattle.std.proofs.lemmas.Grind.{flat_map-append}
@@ -9,7 +9,7 @@ use Rattle.tangle_faults.specs.declared.faults.FaultKind.TheVariants as fault
 use Rattle.tangle_lines.specs.Reading.{SourceRead, origin_at}
 use Rattle.tangle_lexer.specs.declared.tokens.Token.{Token}
 use Rattle.tangle_lexer.specs.declared.tokens.Token.TheVariants as token
-use Rattle.tangle_scan.specs.Web.{is_all_macros, body, section_after}
+use Rattle.tangle_scan.specs.Web.{is_all_macros, body}
 use Rattle.tangle_scan.specs.Rules.{texts_of, macro_items, is_macro, part_items}
 use Rattle.tangle_scan.specs.Web.{fault_on}
 use Rattle.tangle_lexer.specs.Heads.{is_head}

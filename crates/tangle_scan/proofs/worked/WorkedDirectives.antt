@@ -1,5 +1,5 @@
 -- Worked webs with directives: lines of the preprocessor.
-use Rattle.std.specs.Prelude.{◌≡◌, true, List, [], ◌∷◌, refl, codes}
+use Rattle.std.specs.Prelude.{◌≡◌, true, [], ◌∷◌, refl, codes}
 use Rattle.tangle_faults.specs.declared.faults.FaultKind.TheVariants as fault
 use Rattle.tangle_lexer.specs.Steps.{lexeme, tokens_from, occurrences_from}
 use Rattle.tangle_scan.proofs.worked.WorkedWebs.{shown, plain, on}

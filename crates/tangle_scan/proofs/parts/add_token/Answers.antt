@@ -1,4 +1,4 @@
-use Rattle.std.proofs.Common.{ap, refl, subst, inl, inr}
+use Rattle.std.proofs.Common.{ap, refl, subst}
 use Rattle.tangle_lexer.specs.Runs.{IsRunIn, IsRunOf}
 use Rattle.tangle_scan.specs.declared.items.Entry.TheVariants as entry
 use Rattle.tangle_scan.specs.declared.parts.PartState.{PartState}
@@ -12,12 +12,13 @@ use Rattle.tangle_scan.proofs.parts.add_token.Goals as goal
 
 pub returns-in-White-clause-passed : goal.returns-in-White-clause-passed
 returns-in-White-clause-passed c = λ whole es h.
-    elim c.in-White.is [
-      | inl white ↦
-          passed-white c.args.source.now.lines whole c.args.entries.now.items c.args.at.now es (rw white at h)
-      | inr inner ↦
-          passed-inner_end c.args.source.now.lines whole c.args.entries.now.items c.args.at.now _ es (rw inner.1 at h)
-    ]
+    passed-white c.args.source.now.lines whole c.args.entries.now.items c.args.at.now es (rw c.in-White.is at h)
+
+pub returns-in-InnerLineEnd-clause-passed : goal.returns-in-InnerLineEnd-clause-passed
+returns-in-InnerLineEnd-clause-passed c = λ whole es h.
+    rw c.note_inner_line_end.ensures
+    (passed-inner_end c.args.source.now.lines whole c.args.entries.now.items c.args.at.now _ es
+    (rw c.in-InnerLineEnd.is at h))
 
 pub returns-in-Joined-clause-passed : goal.returns-in-Joined-clause-passed
 returns-in-Joined-clause-passed c = λ whole es h.
