@@ -1,6 +1,6 @@
 use Rattle.std.proofs.Common.{length, ap, sym, subst, ◌∙◌, arith}
 use Rattle.tangle_lexer.specs.Lexemes.{with_line}
-use Rattle.tangle_lexer.specs.Reads.{ReadsOn, AddsSimple}
+use Rattle.tangle_lexer.specs.Reads.{ReadsOn}
 use Rattle.tangle_lexer.proofs.lemmas.BlockLemmas.{reads-nothing, reads-trans}
 use Rattle.tangle_lexer.proofs.simple.read_simple.Goals as goal
 

@@ -1,8 +1,7 @@
-use Rattle.std.proofs.Common.{◌≡◌, true, length, drop, ap, sym, ◌∙◌, subst, arith, length-drop}
+use Rattle.std.proofs.Common.{◌≡◌, true, length, drop, ap, sym, ◌∙◌, arith, length-drop}
 use Rattle.tangle_text.specs.Text.{byte_at}
 use Rattle.tangle_lexer.specs.declared.modes.LexerState.{LexerState}
 use Rattle.tangle_lexer.specs.Lexemes.{with_line}
-use Rattle.tangle_lexer.specs.Reads.{ReadsOn}
 use Rattle.tangle_lexer.specs.Simple.{begins_run, simple_kind}
 use Rattle.tangle_lexer.specs.Steps.{c_lexeme, lexeme}
 use Rattle.tangle_lexer.proofs.lemmas.BlockLemmas.{no-run, plain-reads-on}
