@@ -1,7 +1,7 @@
 //! The bytes of a web's macros.
 ghost use Rattle.std.specs.Prelude.{◌≡◌, ◌++◌, IfOk, OnOk, decimal, flat_map};
 ghost use Rattle.std.specs.List.{All};
-ghost use Rattle.tangle_scan.specs.Rules.{first_byte};
+ghost use Rattle.tangle_lexer.specs.SpanBytes.{first_byte};
 ghost use Rattle.tangle_scan.specs.ItemSpans.{IsInRange};
 ghost use Rattle.tangle_scan.specs.ItemBytes.{bytes_in};
 ghost use Rattle.tangle_scan.specs.MacroBytes.{is_dropped_at_end, without_end};

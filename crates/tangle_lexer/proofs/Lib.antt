@@ -1,3 +1,5 @@
 pub mod lemmas
+mod WorkedLines
 mod WorkedNames
 pub mod laws
+pub mod lines

@@ -13,3 +13,5 @@ pub mod Segments
 pub mod Heads
 pub mod Simple
 pub mod Runs
+pub mod SpanBytes
+pub mod LinesOfParts

@@ -1,6 +1,7 @@
 -- Lines of C, each of which a C compiler reads as one. A line of C begins at the front of a part,
 -- after a line end where the line before does not go on, and after a use or @h, which a line mark
 -- follows. It is a directive, that is, a line of the preprocessor, if its first item is the sign #.
+-- This is what the lexer knows of the line that it reads; LinesOfParts says it of whole parts.
 use Rattle.std.specs.Prelude.{Bool, true, false, if◌then◌else◌, List, [], ◌∷◌}
 use Rattle.tangle_lexer.specs.declared.modes.IncludeState.{IncludeState}
 use Rattle.tangle_lexer.specs.declared.modes.IncludeState.TheVariants as include

@@ -5,6 +5,7 @@ mod comments;
 mod constants;
 mod lexeme_kinds;
 mod lexer;
+mod line_laws;
 mod modes;
 mod names;
 mod occurrences;
@@ -15,6 +16,7 @@ mod tokens;
 mod white;
 
 pub use lexer::{first_state, next_block};
+pub use line_laws::{directives_are_lines_of_c, the_lexer_knows_directives};
 pub use modes::{IncludeState, LexerState, Mode};
 pub use occurrences::{Occurrence, OccurrenceRole};
 pub use tokens::{LexerBuffers, SpanKind, Token};

@@ -4,7 +4,7 @@ use Rattle.std.specs.Prelude.{if◌then◌else◌}
 use Rattle.tangle_text.specs.Bytes.{backslash}
 use Rattle.tangle_scan.specs.declared.items.Item.{Item}
 use Rattle.tangle_scan.specs.declared.items.Item.TheVariants as item
-use Rattle.tangle_scan.specs.Rules.{first_byte}
+use Rattle.tangle_lexer.specs.SpanBytes.{first_byte}
 use Rattle.tangle_scan.specs.ItemBytes.{bytes_in}
 
 module _ (texts : List (List ℕ)) where

@@ -25,7 +25,8 @@ use Rattle.tangle_scan.specs.Rules.{clean_tokens, white_inner_end, with_spaces, 
 use Rattle.tangle_scan.specs.Rules.{may_follow_name, is_gap}
 use Rattle.tangle_scan.specs.Rules.{would_merge, is_constant, may_merge, full_stop, has_join}
 use Rattle.tangle_scan.specs.Rules.{without_joins, left_of_run, blanks, is_open, is_continued, at_line_front}
-use Rattle.tangle_scan.specs.Rules.{texts_of, first_byte, last_byte, span_item, next_line}
+use Rattle.tangle_scan.specs.Rules.{texts_of, span_item, next_line}
+use Rattle.tangle_lexer.specs.SpanBytes.{first_byte, last_byte}
 use Rattle.tangle_scan.specs.Entries.{items_of, entry_is_mark}
 use Rattle.std.specs.List.{list_any}
 use Rattle.tangle_scan.specs.LineTruth.{is_expected, counted_after_line_end}

@@ -13,7 +13,8 @@ use Rattle.tangle_lexer.specs.declared.tokens.Token.{Token}
 use Rattle.tangle_lexer.specs.declared.tokens.Token.TheVariants as token
 use Rattle.tangle_lexer.specs.declared.tokens.SpanKind.TheVariants as span_kind
 use Rattle.tangle_lexer.specs.Steps.{all_tokens}
-use Rattle.tangle_scan.specs.Rules.{texts_of, span_text, ends_in_backslash, is_name_part}
+use Rattle.tangle_scan.specs.Rules.{texts_of, span_text, is_name_part}
+use Rattle.tangle_lexer.specs.SpanBytes.{ends_in_backslash}
 use Rattle.tangle_scan.specs.Rules.{part_tokens, macro_tokens, ends_line, without_backslashes}
 use Rattle.tangle_scan.specs.Rules.{has_blank_at_line_end, is_continued, is_open, unmarked_items}
 use Rattle.tangle_scan.specs.ItemBytes.{piece_item_bytes}

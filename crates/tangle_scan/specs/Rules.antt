@@ -1,8 +1,8 @@
 -- Five rules make items of the tokens of a C part or a macro. Each is applied to the whole list in
 -- turn, so that it can be read, and proved, alone.
-use Rattle.std.specs.Prelude.{ℕ, ◌+◌, Bool, true, false, ◌==◌, nat_le, ◌&&◌, ◌||◌, not, ◌-◌}
+use Rattle.std.specs.Prelude.{ℕ, ◌+◌, Bool, true, false, ◌==◌, nat_le, ◌&&◌, ◌||◌, not}
 use Rattle.std.specs.Prelude.{if◌then◌else◌, codes, Option, None, Some, is_some}
-use Rattle.std.specs.Prelude.{List, [], ◌∷◌, ◌++◌, map, length, get_or}
+use Rattle.std.specs.Prelude.{List, [], ◌∷◌, ◌++◌, map, length}
 use Rattle.std.specs.List.{list_any}
 use Rattle.tangle_lines.specs.declared.origin.Origin.{Origin}
 use Rattle.tangle_lines.specs.Reading.{SourceLine, origin_at}
@@ -17,19 +17,11 @@ use Rattle.tangle_lexer.specs.declared.tokens.SpanKind.{SpanKind}
 use Rattle.tangle_lexer.specs.declared.tokens.SpanKind.TheVariants as span_kind
 use Rattle.tangle_lexer.specs.declared.tokens.Token.TheVariants as token
 pub use Rattle.tangle_text.specs.Text.{texts_of, span_text}
+use Rattle.tangle_lexer.specs.SpanBytes.{first_byte, ends_in, ends_in_backslash}
 use Rattle.tangle_text.specs.Bytes.{left_parenthesis, backslash, slash, is_digit}
 
 abbrev pub full_stop : ℕ
 full_stop = 46
-
--- the first byte of a span
-abbrev pub first_byte : List (List ℕ) → Span → ℕ
-first_byte texts s = get_or (get_or texts s.line []) s.start 0
-
--- the last byte of a span, or 0 if the span is empty
-abbrev pub last_byte : List (List ℕ) → Span → ℕ
-last_byte texts s =
-    if nat_le s.end s.start then 0 else get_or (get_or texts s.line []) (s.end - 1) 0
 
 -- the tokens without faults, which are not items
 abbrev pub without_faults : List Token → List Token
@@ -100,10 +92,6 @@ with_name_space texts (e ∷ es) = with_space_after texts e es
 
 -- Rule 2: each run of joins, white space and line ends that has a join is removed.
 
-abbrev pub is_join : Token → Bool
-is_join token.Join = true
-is_join _ = false
-
 abbrev pub is_gap : Token → Bool
 is_gap token.Join = true
 is_gap token.White = true
@@ -132,15 +120,6 @@ without_joins run es = map_runs left_of_run run es
 -- Lines that a C compiler joins. Before it reads tokens, it takes out each backslash with a line
 -- feed directly after it. So a line is continued by the next one if its last item is a sign or a
 -- verbatim text that ends in a backslash.
-
--- whether a token is a sign or a verbatim text that ends in this byte
-abbrev pub ends_in : ℕ → List (List ℕ) → Token → Bool
-ends_in b texts (token.Span span_kind.Sign s) = first_byte texts s == b
-ends_in b texts (token.Span span_kind.Verbatim s) = last_byte texts s == b
-ends_in b texts _ = false
-
-abbrev pub ends_in_backslash : List (List ℕ) → Token → Bool
-ends_in_backslash = ends_in backslash
 
 -- whether a line that ends after this token, if there is one on it, is continued by the next line
 abbrev pub is_continued : List (List ℕ) → Option Token → Bool

@@ -13,7 +13,7 @@ use Rattle.tangle_scan.specs.declared.items.Item.TheVariants as item
 use Rattle.tangle_lexer.specs.declared.tokens.Token.{Token}
 use Rattle.tangle_lexer.specs.declared.tokens.Token.TheVariants as token
 use Rattle.tangle_lexer.specs.Lexemes.{OccurrenceOnLine}
-use Rattle.tangle_lexer.specs.Heads.{is_head}
+use Rattle.tangle_lexer.specs.LinesOfParts.{body}
 use Rattle.tangle_lexer.specs.Occurrences.{OccurrenceRead, occurrence_of}
 use Rattle.tangle_lexer.specs.Steps.{all_tokens, all_occurrences}
 use Rattle.tangle_scan.specs.Rules.{texts_of, part_items, macro_items, is_macro}
@@ -43,11 +43,6 @@ pub record WebRead : Type 0 where
   pub faults : List FaultRead
 
 -- the C parts and macros
-
--- the tokens before the next head
-abbrev pub body : List Token → List Token
-body [] = []
-body (e ∷ es) = if is_head e then [] else e ∷ body es
 
 -- a macro, or a C part with the number of the occurrence that names it, if one does; and the line
 -- on which its head ends

@@ -10,6 +10,7 @@ ghost use Rattle.std.specs.Prelude.{◌≡◌, ◌≤◌, ◌<◌, ◌+◌, ◌^
 ghost use Rattle.std.specs.Prelude.{List, max, if◌then◌else◌, true, false, None, take, flat_map};
 ghost use Rattle.std.specs.Prelude.{Some, option_to_list, IfOk, OnOk};
 ghost use Rattle.std.specs.List.{list_any, All};
+ghost use Rattle.tangle_lexer.specs.SpanBytes as span_bytes;
 ghost use Rattle.tangle_scan.specs.Rules as rules;
 ghost use Rattle.tangle_lines.specs.Reading.{origin_at};
 ghost use Rattle.tangle_scan.specs.Entries.{IsEntryInRange, entry_is_mark, items_of};
@@ -385,7 +386,7 @@ fn would_merge(source: &Source, entries: &[Entry], at: &PartState, token: Token)
 #[inline(always)]
 fn run_would_merge(source: &Source, entries: &[Entry], at: &PartState, span: Span) -> bool
     ensures { result ≡ (passes.is_touching at.now && (passes.is_code (last_entry entries.now)
-        && is_merging_byte (rules.first_byte (texts_of source.now.lines) span))) }
+        && is_merging_byte (span_bytes.first_byte (texts_of source.now.lines) span))) }
 {
     is_touching(at) && ends_in_constant(entries) && is_merging_byte(first_byte(source, span))
 }

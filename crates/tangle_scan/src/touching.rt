@@ -1,5 +1,6 @@
 //! Which items may touch.
 ghost use Rattle.std.specs.Prelude.{◌≡◌, get_or, []};
+ghost use Rattle.tangle_lexer.specs.SpanBytes as span_bytes;
 ghost use Rattle.tangle_scan.specs.Rules as rules;
 ghost use Rattle.tangle_scan.specs.Rules.{texts_of};
 
@@ -39,14 +40,14 @@ fn source_byte(source: &Source, line: u32, column: usize) -> u8
 
 /// The byte at the start of a span of the source, or 0 if the source has no such byte.
 pub(crate) fn first_byte(source: &Source, span: Span) -> u8
-    ensures { result ≡ rules.first_byte (texts_of source.now.lines) span }
+    ensures { result ≡ span_bytes.first_byte (texts_of source.now.lines) span }
 {
     source_byte(source, span.line, span.start as usize)
 }
 
 /// The last byte of a span of the source, or 0 if the span has none.
 pub(crate) fn last_byte(source: &Source, span: Span) -> u8
-    ensures { result ≡ rules.last_byte (texts_of source.now.lines) span }
+    ensures { result ≡ span_bytes.last_byte (texts_of source.now.lines) span }
 {
     if span.end <= span.start {
         return 0;

@@ -2,7 +2,8 @@
 use Rattle.std.proofs.Common.{ℕ, Bool, true, List, [], ◌∷◌, refl, subst}
 use Rattle.tangle_lexer.specs.declared.tokens.Token.{Token}
 use Rattle.tangle_lexer.specs.declared.tokens.Token.TheVariants as token
-use Rattle.tangle_scan.specs.Web.{Block, blocks, body, section_after, BlockKind}
+use Rattle.tangle_scan.specs.Web.{Block, blocks, section_after, BlockKind}
+use Rattle.tangle_lexer.specs.LinesOfParts.{body}
 use Rattle.tangle_scan.specs.Web.BlockKind.{OfMacro, OfPiece}
 use Rattle.tangle_lexer.proofs.laws.Points.{Point}
 use Rattle.tangle_lexer.proofs.laws.TokenOrder.{AreInOrder, jumped}

@@ -11,7 +11,8 @@ use Rattle.tangle_scan.specs.declared.items.Item.{Item}
 use Rattle.tangle_lines.specs.Reading.{SourceLine, origin_at}
 use Rattle.tangle_scan.specs.Rules.{texts_of, span_item, part_tokens, macro_tokens, at_line_front, blanks}
 use Rattle.tangle_scan.specs.Rules.{is_continued, macro_blanks, unmarked_items, part_items, macro_items}
-use Rattle.tangle_scan.specs.Rules.{first_byte, ends_line, without_backslashes}
+use Rattle.tangle_scan.specs.Rules.{ends_line, without_backslashes}
+use Rattle.tangle_lexer.specs.SpanBytes.{first_byte}
 use Rattle.tangle_text.specs.Bytes.{backslash}
 use Rattle.tangle_scan.specs.LineTruth.{counted_after_line_end}
 use Rattle.tangle_scan.specs.Passes.{counted_after_token, items_by_origin}

@@ -21,7 +21,8 @@ use Rattle.tangle_scan.specs.LineTruth.{counted_after_line_end}
 use Rattle.tangle_scan.specs.Passes.{items_at, counted_after_token, items_by_origin}
 use Rattle.tangle_scan.proofs.lemmas.KeptTokens.{kept, part-kept}
 use Rattle.tangle_scan.proofs.lemmas.ItemsByOrigin.{by-line_item, part_items-by_origin}
-use Rattle.tangle_scan.specs.Web.{PieceRead, body, block_at, blocks, section_after, piece_of, macro_of, web_of}
+use Rattle.tangle_scan.specs.Web.{PieceRead, block_at, blocks, section_after, piece_of, macro_of, web_of}
+use Rattle.tangle_lexer.specs.LinesOfParts.{body}
 use Rattle.tangle_scan.specs.Web.BlockKind.{OfPiece}
 use Rattle.tangle_lexer.specs.Heads.{is_head}
 use Rattle.tangle_scan.specs.WellFormed.{IsUseBelow, OccurrencesAreInRange}

@@ -11,7 +11,8 @@ use Rattle.tangle_text.specs.declared.spans.Span.{Span}
 use Rattle.tangle_text.specs.Text.{text_from}
 use Rattle.tangle_lexer.specs.Steps.{first_state, tokens_from, all_tokens}
 use Rattle.tangle_lexer.specs.Segments.{columns_from, span_points, kept_points, all_segments}
-use Rattle.tangle_scan.specs.Web.{web_of, Block, blocks, body, piece_of}
+use Rattle.tangle_scan.specs.Web.{web_of, Block, blocks, piece_of}
+use Rattle.tangle_lexer.specs.LinesOfParts.{body}
 use Rattle.tangle_scan.specs.Web.BlockKind.{OfPiece}
 use Rattle.tangle_scan.specs.Rules.{part_items}
 use Rattle.tangle_scan.specs.ItemSpans.{item_spans}

@@ -12,7 +12,8 @@ use Rattle.tangle_lexer.specs.declared.tokens.Token.{Token}
 use Rattle.tangle_lexer.specs.declared.tokens.Token.TheVariants as token
 use Rattle.tangle_lexer.specs.declared.tokens.SpanKind.TheVariants as span_kind
 use Rattle.tangle_scan.specs.declared.items.Item.{Item}
-use Rattle.tangle_scan.specs.Rules.{is_open, texts_of, span_text, ends_in_backslash, is_continued, ends_line}
+use Rattle.tangle_scan.specs.Rules.{is_open, texts_of, span_text, is_continued, ends_line}
+use Rattle.tangle_lexer.specs.SpanBytes.{ends_in_backslash}
 use Rattle.tangle_scan.specs.Rules.{is_front_gap, blanks, next_line, part_tokens, part_items}
 use Rattle.tangle_scan.specs.LineTruth.{is_expected}
 use Rattle.tangle_scan.specs.Passes.{counted_after_token, items_by_origin}

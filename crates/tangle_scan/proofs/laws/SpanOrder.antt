@@ -5,7 +5,8 @@ use Rattle.std.proofs.Common.{◌∙◌, arith, Some, None}
 use Rattle.tangle_text.specs.declared.spans.Span.{Span}
 use Rattle.tangle_lexer.specs.declared.tokens.Token.{Token}
 use Rattle.tangle_lexer.specs.declared.tokens.Token.TheVariants as token
-use Rattle.tangle_scan.specs.Web.{Block, BlockKind, blocks, body}
+use Rattle.tangle_scan.specs.Web.{Block, BlockKind, blocks}
+use Rattle.tangle_lexer.specs.LinesOfParts.{body}
 use Rattle.tangle_scan.specs.Web.BlockKind.{OfMacro, OfPiece}
 use Rattle.tangle_lexer.proofs.laws.Points.{Point, Precedes, precedes-trans}
 use Rattle.tangle_lexer.proofs.laws.TokenOrder.{AreInOrder, IsFrom, span_end}

@@ -15,7 +15,8 @@ use Rattle.tangle_lexer.specs.declared.tokens.SpanKind.{SpanKind}
 use Rattle.tangle_lexer.specs.declared.tokens.SpanKind.TheVariants as span_kind
 use Rattle.tangle_scan.specs.declared.parts.PartState.{PartState}
 use Rattle.tangle_scan.specs.declared.parts.Start.{Start}
-use Rattle.tangle_scan.specs.Rules.{texts_of, ends_in, span_item, would_merge}
+use Rattle.tangle_scan.specs.Rules.{texts_of, span_item, would_merge}
+use Rattle.tangle_lexer.specs.SpanBytes.{ends_in}
 use Rattle.std.specs.List.{list_any, All}
 use Rattle.std.proofs.lemmas.List.Elements.{All-append, All-map, All-push}
 use Rattle.std.proofs.lemmas.List.{take_all, take-append-le}

@@ -27,7 +27,8 @@ use Rattle.tangle_scan.specs.declared.parts.PartState.{PartState}
 use Rattle.tangle_scan.specs.declared.parts.Start.{Start}
 use Rattle.tangle_scan.specs.Entries.{items_of, part_item}
 use Rattle.tangle_scan.specs.Rules.{clean_tokens, white_inner_end, would_merge, is_constant}
-use Rattle.tangle_scan.specs.Rules.{may_merge, without_joins, is_gap, left_of_run, ends_in, is_open}
+use Rattle.tangle_scan.specs.Rules.{may_merge, without_joins, is_gap, left_of_run, is_open}
+use Rattle.tangle_lexer.specs.SpanBytes.{ends_in}
 use Rattle.tangle_scan.specs.Rules.{has_join, texts_of, is_continued, at_line_front}
 use Rattle.tangle_text.specs.Bytes.{backslash, slash, is_word_byte}
 use Rattle.tangle_files.specs.Bytes.{space}

@@ -3,7 +3,8 @@ use Rattle.std.proofs.Common.{◌&&◌, not, Option, Some, is_some, if◌then◌
 use Rattle.tangle_faults.specs.declared.faults.FaultKind.{FaultKind}
 use Rattle.tangle_lexer.specs.declared.tokens.Token.{Token}
 use Rattle.tangle_lexer.specs.declared.tokens.Token.TheVariants as token
-use Rattle.tangle_scan.specs.Rules.{without_joins, left_of_run, has_join, is_gap, is_join, is_front_gap}
+use Rattle.tangle_scan.specs.Rules.{without_joins, left_of_run, has_join, is_gap, is_front_gap}
+use Rattle.tangle_lexer.specs.LinesOfParts.{is_join}
 use Rattle.tangle_scan.specs.Rules.{blanks, is_name_part, macro_blanks}
 pub use Rattle.tangle_scan.specs.Passes.{is_solid}
 

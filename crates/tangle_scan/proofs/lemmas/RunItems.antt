@@ -14,7 +14,8 @@ use Rattle.tangle_text.proofs.RunChunks.{chunk_passed, span_chunks, part-by, par
 use Rattle.tangle_lexer.specs.declared.tokens.Token.{Token}
 use Rattle.tangle_lexer.specs.declared.tokens.Token.TheVariants as token
 use Rattle.tangle_lexer.specs.Runs.{part_token, unfolded_token, IsRunOf}
-use Rattle.tangle_scan.specs.Rules.{first_byte, last_byte, ends_in, may_merge}
+use Rattle.tangle_scan.specs.Rules.{may_merge}
+use Rattle.tangle_lexer.specs.SpanBytes.{first_byte, last_byte, ends_in}
 use Rattle.tangle_scan.specs.Passes.{is_merging_byte}
 
 -- a token other than a run stands for itself

@@ -7,7 +7,8 @@ use Rattle.tangle_lexer.specs.declared.tokens.Token.{Token}
 use Rattle.tangle_lexer.specs.declared.modes.LexerState.{LexerState}
 use Rattle.tangle_text.specs.Text.{Cell}
 use Rattle.tangle_lexer.specs.Steps.{tokens_from, occurrences_from, all_tokens, all_occurrences}
-use Rattle.tangle_scan.specs.Web.{body, web_of}
+use Rattle.tangle_scan.specs.Web.{web_of}
+use Rattle.tangle_lexer.specs.LinesOfParts.{body}
 use Rattle.tangle_lexer.specs.Occurrences.{OccurrenceRead, occurrence_of}
 use Rattle.tangle_lexer.specs.Heads.{is_head}
 use Rattle.tangle_scan.specs.WebBuilder.{WebBuilderRead, nothing, builder_with, web_from}

@@ -9,7 +9,8 @@ use Rattle.tangle_faults.specs.declared.faults.FaultKind.TheVariants as fault
 use Rattle.tangle_lines.specs.Reading.{SourceRead, origin_at}
 use Rattle.tangle_lexer.specs.declared.tokens.Token.{Token}
 use Rattle.tangle_lexer.specs.declared.tokens.Token.TheVariants as token
-use Rattle.tangle_scan.specs.Web.{is_all_macros, body}
+use Rattle.tangle_scan.specs.Web.{is_all_macros}
+use Rattle.tangle_lexer.specs.LinesOfParts.{body}
 use Rattle.tangle_scan.specs.Rules.{texts_of, macro_items, is_macro, part_items}
 use Rattle.tangle_scan.specs.Web.{fault_on}
 use Rattle.tangle_lexer.specs.Heads.{is_head}

@@ -1,0 +1,8 @@
+pub mod KindSteps
+pub mod LineSteps
+pub mod OpenLines
+pub mod PartLines
+pub mod SourceBytes
+pub mod StateLines
+pub mod TextSteps
+pub mod VerbatimSteps

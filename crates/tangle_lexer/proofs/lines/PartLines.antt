@@ -1,0 +1,236 @@
+-- Which lines of C of a part have inner line ends and which uses have the fault UseInDirective, lexeme by lexeme.
+use Rattle.std.proofs.Common.{◌≡◌, ℕ, zero, suc, ◌+◌, Bool, true, false, List, [], ◌∷◌, ◌++◌, flat_map, length}
+use Rattle.std.proofs.Common.{Option, Some, None, refl, ap, sym, ◌∙◌, arith, cond, get_or, drop}
+use Rattle.std.specs.Prelude.{filter}
+use Rattle.std.specs.List.{list_any, All}
+use Rattle.std.proofs.lemmas.Bool.{or_parts}
+use Rattle.std.proofs.lemmas.List.Elements.{All-cons, All-nil}
+use Rattle.tangle_lines.specs.Reading.{SourceLine, no_line}
+use Rattle.tangle_faults.specs.declared.faults.FaultKind.TheVariants as fault
+use Rattle.tangle_text.specs.Text.{Cell, text_from, texts_of}
+use Rattle.tangle_lexer.specs.declared.tokens.Token.{Token}
+use Rattle.tangle_lexer.specs.declared.tokens.Token.TheVariants as token
+use Rattle.tangle_lexer.specs.declared.lexeme_kinds.LexemeKind.{LexemeKind}
+use Rattle.tangle_lexer.specs.declared.modes.Mode.{Mode}
+use Rattle.tangle_lexer.specs.declared.modes.Mode.TheVariants as mode
+use Rattle.tangle_lexer.specs.declared.modes.LineOfC.TheVariants as line
+use Rattle.tangle_lexer.specs.declared.modes.AtLineEnd.TheVariants.{Ends}
+use Rattle.tangle_lexer.specs.declared.modes.LexerState.{LexerState}
+use Rattle.tangle_lexer.specs.Lexemes.{Lexeme, lexeme_of, in_mode, is_c_part, fault_if}
+use Rattle.tangle_lexer.specs.Heads.{is_head}
+use Rattle.tangle_lexer.specs.Names.{definition_or_mention, definition_count, mention_faults, use_of_name}
+use Rattle.tangle_lexer.specs.Simple.{is_c_text}
+use Rattle.tangle_lexer.specs.CText.{code_fault}
+use Rattle.tangle_lexer.specs.Steps.{limbo_code, c_lexeme, lexeme, lexemes, tokens_from, all_tokens, first_state}
+use Rattle.tangle_lexer.specs.LinesOfParts.{is_use, is_directive, body, begins_c_part, c_parts, uses_in_directive}
+use Rattle.tangle_lexer.specs.LinesOfParts.{HasInnerEndsAsDirective, begins_with_use_fault, with_use_fault}
+use Rattle.tangle_lexer.specs.LinesOfParts as parts
+use Rattle.tangle_lexer.proofs.lemmas.LexemeCases.{OpensLexeme, IsPlainKind, lexeme-by}
+use Rattle.tangle_lexer.proofs.lemmas.PlainLexemes.{kind-plain, use-plain, mention-plain}
+use Rattle.tangle_lexer.proofs.lemmas.PlainTokens.{HasNone, none-by, is_not_plain, fault_if-plain}
+use Rattle.tangle_lexer.proofs.laws.Points.{Point, point_at, after_cell, IsTextAt, text-is}
+use Rattle.tangle_lexer.proofs.lines.SourceBytes.{HasBytes, source-bytes}
+use Rattle.tangle_lexer.proofs.lines.LineSteps.{Judgement, Holds, front-open}
+use Rattle.tangle_lexer.proofs.lines.KindSteps.{Follows, kind-follows, use-follows}
+
+-- tokens without heads
+
+pub no-heads : (ts : List Token) → HasNone is_not_plain ts → HasNone is_head ts
+no-heads = none-by is_not_plain is_head one
+  where
+    one : (t : Token) → is_not_plain t ≡ false → is_head t ≡ false
+    one (token.UseOf n k) h = cc
+    one (token.Run s) h = cc
+    one _ h = h
+
+body-append : (ts us : List Token) → HasNone is_head ts → body (ts ++ us) ≡ ts ++ body us
+body-append [] us h = refl
+body-append (t ∷ ts) us h =
+    let both = or_parts (is_head t) (list_any is_head ts) h in
+    ap (λ b. cond b [] (t ∷ body (ts ++ us))) both.0 ∙ ap (λ vs. t ∷ vs) (body-append ts us both.1)
+
+begins-head : (t : Token) → is_head t ≡ false → begins_c_part t ≡ false
+begins-head (token.UnnamedPart n) h = cc
+begins-head (token.NamedPart n k) h = cc
+begins-head _ h = refl
+
+c_parts-append : (ts us : List Token) → HasNone is_head ts → c_parts (ts ++ us) ≡ c_parts us
+c_parts-append [] us h = refl
+c_parts-append (t ∷ ts) us h =
+    let both = or_parts (is_head t) (list_any is_head ts) h in
+    ap (λ b. cond b (body (ts ++ us) ∷ c_parts (ts ++ us)) (c_parts (ts ++ us))) (begins-head t both.0)
+    ∙ c_parts-append ts us both.1
+
+body-begins : (ts : List Token) → begins_with_use_fault ts ≡ false → begins_with_use_fault (body ts) ≡ false
+body-begins [] h = refl
+body-begins (t ∷ ts) h = by (is_head t)
+  where
+    by : (b : Bool) → begins_with_use_fault (cond b [] (t ∷ body ts)) ≡ false
+    by true = refl
+    by false = h
+
+pub no-part : (m : Mode) → is_c_text m ≡ false → is_c_part m ≡ false
+no-part mode.CPart h = cc
+no-part _ h = refl
+
+module _ (texts : List (List ℕ)) where
+  -- these lines of C are what the law says of them
+  pub record AreRight (ahead : List Token) (lines : List (List Token)) : Type 0 where
+    pub inner : All (HasInnerEndsAsDirective texts) lines
+    pub uses : with_use_fault ahead ≡ flat_map (uses_in_directive texts) lines
+
+  pub are-right : Judgement texts
+  are-right = record {
+    holds = AreRight;
+    kept = λ t us lines h more. record { inner = more.inner; uses = rw h more.uses };
+    ended = λ t us line lines h inner none more. record {
+      inner = All-cons (HasInnerEndsAsDirective texts) line lines inner more.inner;
+      uses = rw (h, none) more.uses;
+    };
+    used = λ t b n us line lines h inner uses more. record {
+      inner = All-cons (HasInnerEndsAsDirective texts) line lines inner more.inner;
+      uses = rw uses (by t b n us lines h more.uses);
+    };
+  }
+    where
+      by : (t : Token) (b : Bool) (n : ℕ) (us : List Token) (lines : List (List Token)) → begins_with_use_fault us ≡ false
+          → with_use_fault us ≡ flat_map (uses_in_directive texts) lines
+          → with_use_fault (t ∷ fault_if b fault.UseInDirective n ++ us)
+          ≡ cond b (t ∷ []) [] ++ flat_map (uses_in_directive texts) lines
+      by t true n us lines h more = rw h (ap (λ ts. t ∷ ts) more)
+      by t false n us lines h more = rw h more
+
+  abbrev pub IsRightPart : List Token → Type 0
+  IsRightPart part = AreRight part (parts.lines_of_c texts [] part)
+
+  -- the tokens from a position on
+  pub record AreRightFrom (s : LexerState) (ts : List Token) : Type 0 where
+    pub now : s.mode ≡ mode.CPart → Holds texts are-right s.line.line s.line.at_line_end (body ts)
+    pub begins : s.mode ≡ mode.CPart → begins_with_use_fault ts ≡ false
+    pub all : All IsRightPart (c_parts ts)
+
+  abbrev Law : LexerState → Lexeme → Type 0
+  Law s here = (ts : List Token) → AreRightFrom here.after ts → AreRightFrom s (here.tokens ++ ts)
+
+  -- a part ends
+  ended : (l : _) (e : _) → Holds texts are-right l e []
+  unfolding are-right
+  ended l e before is = record {
+    inner = All-cons (HasInnerEndsAsDirective texts) before [] is.inner (All-nil (HasInnerEndsAsDirective texts));
+    uses = by (is_directive texts before) (none before is.uses);
+  }
+    where
+      none : (ts : List Token) → list_any is_use ts ≡ false → filter is_use ts ≡ []
+      none [] h = refl
+      none (t ∷ ts) h =
+          let both = or_parts (is_use t) (list_any is_use ts) h in
+          ap (λ b. cond b (t ∷ filter is_use ts) (filter is_use ts)) both.0 ∙ none ts both.1
+
+      by : (b : Bool) → filter is_use before ≡ [] → [] ≡ cond b (filter is_use before) [] ++ []
+      by true h = ap (λ ts. ts ++ []) (sym h)
+      by false h = refl
+
+  head-law : (s after : LexerState) (t : Token) (ts : List Token) → is_head t ≡ true → begins_with_use_fault (t ∷ ts) ≡ false
+      → AreRightFrom after ts → begins_c_part t ≡ false → AreRightFrom s (t ∷ ts)
+  head-law s after t ts head begins right no_part = record {
+    now = λ m. rw head (ended s.line.line s.line.at_line_end);
+    begins = λ m. begins;
+    all = rw no_part right.all;
+  }
+
+  part-law : (s after : LexerState) (t : Token) (ts : List Token) → is_head t ≡ true → begins_with_use_fault (t ∷ ts) ≡ false
+      → after.mode ≡ mode.CPart → after.line.line ≡ line.Empty → after.line.at_line_end ≡ Ends
+      → AreRightFrom after ts → begins_c_part t ≡ true → AreRightFrom s (t ∷ ts)
+  unfolding are-right
+  part-law s after t ts head begins m empty ends right part = record {
+    now = λ m. rw head (ended s.line.line s.line.at_line_end);
+    begins = λ m. begins;
+    all = rw part
+        (All-cons IsRightPart (body ts) (c_parts ts)
+        (right.now m [] (rw (empty, ends) (front-open texts (body ts)))) right.all);
+  }
+
+  -- outside of C parts
+  outside-law : (s : LexerState) (here : Lexeme) → is_c_part s.mode ≡ false → HasNone is_head here.tokens → Law s here
+  outside-law s here out none ts right = record {
+    now = λ m. absurd (let never : true ≡ false = sym (ap is_c_part m) ∙ out in cc);
+    begins = λ m. absurd (let never : true ≡ false = sym (ap is_c_part m) ∙ out in cc);
+    all = rw (c_parts-append here.tokens ts none) right.all;
+  }
+
+  -- inside a C part
+  inside-law : (s : LexerState) (here : Lexeme) → here.after.mode ≡ mode.CPart → HasNone is_head here.tokens
+      → Follows texts are-right s.line here.tokens here.after.line → Law s here
+  inside-law s here m none follows ts right =
+      let begins : begins_with_use_fault (body ts) ≡ false = body-begins ts (right.begins m) in
+      record {
+        now = λ n. rw (body-append here.tokens ts none) (follows.holds (body ts) begins (right.now m));
+        begins = λ n. follows.none ts (right.begins m);
+        all = rw (c_parts-append here.tokens ts none) right.all;
+      }
+
+  module _ (width : ℕ → ℕ) (count : ℕ) where
+    inside-by : (m : Mode) (s : LexerState) (at : Point) (c : Cell) (cs : List Cell) (kind : LexemeKind)
+        → s.mode ≡ m → is_c_text m ≡ true → IsPlainKind kind → OpensLexeme kind (c ∷ cs)
+        → IsTextAt width count at (c ∷ cs) → HasBytes texts (c ∷ cs) → Law s (c_lexeme kind s (c ∷ cs))
+    inside-by mode.CPart s at c cs kind m within p o is bytes =
+        let plain = kind-plain kind s (c ∷ cs) p in
+        inside-law s (c_lexeme kind s (c ∷ cs)) (plain.mode ∙ m)
+        (no-heads (c_lexeme kind s (c ∷ cs)).tokens plain.tokens.none)
+        (kind-follows texts are-right width count kind s at c cs m p o is bytes)
+    inside-by mode.Macro s at c cs kind m within p o is bytes =
+        let plain = kind-plain kind s (c ∷ cs) p in
+        outside-law s (c_lexeme kind s (c ∷ cs)) (ap is_c_part m)
+        (no-heads (c_lexeme kind s (c ∷ cs)).tokens plain.tokens.none)
+    inside-by mode.Limbo s at c cs kind m within p o is bytes = cc
+    inside-by mode.Documentation s at c cs kind m within p o is bytes = cc
+
+    name-law : (o : Option ℕ) (s : LexerState) (text : List Cell) → is_c_part s.mode ≡ false
+        → Law s (definition_or_mention o s text)
+    name-law None s text out =
+        outside-law s (definition_or_mention None s text) out
+        (no-heads (mention_faults s text) (mention-plain s text).none)
+    name-law (Some k) s text out =
+        λ ts right. part-law s (definition_or_mention (Some k) s text).after _ ts refl refl refl refl refl right refl
+
+    lexeme-law : (s : LexerState) (at : Point) (c : Cell) (cs : List Cell)
+        → IsTextAt width count at (c ∷ cs) → HasBytes texts (c ∷ cs) → Law s (lexeme s (c ∷ cs))
+    lexeme-law s at c cs is bytes =
+        let text : List Cell = c ∷ cs in
+        lexeme-by (Law s) s text (record {
+          section = λ ts right. head-law s _ token.Section ts refl refl right refl;
+          macro = λ o ts right. head-law s _ (token.MacroStart c.line) ts refl refl right refl;
+          part = λ o ts right. part-law s _ (token.UnnamedPart c.line) ts refl refl refl refl refl right refl;
+          used = λ m o.
+              inside-law s (use_of_name s text) m (no-heads (drop 1 (use_of_name s text).tokens) (use-plain s text).none)
+              (use-follows texts are-right s text m);
+          name = λ out. name-law (definition_count text) s text out;
+          limbo = λ m is_fault.
+              outside-law s (limbo_code is_fault s text) (ap is_c_part m)
+              (no-heads (limbo_code is_fault s text).tokens (fault_if-plain is_fault fault.LimboCode c.line).none);
+          skip = λ out n. outside-law s (lexeme_of [] n s) (no-part s.mode out) refl;
+          format = λ m. outside-law s (lexeme_of [] 1 (in_mode mode.Documentation s)) (ap is_c_part m) refl;
+          misplaced = λ m o. outside-law s (code_fault fault.MisplacedH s text) (ap is_c_part m) refl;
+          inside = λ within kind p o. inside-by s.mode s at c cs kind refl within p o is bytes;
+        })
+
+    from-right : (k : ℕ) (s : LexerState) (text : List Cell) (at : Point)
+        → IsTextAt width count at text → HasBytes texts text
+        → AreRightFrom s (flat_map (λ l. l.tokens) (lexemes k s text))
+    from-right k s [] at is bytes =
+        record { now = λ m. ended s.line.line s.line.at_line_end; begins = λ m. refl; all = All-nil IsRightPart }
+    from-right (suc k) s (c ∷ cs) at is bytes = from-right k s cs (after_cell c) is.1 bytes.1
+    from-right zero s (c ∷ cs) at is bytes =
+        let here : Lexeme = lexeme s (c ∷ cs) in
+        lexeme-law s at c cs is bytes (flat_map (λ l. l.tokens) (lexemes here.more here.after cs))
+        (from-right here.more here.after cs (after_cell c) is.1 bytes.1)
+
+-- the C parts of a source
+pub parts-right : (lines : List SourceLine) → All (IsRightPart (texts_of lines)) (c_parts (all_tokens lines))
+unfolding tokens_from
+parts-right lines =
+    let width : ℕ → ℕ = λ n. length (get_or lines n no_line).bytes in
+    let zero-add : (k : ℕ) → k ≡ 0 + k = λ k. omega arith in
+    (from-right (texts_of lines) width (length lines) 0 (first_state (length lines)) (text_from 0 lines) (point_at 0 0)
+    (text-is width (length lines) 0 lines (omega arith) (λ k lt. ap width (zero-add k)))
+    (source-bytes lines)).all
