@@ -2,10 +2,10 @@
 
 usage: c_tokens.py TOP        TOP is the folder of the repository
 
-`tokens` is a slow reading by the same grammar: each element of a text is the longest one that can be
-at its place. It gives the crate's worked texts the tokens that they have there. gcc's `cc -E
--fdebug-cpp` writes before each token where it is in the file, so that what is between two such notes
-is one token. Generated texts, each between two markers, have the same tokens for both. Left out are
+`tokens` reads a text by the same grammar: each element is the longest one that can be at its place.
+It gives the crate's worked texts the tokens that they have there. gcc's `cc -E -fdebug-cpp` writes
+before each token where it is in the file, so that what is between two such notes is one token.
+Generated texts, each between two markers, have the same tokens for both. Left out are
 texts to which C11 gives no meaning (a quote or a comment that is not closed), directives, trigraphs,
 and a backslash with white space and a line end after it, where gcc joins the lines. Of the characters
 past 127 only a letter is tried: gcc reads others, as a multiplication sign, as tokens of their own.
@@ -37,31 +37,41 @@ KINDS = {
     'number': re.compile(rb'\.?[0-9](?:[eEpP][+-]|[0-9.]|' + LETTER + rb')*'),
     'character constant': re.compile(rb"[LuU]?'(?:\\[^\n]|[^'\\\n])+'"),
     'string literal': re.compile(rb'(?:u8|[uUL])?"(?:\\[^\n]|[^"\\\n])*"'),
-    'other character': re.compile(rb'[^ \t\n\v\f]', re.S),
+    'punctuator': re.compile(b'|'.join(map(re.escape, sorted(PUNCTUATORS, key=len, reverse=True)))),
+    'other character': re.compile(rb'[^ \t\n\v\f]'),
 }
 WHITE = re.compile(rb'[ \t\n\v\f]')
-COMMENT = re.compile(rb'//[^\n]*|/\*(?:(?!\*/).)*(?:\*/)?', re.S)
+COMMENT = re.compile(rb'//[^\n]*|/\*(?:(?!\*/)[\s\S])*(?:\*/)?')
+
+# Each of these forms takes as many bytes as it can, and a form that takes more than another one at
+# the same place comes first.
+ELEMENT = re.compile(b'|'.join(form.pattern for form in (
+    COMMENT, KINDS['string literal'], KINDS['character constant'], KINDS['identifier'],
+    KINDS['number'], KINDS['punctuator'], WHITE, KINDS['other character'])))
 
 
 def kind(text):
     """The kind of a token: the first in the order of the standard. None if the text is none."""
-    for name, form in KINDS.items():
-        if name == 'other character' and text in PUNCTUATORS:
-            return 'punctuator'
-        if form.fullmatch(text):
-            return name
-    return None
+    return next((name for name, form in KINDS.items() if form.fullmatch(text)), None)
+
+
+def is_element(text):
+    return bool(WHITE.fullmatch(text) or COMMENT.fullmatch(text) or kind(text))
 
 
 def elements(text):
     """The white-space characters, comments and tokens of a text without continued lines."""
-    found, at = [], 0
-    while at < len(text):
-        fronts = (text[at:end] for end in range(len(text), at, -1))
-        found.append(next(front for front in fronts
-                          if WHITE.fullmatch(front) or COMMENT.fullmatch(front) or kind(front)))
-        at += len(found[-1])
-    return found
+    return ELEMENT.findall(text)
+
+
+def are_the_longest(found):
+    """Whether each of these elements is the longest one that can be at its place in their text."""
+    for at, element in enumerate(found):
+        rest = b''.join(found[at + 1:])
+        longer = (element + rest[:more] for more in range(1, len(rest) + 1))
+        if not is_element(element) or any(map(is_element, longer)):
+            return False
+    return True
 
 
 def spliced(text):
@@ -69,7 +79,7 @@ def spliced(text):
 
 
 def tokens(text):
-    return [each for each in elements(spliced(text)) if kind(each)]
+    return list(filter(kind, elements(spliced(text))))
 
 
 # ---------------------------------------------------------------------- worked texts
@@ -163,6 +173,7 @@ def test_generated_texts(top):
     times = dict.fromkeys(list(KINDS) + ['punctuator'], 0)
     for number, text in enumerate(texts):
         ours = tokens(text)
+        check(are_the_longest(elements(spliced(text))), 'elements of %r' % text, 'one is not the longest')
         same([in_ascii(token) for token in ours], found.get(number), 'tokens of %r' % text)
         for token in ours:
             times[kind(token)] += 1

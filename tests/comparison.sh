@@ -1,10 +1,11 @@
 # 4,000 generated webs, short webs, long lines, webs cut after every byte, in a folder and by the
 # edits of a session, 4,000 projects with scripts, each of which sets the marks and has a list of
 # edits, and 500 webs of which edits move the borders of runs, against the reference tangler
-# (tests/compare.py).
+# (tests/compare.py). And the tokens of the generated webs (tests/web_tokens.py).
 
 test_comparison() {
     run_python 'generated webs' compare.py generated "$temporary/ctangle" 0 4000
+    run_python 'tokens of generated webs' web_tokens.py "$temporary/ctangle" 0 4000
     run_python 'short webs' compare.py short "$temporary/ctangle" 50
     run_python 'long lines' compare.py long_lines "$temporary/ctangle"
 }

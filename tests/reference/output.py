@@ -9,11 +9,17 @@ def item_text(item):
     return b'\n' if item.value is None else item.value
 
 
-def macro_text(items):
-    """A backslash at the end is not written, since with it the line feed would not end the macro."""
-    while items[-1].kind in ('Blank', 'LineEnd') or items[-1][:2] == ('Sign', b'\\'):
+def without_end(items):
+    """The items, or tokens, of a macro that are written. A backslash at its end is not written, since with it the line
+    feed would not end the macro."""
+    while items[-1].kind in ('White', 'Blank', 'LineEnd') or items[-1][:2] == ('Sign', b'\\'):
         items = items[:-1]
-    return b'#define ' + b''.join(b'\\\n' if item.kind == 'LineEnd' else item_text(item) for item in items) + b'\n'
+    return items
+
+
+def macro_text(items):
+    written = (b'\\\n' if item.kind == 'LineEnd' else item_text(item) for item in without_end(items))
+    return b'#define ' + b''.join(written) + b'\n'
 
 
 class Writer:
@@ -33,14 +39,17 @@ class Writer:
     def own_text(self, node):
         """What is written of a node's own pieces: bytes, and between them the nodes that they use."""
         if node not in self.texts:
-            made = [[]]
-            for piece in self.graph.pieces[node]:
-                made[-1] += [b'/*%d:*/' % piece.section, self.mark(piece.place)]
-                for item in piece.items:
-                    self._add(made, item)
-                made[-1].append(b'/*:%d*/' % piece.section)
-            self.texts[node] = [b''.join(one) if isinstance(one, list) else one for one in made]
+            self.texts[node] = self.text_of_pieces(self.graph.pieces[node])
         return self.texts[node]
+
+    def text_of_pieces(self, pieces):
+        made = [[]]
+        for piece in pieces:
+            made[-1] += [b'/*%d:*/' % piece.section, self.mark(piece.place)]
+            for item in piece.items:
+                self._add(made, item)
+            made[-1].append(b'/*:%d*/' % piece.section)
+        return [b''.join(one) if isinstance(one, list) else one for one in made]
 
     def _add(self, made, item):
         if item.kind == 'LineMark':

@@ -38,8 +38,10 @@ class Part:
         self.web, self.text, self.at, self.is_macro = web, web.text, at, is_macro
         self.tokens = []
         self.line = []                          # what was on this line so far, white space left out
+        faults = len(web.noted)
         while self.at < len(self.text) and self._step():
             pass
+        self.has_fault = len(web.noted) > faults
 
     def _add(self, kind, value, after, mark=None):
         self.tokens.append(Token(kind, value, self.at, mark))

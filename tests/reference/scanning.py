@@ -27,6 +27,7 @@ class Web:
             start += len(line.line) + 1
         self.section_count = 0
         self.pieces, self.macros, self.occurrences = [], [], []
+        self.piece_parts, self.macro_parts = [], []     # the part of each piece and macro
         self.has_all_macros = False
         self.noted = []                         # (position in the text, fault)
         self._scan()
@@ -121,6 +122,7 @@ class Web:
         part = Part(self, at, False)
         opening = self.place(at - 1)
         self.pieces.append(Piece(self.section_count, opening, occurrence, part_items(part.tokens, self, opening)))
+        self.piece_parts.append(part)
         return part.at
 
     def _macro(self, start):
@@ -131,6 +133,7 @@ class Web:
         items = macro_items(tokens)
         if items and items[0].kind == 'Word' and not items[0].value[:1].isdigit():
             self.macros.append(items)
+            self.macro_parts.append(part)
         else:
             self.fault('MacroName', start)
         return part.at                          # documentation passes over @f and @s there

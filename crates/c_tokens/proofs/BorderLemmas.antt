@@ -15,7 +15,7 @@ use Rattle.c_tokens.specs.Grammar.{is_identifier, is_character_constant, is_stri
 use Rattle.c_tokens.specs.Reading.{spliced, longest, elements_from, elements, tokens}
 use Rattle.c_tokens.specs.Touching.{is_one, is_separator, is_operator, is_plain_word, is_plain}
 use Rattle.c_tokens.specs.Borders.{is_unfinished, is_whole, last_element, last_byte, is_plain_byte, are_never_in_one}
-use Rattle.c_tokens.specs.Borders.{is_at_operator, is_border_of_bytes, is_border, have_border, keep_lines, are_apart, has_bytes, are_all_apart}
+use Rattle.c_tokens.specs.Borders.{is_at_operator, number_goes_on, is_border_of_bytes, is_border, have_border, keep_lines, are_apart, has_bytes, are_all_apart}
 use Rattle.c_tokens.proofs.ReadingLemmas.{NoLonger, elements-front, elements-append}
 use Rattle.c_tokens.proofs.GrammarLemmas.{listed as in_list, identifier-bytes, number-bytes, punctuator-is, is_prefix_byte}
 use Rattle.c_tokens.proofs.GrammarLemmas.{begins_prefix, IsLiteral, literal-word, ends-once}
@@ -211,6 +211,54 @@ number-front x a c q at h =
     (and_from (begins_number t) (list_all is_number_byte t) (begins-front x a c q at first.0)
     (all-front is_number_byte t (c ∷ q) first.1)) (signs-front t (c ∷ q) inner.1))
     (names-front x a c q (operator-fails is_identifier_byte refl (last_byte x a) c at) outer.1)
+
+-- how a number goes on over an operator
+
+signs-at : (x : ℕ) (a : List ℕ) (c : ℕ) (q : List ℕ) → signs_follow_exponents (x ∷ a ++ c ∷ q) ≡ true →
+    (is_exponent (last_byte x a) || not (is_sign c)) ≡ true
+signs-at x [] c q h = (and_parts (is_exponent x || not (is_sign c)) (signs_follow_exponents (c ∷ q)) h).0
+signs-at x (y ∷ a) c q h =
+    signs-at y a c q (and_parts (is_exponent x || not (is_sign y)) (signs_follow_exponents (y ∷ a ++ c ∷ q)) h).1
+
+operator-sign : (o : ℕ) → is_operator o ≡ true → is_number_byte o ≡ true → is_sign o ≡ true
+operator-sign o operator number =
+    elim (or_cases (is_identifier_byte o || o == full_stop) (is_sign o) number) [
+      | inl other ↦ absurd (both_ways (is_identifier_byte o || o == full_stop)
+          (operator-not (λ b. is_identifier_byte b || b == full_stop) refl o operator) other)
+      | inr sign ↦ sign
+    ]
+
+plain-word : (c : ℕ) → is_plain_byte c ≡ true → is_number_byte c ≡ true → is_word_byte c ≡ true
+plain-word c plain number =
+    elim (or_cases (is_word_byte c) (is_quote c) plain) [
+      | inl word ↦ word
+      | inr quote ↦ absurd (both_ways (is_number_byte c) (quote-not is_number_byte refl refl c quote) number)
+    ]
+
+number-goes-on : (x : ℕ) (a : List ℕ) (c : ℕ) (q : List ℕ) → is_at_operator (last_byte x a) c ≡ true →
+    is_number (x ∷ a ++ c ∷ q) ≡ true → number_goes_on (last_byte x a) c ≡ true
+number-goes-on x a c q at h =
+    let all : List ℕ = x ∷ a ++ c ∷ q in
+    let d : ℕ = last_byte x a in
+    let bytes = number-bytes all h in
+    let of_c : is_number_byte c ≡ true = all-last is_number_byte (x ∷ a) c q bytes in
+    let of_d : is_number_byte d ≡ true = all-last-byte is_number_byte x a (all-front is_number_byte (x ∷ a) (c ∷ q) bytes) in
+    let outer = and_parts (begins_number all && list_all is_number_byte all && signs_follow_exponents all) (has_universal_names all) h in
+    let signs = (and_parts (begins_number all && list_all is_number_byte all) (signs_follow_exponents all) outer.0).1 in
+    elim (or_cases (is_operator d && is_plain_byte c) (is_plain_byte d && is_operator c) at) [
+      | inl first ↦
+          let parts = and_parts (is_operator d) (is_plain_byte c) first in
+          or_right (is_exponent d && is_sign c) (is_sign d && is_word_byte c)
+          (and_from (is_sign d) (is_word_byte c) (operator-sign d parts.0 of_d) (plain-word c parts.1 of_c))
+      | inr second ↦
+          let sign : is_sign c ≡ true = operator-sign c (and_parts (is_plain_byte d) (is_operator c) second).1 of_c in
+          or_left (is_exponent d && is_sign c) (is_sign d && is_word_byte c)
+          (and_from (is_exponent d) (is_sign c)
+          (elim (or_cases (is_exponent d) (not (is_sign c)) (signs-at x a c q signs)) [
+            | inl exponent ↦ exponent
+            | inr none ↦ absurd (both_ways (is_sign c) (not-true (is_sign c) none) sign)
+          ]) sign)
+    ]
 
 -- punctuators
 
@@ -412,9 +460,10 @@ identifier-fails d c met =
 
 border-met : (after_number : Bool) (d c : ℕ) → is_border_of_bytes after_number d c ≡ true → (are_never_in_one d c || is_at_operator d c) ≡ true
 border-met after_number d c h =
-    elim (or_cases (are_never_in_one d c) (not after_number && is_at_operator d c) h) [
+    elim (or_cases (are_never_in_one d c) (not (after_number && number_goes_on d c) && is_at_operator d c) h) [
       | inl never ↦ or_left (are_never_in_one d c) (is_at_operator d c) never
-      | inr at ↦ or_right (are_never_in_one d c) (is_at_operator d c) (and_parts (not after_number) (is_at_operator d c) at).1
+      | inr at ↦ or_right (are_never_in_one d c) (is_at_operator d c)
+          (and_parts (not (after_number && number_goes_on d c)) (is_at_operator d c) at).1
     ]
 
 -- no comment goes on after a whole text of two bytes or more
@@ -456,14 +505,18 @@ number-border : (before : List ℕ) (x : ℕ) (a : List ℕ) (c : ℕ) (q : List
     is_number (x ∷ a ++ c ∷ q) ≡ true → ⊥
 number-border before x a c q border number =
     let element : List ℕ = last_element before (elements_from 0 (x ∷ a)) in
-    elim (or_cases (are_never_in_one (last_byte x a) c) (not (is_number element) && is_at_operator (last_byte x a) c) border) [
+    let goes_on : Bool = number_goes_on (last_byte x a) c in
+    elim (or_cases (are_never_in_one (last_byte x a) c)
+    (not (is_number element && goes_on) && is_at_operator (last_byte x a) c) border) [
       | inl never ↦ none-fails is_number_byte x a c q (number-bytes (x ∷ a ++ c ∷ q) number)
           (never-fails is_number_byte (record { white = refl; separators = refl; slash = refl }) (last_byte x a) c never)
       | inr at ↦
-          let parts = and_parts (not (is_number element)) (is_at_operator (last_byte x a) c) at in
+          let parts = and_parts (not (is_number element && goes_on)) (is_at_operator (last_byte x a) c) at in
           let front : is_number (x ∷ a) ≡ true = number-front x a c q parts.1 number in
-          both_ways (is_number element) (not-true (is_number element) parts.0)
+          both_ways (is_number element && goes_on) (not-true (is_number element && goes_on) parts.0)
+          (and_from (is_number element) goes_on
           (ap (λ es. is_number (last_element before es)) (one-element x a (token-element (x ∷ a) (number-token (x ∷ a) front))) ∙ front)
+          (number-goes-on x a c q parts.1 number))
     ]
 
 bytes-longer : (before : List ℕ) (x : ℕ) (a : List ℕ) (c : ℕ) (q : List ℕ) →
@@ -543,7 +596,7 @@ border-next c x a b = record {
     go [] border = tt
     go (y ∷ a) border = border
 
-border-elements : (a b : List ℕ) → list_any is_unfinished (elements_from 0 a) ≡ false → have_border a b ≡ true →
+pub border-elements : (a b : List ℕ) → list_any is_unfinished (elements_from 0 a) ≡ false → have_border a b ≡ true →
     elements_from 0 (a ++ b) ≡ elements_from 0 a ++ elements_from 0 b
 border-elements [] b whole border = refl
 border-elements (x ∷ a) [] whole border =

@@ -3,7 +3,7 @@
 use Rattle.std.specs.Prelude.{ℕ, Bool, true, false, ◌==◌, ◌&&◌, ◌||◌, not, List, [], ◌∷◌, ◌++◌}
 use Rattle.std.specs.List.{list_any}
 use Rattle.c_tokens.specs.Bytes.{line_feed, space, slash, backslash, is_word_byte, is_quote}
-use Rattle.c_tokens.specs.Bytes.{is_white}
+use Rattle.c_tokens.specs.Bytes.{is_sign, is_exponent, is_white}
 use Rattle.c_tokens.specs.Grammar.{is_number, is_comment}
 use Rattle.c_tokens.specs.Reading.{spliced, elements_from, elements}
 use Rattle.c_tokens.specs.Touching.{is_one, is_separator, is_operator}
@@ -44,11 +44,16 @@ abbrev pub is_at_operator : ℕ → ℕ → Bool
 is_at_operator last next =
     is_operator last && is_plain_byte next || is_plain_byte last && is_operator next
 
--- A border is between two bytes that are never in one, or at an operator, if no number is before
--- it: a number may have a sign in it, as 1e+5.
+-- a number goes on: with a sign after e, E, p or P, or with a byte of a word after a sign
+abbrev pub number_goes_on : ℕ → ℕ → Bool
+number_goes_on last next = is_exponent last && is_sign next || is_sign last && is_word_byte next
+
+-- A border is between two bytes that are never in one, or at an operator, unless a number before it
+-- goes on, as 1e+5 does.
 abbrev pub is_border_of_bytes : Bool → ℕ → ℕ → Bool
 is_border_of_bytes after_number last next =
-    are_never_in_one last next || not after_number && is_at_operator last next
+    are_never_in_one last next
+    || not (after_number && number_goes_on last next) && is_at_operator last next
 
 -- such a border, or the end of a comment; `element`: the one that ends with the last byte
 abbrev pub is_border : List ℕ → ℕ → ℕ → Bool

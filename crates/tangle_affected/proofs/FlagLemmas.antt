@@ -1,5 +1,5 @@
 -- One more node of the order is flagged or not.
-use Rattle.std.proofs.Common.{◌≡◌, ◌≢◌, ◌∙◌, ◌+◌, ◌<◌, ◌↔◌, ℕ, Bool, true, false, List, [], ◌∷◌, ◌++◌, length, take}
+use Rattle.std.proofs.Common.{◌≡◌, ◌≢◌, ◌∙◌, ◌+◌, ◌<◌, ◌↔◌, ℕ, ◌||◌, Bool, true, false, List, [], ◌∷◌, ◌++◌, length, take}
 use Rattle.std.proofs.Common.{◌⊎◌, get_or, set, refl, ap, sym, subst, inl, inr, arith, Contains, true≢false}
 use Rattle.std.proofs.Common.{get_or-set_same, get_or-set_other}
 use Rattle.std.proofs.lemmas.List.{get_or_default, take_more}
@@ -71,32 +71,31 @@ module _ (store : StoreRead) (order : List Node) (ordered : IsOrderIn store orde
             (are m.0 (after_used m.0 used)).1 (c, subst (λ t. Reaches new t c) (sym m.2) s, differs) in
             inr (list_any-from_Any (flag_at flags) (uses_at store node) (used.0, m.0, used.1, used.2, is_flagged))
 
-    pub flagged_next : (b : Bool) → length flags ≡ length store.names + 1
-        → (uses_flagged store flags node ≡ true → b ≡ true)
-        → (uses_flagged store flags node ≡ false
-        → ((b ≡ true) ↔ (new (title_in_store store node) ≢ old (title_in_store store node))))
-        → AreFlagged old new store (set flags node b) (take (i + 1) order)
-    flagged_next b size uses shape a c =
+    pub flagged_next : (own : Bool) → length flags ≡ length store.names + 1
+        → ((own ≡ true) ↔ (new (title_in_store store node) ≢ old (title_in_store store node)))
+        → AreFlagged old new store (set flags node (own || uses_flagged store flags node)) (take (i + 1) order)
+    flagged_next own size is_new a c =
+        let b = own || uses_flagged store flags node in
         let is_set = get_or-set_same flags node b false (omega (arith, at_position, size)) in
         elim (more_cases order i node a inside at c) [
           | inl before ↦ (let stays = get_or-set_other flags node a b false (apart a before) in
               ((λ f. (are a before).0 (sym stays ∙ f)), (λ r. stays ∙ (are a before).1 r)))
           | inr e ↦ subst
               (λ m. (flag_at (set flags node b) m ≡ true) ↔ ReachesNewShape old new (title_in_store store m)) e (
-                (λ f. reached (uses_flagged store flags node) refl (sym is_set ∙ f)),
-                (λ r. is_set ∙ marked (uses_flagged store flags node) refl r),
+                (λ f. reached own refl (sym is_set ∙ f)),
+                (λ r. is_set ∙ marked own refl r),
               )
         ]
       where
-        reached : (any : Bool) → uses_flagged store flags node ≡ any → b ≡ true
+        reached : (is_own : Bool) → own ≡ is_own → (is_own || uses_flagged store flags node) ≡ true
             → ReachesNewShape old new (title_in_store store node)
-        reached true some is_marked = reached_by_use some
-        reached false none is_marked = (title_in_store store node, here, (shape none).0 is_marked)
+        reached true e is_marked = (title_in_store store node, here, is_new.0 e)
+        reached false e is_marked = reached_by_use is_marked
 
-        marked : (any : Bool) → uses_flagged store flags node ≡ any
-            → ReachesNewShape old new (title_in_store store node) → b ≡ true
-        marked true some r = uses some
-        marked false none r = elim (cause r) [
-          | inl differs ↦ (shape none).1 differs
-          | inr some ↦ absurd (true≢false (sym some ∙ none))
+        marked : (is_own : Bool) → own ≡ is_own → ReachesNewShape old new (title_in_store store node)
+            → (is_own || uses_flagged store flags node) ≡ true
+        marked true e r = refl
+        marked false e r = elim (cause r) [
+          | inl differs ↦ absurd (true≢false (sym (is_new.1 differs) ∙ e))
+          | inr some ↦ some
         ]

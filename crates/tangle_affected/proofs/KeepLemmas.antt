@@ -1,5 +1,5 @@
 -- The expansion of one more node is kept, and what is kept at the end.
-use Rattle.std.proofs.Common.{◌≡◌, ◌≢◌, ◌∙◌, ◌+◌, ◌<◌, ◌≤◌, ℕ, Bool, true, false, List, [], length, take, get_or, refl}
+use Rattle.std.proofs.Common.{◌≡◌, ◌∙◌, ◌+◌, ◌<◌, ◌≤◌, ℕ, Bool, true, false, List, [], ◌∷◌, length, take, get_or, refl}
 use Rattle.std.proofs.Common.{suc, ap, sym, subst, inl, inr, arith, Contains}
 use Rattle.std.specs.Prelude.{Some, None, unwrap_or}
 use Rattle.std.specs.List.{filter}
@@ -16,7 +16,7 @@ use Rattle.digraph.specs.Nodes.{Node, program}
 use Rattle.tangle_graph.specs.Nodes.{UsesTitle}
 use Rattle.tangle_graph.specs.Ordering.{IsOrderIn}
 use Rattle.tangle_graph.specs.Stores.{StoreRead, IsStoreOf, KeepsUsed, IsNodeIn, flag_at, is_expandable_at}
-use Rattle.tangle_graph.specs.Stores.{has_piece_at, title_in_store}
+use Rattle.tangle_graph.specs.Stores.{title_in_store}
 use Rattle.tangle_graph.proofs.ExpandLemmas.{expandable_in}
 use Rattle.tangle_graph.proofs.NodeLemmas.{title_inside}
 use Rattle.tangle_affected.specs.Keeping.{IsKeptRight, KeepsJust, KeepsDone, KeepsUnflagged, IsExpandableList}
@@ -25,7 +25,6 @@ use Rattle.tangle_affected.specs.Flags.{is_expandable_and_flagged}
 use Rattle.tangle_names.proofs.ContainsLemmas.{into_filter}
 use Rattle.tangle_affected.proofs.ListLemmas.{expandable_list}
 use Rattle.tangle_affected.proofs.FlagLemmas.{apart, more_cases}
-use Rattle.tangle_affected.proofs.NameLemmas.{empty_unless}
 
 flat_empty : (all : Shapes) (node : Title) → all node ≡ [] → flat_of all node ≡ []
 unfolding levels
@@ -40,7 +39,7 @@ module _ (shapes : Shapes) (store : StoreRead) (list : List Node)
 
     -- the expansion of a used name is kept, if the name has a piece, and else none
     pub next_kept : (kept : Kept) → KeepsDone shapes store list i kept → KeepsUsed shapes store kept node
-    next_kept kept keeps id u = by (has_piece_at store (suc id)) refl
+    next_kept kept keeps id u = by (shapes name) refl
       where
         name : Title
         name = Named (get_or store.names id [])
@@ -54,12 +53,11 @@ module _ (shapes : Shapes) (store : StoreRead) (list : List Node)
         expandable : IsExpandableNode shapes (title_in_store store node)
         expandable = (is.expandable node (expandable_in shapes store node is next_expandable)).0 next_expandable
 
-        by : (b : Bool) → has_piece_at store (suc id) ≡ b → used_symbols kept id ≡ flat_of shapes name
-        by true e =
-            let some = subst (λ t. shapes t ≢ []) title ((is.has_piece (suc id) inside).0 e) in
+        by : (s : Shape) → shapes name ≡ s → used_symbols kept id ≡ flat_of shapes name
+        by (x ∷ s) e =
             let used : IsExpandableNode shapes name =
             used_expandable levels heaviest shapes (title_in_store store node) (get_or store.names id [])
-            expandable u.uses some in
+            expandable u.uses (λ none. let both : x ∷ s ≡ [] = sym e ∙ none in cc) in
             let is_flagged : is_expandable_at store (suc id) ≡ true =
             (is.expandable (suc id) inside).1 (subst (IsExpandableNode shapes) (sym title) used) in
             let uses : UsesTitle shapes (title_in_store store (get_or list i program)) (title_in_store store (suc id)) =
@@ -68,10 +66,7 @@ module _ (shapes : Shapes) (store : StoreRead) (list : List Node)
             (subst (UsesTitle shapes (title_in_store store node)) (sym title) u.uses) in
             ap (λ o. unwrap_or o []) (keeps.expandable (suc id) is_flagged (λ c. lists.after i (suc id) h c uses))
             ∙ ap (flat_of shapes) title
-        by false e =
-            let none : shapes name ≡ [] = empty_unless (shapes name) (λ some.
-            both_ways (has_piece_at store (suc id)) e
-            ((is.has_piece (suc id) inside).1 (subst (λ t. shapes t ≢ []) (sym title) some))) in
+        by [] none =
             let not = false_from_ne_true (is_expandable_at store (suc id))
             (λ flag. ((is.expandable (suc id) inside).0 flag).has_piece (ap shapes title ∙ none)) in
             ap (λ o. unwrap_or o []) (keeps.others (suc id) not) ∙ sym (flat_empty shapes name none)

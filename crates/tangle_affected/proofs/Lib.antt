@@ -1,5 +1,4 @@
 mod FilterLemmas
-mod NameLemmas
 mod FlagLemmas
 mod ListLemmas
 mod KeepLemmas

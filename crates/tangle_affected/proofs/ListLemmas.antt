@@ -17,7 +17,7 @@ use Rattle.tangle_affected.specs.Keeping.{IsExpandableList, ListsExpandable}
 use Rattle.tangle_affected.specs.Flags.{AreFlagged, is_expandable_and_flagged}
 use Rattle.tangle_names.proofs.ContainsLemmas.{into_filter, out_of_filter}
 use Rattle.tangle_affected.proofs.FilterLemmas.{filter_position}
-use Rattle.tangle_affected.proofs.NameLemmas.{node_with_piece}
+use Rattle.tangle_graph.proofs.NameLemmas.{node_with_piece}
 
 module _ (shapes : Shapes) (store : StoreRead) (order : List Node)
     (is : IsStoreOf shapes store) (ordered : IsOrderIn store order) where

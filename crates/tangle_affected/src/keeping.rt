@@ -6,7 +6,7 @@ ghost use Rattle.tangle_expansion.specs.Kept.{kept_at, PutsKept};
 ghost use Rattle.tangle_expansion.specs.Limits.{flat_of};
 ghost use Rattle.tangle_plans.specs.Shapes.{Shapes};
 ghost use Rattle.tangle_graph.specs.Ordering.{IsOrderIn};
-ghost use Rattle.tangle_graph.specs.Stores.{IsStoreOf, IsNodeIn, KeepsBodies, KeepsUsed};
+ghost use Rattle.tangle_graph.specs.Stores.{AreNewShapes, IsStoreOf, IsNodeIn, KeepsUsed};
 ghost use Rattle.tangle_graph.specs.Stores.{flag_at, is_expandable_at, title_in_store};
 ghost use Rattle.tangle_affected.specs.Affected.{EditedShapes, ListsAffectedAfter};
 ghost use Rattle.tangle_affected.specs.Keeping.{KeepsJust, KeepsUnflagged, ListsExpandableAfter};
@@ -39,7 +39,7 @@ pub fn expand_all(alloc: Global, store: &Store, work: &mut Work) -> Result<Kept,
 
 /// Shares the old expansion of each unaffected expandable node, and expands the affected nodes,
 /// each after those that it uses. The affected nodes are added to the end of the work's list. The
-/// flags say which nodes keep their old body and the names that it uses.
+/// flags say which nodes have a new shape.
 ///
 /// # Errors
 ///
@@ -49,10 +49,10 @@ pub fn expand_again(
     old: &Store,
     old_kept: &Kept,
     new: &Store,
-    are_kept: &[bool],
+    new_shapes: &[bool],
     work: &mut Work,
 ) -> Result<Kept, NoMemory>
-    requires bodies { KeepsBodies old.now new.now are_kept.now }
+    requires new_shapes { AreNewShapes old.now new.now new_shapes.now }
     requires edit { (shapes : EditedShapes) × IsEditOf old.now new.now old_kept.now shapes }
     ensures kept { (shapes : EditedShapes) → IsEditOf old.now new.now old_kept.now shapes
         → IfOk result (λ kept. KeepsJust shapes.new new.now kept) }
@@ -60,7 +60,7 @@ pub fn expand_again(
         → OnOk result (ListsAffectedAfter shapes.old shapes.new new.now work.old work.new) }
 {
     let order = new.order();
-    let flags = reaching_new_shapes(alloc, old, new, are_kept, order)?;
+    let flags = reaching_new_shapes(alloc, new, new_shapes, order)?;
     let list = listed_nodes(alloc, new, &flags, order)?;
     let mut kept = Kept::new(alloc);
     share_unflagged(old, old_kept, new, order, &flags, &mut kept)?;

@@ -1,24 +1,26 @@
 -- Bodies of nodes, and bodies that are read by their number.
-use Rattle.std.proofs.Common.{◌≡◌, ◌∙◌, ◌<◌, ◌≤◌, ℕ, true, false, List, length, map, get_or, refl, ap, sym}
-use Rattle.std.proofs.Common.{subst, arith}
-use Rattle.std.specs.Prelude.{All, nat_lt, slice_get, None, Some, Option, IfSome}
-use Rattle.std.specs.Borrow.{Bor}
+use Rattle.std.proofs.Common.{◌≡◌, ◌≢◌, ◌∙◌, ◌<◌, ◌↔◌, ℕ, Bool, true, false, not, List, [], length, map, get_or, refl, ap}
+use Rattle.std.proofs.Common.{sym, subst, arith, true≢false}
+use Rattle.std.specs.Prelude.{All, slice_get, Some}
 use Rattle.std.specs.Global.{Global}
 use Rattle.std.specs.declared.rc.Rc.{Rc}
-use Rattle.std.specs.Slice.{IsItemAt}
-use Rattle.std.proofs.lemmas.Bool.Decides.{nat_tests}
 use Rattle.std.proofs.lemmas.List.{get_or-map, length-map}
-use Rattle.std.proofs.lemmas.Option.{get_or_from_slice_get, slice_get-get_or, slice_get_past, slice_get_within}
+use Rattle.std.proofs.lemmas.Option.{get_or_from_slice_get, slice_get-get_or, slice_get_within}
 use Rattle.digraph.specs.Graph.{row_at}
-use Rattle.tangle_scan.specs.Web.{WebRead}
+use Rattle.tangle_scan.specs.Web.{WebRead, PieceRead}
 use Rattle.tangle_names.specs.NameTable.{TableRead}
-use Rattle.tangle_plans.specs.Nodes.{pieces_at, title_at}
-use Rattle.tangle_plans.specs.NodeBodies.{ItemsRead, AreItemsOf, AreSameItems, body_items, body_title, body_uses, names_at}
-use Rattle.tangle_plans.specs.WebShapes.{ResolvesInside}
+use Rattle.tangle_plans.specs.ItemTags.{shape_of}
+use Rattle.tangle_plans.specs.Nodes.{pieces_at, no_piece, row_has_piece, title_at}
+use Rattle.tangle_plans.specs.NodeBodies.{ItemsRead, AreItemsOf, HaveOneShape, HoldsShape, body_items, body_title}
+use Rattle.tangle_plans.specs.NodeBodies.{body_uses, names_at}
+use Rattle.tangle_plans.specs.Shapes.{Shape}
+use Rattle.tangle_plans.specs.WebShapes.{ResolvesInside, shape_item}
 use Rattle.tangle_plans.proofs.HeldLemmas.{names_held}
+use Rattle.tangle_plans.proofs.ShapeLemmas.{bodies_decide}
 use Rattle.tangle_plans.specs.declared.nodes.NodeBody.{NodeBody}
 use Rattle.tangle_graph.specs.Plans.{AreTitled, AreBodies, IsBodyAt, node_bodies}
 use Rattle.tangle_graph.proofs.GroupLemmas.{pieces_below}
+use Rattle.tangle_graph.proofs.StoreLemmas.{piece_of_row}
 
 pub names_inside : (web : WebRead) (table : TableRead) (rows : List (List ℕ)) (node : ℕ) (body : NodeBody)
     → ResolvesInside table → IsBodyAt web table rows node body
@@ -37,14 +39,6 @@ module _ (bodies : List (Rc NodeBody Global)) (n : ℕ) where
       ∙ ap Some (get_or-map (λ (t : Rc NodeBody Global). t.value) bodies n body body.value low
       ∙ ap (λ (t : Rc NodeBody Global). t.value) (sym same))
 
-  below : true ≡ nat_lt n (length bodies) → n < length bodies
-  below test = (let t = sym test in grind (arith, nat_tests))
-
-  pub body_read : (o : Option (Bor (Rc NodeBody Global)))
-      → IsItemAt bodies n o → IfSome o (λ body. slice_get (node_bodies bodies) n ≡ Some body.now.value)
-  body_read None h = tt
-  body_read (Some x) h = read x.now (below h.0) h.1
-
   pub uses_of_read : (P : ℕ → Type 0) (body : Rc NodeBody Global)
       → All (All P) (map body_uses (node_bodies bodies))
       → n < length bodies → body ≡ get_or bodies n body → All P (body_uses body.value)
@@ -56,19 +50,6 @@ module _ (bodies : List (Rc NodeBody Global)) (n : ℕ) where
       ∙ ap body_uses (get_or_from_slice_get (node_bodies bodies) n body.value body.value had) in
       subst (All P) here
       (all n (body_uses body.value) (omega (arith, there, length-map (node_bodies bodies) body_uses)))
-
-  pub names_of_read : (names count : ℕ) (body : Rc NodeBody Global)
-      → All (All (λ id. id < names)) (map body_uses (node_bodies bodies)) → names ≡ count
-      → true ≡ nat_lt n (length bodies) → body ≡ get_or bodies n body → All (λ id. id < count) (body_uses body.value)
-  names_of_read names count body all size test same =
-      subst (λ c. All (λ id. id < c) (body_uses body.value)) size
-      (uses_of_read (λ id. id < names) body all (below test) same)
-
-  pub none_read : false ≡ nat_lt n (length bodies) → slice_get (node_bodies bodies) n ≡ None
-  none_read test =
-      let past : length bodies ≤ n = (let t = sym test in grind (arith, nat_tests)) in
-      slice_get_past (node_bodies bodies) n
-      (omega (arith, past, length-map bodies (λ (t : Rc NodeBody Global). t.value)))
 
 -- the body with a number is that of the pieces in the row with this number
 pub body_given : (web : WebRead) (table : TableRead) (rows : List (List ℕ))
@@ -84,25 +65,56 @@ body_given web table rows bodies n body are low same =
     ∙ get_or_from_slice_get (node_bodies bodies) n body.value body.value (read bodies n body there same))
     found.2
 
--- a body with the items of a node's pieces, under the node's name
+module _ (web : WebRead) (table : TableRead) (rows : List (List ℕ)) (node : ℕ) (body : NodeBody) where
+  -- a body with the items of a node's pieces, under the node's name
+  pub body_of_items : {names other : List (List ℕ)} (items : ItemsRead) → body_title body ≡ title_at table.names node
+      → AreItemsOf web.texts table (pieces_at web.pieces (row_at rows node)) items
+      → HaveOneShape names other items (body_items body) → items.uses ≡ body_uses body
+      → IsBodyAt web table rows node body
+  body_of_items items title are same uses = record {
+    title = title;
+    shape = record {
+      tags = sym same.tags ∙ are.tags;
+      bytes = sym same.bytes ∙ are.bytes;
+      names_used = ap (names_at table.names) (sym uses ∙ are.uses)
+          ∙ names_held web.texts table (pieces_at web.pieces (row_at rows node));
+    };
+    uses = sym uses ∙ are.uses;
+  }
 
-pub same_items_of : (items others : ItemsRead) → others ≡ items → AreSameItems items others
-same_items_of items others e = rw e (record { tags = refl; bytes = refl; uses = refl })
+  pub body_made : (items : ItemsRead) → body_title body ≡ title_at table.names node
+      → AreItemsOf web.texts table (pieces_at web.pieces (row_at rows node)) items → body_items body ≡ items
+      → IsBodyAt web table rows node body
+  body_made items title are e = body_of_items {names = []} {other = []} items title are
+      (subst (λ i. HaveOneShape [] [] i (body_items body)) e (record { tags = refl; bytes = refl; names_used = refl }))
+      (sym (ap (λ (i : ItemsRead). i.uses) e))
 
-pub body_of_items : (web : WebRead) (table : TableRead) (rows : List (List ℕ)) (node : ℕ) (body : NodeBody)
-    (items : ItemsRead) → body_title body ≡ title_at table.names node
-    → AreItemsOf web.texts table (pieces_at web.pieces (row_at rows node)) items → AreSameItems items (body_items body)
-    → IsBodyAt web table rows node body
-body_of_items web table rows node body items title are same = record {
-  title = title;
-  shape = record {
-    tags = sym same.tags ∙ are.tags;
-    bytes = sym same.bytes ∙ are.bytes;
-    names_used = ap (names_at table.names) (sym same.uses ∙ are.uses)
-        ∙ names_held web.texts table (pieces_at web.pieces (row_at rows node));
-  };
-  uses = sym same.uses ∙ are.uses;
-}
+  -- whether the shape of a node that had no piece is new
+  pub new_if_pieces : (s t : Shape) → IsBodyAt web table rows node body → HoldsShape table.names s body → t ≡ []
+      → ((row_has_piece (row_at rows node) ≡ true) ↔ (s ≢ t))
+  new_if_pieces s t is held none =
+      let row = row_at rows node in
+      let pieces = pieces_at web.pieces row in
+      let same : s ≡ shape_of web.texts table pieces =
+      (bodies_decide table.names table.names body body s (shape_of web.texts table pieces) held is.shape).0
+      (record { tags = refl; bytes = refl; names_used = refl }) in
+      subst (λ u. (row_has_piece row ≡ true) ↔ (s ≢ u)) (sym none)
+      (piece_of_row row s (ap length same
+      ∙ length-map pieces (λ (p : PieceRead). map (shape_item web.texts table) p.items)
+      ∙ length-map row (λ n. get_or web.pieces n no_piece)))
+
+-- whether the shape of a node that had a body is new
+pub new_unless_same : (names old_names : List (List ℕ)) (body before : NodeBody) (s t : Shape) (same : Bool)
+    → ((same ≡ true) ↔ HaveOneShape names old_names (body_items body) (body_items before))
+    → HoldsShape names s body → HoldsShape old_names t before → ((not same ≡ true) ↔ (s ≢ t))
+new_unless_same names old_names body before s t true decides held had = (
+  (λ e. absurd (true≢false (sym e))),
+  λ apart. absurd (apart ((bodies_decide names old_names body before s t held had).0 (decides.0 refl))),
+)
+new_unless_same names old_names body before s t false decides held had = (
+  (λ e same. true≢false (sym (decides.1 ((bodies_decide names old_names body before s t held had).1 same)))),
+  λ apart. refl,
+)
 
 -- the bodies of a web have its names
 pub bodies_titled : (web : WebRead) (table : TableRead) (rows : List (List ℕ)) (bodies : List NodeBody)

@@ -1,17 +1,15 @@
 -- A body whose uses have the symbols that are kept gives the expansion of its node.
-use Rattle.std.proofs.Common.{◌≡◌, ◌∙◌, ◌<◌, ℕ, true, List, [], ◌∷◌, length, map, get_or, ap, sym, subst, arith, inl, inr}
+use Rattle.std.proofs.Common.{◌≡◌, ◌∙◌, ◌<◌, ℕ, true, List, [], ◌∷◌, length, map, get_or, ap, subst, arith, inl, inr}
 use Rattle.std.specs.Prelude.{All, Contains, Some, flat_map}
-use Rattle.std.specs.Global.{Global}
-use Rattle.std.specs.declared.rc.Rc.{Rc}
-use Rattle.std.proofs.lemmas.List.{get_or-map, length-map}
+use Rattle.std.proofs.lemmas.List.{get_or-map}
 use Rattle.std.proofs.lemmas.List.Elements.{All-contains, Contains-append_cases}
-use Rattle.std.proofs.lemmas.Option.{same_Some}
+use Rattle.std.proofs.lemmas.Option.{get_or_from_slice_get, slice_get_within}
 use Rattle.digraph.specs.Graph.{row_at}
 use Rattle.digraph.specs.Nodes.{Node}
 use Rattle.digraph.proofs.ReachLemmas.{flagged_in}
 use Rattle.tangle_names.proofs.ContainsLemmas.{cons_cases, into_map, no_item}
 use Rattle.tangle_plans.specs.Meaning.{body_flat}
-use Rattle.tangle_plans.specs.NodeBodies.{HoldsShape, body_title, body_uses}
+use Rattle.tangle_plans.specs.NodeBodies.{body_title, body_uses}
 use Rattle.tangle_plans.specs.Shapes.{ShapeItem, Use, Shape, Shapes, IsUseOf, UsesInPiece, UsesInShape}
 use Rattle.tangle_plans.specs.Tags.{item_names, shape_names}
 use Rattle.tangle_plans.specs.declared.nodes.NodeBody.{NodeBody}
@@ -21,7 +19,7 @@ use Rattle.tangle_expansion.specs.declared.kept.Kept.{Kept}
 use Rattle.tangle_expansion.proofs.FilledLemmas.{body_expands}
 use Rattle.tangle_graph.specs.Stores.{StoreRead, IsNodeIn, IsStoreOf, KeepsUsed, body_at, is_expandable_at}
 use Rattle.tangle_graph.specs.Stores.{title_in_store}
-use Rattle.tangle_graph.specs.Plans.{node_bodies}
+use Rattle.tangle_graph.proofs.NameLemmas.{shape_of_body}
 
 -- an expandable node is a node of the store
 pub expandable_in : (shapes : Shapes) (store : StoreRead) (node : Node)
@@ -61,9 +59,7 @@ pub expanded_right : (shapes : Shapes) (store : StoreRead) (kept : Kept) (node :
     → body_flat body (map (used_symbols kept) (body_uses body)) ≡ flat_of shapes (title_in_store store node)
 expanded_right shapes store kept node body is e keeps at title inside =
     let here = expandable_in shapes store node is e in
-    let held = is.shape_held node here in
-    let h : HoldsShape store.names (shapes (title_in_store store node)) body =
-    subst (HoldsShape store.names (shapes (title_in_store store node))) (same_Some held.0 body (sym held.1 ∙ at)) held.2 in
+    let h = shape_of_body shapes store node body is here at in
     rw (← title) (body_expands store.names shapes levels body (used_symbols kept)
     (rw title h) (rw title ((is.expandable node here).0 e).shallow)
     (λ id c. keeps id (record {
@@ -74,14 +70,8 @@ expanded_right shapes store kept node body is e keeps at title inside =
     })))
 
 -- a part of a body, read from the rows of this part of all bodies
-pub part_read : {Y : Type 0} (f : NodeBody → List Y) (bodies : List (Rc NodeBody Global)) (store : StoreRead)
-    (node : Node) (body : Rc NodeBody Global)
-    → node_bodies bodies ≡ store.bodies → node < length bodies → body ≡ get_or bodies node body
-    → row_at (map f store.bodies) node ≡ f body.value
-part_read f bodies store node body same low read =
-    ap (λ l. row_at (map f l) node) (sym same)
-    ∙ get_or-map f (node_bodies bodies) node body.value []
-    (omega (arith, low, length-map bodies (λ (t : Rc NodeBody Global). t.value)))
-    ∙ ap f
-    (get_or-map (λ (t : Rc NodeBody Global). t.value) bodies node body body.value low
-    ∙ ap (λ (t : Rc NodeBody Global). t.value) (sym read))
+pub part_read : {Y : Type 0} (f : NodeBody → List Y) (store : StoreRead) (node : Node) (body : NodeBody)
+    → body_at store node ≡ Some body → row_at (map f store.bodies) node ≡ f body
+part_read f store node body at =
+    get_or-map f store.bodies node body [] (slice_get_within store.bodies node body at)
+    ∙ ap f (get_or_from_slice_get store.bodies node body body at)

@@ -1,4 +1,5 @@
 pub mod NodeLemmas
+pub mod NameLemmas
 mod GroupLemmas
 mod RowLemmas
 mod MeasureLemmas
@@ -9,7 +10,8 @@ mod GraphLemmas
 pub mod StoreLemmas
 mod LimitLemmas
 mod BodyLemmas
-pub mod ShapeLemmas
+mod ShapeLemmas
+mod StoredBodies
 mod PushLemmas
 mod ReachLemmas
 pub mod ExpandLemmas

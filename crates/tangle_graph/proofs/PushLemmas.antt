@@ -1,22 +1,21 @@
 -- One more body, with its flag.
-use Rattle.std.proofs.Common.{◌≡◌, ◌∙◌, ◌<◌, ℕ, zero, suc, Bool, true, false, true≢false, List, [], ◌∷◌, ◌++◌}
-use Rattle.std.proofs.Common.{length, get_or, refl, sym, subst, arith}
+use Rattle.std.proofs.Common.{◌≡◌, ◌∙◌, ◌<◌, ℕ, zero, suc, Bool, false, List, [], ◌∷◌, ◌++◌, length, get_or, refl, sym}
+use Rattle.std.proofs.Common.{subst, arith}
 use Rattle.std.specs.Global.{Global}
 use Rattle.std.specs.declared.rc.Rc.{Rc}
-use Rattle.std.specs.Borrow.{Bor}
-use Rattle.std.specs.Prelude.{slice_get, IfSome, MatchOption, None, Option, Some}
-use Rattle.std.proofs.Math.Decide.{dec_lt}
-use Rattle.std.proofs.lemmas.List.{get_or_past, length-map, map-append}
-use Rattle.tangle_scan.specs.Web.{WebRead}
-use Rattle.tangle_names.specs.NameTable.{TableRead}
+use Rattle.std.specs.Prelude.{slice_get, IfSome, None, Option, Some}
+use Rattle.std.proofs.lemmas.List.{length-map, map-append}
 use Rattle.tangle_plans.specs.declared.nodes.NodeBody.{NodeBody}
-use Rattle.tangle_graph.specs.Plans.{IsBodyAt, IsKept, node_bodies}
-use Rattle.tangle_graph.specs.declared.bodies.OldBodies.{OldBodies}
+use Rattle.tangle_graph.specs.Plans.{AreNewBodies, IsBodyAt, IsNewBody, node_bodies}
+use Rattle.tangle_graph.specs.declared.bodies.GroupedWeb.{GroupedWeb}
+use Rattle.tangle_graph.specs.Stores.{StoreRead}
+use Rattle.std.specs.Borrow.{Bor}
 
--- the node has this body, and is flagged only if it keeps its old body and the names that this body uses
-abbrev pub IsBodyMade : WebRead → TableRead → List (List ℕ) → OldBodies → ℕ → Bool → NodeBody → Type 0
-IsBodyMade web table rows old node flag body =
-    IsBodyAt web table rows node body × (flag ≡ true → IsKept old table.names node body)
+-- the node has this body, and its shape is flagged if it is not that of the old store
+abbrev pub IsBodyMade : GroupedWeb → Option (Bor StoreRead) → ℕ → Bool → NodeBody → Type 0
+IsBodyMade grouped old node flag body =
+    IsBodyAt grouped.web.now grouped.table.now grouped.pieces.now node body
+    × IfSome old (λ store. IsNewBody store.now grouped.names.now node flag body)
 
 -- the relation holds of each position with the item there, if the position is flagged
 abbrev pub HoldsAtEach : {X : Type 0} → (ℕ → Bool → X → Type 0) → List X → List Bool → Type 0
@@ -52,18 +51,9 @@ some_at [] n h = absurd (omega (arith, h))
 some_at (x ∷ xs) zero h = (x, refl)
 some_at (x ∷ xs) (suc n) h = some_at xs n (omega (arith, h))
 
--- what holds of each flagged item
-pub at_flag : {X : Type 0} (R : ℕ → Bool → X → Type 0) (xs : List X) (flags : List Bool) → length xs ≡ length flags
-    → HoldsAtEach R xs flags → (n : ℕ) → get_or flags n false ≡ true → (x : X) × (slice_get xs n ≡ Some x) × R n true x
-at_flag R xs flags size all n e = elim (dec_lt n (length flags)) [
-  | yes low ↦ (let some = some_at xs n (omega (arith, low, size)) in
-      (some.0, some.1, subst (λ flag. R n flag some.0) e (all n some.0 some.1)))
-  | no past ↦ absurd (true≢false (sym e ∙ get_or_past flags n false (omega (arith, past))))
-]
-
--- a property of the old body holds for an equal body
-pub holds_of_old : (before : Option (Bor (Rc NodeBody Global))) (Q : NodeBody → Type 0) (body : NodeBody)
-    → MatchOption before ⊥ (λ old. body ≡ old.now.value)
-    → IfSome before (λ old. Q old.now.value) → Q body
-holds_of_old None Q body same at = absurd same
-holds_of_old (Some old) Q body same at = subst Q (sym same) at
+-- the flags of all bodies, where there is an old store
+pub new_of_old : (grouped : GroupedWeb) (old : Option (Bor StoreRead)) (bodies : List NodeBody) (flags : List Bool)
+    → HoldsAtEach (IsBodyMade grouped old) bodies flags
+    → IfSome old (λ store. AreNewBodies store.now grouped.names.now bodies flags)
+new_of_old grouped None bodies flags each = tt
+new_of_old grouped (Some store) bodies flags each = λ node body has. (each node body has).1

@@ -1,6 +1,6 @@
 -- What a row of pieces, a weight and a depth say of a node.
 use Rattle.std.proofs.Common.{◌≡◌, ◌≢◌, ◌∙◌, ◌<◌, ◌≤◌, ◌+◌, ◌↔◌, ◌&&◌, ℕ, min, Bool, true, false, List, [], ◌∷◌, length}
-use Rattle.std.proofs.Common.{filter, get_or, refl, ap, sym, subst, arith}
+use Rattle.std.proofs.Common.{eqb, filter, get_or, not, refl, ap, sym, subst, arith}
 use Rattle.std.specs.Prelude.{Option, Some, None, nat_lt, nat_le}
 use Rattle.std.proofs.Math.Decide.{dec_lt}
 use Rattle.std.proofs.lemmas.Bool.Decides.{nat_tests}
@@ -70,6 +70,10 @@ expandable_is shapes node = (
       ((piece_of_shape (shapes node)).1 x.has_piece)
       (let h = x.shallow in grind (arith, nat_tests)) (let h = x.light in grind (arith, nat_tests)),
 )
+
+pub row_not_empty : (row : List ℕ) → not (eqb (length row) 0) ≡ row_has_piece row
+row_not_empty [] = refl
+row_not_empty (n ∷ row) = (let apart : eqb (length (n ∷ row)) 0 ≡ false = grind (arith, nat_tests) in ap not apart)
 
 -- a shape is empty if the row of pieces is
 pub piece_of_row : (row : List ℕ) (s : Shape) → length s ≡ length row → (row_has_piece row ≡ true) ↔ (s ≢ [])

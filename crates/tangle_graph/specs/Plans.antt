@@ -1,6 +1,6 @@
 -- The bodies of the nodes of a web.
-use Rattle.std.specs.Prelude.{◌≡◌, ◌<◌, ◌≤◌, ℕ, Bool, true, false, List, length, map}
-use Rattle.std.specs.Prelude.{slice_get, slice_index_or, Some}
+use Rattle.std.specs.Prelude.{◌≡◌, ◌≢◌, ◌<◌, ◌+◌, ◌↔◌, ℕ, Bool, true, false, List, length, map}
+use Rattle.std.specs.Prelude.{All, slice_get, slice_index_or, Some}
 use Rattle.std.specs.Global.{Global}
 use Rattle.std.specs.declared.rc.Rc.{Rc}
 use Rattle.digraph.specs.Graph.{row_at}
@@ -8,10 +8,13 @@ use Rattle.digraph.specs.Nodes.{Node}
 use Rattle.tangle_scan.specs.Web.{WebRead}
 use Rattle.tangle_names.specs.NameTable.{TableRead}
 use Rattle.tangle_plans.specs.ItemTags.{pieces_uses, shape_of}
-use Rattle.tangle_plans.specs.NodeBodies.{HoldsShape, body_title, body_uses, names_at}
+use Rattle.tangle_plans.specs.NodeBodies.{HoldsShape, body_title, body_uses}
 use Rattle.tangle_plans.specs.Nodes.{pieces_at, title_at}
+use Rattle.tangle_plans.specs.Shapes.{Shape, Shapes}
 use Rattle.tangle_plans.specs.declared.nodes.NodeBody.{NodeBody}
-use Rattle.tangle_graph.specs.declared.bodies.OldBodies.{OldBodies}
+use Rattle.tangle_plans.specs.WebShapes.{ResolvesInside}
+use Rattle.tangle_graph.specs.Stores.{StoreRead, IsStoreOf}
+use Rattle.tangle_graph.specs.declared.bodies.GroupedWeb.{GroupedWeb}
 
 -- the body of each node
 abbrev pub node_bodies : List (Rc NodeBody Global) → List NodeBody
@@ -38,28 +41,23 @@ abbrev pub AreTitled : List (List ℕ) → List NodeBody → Type 0
 AreTitled names bodies = (node : Node) (body : NodeBody)
     → node < length bodies → body_title (slice_index_or bodies node body) ≡ title_at names node
 
--- the bodies of a store have its names
-abbrev pub AreBodiesBefore : OldBodies → Type 0
-AreBodiesBefore old = AreTitled old.names.now (node_bodies old.bodies.now)
+-- the web has this table and these names, and the rows have the pieces of its nodes
+pub record IsGrouped (grouped : GroupedWeb) : Type 0 where
+  pub size : length grouped.pieces.now ≡ length grouped.table.now.names + 1
+  pub inside : All (All (λ i. i < length grouped.web.now.pieces)) grouped.pieces.now
+  pub ours : length grouped.table.now.resolved ≡ length grouped.web.now.occurrences
+  pub resolved : ResolvesInside grouped.table.now
+  pub names : grouped.names.now ≡ grouped.table.now.names
 
--- the body is the one that the old node with the same title had; `names` are the new names
-pub record IsBodyOfBefore (old : OldBodies) (names : List (List ℕ))
-    (node : Node) (body : NodeBody) : Type 0 where
-  pub before : Node
-  pub inside : before ≤ length old.names.now
-  pub title : title_at old.names.now before ≡ title_at names node
-  pub had : slice_get (node_bodies old.bodies.now) before ≡ Some body
+-- the node, which has this body now, is flagged exactly if its shape is not that of the old node
+-- with its title
+abbrev pub IsNewBody : StoreRead → List (List ℕ) → Node → Bool → NodeBody → Type 0
+IsNewBody old names node flag body =
+    (before : Shapes) (shape : Shape) → IsStoreOf before old → HoldsShape names shape body
+    → ((flag ≡ true) ↔ (shape ≢ before (title_at names node)))
 
--- the body is the one that the old node with the same title had, and the names that the body uses
--- did not change
-abbrev pub IsKept : OldBodies → List (List ℕ) → Node → NodeBody → Type 0
-IsKept old names node body =
-    IsBodyOfBefore old names node body
-    × (names_at old.names.now (body_uses body) ≡ names_at names (body_uses body))
-
--- each flagged body is the one that the old node with the same title had, and the names that the
--- body uses did not change
-abbrev pub AreKept : OldBodies → List (List ℕ) → List NodeBody → List Bool → Type 0
-AreKept old names bodies flags =
-    (node : Node) → slice_index_or flags node false ≡ true
-    → (body : NodeBody) × (slice_get bodies node ≡ Some body) × (IsKept old names node body)
+-- exactly those nodes are flagged whose shapes are new
+abbrev pub AreNewBodies : StoreRead → List (List ℕ) → List NodeBody → List Bool → Type 0
+AreNewBodies old names bodies flags =
+    (node : Node) (body : NodeBody) → slice_get bodies node ≡ Some body
+    → IsNewBody old names node (slice_index_or flags node false) body

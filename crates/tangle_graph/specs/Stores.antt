@@ -1,14 +1,14 @@
 -- What a store records of a web: for each node its pieces, its uses and users, its weight and
 -- depth, and whether it contains itself or reaches a name that does.
-use Rattle.std.specs.Prelude.{◌≡◌, ◌≢◌, ◌<◌, ◌≤◌, ◌↔◌, ◌+◌, ℕ, Bool, true, false}
-use Rattle.std.specs.Prelude.{◌&&◌, nat_lt, nat_le}
+use Rattle.std.specs.Prelude.{◌≡◌, ◌≢◌, ◌<◌, ◌↔◌, ◌+◌, ℕ, Bool, true, false}
+use Rattle.std.specs.Prelude.{◌&&◌, nat_lt, nat_le, if◌then◌else◌}
 use Rattle.std.specs.Prelude.{slice_get, slice_index, slice_index_or, List, [], length, map}
 use Rattle.std.specs.Prelude.{AllPairs, Contains, Option, Some}
 use Rattle.tangle_plans.specs.Shapes.{Title, Named, Shape, Shapes, Uses, ContainsItself}
 use Rattle.tangle_plans.specs.Flat.{Symbol}
 use Rattle.tangle_expansion.specs.Kept.{used_symbols}
 use Rattle.tangle_plans.specs.Meaning.{body_flat}
-use Rattle.tangle_plans.specs.NodeBodies.{HoldsShape, body_uses, names_at}
+use Rattle.tangle_plans.specs.NodeBodies.{HoldsShape, body_uses}
 use Rattle.tangle_expansion.specs.Limits.{levels, heaviest, flat_of, weight_of, depth_of}
 use Rattle.tangle_expansion.specs.Limits.{IsExpandableNode}
 use Rattle.tangle_expansion.specs.Outputs.{OutputRead}
@@ -17,7 +17,7 @@ use Rattle.tangle_expansion.specs.declared.kept.Kept.{Kept}
 use Rattle.digraph.specs.Graph.{Graph, row_at}
 use Rattle.digraph.specs.Nodes.{Node}
 use Rattle.tangle_plans.specs.Nodes.{row_has_piece, title_at}
-use Rattle.tangle_graph.specs.Nodes.{IsNodeOf, shape_of_node, UsesTitle}
+use Rattle.tangle_graph.specs.Nodes.{IsNodeOf, UsesTitle}
 
 -- the bytes of the names, and lists with an entry for each node
 pub record StoreRead : Type 0 where
@@ -73,8 +73,10 @@ module _ (store : StoreRead) where
   abbrev pub title_in_store : Node → Title
   title_in_store node = title_at store.names node
 
+  -- the shape of a node; a node that the store does not have has no piece
   abbrev pub shape_in_store : Shapes → Node → Shape
-  shape_in_store shapes node = shape_of_node shapes store.names node
+  shape_in_store shapes node =
+      if nat_le node (length store.names) then shapes (title_in_store node) else []
 
   -- the node is one of the store's
   abbrev pub IsNodeIn : Node → Type 0
@@ -139,17 +141,10 @@ pub record AreWithin (pieces : List (List ℕ))
       ≡ (row_has_piece (row_at pieces n)
       && (nat_lt (slice_index depths n) levels && nat_le (slice_index weights n) heaviest))
 
--- the node keeps the body that the node with its title had, and the names that this body uses
-pub record KeepsBody (old new : StoreRead) (node : Node) : Type 0 where
-  pub before : Node
-  pub inside : before ≤ length old.names
-  pub title : title_at old.names before ≡ title_at new.names node
-  pub body : NodeBody
-  pub had : slice_get old.bodies before ≡ Some body
-  pub has : slice_get new.bodies node ≡ Some body
-  pub uses : names_at old.names (body_uses body) ≡ names_at new.names (body_uses body)
-
--- each flagged node keeps the body that the old node with its title had, and the names that this
--- body uses
-abbrev pub KeepsBodies : StoreRead → StoreRead → List Bool → Type 0
-KeepsBodies old new flags = (node : Node) → flag_at flags node ≡ true → KeepsBody old new node
+-- exactly those nodes of the new store are flagged whose shape is not that of the old store
+abbrev pub AreNewShapes : StoreRead → StoreRead → List Bool → Type 0
+AreNewShapes old new flags =
+    (before after : Shapes) → IsStoreOf before old → IsStoreOf after new
+    → (node : Node) → IsNodeIn new node
+    → ((flag_at flags node ≡ true)
+    ↔ (after (title_in_store new node) ≢ before (title_in_store new node)))

@@ -1,15 +1,18 @@
-//! The body of each node, and whether it is an old one.
-ghost use Rattle.std.specs.Prelude.{◌≡◌, ◌<◌, ◌+◌, ◌⊎◌, [], IfOk, length, All, IfSome};
-ghost use Rattle.std.specs.Prelude.{true, MatchOption};
-ghost use Rattle.digraph.specs.Graph.{row_at};
+//! The body of each node, and whether its shape is new.
+ghost use Rattle.std.specs.Prelude.{◌≡◌, ◌≢◌, ◌<◌, [], IfOk, length, All, IfSome};
+ghost use Rattle.std.specs.Prelude.{true, MatchOption, None};
+ghost use Rattle.digraph.specs.Nodes.{Node};
 ghost use Rattle.tangle_plans.specs.Meaning.{title_of};
-ghost use Rattle.tangle_plans.specs.NodeBodies.{body_title, body_uses};
+ghost use Rattle.tangle_plans.specs.NodeBodies.{HoldsShape, body_items, body_title, body_uses};
 ghost use Rattle.tangle_plans.specs.Nodes.{title_at};
+ghost use Rattle.tangle_plans.specs.Shapes.{Shapes};
 ghost use Rattle.tangle_graph.specs.Nodes.{IsNodeOf};
-ghost use Rattle.tangle_graph.specs.Plans.{AreKept, AreBodies, AreBodiesBefore};
-ghost use Rattle.tangle_graph.specs.Plans.{IsBodyAt, IsBodyOfBefore, node_bodies};
+ghost use Rattle.tangle_graph.specs.Plans.{AreBodies, AreNewBodies, IsBodyAt, IsGrouped};
+ghost use Rattle.tangle_graph.specs.Plans.{IsNewBody, node_bodies};
+ghost use Rattle.tangle_graph.specs.Stores.{IsNodeIn, IsStoreOf, title_in_store};
 
 use crate::nodes::node_before;
+use crate::store::Store;
 use digraph::{Node, Rows};
 use std::alloc::{AllocError, Global};
 use std::rc::Rc;
@@ -18,27 +21,24 @@ use tangle_names::{NameTable, Names};
 use tangle_plans::{BodyBuilder, NodeBody};
 use tangle_scan::Web;
 
-/// What a new store takes from an old one: its names, and the bodies of its nodes.
+/// A web with its table of names, these names, and a row for each node: the numbers of the node's
+/// pieces.
 #[derive(Clone, Copy)]
-pub(crate) struct OldBodies<'s> {
-    pub(crate) names: &'s Names,
-    pub(crate) bodies: &'s [Rc<NodeBody>],
-}
-
-/// No bodies, with these names.
-pub(crate) fn no_bodies<'s>(names: &'s Names) -> OldBodies<'s>
-    ensures before { AreBodiesBefore result }
-    ensures names { result.names.now ≡ names.now }
-{
-    OldBodies { names, bodies: &[] }
+pub(crate) struct GroupedWeb<'w, 's, 'a> {
+    pub(crate) web: &'w Web<'s, 'a>,
+    pub(crate) table: &'w NameTable,
+    pub(crate) names: &'w Names,
+    pub(crate) pieces: &'w Rows<usize>,
 }
 
 /// The old node that has the title of this one, if there is one: the same, if no name changed.
-fn old_node(old: &Names, same_names: bool, names: &Names, node: Node) -> Option<Node>
+fn old_node(old: &Names, names: &Names, same_names: bool, node: Node) -> Option<Node>
     requires same_names { same_names ≡ true → old.now ≡ names.now }
     requires node { IsNodeOf names.now node }
     ensures inside { IfSome result (IsNodeOf old.now) }
     ensures title { IfSome result (λ before. title_at old.now before ≡ title_at names.now node) }
+    ensures none { result ≡ None → (other : Node) → IsNodeOf old.now other
+        → title_at old.now other ≢ title_at names.now node }
 {
     if same_names {
         return Some(node);
@@ -46,38 +46,47 @@ fn old_node(old: &Names, same_names: bool, names: &Names, node: Node) -> Option<
     node_before(old, names, node)
 }
 
-/// The body that the node had in the old web.
-fn body_before<'s>(
-    old: OldBodies<'s>,
-    same_names: bool,
-    names: &Names,
-    node: Node,
-) -> Option<&'s Rc<NodeBody>>
-    requires old { AreBodiesBefore old }
-    requires same_names { same_names ≡ true → old.names.now ≡ names.now }
-    requires node { IsNodeOf names.now node }
-    ensures title { IfSome result
-        (λ body. body_title body.now.value ≡ title_at names.now node) }
-    ensures before { IfSome result
-        (λ body. IsBodyOfBefore old.entry names.now node body.now.value) }
-{
-    let before = old_node(old.names, same_names, names, node)?;
-    old.bodies.get(before.number())
-}
-
-/// A web with its table of names, and with a row for each node: the numbers of the node's pieces.
+/// The old body of a node, with the old names.
 #[derive(Clone, Copy)]
-pub(crate) struct GroupedWeb<'w, 's, 'a> {
-    pub(crate) web: &'w Web<'s, 'a>,
-    pub(crate) table: &'w NameTable,
-    pub(crate) pieces: &'w Rows<usize>,
+struct OldBody<'s> {
+    names: &'s Names,
+    body: &'s Rc<NodeBody>,
 }
 
-/// The body of a node, and whether it is the old one.
+/// The body that the node had in the old store. It holds the node's old shape; a node without an old
+/// body had no piece.
+fn body_before<'s>(
+    old: Option<&'s Store>,
+    names: &Names,
+    same_names: bool,
+    node: Node,
+) -> Option<OldBody<'s>>
+    requires same_names { same_names ≡ true → IfSome old (λ store. store.now.names ≡ names.now) }
+    requires node { IsNodeOf names.now node }
+    ensures same_names { IfSome result
+        (λ before. same_names ≡ true → before.names.now ≡ names.now) }
+    ensures title { IfSome result
+        (λ before. body_title before.body.now.value ≡ title_at names.now node) }
+    ensures uses { IfSome result
+        (λ before. All (λ id. id < length before.names.now) (body_uses before.body.now.value)) }
+    ensures shape { IfSome old.entry (λ store. (shapes : Shapes) → IsStoreOf shapes store.now
+        → MatchOption result (shapes (title_at names.now node) ≡ [])
+        (λ before. HoldsShape before.names.now (shapes (title_at names.now node))
+        before.body.now.value)) }
+{
+    let old = old?;
+    let before = old_node(old.names(), names, same_names, node)?;
+    Some(OldBody {
+        names: old.names(),
+        body: old.body(before),
+    })
+}
+
+/// The body of a node, and whether the node has another shape than before.
 #[derive(Drop)]
 struct BodyAfter {
     body: Rc<NodeBody>,
-    is_old: bool,
+    has_new_shape: bool,
 }
 
 /// The name of the node; `None` for the program.
@@ -90,91 +99,104 @@ fn name_of_node(alloc: Global, table: &NameTable, node: Node) -> Result<Option<V
     }
 }
 
+/// A body with the items that were made, under the node's name.
+fn new_body(
+    alloc: Global,
+    builder: &BodyBuilder,
+    table: &NameTable,
+    node: Node,
+) -> Result<Rc<NodeBody>, NoMemory>
+    ensures title { IfOk result
+        (λ body. body_title body.value ≡ title_at table.now.names node) }
+    ensures items { IfOk result (λ body. body_items body.value ≡ builder.now) }
+{
+    let name = name_of_node(alloc, table, node)?;
+    Ok(Rc::new(alloc, builder.body(alloc, name)?)?)
+}
+
 /// The body of the node: the old one, if its items are those of the node's pieces, else a new one.
 fn body_after(
     alloc: Global,
     builder: &mut BodyBuilder,
     grouped: GroupedWeb,
     node: Node,
-    before: Option<&Rc<NodeBody>>,
+    old: Option<&Store>,
+    same_names: bool,
 ) -> Result<BodyAfter, NoMemory>
-    requires numbers { All (λ i. i < length grouped.web.now.pieces)
-        (row_at grouped.pieces.now node) }
-    requires ours { length grouped.table.now.resolved
-        ≡ length grouped.web.now.occurrences }
-    requires title { IfSome before
-        (λ body. body_title body.now.value ≡ title_at grouped.table.now.names node) }
+    requires grouped { IsGrouped grouped }
+    requires node { IsNodeOf grouped.names.now node }
+    requires same_names { same_names ≡ true
+        → IfSome old (λ store. store.now.names ≡ grouped.names.now) }
     ensures body { IfOk result
         (λ made. IsBodyAt grouped.entry.web.now grouped.entry.table.now
         grouped.entry.pieces.now node made.body.value) }
-    ensures old { IfOk result (λ made. made.is_old ≡ true
-        → MatchOption before.entry ⊥ (λ body. made.body.value ≡ body.now.value)) }
+    ensures new_shape { IfOk result (λ made. IfSome old.entry
+        (λ store. IsNewBody store.now grouped.entry.names.now node made.has_new_shape
+        made.body.value)) }
 {
-    let GroupedWeb { web, table, pieces } = grouped;
-    builder.make(web, table, pieces.row(node.number()))?;
-    if let Some(body) = before {
-        if builder.has_made(body) {
-            let body = body.clone()?;
-            return Ok(BodyAfter { body, is_old: true });
-        }
+    let GroupedWeb {
+        web,
+        table,
+        names,
+        pieces,
+    } = grouped;
+    let row = pieces.row(node.number());
+    builder.make(web, table, row)?;
+    let Some(before) = body_before(old, names, same_names, node) else {
+        let body = new_body(alloc, builder, table, node)?;
+        let has_new_shape = !row.is_empty();
+        return Ok(BodyAfter {
+            body,
+            has_new_shape,
+        });
+    };
+    let has_new_shape = !builder.has_shape_of(names, before.body, before.names, same_names);
+    if !has_new_shape && builder.has_uses_of(before.body) {
+        let body = before.body.clone()?;
+        return Ok(BodyAfter {
+            body,
+            has_new_shape,
+        });
     }
-    let name = name_of_node(alloc, table, node)?;
-    let body = Rc::new(alloc, builder.body(alloc, name)?)?;
+    let body = new_body(alloc, builder, table, node)?;
     Ok(BodyAfter {
         body,
-        is_old: false,
+        has_new_shape,
     })
 }
 
-/// Whether the names that a body uses did not change: no name did, or the body uses none.
-fn keeps_uses(same_names: bool, body: &NodeBody) -> bool
-    ensures { result ≡ true → (same_names ≡ true) ⊎ (body_uses body.now ≡ []) }
-{
-    same_names || body.uses().is_empty()
-}
-
-/// The body of each node, and a flag for each node: whether it keeps its old body and the names
-/// that it uses.
+/// The body of each node, and a flag for each node: whether its shape is new.
 #[derive(Drop)]
 pub(crate) struct Bodies {
     pub(crate) bodies: Vec<Rc<NodeBody>>,
-    pub(crate) are_kept: Vec<bool>,
+    pub(crate) new_shapes: Vec<bool>,
 }
 
-/// The body of each node of the web, whose names are these. An old body is shared if its items did
-/// not change. `same_names` says that no name changed.
+/// The body of each node of the web. An old body is shared if its items did not change.
 pub(crate) fn bodies_by_node(
     alloc: Global,
     grouped: GroupedWeb,
-    names: &Names,
-    old: OldBodies,
+    old: Option<&Store>,
     same_names: bool,
 ) -> Result<Bodies, NoMemory>
-    requires rows { length grouped.pieces.now ≡ length grouped.table.now.names + 1 }
-    requires inside { All (All (λ i. i < length grouped.web.now.pieces))
-        grouped.pieces.now }
-    requires ours { length grouped.table.now.resolved
-        ≡ length grouped.web.now.occurrences }
-    requires names { names.now ≡ grouped.table.now.names }
-    requires old { AreBodiesBefore old }
-    requires same_names { same_names ≡ true → old.names.now ≡ names.now }
+    requires grouped { IsGrouped grouped }
+    requires same_names { same_names ≡ true
+        → IfSome old (λ store. store.now.names ≡ grouped.names.now) }
     ensures bodies { IfOk result
         (λ made. AreBodies grouped.entry.web.now grouped.entry.table.now
         grouped.entry.pieces.now (node_bodies made.bodies.items)) }
-    ensures are_kept { IfOk result
-        (λ made. AreKept old.entry grouped.entry.table.now.names
-        (node_bodies made.bodies.items) made.are_kept.items) }
+    ensures new_shapes { IfOk result (λ made. IfSome old.entry
+        (λ store. AreNewBodies store.now grouped.entry.names.now (node_bodies made.bodies.items)
+        made.new_shapes.items)) }
 {
-    let pieces = grouped.pieces;
+    let count = grouped.pieces.len();
     let mut builder = BodyBuilder::new(alloc);
-    let mut bodies = Vec::with_capacity(alloc, pieces.len())?;
-    let mut are_kept = Vec::with_capacity(alloc, pieces.len())?;
-    for n in 0..pieces.len() {
-        let node = Node::new(n);
-        let before = body_before(old, same_names, names, node);
-        let made = body_after(alloc, &mut builder, grouped, node, before)?;
-        are_kept.push(made.is_old && keeps_uses(same_names, &made.body))?;
+    let mut bodies = Vec::with_capacity(alloc, count)?;
+    let mut new_shapes = Vec::with_capacity(alloc, count)?;
+    for n in 0..count {
+        let made = body_after(alloc, &mut builder, grouped, Node::new(n), old, same_names)?;
+        new_shapes.push(made.has_new_shape)?;
         bodies.push(made.body)?;
     }
-    Ok(Bodies { bodies, are_kept })
+    Ok(Bodies { bodies, new_shapes })
 }

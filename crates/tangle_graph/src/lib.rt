@@ -19,7 +19,7 @@ pub use flags::{is_flagged, set_flag};
 pub use laws::graph_faults_are_one_list;
 pub use nodes::node_before;
 pub use shapes::same_shape;
-pub use store::{Rebuilt, Store};
+pub use store::{Built, Store};
 pub use tangle_expansion::{
     Expansion, Kept, Numbers, Output, Work, file_size, write_file, write_text,
 };

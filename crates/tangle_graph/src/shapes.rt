@@ -1,10 +1,26 @@
 //! Comparing the shapes of two nodes, each of a store of its own.
-ghost use Rattle.std.specs.Prelude.{◌≡◌, ◌↔◌, true};
+ghost use Rattle.std.specs.Prelude.{◌≡◌, ◌<◌, ◌↔◌, [], true, length, All, IfSome, MatchOption};
+ghost use Rattle.tangle_plans.specs.NodeBodies.{HoldsShape, body_uses};
 ghost use Rattle.tangle_plans.specs.Shapes.{Shapes};
 ghost use Rattle.tangle_graph.specs.Stores.{IsStoreOf, shape_in_store};
 
 use crate::store::Store;
 use digraph::Node;
+use tangle_plans::NodeBody;
+
+/// The body of the node, which holds its shape; `None` for a node that the store doesn't have.
+fn body_in(store: &Store, node: Node) -> Option<&NodeBody>
+    ensures uses { IfSome result
+        (λ body. All (λ id. id < length store.now.names) (body_uses body.now)) }
+    ensures shape { (shapes : Shapes) → IsStoreOf shapes store.now
+        → MatchOption result (shape_in_store store.now shapes node ≡ [])
+        (λ body. HoldsShape store.now.names (shape_in_store store.now shapes node) body.now) }
+{
+    if node.number() > store.names().count() {
+        return None;
+    }
+    Some(store.body(node))
+}
 
 /// Whether the two nodes have the same shape: the same pieces, without section numbers, file names
 /// and line numbers, and with each use as the name that it resolves to. All nodes without a piece
@@ -15,8 +31,8 @@ pub fn same_shape(old: &Store, old_node: Node, new: &Store, new_node: Node) -> b
         → ((result ≡ true) ↔ (shape_in_store old.now old_shapes old_node
         ≡ shape_in_store new.now new_shapes new_node)) }
 {
-    match old.body(old_node) {
-        Some(body) => match new.body(new_node) {
+    match body_in(old, old_node) {
+        Some(body) => match body_in(new, new_node) {
             Some(other) => body.has_shape_of(old.names(), other, new.names()),
             None => !old.has_piece(old_node),
         },

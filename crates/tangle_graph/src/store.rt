@@ -1,25 +1,24 @@
 //! The store of a web's graph of names.
-ghost use Rattle.std.specs.Prelude.{◌≡◌, ◌++◌, ◌∷◌, [], IfOk, OnOk, OnErr, IfSome};
-ghost use Rattle.std.specs.Prelude.{All, true, ◌<◌, ◌+◌, length, map};
-ghost use Rattle.std.specs.Option.{option_copied};
+ghost use Rattle.std.specs.Prelude.{◌≡◌, ◌++◌, ◌∷◌, [], IfOk, OnOk, OnErr};
+ghost use Rattle.std.specs.Prelude.{All, true, ◌<◌, ◌+◌, length, map, IfSome, Some};
 ghost use Rattle.digraph.specs.Rows.{IsRowsOf};
 ghost use Rattle.tangle_names.specs.NameTable.{table_of};
 ghost use Rattle.tangle_expansion.specs.Kept.{used_symbols};
 ghost use Rattle.tangle_expansion.specs.Limits.{flat_of};
-ghost use Rattle.tangle_plans.specs.NodeBodies.{body_uses};
+ghost use Rattle.tangle_plans.specs.NodeBodies.{body_title, body_uses};
 ghost use Rattle.tangle_plans.specs.Shapes.{Shapes};
 ghost use Rattle.tangle_graph.specs.Faults.{AreGraphFaults};
 ghost use Rattle.tangle_graph.specs.Grouping.{positions_of};
 ghost use Rattle.tangle_graph.specs.NameGraphs.{IsNameGraphOf};
 ghost use Rattle.tangle_graph.specs.Ordering.{IsOrderIn};
-ghost use Rattle.tangle_graph.specs.Plans.{AreBodies, AreBodiesBefore, node_bodies};
-ghost use Rattle.tangle_graph.specs.Stores.{IsStoreOf, KeepsBodies, KeepsUsed};
+ghost use Rattle.tangle_graph.specs.Plans.{AreBodies, node_bodies};
+ghost use Rattle.tangle_graph.specs.Stores.{AreNewShapes, IsNodeIn, IsStoreOf, KeepsUsed};
 ghost use Rattle.tangle_graph.specs.Stores.{body_at, flag_at, symbols_at, title_in_store};
 ghost use Rattle.tangle_graph.specs.Stores.{contains_itself_at, is_expandable_at};
 ghost use Rattle.tangle_graph.specs.Stores.{weight_at, depth_at, uses_at, users_at, has_piece_at};
 ghost use Rattle.tangle_graph.specs.WebStores.{IsStoreOfWeb};
 
-use crate::bodies::{GroupedWeb, OldBodies, bodies_by_node, no_bodies};
+use crate::bodies::{GroupedWeb, bodies_by_node};
 use crate::faults::FaultSearch;
 use crate::measures::Measures;
 use crate::name_graph::{NameGraph, are_same_names, have_same_uses};
@@ -71,97 +70,67 @@ struct Nodes {
     name_graph: Rc<NameGraph>,
 }
 
-/// A store that was built from an older one, with a flag for each of its nodes: whether the node
-/// keeps its old body and the names that it uses.
+/// A store, with a flag for each of its nodes: whether the shape of the node is new.
 #[derive(Drop)]
-pub struct Rebuilt {
+pub struct Built {
     pub store: Store,
-    pub are_kept: Vec<bool>,
+    pub new_shapes: Vec<bool>,
 }
 
 impl Store {
     /// The store of a web with its table of names, for a main file of this name. A weight or depth
     /// beyond its limit is stored as one more than the limit. No node is expanded.
     ///
-    /// # Errors
-    ///
-    /// `NoMemory` where an allocation failed.
-    pub fn build(alloc: Global, web: &Web, table: &NameTable, out: &[u8]) -> Result<Store, NoMemory>
-        requires { table.now ≡ table_of web.now }
-        ensures { IfOk result (IsStoreOfWeb web.now table.now out.now) }
-    {
-        let pieces = shared_pieces(alloc, web, table)?;
-        let names = table.names()?;
-        let rows: &Rows<usize> = &pieces;
-        let grouped = GroupedWeb {
-            web,
-            table,
-            pieces: rows,
-        };
-        let none = no_bodies(&names);
-        let made = bodies_by_node(alloc, grouped, &names, none, true)?;
-        let bodies = made.bodies;
-        let name_graph = NameGraph::shared(alloc, names, &bodies)?;
-        let nodes = Nodes {
-            pieces,
-            bodies,
-            name_graph,
-        };
-        Store::over(alloc, web, table, out, nodes)
-    }
-
-    /// The same store, built from the store of an older web: what did not change is shared with the
-    /// old store. The flags say which nodes keep their old body and the names that it uses.
+    /// What did not change is shared with the store of an older web, if there is one. Nodes of the
+    /// two stores are matched by name, and the program with the program. A node that the old store
+    /// does not have has a new shape if it has a piece.
     ///
     /// # Errors
     ///
     /// `NoMemory` where an allocation failed. The old store does not change.
-    pub fn rebuild(
+    pub fn build(
         alloc: Global,
         web: &Web,
         table: &NameTable,
         out: &[u8],
-        old: &Store,
-    ) -> Result<Rebuilt, NoMemory>
+        old: Option<&Store>,
+    ) -> Result<Built, NoMemory>
         requires { table.now ≡ table_of web.now }
         ensures store { IfOk result (λ made. IsStoreOfWeb web.now table.now out.now made.store) }
-        ensures bodies { IfOk result
-            (λ made. KeepsBodies old.now made.store made.are_kept.items) }
+        ensures new_shapes { IfOk result (λ made. IfSome old.entry
+            (λ before. AreNewShapes before.now made.store made.new_shapes.items)) }
     {
-        let pieces = old.pieces_for(alloc, web, table)?;
+        let pieces = pieces_after(alloc, web, table, old)?;
         let names = table.names()?;
         let rows: &Rows<usize> = &pieces;
-        let same_names = are_same_names(old.names(), &names);
         let grouped = GroupedWeb {
             web,
             table,
+            names: &names,
             pieces: rows,
         };
-        let before = old.bodies();
-        let made = bodies_by_node(alloc, grouped, &names, before, same_names)?;
-        let are_kept = made.are_kept;
+        let same_names = has_names(old, &names);
+        let made = bodies_by_node(alloc, grouped, old, same_names)?;
+        let new_shapes = made.new_shapes;
         let bodies = made.bodies;
-        let name_graph = old.name_graph_for(alloc, names, same_names, &bodies)?;
+        let name_graph = name_graph_after(alloc, names, same_names, &bodies, old)?;
         let nodes = Nodes {
             pieces,
             bodies,
             name_graph,
         };
         let store = Store::over(alloc, web, table, out, nodes)?;
-        Ok(Rebuilt { store, are_kept })
+        Ok(Built { store, new_shapes })
     }
 
-    /// The bodies of the nodes, with their names.
-    fn bodies(&self) -> OldBodies<'_>
-        ensures titled { AreBodiesBefore result }
-        ensures names { result.names.now ≡ self.now.names }
-        ensures bodies { node_bodies result.bodies.now ≡ self.now.bodies }
+    /// The body of the node.
+    pub(crate) fn body(&self, node: Node) -> &Rc<NodeBody>
+        requires { IsNodeIn self.now node }
+        ensures body { body_at self.now node ≡ Some result.now.value }
+        ensures title { body_title result.now.value ≡ title_in_store self.now node }
+        ensures uses { All (λ id. id < length self.now.names) (body_uses result.now.value) }
     {
-        let bodies: &[Rc<NodeBody>] = &self.bodies;
-        OldBodies {
-            names: self.names(),
-            bodies,
-        }
+        &self.bodies[node.number()]
     }
 
     /// The full names of the web, by number.
@@ -176,47 +145,6 @@ impl Store {
         ensures { result.now ≡ self.now.pieces }
     {
         &self.pieces
-    }
-
-    /// The pieces of each node of a web: the store's own rows, if they are the same.
-    fn pieces_for(
-        &self,
-        alloc: Global,
-        web: &Web,
-        table: &NameTable,
-    ) -> Result<Rc<Rows<usize>>, NoMemory>
-        requires { table.now ≡ table_of web.now }
-        ensures { IfOk result (λ rows. IsRowsOf (length table.now.names + 1)
-            (positions_of table.now web.now.pieces) rows.value) }
-    {
-        if are_rows_of(alloc, self.pieces(), web, table)? {
-            return Ok(self.pieces.clone()?);
-        }
-        shared_pieces(alloc, web, table)
-    }
-
-    /// The graph of these names and bodies: the store's own, if it is the same.
-    fn name_graph_for(
-        &self,
-        alloc: Global,
-        names: Names,
-        same_names: bool,
-        bodies: &[Rc<NodeBody>],
-    ) -> Result<Rc<NameGraph>, NoMemory>
-        requires same_names { same_names ≡ true → self.now.names ≡ names }
-        requires size { length bodies.now ≡ length names + 1 }
-        requires inside { All (All (λ id. id < length names))
-            (map body_uses (node_bodies bodies.now)) }
-        ensures names { IfOk result (λ name_graph. name_graph.value.names ≡ names) }
-        ensures name_graph { IfOk result
-            (λ name_graph. IsNameGraphOf (map body_uses (node_bodies bodies.now))
-            name_graph.value) }
-    {
-        if same_names && have_same_uses(&self.bodies, bodies) {
-            Ok(self.name_graph.clone()?)
-        } else {
-            NameGraph::shared(alloc, names, bodies)
-        }
     }
 
     /// Makes a store from the nodes of a web.
@@ -258,21 +186,6 @@ impl Store {
             outputs,
             bodies,
         })
-    }
-
-    /// The body of the node, if the store has it.
-    pub(crate) fn body(&self, node: Node) -> Option<&NodeBody>
-        ensures body { option_copied result ≡ body_at self.now node }
-        ensures uses { IfSome result
-            (λ body. All (λ id. id < length self.now.names) (body_uses body.now)) }
-    {
-        match self.bodies.get(node.number()) {
-            Some(body) => {
-                let body: &NodeBody = body;
-                Some(body)
-            }
-            None => None,
-        }
     }
 
     /// Whether the node has a piece.
@@ -410,10 +323,56 @@ impl Store {
     }
 }
 
-fn shared_pieces(alloc: Global, web: &Web, table: &NameTable) -> Result<Rc<Rows<usize>>, NoMemory>
+/// The pieces of each node of a web: the rows of the old store, if they are the same.
+fn pieces_after(
+    alloc: Global,
+    web: &Web,
+    table: &NameTable,
+    old: Option<&Store>,
+) -> Result<Rc<Rows<usize>>, NoMemory>
     requires { table.now ≡ table_of web.now }
     ensures { IfOk result (λ rows. IsRowsOf (length table.now.names + 1)
         (positions_of table.now web.now.pieces) rows.value) }
 {
+    if let Some(old) = old
+        && are_rows_of(alloc, old.pieces(), web, table)?
+    {
+        return Ok(old.pieces.clone()?);
+    }
     Ok(Rc::new(alloc, pieces_by_node(alloc, web, table)?)?)
+}
+
+/// Whether there is an old store, and it has these names.
+fn has_names(old: Option<&Store>, names: &Names) -> bool
+    ensures { result ≡ true → IfSome old.entry (λ store. store.now.names ≡ names.now) }
+{
+    match old {
+        Some(store) => are_same_names(store.names(), names),
+        None => false,
+    }
+}
+
+/// The graph of these names and bodies: that of the old store, if it is the same.
+fn name_graph_after(
+    alloc: Global,
+    names: Names,
+    same_names: bool,
+    bodies: &[Rc<NodeBody>],
+    old: Option<&Store>,
+) -> Result<Rc<NameGraph>, NoMemory>
+    requires same_names { same_names ≡ true → IfSome old (λ store. store.now.names ≡ names) }
+    requires size { length bodies.now ≡ length names + 1 }
+    requires inside { All (All (λ id. id < length names))
+        (map body_uses (node_bodies bodies.now)) }
+    ensures names { IfOk result (λ name_graph. name_graph.value.names ≡ names) }
+    ensures name_graph { IfOk result
+        (λ name_graph. IsNameGraphOf (map body_uses (node_bodies bodies.now))
+        name_graph.value) }
+{
+    match old {
+        Some(store) if same_names && have_same_uses(&store.bodies, bodies) => {
+            Ok(store.name_graph.clone()?)
+        }
+        _ => NameGraph::shared(alloc, names, bodies),
+    }
 }

@@ -3,40 +3,34 @@ use crate::graph::add_node;
 use crate::listing::Listing;
 use std::alloc::Global;
 use tangle_affected::affected;
-use tangle_graph::{Node, Store, node_before, same_shape};
+use tangle_graph::{Built, Node, Store, is_flagged, node_before};
 use tangle_lines::{NoMemory, Sink};
 use tangle_names::Names;
 
-fn comparison(first: &Store, node: Node, second: &Store, other: Option<Node>) -> &'static [u8] {
+fn comparison(edited: &Built, other: Option<Node>) -> &'static [u8] {
     match other {
-        Some(other) if same_shape(first, node, second, other) => b"same",
-        Some(_) => b"changed",
+        Some(other) if is_flagged(&edited.new_shapes, other) => b"changed",
+        Some(_) => b"same",
         None => b"gone",
     }
 }
 
-fn list_compared<S: Sink>(
-    out: &mut Listing<S>,
-    first: &Store,
-    node: Node,
-    second: &Store,
-    other: Option<Node>,
-) {
+fn list_compared<S: Sink>(out: &mut Listing<S>, node: Node, edited: &Built, other: Option<Node>) {
     out.begin(b"and");
     add_node(out, node);
-    out.word(comparison(first, node, second, other));
+    out.word(comparison(edited, other));
     out.end();
 }
 
 // Lists the nodes of the first web, each compared with that of its name in the second.
-fn list_comparisons<S: Sink>(out: &mut Listing<S>, first: &Store, second: &Store) {
+fn list_comparisons<S: Sink>(out: &mut Listing<S>, first: &Store, edited: &Built) {
     let names = first.names();
     for id in 0..names.count() {
         let node = Node::name(id);
-        let other = node_before(second.names(), names, node);
-        list_compared(out, first, node, second, other);
+        let other = node_before(edited.store.names(), names, node);
+        list_compared(out, node, edited, other);
     }
-    list_compared(out, first, Node::program(), second, Some(Node::program()));
+    list_compared(out, Node::program(), edited, Some(Node::program()));
 }
 
 fn list_affected_node<S: Sink>(out: &mut Listing<S>, names: &Names, node: Node) {
@@ -60,11 +54,11 @@ pub fn list_differences<S: Sink>(
     alloc: Global,
     out: &mut Listing<S>,
     first: &Store,
-    second: &Store,
+    edited: &Built,
 ) -> Result<(), NoMemory> {
-    list_comparisons(out, first, second);
-    for node in &affected(alloc, first, second)? {
-        list_affected_node(out, second.names(), *node);
+    list_comparisons(out, first, edited);
+    for node in &affected(alloc, &edited.store, &edited.new_shapes)? {
+        list_affected_node(out, edited.store.names(), *node);
     }
     Ok(())
 }

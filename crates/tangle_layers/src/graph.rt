@@ -1,6 +1,6 @@
 //! The nodes of a web: what is known of each, and what it uses and is used by.
 use crate::listing::Listing;
-use tangle_graph::{Node, Store, same_shape};
+use tangle_graph::{Node, Store, is_flagged};
 use tangle_lines::Sink;
 
 /// Adds a node.
@@ -22,7 +22,7 @@ fn list_neighbors<S: Sink>(out: &mut Listing<S>, word: &[u8], nodes: &[Node]) {
     }
 }
 
-fn list_node<S: Sink>(out: &mut Listing<S>, store: &Store, node: Node) {
+fn list_node<S: Sink>(out: &mut Listing<S>, store: &Store, new_shapes: &[bool], node: Node) {
     out.begin(b"node");
     add_node(out, node);
     out.word(b"weight");
@@ -35,18 +35,19 @@ fn list_node<S: Sink>(out: &mut Listing<S>, store: &Store, node: Node) {
     out.end();
     list_neighbors(out, b"uses", store.uses(node));
     list_neighbors(out, b"used by", store.users(node));
-    if same_shape(store, node, store, node) {
-        out.begin_inner(b"same shape as itself");
-    } else {
+    if is_flagged(new_shapes, node) {
         out.begin_inner(b"another shape than itself");
+    } else {
+        out.begin_inner(b"same shape as itself");
     }
     out.end();
 }
 
-/// Lists the nodes, the program last.
-pub fn list_nodes<S: Sink>(out: &mut Listing<S>, store: &Store) {
+/// Lists the nodes, the program last. The flags say which nodes have a new shape where the store is
+/// built again for the same web.
+pub fn list_nodes<S: Sink>(out: &mut Listing<S>, store: &Store, new_shapes: &[bool]) {
     for id in 0..store.names().count() {
-        list_node(out, store, Node::name(id));
+        list_node(out, store, new_shapes, Node::name(id));
     }
-    list_node(out, store, Node::program());
+    list_node(out, store, new_shapes, Node::program());
 }

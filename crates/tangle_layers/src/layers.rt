@@ -14,7 +14,7 @@ use crate::web_parts::list_parts;
 use std::alloc::Global;
 use tangle_affected::expand_all;
 use tangle_expansion::{Numbers, Work};
-use tangle_graph::Store;
+use tangle_graph::{Built, Store};
 use tangle_lines::{Files, NoMemory, Roles, Sink, read_source};
 use tangle_names::NameTable;
 use tangle_scan::{Web, scan};
@@ -48,8 +48,9 @@ fn list_store<S: Sink>(
 ) -> Result<Store, NoMemory>
     requires { table.now ≡ table_of web.now }
 {
-    let store = Store::build(alloc, web, table, roles.out())?;
-    list_nodes(out, &store);
+    let store = Store::build(alloc, web, table, roles.out(), None)?.store;
+    let again = Store::build(alloc, web, table, roles.out(), Some(&store))?;
+    list_nodes(out, &store, &again.new_shapes);
     list_faults(
         out,
         b"graph",
@@ -88,14 +89,14 @@ pub fn list_layers<S: Sink>(
     list_store(alloc, out, &web, &table, &project.roles)
 }
 
-/// The store of the graph of a web.
+/// The store of the graph of a web, built from that of another.
 ///
 /// # Errors
 ///
 /// `NoMemory`, where an allocation failed.
-pub fn store_of(alloc: Global, project: &Project) -> Result<Store, NoMemory> {
+pub fn store_after(alloc: Global, project: &Project, old: &Store) -> Result<Built, NoMemory> {
     let source = read_source(alloc, &project.files, &project.roles)?;
     let web = scan(alloc, &source)?;
     let table = NameTable::build(alloc, &web)?;
-    Store::build(alloc, &web, &table, project.roles.out())
+    Store::build(alloc, &web, &table, project.roles.out(), Some(old))
 }

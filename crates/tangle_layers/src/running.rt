@@ -1,7 +1,7 @@
 //! A run of the program.
 use crate::arguments::{Arguments, read_arguments};
 use crate::differences::list_differences;
-use crate::layers::{Project, list_layers, store_of};
+use crate::layers::{Project, list_layers, store_after};
 use crate::listing::Listing;
 use ctangle_cli::{Disk, LoadFault, WordFault, Words, command_line, load, write_load};
 use std::alloc::Global;
@@ -47,7 +47,10 @@ fn list_loaded<S: Sink>(
 ) -> Result<(), NoMemory> {
     let store = list_layers(alloc, out, first)?;
     match second {
-        Some(second) => list_differences(alloc, out, &store, &store_of(alloc, second)?),
+        Some(second) => {
+            let edited = store_after(alloc, second, &store)?;
+            list_differences(alloc, out, &store, &edited)
+        }
         None => Ok(()),
     }
 }

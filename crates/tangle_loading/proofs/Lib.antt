@@ -1,6 +1,6 @@
 mod AskLemmas
-mod LoadLemmas
-mod MissingLemmas
+mod LawLemmas
 mod NoMissingLemmas
 mod RoundLemmas
 mod StepLemmas
+mod TableLemmas

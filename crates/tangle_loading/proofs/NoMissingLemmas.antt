@@ -1,8 +1,8 @@
 -- Where each included file is in the table, no name is missing.
-use Rattle.std.proofs.Common.{◌≡◌, ◌∙◌, ℕ, zero, suc, ◌+◌, ◌||◌, ◌&&◌, ◌==◌, Bool, true, false, not, List, []}
-use Rattle.std.proofs.Common.{◌∷◌, ◌++◌, Option, Some, None, is_some, drop, refl, ap, sym, length, true≢false}
+use Rattle.std.proofs.Common.{◌≡◌, ◌∙◌, ℕ, zero, suc, ◌+◌, ◌||◌, ◌&&◌, ◌==◌, Bool, false, not, List, []}
+use Rattle.std.proofs.Common.{◌∷◌, ◌++◌, Option, Some, None, is_none, drop, refl, ap, length, true≢false}
 use Rattle.std.specs.Prelude.{nat_lt, min}
-use Rattle.std.proofs.lemmas.Bool.{cond_both, or_parts, or_from, not-false}
+use Rattle.std.proofs.lemmas.Bool.{cond_both, or_parts, or_from}
 use Rattle.std.proofs.lemmas.List.Folds.{list_any-append}
 use Rattle.std.specs.List.{list_any}
 use Rattle.tangle_faults.specs.declared.faults.FaultKind.TheVariants.{ChangeMismatch, IncludeTooDeep, SourceTooLong}
@@ -15,7 +15,6 @@ use Rattle.tangle_lines.specs.Inclusion.{included_name}
 use Rattle.tangle_lines.specs.Change.{Change}
 use Rattle.tangle_lines.specs.Changes.{Found, before, changes_from, closed_by, line_kind_of, next_phase, old_ended}
 use Rattle.tangle_files.specs.Lines.{FileTable, file_number, lines_at, name_at, file_number_or_count}
-use Rattle.tangle_files.specs.Adding.{has_file}
 use Rattle.tangle_lines.specs.Reading.{WaitingLine, after, begins, change_here, change_lines, change_number}
 use Rattle.tangle_lines.specs.Reading.{change_place, change_step, changes_in, depth_limit, included, source_line_limit}
 use Rattle.tangle_lines.specs.Reading.{line_step, mismatch_faults, place_of, plain_step, reads_in, unequal_lines}
@@ -26,7 +25,6 @@ use Rattle.tangle_files.specs.Roles.{RolesRead}
 use Rattle.tangle_loading.specs.Loading.{IncludesNoMissing, misses_file, misses_name, missed_in}
 use Rattle.tangle_loading.specs.Loading.{missing_of}
 use Rattle.tangle_loading.proofs.AskLemmas.{missed-append}
-use Rattle.tangle_loading.proofs.LoadLemmas.{numbered_as_has}
 
 both_miss_none : (xs ys : List FaultRead) → missed_in xs ≡ [] → missed_in ys ≡ [] → missed_in (xs ++ ys) ≡ []
 both_miss_none xs ys h k = missed-append xs ys ∙ ap (λ l. l ++ missed_in ys) h ∙ k
@@ -138,10 +136,10 @@ module _ (files : FileTable) (no_missing : IncludesNoMissing files) where
     -- a line that includes a file of the table
     file_misses_none : (n : ℕ) → MissesNone n
         → (w : WaitingLine) (ws : List WaitingLine) (cs : List Change) (t : ℕ) (name : List ℕ) (m : Option ℕ)
-        → is_some m ≡ true → list_any new_misses cs ≡ false → list_any misses_waiting ws ≡ false
+        → is_none m ≡ false → list_any new_misses cs ≡ false → list_any misses_waiting ws ≡ false
         → StepMissesNone n (Goes (record { lines = []; faults = (included files w name m).1 })
         (record { waiting = (included files w name m).0 ++ ws; changes = cs; taken = t + 1 }))
-    file_misses_none n rest w ws cs t name None there changes none = absurd (true≢false (sym there))
+    file_misses_none n rest w ws cs t name None there changes none = absurd (true≢false there)
     file_misses_none n rest w ws cs t name (Some m) there changes none =
         let lines = waiting_lines m w.changed (w.depth + 1) 1 (lines_at files m) in
         cond_both (nat_lt w.depth depth_limit) (lines, []) ([], fault_at IncludeTooDeep (place_of files w.origin) ∷ [])
@@ -159,7 +157,7 @@ module _ (files : FileTable) (no_missing : IncludesNoMissing files) where
     line_misses_none n rest w ws cs t (Some []) here changes none = rest (t + 1) cs ws changes none
     line_misses_none n rest w ws cs t (Some (b ∷ bs)) here changes none =
         file_misses_none n rest w ws cs t (b ∷ bs) (file_number files (b ∷ bs))
-        (numbered_as_has files (b ∷ bs) ∙ not-false (has_file files (b ∷ bs)) here) changes none
+        here changes none
 
     -- a line at which a change is used
     change_misses_none : (n : ℕ) → MissesNone n

@@ -1,5 +1,3 @@
-pub mod AskedNames
-pub mod AskedOnce
 pub mod Loading
 pub mod Loads
-pub mod Steps
+pub mod Rounds

@@ -6,5 +6,5 @@
 mod laws;
 mod loading;
 
-pub use laws::{loading_goes_round_by_round, missing_names_are_not_there};
+pub use laws::{each_name_is_asked_for_once, missing_names_are_not_there, rounds_go_one_way};
 pub use loading::{LoadFault, load};

@@ -1,21 +1,17 @@
 //! Loading: the files that a run reads.
 ghost use Rattle.std.specs.Prelude.{◌≡◌, ◌≤◌, ◌∷◌, ℕ, List, [], length, map, true};
-ghost use Rattle.std.specs.Prelude.{false, IfErr, IfOk, None, Ok, OnOk, Option};
+ghost use Rattle.std.specs.Prelude.{false, IfErr, IfOk, None, Ok, OnOk};
 ghost use Rattle.std.specs.List.{list_any};
 ghost use Rattle.std.specs.Option.{option_copied};
 ghost use Rattle.std.specs.Str.{bytes_eq};
-ghost use Rattle.tangle_folders.specs.Folder.{file_bytes, file_limit};
-ghost use Rattle.tangle_files.specs.Adding.{has_file};
-ghost use Rattle.tangle_files.specs.Roles.{fits, has_file_if_any};
-ghost use Rattle.tangle_loading.specs.AskedNames.{named_in, with_asked_once};
-ghost use Rattle.tangle_loading.specs.Loading.{IncludesNoMissing, IsLoadEnd};
-ghost use Rattle.tangle_loading.specs.Loading.{StopsFor, add_bytes, add_present, bad_name, ending_of};
-ghost use Rattle.tangle_loading.specs.Loading.{is_missing_kind, misses_file, missed_in, missing_of};
-ghost use Rattle.tangle_loading.specs.Loading.{refused_as, with_change, with_needed};
+ghost use Rattle.tangle_folders.specs.Folder.{file_limit};
+ghost use Rattle.tangle_files.specs.Roles.{fits};
+ghost use Rattle.tangle_loading.specs.Loading.{IncludesNoMissing, IsLoadEnd, IsRefusal, add_bytes};
+ghost use Rattle.tangle_loading.specs.Loading.{bad_name, ending_of, is_missing_kind, is_missed};
+ghost use Rattle.tangle_loading.specs.Loading.{misses_file, missing_of, refused_as, missed_in};
 ghost use Rattle.tangle_loading.specs.Loading.LoadEnd.{CannotRead};
-ghost use Rattle.tangle_loading.specs.Loads.{Loads, StopsLoading};
-ghost use Rattle.tangle_loading.specs.Steps.{AreAbsent, IsAbout, ReadsMissing, Step, absent_after};
-ghost use Rattle.tangle_loading.specs.Steps.{progress};
+ghost use Rattle.tangle_loading.specs.Loads.{Loads, StepEnds, StopsLoading, progress};
+ghost use Rattle.tangle_loading.specs.Rounds.{first_round, with_asked_once};
 
 use indexmap::IndexSet;
 use std::alloc::Global;
@@ -49,14 +45,13 @@ impl From<NoMemory> for LoadFault {
     }
 }
 
-// The names for which the folder was asked and has no file. They are kept so that each is asked for
-// once.
+// The names for which the folder was asked. They are kept so that each is asked for once.
 #[derive(Drop)]
-struct Absent {
+struct Asked {
     names: IndexSet<Vec<u8>>,
 }
 
-impl Model for Absent {
+impl Model for Asked {
     ghost use Rattle.std.specs.Prelude.{List, ℕ, map};
 
     ghost Value = { List (List ℕ) };
@@ -64,11 +59,11 @@ impl Model for Absent {
     ghost view = { λ a. map (λ name. name.items) a.names.keys };
 }
 
-impl Absent {
+impl Asked {
     fn new(alloc: Global) -> Self
         ensures { result ≡ [] }
     {
-        Absent {
+        Asked {
             names: IndexSet::new(alloc),
         }
     }
@@ -112,19 +107,12 @@ fn refused(alloc: Global, name: &[u8], refusal: Refusal) -> LoadFault
     }
 }
 
-fn has(files: &Files, name: &[u8]) -> bool
-    ensures { result ≡ has_file files.now name.now }
-{
-    files.lines(name).is_some()
-}
-
 // Adds a file with these bytes to the table.
 fn add_file(alloc: Global, files: &mut Files, name: &[u8], bytes: Vec<u8>) -> Result<(), LoadFault>
     requires { length bytes.items ≤ file_limit }
     ensures ok { OnOk result (add_bytes files.old name.now bytes.items ≡ Ok files.new) }
-    ensures err { IfErr result (λ fault. (reported : Option _) (n : ℕ)
-        → StopsFor reported (λ _. add_bytes files.old name.now bytes.items) n n (ending_of fault)) }
-    ensures about { IfErr result (λ fault. IsAbout name.now (ending_of fault)) }
+    ensures err { IfErr result
+        (λ fault. IsRefusal files.old name.now bytes.items (ending_of fault)) }
 {
     match files.add_owned(name, bytes) {
         Ok(()) => Ok(()),
@@ -132,93 +120,51 @@ fn add_file(alloc: Global, files: &mut Files, name: &[u8], bytes: Vec<u8>) -> Re
     }
 }
 
-// Reads a file that is not in the table, if the folder has it. Returns whether it has.
-fn read_present<F: Folder>(
+// Asks for a file, unless it was asked for before, and adds it to the table. Where the folder does
+// not have it, loading ends if it is needed.
+fn read_once<F: Folder>(
     alloc: Global,
     folder: &mut F,
     files: &mut Files,
+    asked: &mut Asked,
     name: &[u8],
-) -> Result<bool, LoadFault>
-    requires { has_file files.old name.now ≡ false }
-    ensures present { IfOk result (λ present. has_file files.new name.now ≡ present) }
-    ensures step { (absent : List (List ℕ)) → AreAbsent (F.state folder.old).files absent
-        → list_any (bytes_eq name.now) absent ≡ false
-        → Step (λ all. add_present files.old name.now (file_bytes all name.now)) (name.now ∷ [])
-        (progress (F.state folder.old) files.old absent)
-        (progress (F.state folder.new) files.new (absent_after absent name.now result)) result }
+    needed: bool,
+) -> Result<(), LoadFault>
+    ensures { StepEnds needed (name.now ∷ [])
+        (progress (F.state folder.old) files.old asked.old)
+        (progress (F.state folder.new) files.new asked.new) result }
 {
+    if asked.contains(name) {
+        return Ok(());
+    }
+    asked.insert(alloc, name)?;
     match folder.read_file(alloc, name) {
-        Ok(bytes) => {
-            add_file(alloc, files, name, bytes)?;
-            Ok(true)
-        }
-        Err(FolderFault::Missing) => Ok(false),
+        Ok(bytes) => add_file(alloc, files, name, bytes),
+        Err(FolderFault::Missing) if !needed => Ok(()),
+        Err(FolderFault::Missing) => Err(cannot_read(alloc, name)),
         Err(FolderFault::TooBig) => Err(cannot_read(alloc, name)),
         Err(FolderFault::Failed) => Err(cannot_read(alloc, name)),
         Err(FolderFault::NoMemory) => Err(LoadFault::NoMemory),
     }
 }
 
-// Reads the web or the change file, without which loading ends.
+// Reads the web, and then the change file, if one is named. Without them loading ends.
 fn read_needed<F: Folder>(
     alloc: Global,
+    roles: &Roles,
     folder: &mut F,
     files: &mut Files,
-    name: &[u8],
+    asked: &mut Asked,
 ) -> Result<(), LoadFault>
-    requires { has_file files.old name.now ≡ false }
-    ensures step { Step (λ all. with_needed all files.old name.now) (name.now ∷ [])
-        (progress (F.state folder.old) files.old [])
-        (progress (F.state folder.new) files.new []) result }
-    ensures has_file { OnOk result (has_file files.new name.now ≡ true) }
+    ensures { StepEnds true (first_round roles.now).names
+        (progress (F.state folder.old) files.old asked.old)
+        (progress (F.state folder.new) files.new asked.new) result }
 {
-    if read_present(alloc, folder, files, name)? {
-        return Ok(());
+    read_once(alloc, folder, files, asked, roles.web(), true)?;
+    match roles.change() {
+        Some(name) => read_once(alloc, folder, files, asked, name, true),
+        None => Ok(()),
     }
-    Err(cannot_read(alloc, name))
-}
-
-// Reads the change file, if one is named and isn't in the table already.
-fn read_change<F: Folder>(
-    alloc: Global,
-    folder: &mut F,
-    files: &mut Files,
-    change: Option<&[u8]>,
-) -> Result<(), LoadFault>
-    ensures step { Step (λ all. with_change all files.old (option_copied change.entry))
-        (named_in (option_copied change.entry)) (progress (F.state folder.old) files.old [])
-        (progress (F.state folder.new) files.new []) result }
-    ensures has_file { OnOk result (has_file_if_any files.new (option_copied change.entry) ≡ true) }
-{
-    match change {
-        Some(name) if !has(files, name) => read_needed(alloc, folder, files, name),
-        _ => Ok(()),
-    }
-}
-
-// Reads a file that an inclusion misses. It stays missing where the folder has no such file, or the
-// name is no file name.
-fn read_inclusion<F: Folder>(
-    alloc: Global,
-    folder: &mut F,
-    files: &mut Files,
-    absent: &mut Absent,
-    name: &[u8],
-) -> Result<(), LoadFault>
-    requires { AreAbsent (F.state folder.old).files absent.old }
-    ensures { ReadsMissing (name.now ∷ []) (progress (F.state folder.old) files.old absent.old)
-        (progress (F.state folder.new) files.new absent.new) result }
-{
-    if has(files, name) || !is_file_name(name) {
-        return Ok(());
-    }
-    if absent.contains(name) {
-        return Ok(());
-    }
-    if read_present(alloc, folder, files, name)? {
-        return Ok(());
-    }
-    Ok(absent.insert(alloc, name)?)
 }
 
 fn is_missing(kind: FaultKind) -> bool
@@ -227,23 +173,45 @@ fn is_missing(kind: FaultKind) -> bool
     matches!(kind, FaultKind::IncludeMissing)
 }
 
+fn is_missed(fault: &Fault) -> bool
+    ensures { result ≡ is_missed fault.now }
+{
+    is_missing(fault.kind()) && is_file_name(fault.subject())
+}
+
+// Reads the file that a fault of reading names as missing. It stays missing where the folder has no
+// such file, or the name is no file name.
+fn read_missing<F: Folder>(
+    alloc: Global,
+    folder: &mut F,
+    files: &mut Files,
+    asked: &mut Asked,
+    fault: &Fault,
+) -> Result<(), LoadFault>
+    ensures { StepEnds false (missed_in (fault.now ∷ []))
+        (progress (F.state folder.old) files.old asked.old)
+        (progress (F.state folder.new) files.new asked.new) result }
+{
+    if !is_missed(fault) {
+        return Ok(());
+    }
+    read_once(alloc, folder, files, asked, fault.subject(), false)
+}
+
 // Reads the missing files that these faults of reading name.
 fn read_inclusions<F: Folder>(
     alloc: Global,
     folder: &mut F,
     files: &mut Files,
-    absent: &mut Absent,
+    asked: &mut Asked,
     faults: &[Fault],
 ) -> Result<(), LoadFault>
-    requires { AreAbsent (F.state folder.old).files absent.old }
-    ensures { ReadsMissing (missed_in faults.now)
-        (progress (F.state folder.old) files.old absent.old)
-        (progress (F.state folder.new) files.new absent.new) result }
+    ensures { StepEnds false (missed_in faults.now)
+        (progress (F.state folder.old) files.old asked.old)
+        (progress (F.state folder.new) files.new asked.new) result }
 {
     for fault in faults {
-        if is_missing(fault.kind()) {
-            read_inclusion(alloc, folder, files, absent, fault.subject())?;
-        }
+        read_missing(alloc, folder, files, asked, fault)?;
     }
     Ok(())
 }
@@ -253,7 +221,7 @@ fn misses(files: &Files, line: &Line) -> bool
 {
     match included_name(line.bytes()) {
         None => false,
-        Some(name) => !has(files, name),
+        Some(name) => files.find(name).is_none(),
     }
 }
 
@@ -315,15 +283,14 @@ fn load_files<F: Folder>(alloc: Global, roles: &Roles, folder: &mut F) -> Result
         (F.state folder.new) (ending_of fault)) }
 {
     let mut files = Files::new(alloc);
-    read_needed(alloc, folder, &mut files, roles.web())?;
-    read_change(alloc, folder, &mut files, roles.change())?;
+    let mut asked = Asked::new(alloc);
+    read_needed(alloc, roles, folder, &mut files, &mut asked)?;
     // A folder stays as it is during a run, so a round that adds no file is the last. A chain of
     // inclusions costs one reading of the sources for each link, and there are at most 256.
-    let mut absent = Absent::new(alloc);
     loop {
         let count = files.count();
         let faults = faults_of(alloc, &files, roles)?;
-        read_inclusions(alloc, folder, &mut files, &mut absent, faults.as_slice())?;
+        read_inclusions(alloc, folder, &mut files, &mut asked, faults.as_slice())?;
         if files.count() == count {
             return Ok(files);
         }

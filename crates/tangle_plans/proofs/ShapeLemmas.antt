@@ -1,44 +1,20 @@
--- The bodies of two nodes determine whether their shapes, and whether their items, are equal.
-use Rattle.std.proofs.Common.{◌≡◌, ◌∙◌, ℕ, Bool, true, false, List, ap, sym, true≢false}
+-- The bodies of two nodes determine whether their shapes are equal.
+use Rattle.std.proofs.Common.{◌≡◌, ◌∙◌, ◌↔◌, ℕ, List, ap, sym}
 use Rattle.tangle_plans.specs.Shapes.{Shape}
 use Rattle.tangle_plans.specs.Tags.{shape_tags, shape_bytes, shape_names}
-use Rattle.tangle_plans.specs.NodeBodies.{body_tags, body_bytes, body_uses, names_at, HoldsShape, ItemsRead}
-use Rattle.tangle_plans.specs.NodeBodies.{body_items, AreSameItems}
+use Rattle.tangle_plans.specs.NodeBodies.{HoldsShape, HaveOneShape, body_items}
 use Rattle.tangle_plans.specs.declared.nodes.NodeBody.{NodeBody}
 use Rattle.tangle_plans.proofs.TagLemmas.{same_by_tags}
 
-module _ (names names' : List (List ℕ)) (body other : NodeBody) where
-  pub items_differ : (body_tags body ≡ body_tags other → body_bytes body ≡ body_bytes other → ⊥)
-      → (shape other_shape : Shape) → HoldsShape names shape body → HoldsShape names' other_shape other
-      → (false ≡ true → shape ≡ other_shape) × (shape ≡ other_shape → false ≡ true)
-  items_differ differ shape other_shape h k = (
-    (λ e. absurd (true≢false (sym e))),
-    λ same. absurd (differ (h.tags ∙ ap shape_tags same ∙ sym k.tags) (h.bytes ∙ ap shape_bytes same ∙ sym k.bytes)),
-  )
-
-  pub names_decide : (t : Bool) → (body_tags body ≡ body_tags other) × (body_bytes body ≡ body_bytes other)
-      → (t ≡ true → names_at names (body_uses body) ≡ names_at names' (body_uses other))
-      × (names_at names (body_uses body) ≡ names_at names' (body_uses other) → t ≡ true)
-      → (shape other_shape : Shape) → HoldsShape names shape body → HoldsShape names' other_shape other
-      → (t ≡ true → shape ≡ other_shape) × (shape ≡ other_shape → t ≡ true)
-  names_decide t items decide shape other_shape h k = (
-    (λ e. same_by_tags shape other_shape (sym h.tags ∙ items.0 ∙ k.tags)
-        (sym h.bytes ∙ items.1 ∙ k.bytes) (sym h.names_used ∙ decide.0 e ∙ k.names_used)),
-    λ same. decide.1 (h.names_used ∙ ap shape_names same ∙ sym k.names_used),
-  )
-
-module _ (items : ItemsRead) (body other : NodeBody) (is : body_items body ≡ items) where
-  pub items_other : (body_tags body ≡ body_tags other → body_bytes body ≡ body_bytes other → ⊥)
-      → (false ≡ true → AreSameItems items (body_items other)) × (AreSameItems items (body_items other) → false ≡ true)
-  items_other differ = rw (← is) (
-    (λ e. absurd (true≢false (sym e))),
-    λ same. absurd (differ same.tags same.bytes),
-  )
-
-  pub uses_decide : (t : Bool) → (body_tags body ≡ body_tags other) × (body_bytes body ≡ body_bytes other)
-      → (t ≡ true → body_uses body ≡ body_uses other) × (body_uses body ≡ body_uses other → t ≡ true)
-      → (t ≡ true → AreSameItems items (body_items other)) × (AreSameItems items (body_items other) → t ≡ true)
-  uses_decide t same decide = rw (← is) (
-    (λ e. record { tags = same.0; bytes = same.1; uses = decide.0 e }),
-    λ h. decide.1 h.uses,
-  )
+pub bodies_decide : (names other_names : List (List ℕ)) (body other : NodeBody) (shape other_shape : Shape)
+    → HoldsShape names shape body → HoldsShape other_names other_shape other
+    → (HaveOneShape names other_names (body_items body) (body_items other) ↔ (shape ≡ other_shape))
+bodies_decide names other_names body other shape other_shape h k = (
+  (λ one. same_by_tags shape other_shape (sym h.tags ∙ one.tags ∙ k.tags)
+      (sym h.bytes ∙ one.bytes ∙ k.bytes) (sym h.names_used ∙ one.names_used ∙ k.names_used)),
+  λ same. record {
+    tags = h.tags ∙ ap shape_tags same ∙ sym k.tags;
+    bytes = h.bytes ∙ ap shape_bytes same ∙ sym k.bytes;
+    names_used = h.names_used ∙ ap shape_names same ∙ sym k.names_used;
+  },
+)

@@ -52,8 +52,10 @@ pub record AreItemsOf (texts : List (List ℕ)) (table : TableRead)
   pub bytes : items.bytes ≡ shape_bytes (shape_of texts table pieces)
   pub uses : items.uses ≡ pieces_uses table pieces
 
--- the same items, whatever runs they are in
-pub record AreSameItems (items others : ItemsRead) : Type 0 where
+-- the same items, whatever runs they are in, with uses of the same names, where the one table has
+-- these names and the other table those
+pub record HaveOneShape (names other_names : List (List ℕ))
+    (items others : ItemsRead) : Type 0 where
   pub tags : unfolded_tags items.tags items.bytes ≡ unfolded_tags others.tags others.bytes
   pub bytes : items.bytes ≡ others.bytes
-  pub uses : items.uses ≡ others.uses
+  pub names_used : names_at names items.uses ≡ names_at other_names others.uses

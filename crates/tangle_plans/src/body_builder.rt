@@ -10,7 +10,8 @@ ghost use Rattle.tangle_plans.specs.ItemTags.{use_tag, uses_resolved};
 ghost use Rattle.tangle_plans.specs.MakingBodies.{AddsPieces, nothing_made, with_entry};
 ghost use Rattle.tangle_plans.specs.MakingBodies.{with_piece};
 ghost use Rattle.tangle_plans.specs.Meaning.{title_of};
-ghost use Rattle.tangle_plans.specs.NodeBodies.{AreItemsOf, AreSameItems, body_items, body_title};
+ghost use Rattle.tangle_plans.specs.NodeBodies.{AreItemsOf, HaveOneShape, body_items};
+ghost use Rattle.tangle_plans.specs.NodeBodies.{body_title, body_uses};
 ghost use Rattle.tangle_plans.specs.Nodes.{pieces_at};
 
 use crate::entries::entries_at;
@@ -21,7 +22,7 @@ use itoa::Buffer;
 use std::alloc::Global;
 use std::marker::Model;
 use tangle_lines::NoMemory;
-use tangle_names::{NameTable, Resolved};
+use tangle_names::{NameTable, Names, Resolved};
 use tangle_scan::{Entry, Item, Span, Web};
 
 /// Buffers in which the items of one node after another are made. They are kept for the next node,
@@ -70,13 +71,31 @@ impl BodyBuilder {
         self.add_pieces(web, table, numbers)
     }
 
-    /// Whether a body has the items that were made, whatever runs they are in.
-    pub fn has_made(&self, body: &NodeBody) -> bool
-        ensures { (result ≡ true) ↔ AreSameItems self.now (body_items body.now) }
+    /// Whether the items that were made, with these names, have the same shape as a body with its
+    /// names. `same_names` says that both have the same names.
+    pub fn has_shape_of(
+        &self,
+        names: &Names,
+        body: &NodeBody,
+        other_names: &Names,
+        same_names: bool,
+    ) -> bool
+        requires inside { All (λ id. id < length names.now) self.now.uses }
+        requires other_inside { All (λ id. id < length other_names.now) (body_uses body.now) }
+        requires same_names { same_names ≡ true → names.now ≡ other_names.now }
+        ensures { (result ≡ true)
+            ↔ HaveOneShape names.now other_names.now self.now (body_items body.now) }
     {
-        if !same_items(&self.made, body) {
-            return false;
+        if same_names && self.has_uses_of(body) {
+            return same_items(&self.made, body);
         }
+        self.made.has_shape_of(names, body, other_names)
+    }
+
+    /// Whether the uses that were made have the same numbers as those of a body.
+    pub fn has_uses_of(&self, body: &NodeBody) -> bool
+        ensures { (result ≡ true) ↔ (self.now.uses ≡ body_uses body.now) }
+    {
         self.made.uses == body.uses
     }
 

@@ -1,8 +1,7 @@
 //! The bodies of the nodes of a web, and their shapes.
 //!
 //! A node is a full name or the unnamed program. A [`BodyBuilder`] makes its body, a [`NodeBody`],
-//! or finds that an old one has the same items; [`NodeBody::has_shape_of`] compares the shapes of
-//! two bodies.
+//! or finds that an old one has the same shape.
 #![tactic(auto)]
 
 mod body_builder;

@@ -1,9 +1,8 @@
 //! Compares shapes.
 ghost use Rattle.std.specs.Prelude.{◌≡◌, ◌<◌, ◌↔◌, true, false, length};
 ghost use Rattle.std.specs.List.{All};
-ghost use Rattle.tangle_plans.specs.Shapes.{Shape};
-ghost use Rattle.tangle_plans.specs.NodeBodies.{body_tags, body_bytes, body_uses, names_at};
-ghost use Rattle.tangle_plans.specs.NodeBodies.{HoldsShape};
+ghost use Rattle.tangle_plans.specs.NodeBodies.{HaveOneShape, body_tags, body_bytes, body_items};
+ghost use Rattle.tangle_plans.specs.NodeBodies.{body_uses, names_at};
 
 use crate::nodes::NodeBody;
 use crate::tags::same_tags;
@@ -12,7 +11,7 @@ use tangle_names::Names;
 
 /// Whether the names with these numbers in one table are, one by one, those with the other numbers
 /// in the other table.
-fn same_names(names: &Names, uses: &[usize], other_names: &Names, other_uses: &[usize]) -> bool
+fn use_same_names(names: &Names, uses: &[usize], other_names: &Names, other_uses: &[usize]) -> bool
     requires inside { All (λ id. id < length names.now) uses.now }
     requires other_inside { All (λ id. id < length other_names.now) other_uses.now }
     ensures { (result ≡ true)
@@ -62,19 +61,15 @@ pub(crate) fn same_items(body: &NodeBody, other: &NodeBody) -> bool
 }
 
 impl NodeBody {
-    /// Whether this node and another, each with the names of its web, have the same shape: the same
+    /// Whether this body and another, each with the names of its web, have the same shape: the same
     /// pieces, with items of the same kinds and bytes, and uses of the same names. Section numbers
     /// and origins do not belong to a shape, but the positions of the marks do.
     pub fn has_shape_of(&self, names: &Names, other: &NodeBody, other_names: &Names) -> bool
         requires inside { All (λ id. id < length names.now) (body_uses self.now) }
         requires other_inside { All (λ id. id < length other_names.now) (body_uses other.now) }
-        ensures { (shape other_shape : Shape) → HoldsShape names.now shape self.now
-            → HoldsShape other_names.now other_shape other.now
-            → ((result ≡ true) ↔ (shape ≡ other_shape)) }
+        ensures { (result ≡ true)
+            ↔ HaveOneShape names.now other_names.now (body_items self.now) (body_items other.now) }
     {
-        if !same_items(self, other) {
-            return false;
-        }
-        same_names(names, &self.uses, other_names, &other.uses)
+        same_items(self, other) && use_same_names(names, &self.uses, other_names, &other.uses)
     }
 }

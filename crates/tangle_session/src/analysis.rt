@@ -2,13 +2,13 @@
 ghost use Rattle.std.specs.Prelude.{◌≡◌, true, IfOk, IfSome};
 ghost use Rattle.tangle_files.specs.Roles.{fits};
 ghost use Rattle.tangle_names.specs.NameTable.{table_of};
-ghost use Rattle.tangle_graph.specs.Stores.{KeepsBodies};
+ghost use Rattle.tangle_graph.specs.Stores.{AreNewShapes};
 ghost use Rattle.tangle_graph.specs.WebStores.{IsStoreOfWeb};
 ghost use Rattle.tangle_session.specs.Sessions.{IsAnalysis, IsAnalysisAt};
 
 use std::alloc::Global;
 use tangle_expansion::Numbers;
-use tangle_graph::{Rebuilt, Store};
+use tangle_graph::{Built, Store};
 use tangle_lines::{Fault, Files, MarkMode, NoMemory, Roles, read_source};
 use tangle_names::NameTable;
 use tangle_scan::{Occurrence, Web, scan};
@@ -21,8 +21,8 @@ pub(crate) struct Analysis {
     pub(crate) occurrences: Vec<Occurrence>,
     pub(crate) table: NameTable,
     pub(crate) store: Store,
-    /// For each node, whether it has its old body and the names that it uses are unchanged.
-    pub(crate) are_kept: Vec<bool>,
+    /// For each node, whether its shape is new.
+    pub(crate) new_shapes: Vec<bool>,
     pub(crate) numbers: Numbers,
     pub(crate) faults: Vec<Fault>,
 }
@@ -39,26 +39,22 @@ fn name_table(alloc: Global, web: &Web, old: Option<&Analysis>) -> Result<NameTa
 }
 
 /// Makes the store of a web with its table of names, from the store of the old analysis if there is
-/// one. Without an old analysis the list of flags is empty.
+/// one.
 fn store(
     alloc: Global,
     web: &Web,
     table: &NameTable,
     out: &[u8],
     old: Option<&Analysis>,
-) -> Result<Rebuilt, NoMemory>
+) -> Result<Built, NoMemory>
     requires { table.now ≡ table_of web.now }
     ensures store { IfOk result (λ made. IsStoreOfWeb web.now table.now out.now made.store) }
-    ensures kept { IfOk result (λ made. IfSome old.entry
-        (λ before. KeepsBodies before.now.store made.store made.are_kept.items)) }
+    ensures new_shapes { IfOk result (λ made. IfSome old.entry
+        (λ before. AreNewShapes before.now.store made.store made.new_shapes.items)) }
 {
     match old {
-        Some(old) => Store::rebuild(alloc, web, table, out, &old.store),
-        None => {
-            let store = Store::build(alloc, web, table, out)?;
-            let are_kept = Vec::new(alloc);
-            Ok(Rebuilt { store, are_kept })
-        }
+        Some(old) => Store::build(alloc, web, table, out, Some(&old.store)),
+        None => Store::build(alloc, web, table, out, None),
     }
 }
 
@@ -77,14 +73,14 @@ impl Analysis {
         requires old { IfSome old (λ before. IsAnalysis before.now) }
         ensures made { IfOk result (λ made.
             IsAnalysisAt files.now (record roles.now { marks = marks }) made) }
-        ensures kept { IfOk result (λ made. IfSome old.entry
-            (λ before. KeepsBodies before.now.store made.store made.are_kept.items)) }
+        ensures new_shapes { IfOk result (λ made. IfSome old.entry
+            (λ before. AreNewShapes before.now.store made.store made.new_shapes.items)) }
     {
         let source = read_source(alloc, files, roles)?;
         let web = scan(alloc, &source)?;
         let table = name_table(alloc, &web, old)?;
         let made = store(alloc, &web, &table, roles.out(), old)?;
-        let are_kept = made.are_kept;
+        let new_shapes = made.new_shapes;
         let store = made.store;
         let numbers = Numbers::build(alloc, &web, store.names(), store.pieces(), marks)?;
         let mut of_names = table.faults(alloc, &web)?;
@@ -98,7 +94,7 @@ impl Analysis {
             occurrences,
             table,
             store,
-            are_kept,
+            new_shapes,
             numbers,
             faults,
         })

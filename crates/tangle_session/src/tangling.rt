@@ -124,7 +124,7 @@ pub(crate) fn tangle_again(
         &old.analysis.store,
         &old.kept,
         &analysis.store,
-        &analysis.are_kept,
+        &analysis.new_shapes,
         &mut work,
     )?;
     Ok(SessionState {

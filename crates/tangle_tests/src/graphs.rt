@@ -21,7 +21,7 @@ fn read<'a>(alloc: Global, files: &'a Files) -> Result<Source<'a>, Refusal> {
 fn tangle_source(alloc: Global, source: &Source) -> Result<(Store, Kept, Numbers), NoMemory> {
     let web = scan(alloc, source)?;
     let table = NameTable::build(alloc, &web)?;
-    let store = Store::build(alloc, &web, &table, b"a.c")?;
+    let store = Store::build(alloc, &web, &table, b"a.c", None)?.store;
     let numbers = Numbers::build(alloc, &web, store.names(), store.pieces(), MarkMode::Full)?;
     let mut work = Work::new(alloc);
     let kept = expand_all(alloc, &store, &mut work)?;

@@ -6,12 +6,12 @@ use Rattle.tangle_affected.proofs.ListLemmas.{lists_affected}
 use Rattle.tangle_affected.proofs.edits.affected.Goals as goal
 
 pub returns : goal.returns
-returns c = λ old_shapes new_shapes old_is new_is.
+returns c = λ old before after are old_is new_is.
     let new = c.args.new.now in
     let order = c.order-order.result.now in
-    let all = lists_affected new_shapes new order new_is c.order-order.ensures old_shapes
-    c.in_ok-flags.flags.items (c.in_ok-flags.ensures old_shapes new_shapes old_is new_is) in
+    let all = lists_affected after new order new_is c.order-order.ensures before
+    c.in_ok-flags.flags.items (c.in_ok-flags.ensures old before after are old_is new_is) in
     IfOk-weaker c.listed_nodes.result _ _
-    (λ nodes h. subst (ListsAffected old_shapes new_shapes new)
+    (λ nodes h. subst (ListsAffected before after new)
     (sym (h ∙ ap (λ ms. filter (is_expandable_and_flagged new ms) order) c.deref.ensures.value)) all)
     c.listed_nodes.ensures

@@ -1,12 +1,8 @@
-use Rattle.std.proofs.Common.{◌≡◌, ◌∙◌, ◌+◌, ap, arith, length, length-set, subst, sym, take, Contains}
+use Rattle.std.proofs.Common.{◌≡◌, ◌∙◌, ap, arith, length, length-set, subst, sym, take, Contains}
 use Rattle.std.proofs.lemmas.List.{take_all}
-use Rattle.tangle_affected.specs.Flags.{AreFlagged}
-use Rattle.tangle_affected.proofs.FlagLemmas.{flagged_next}
+use Rattle.tangle_graph.specs.Stores.{flag_at}
+use Rattle.tangle_affected.proofs.FlagLemmas.{at_position, flagged_next}
 use Rattle.tangle_affected.proofs.edits.reaching_new_shapes.Goals as goal
-
-pub has_cause-flag-requires-clause-node : goal.has_cause-flag-requires-clause-node
-has_cause-flag-requires-clause-node c =
-    c.requires.order.inside c.node-item.result (c.loop-node.node-index, c.loop-node-test.true, sym c.node-item.is)
 
 pub loop-node-preserved : goal.loop-node-preserved
 loop-node-preserved c =
@@ -20,17 +16,16 @@ loop-node-preserved c =
     let at = c.node-item.is in
     record {
       size = ap length c.set_flag.ensures ∙ length-set flags node b ∙ c.loop-node.invariant.size;
-      flagged = λ old_shapes new_shapes old_is new_is.
-          let are = c.loop-node.invariant.flagged old_shapes new_shapes old_is new_is in
-          let shape = rw (c.deref.ensures.value) at c.has_cause-flag.ensures.shape in
-          subst (λ fs. AreFlagged old_shapes new_shapes new fs (take (i + 1) order)) (sym c.set_flag.ensures)
-          (flagged_next new order c.requires.order i inside node at old_shapes new_shapes
-          new_is flags are b c.loop-node.invariant.size (rw (c.deref.ensures.value) at c.has_cause-flag.ensures.uses)
-          (λ none. shape none old_shapes new_shapes old_is new_is));
+      flagged = λ old before after are old_is new_is.
+          rw (c.set_flag.ensures, c.has_cause-flag.ensures, c.deref.ensures.value)
+          (flagged_next new order c.requires i inside node at before after new_is flags
+          (c.loop-node.invariant.flagged old before after are old_is new_is)
+          (flag_at c.args.new_shapes.now node) c.loop-node.invariant.size
+          (are before after old_is new_is node (at_position new order c.requires i inside node at)));
     }
 
 pub returns : goal.returns
-returns c = λ old_shapes new_shapes old_is new_is node h.
+returns c = λ old before after are old_is new_is node h.
     let whole : take c.loop-node.node-index c.args.order.now ≡ c.args.order.now =
     take_all c.loop-node.node-index c.args.order.now (omega arith) in
-    c.loop-node.invariant.flagged old_shapes new_shapes old_is new_is node (subst (λ l. Contains l node) (sym whole) h)
+    c.loop-node.invariant.flagged old before after are old_is new_is node (subst (λ l. Contains l node) (sym whole) h)

@@ -5,7 +5,7 @@ use Rattle.tangle_affected.proofs.keeping.expand_again.Goals as goal
 
 pub share_unflagged-requires-clause-flags : goal.share_unflagged-requires-clause-flags
 share_unflagged-requires-clause-flags c = λ shapes is.
-    rw c.deref-2.ensures.value (c.in_ok-flags.ensures shapes.old shapes.new is.before is.after)
+    rw c.deref-2.ensures.value (c.in_ok-flags.ensures c.args.old.now shapes.old shapes.new c.requires.new_shapes is.before is.after)
 
 pub expand_list-requires : goal.expand_list-requires
 expand_list-requires c =
@@ -32,5 +32,5 @@ returns-clause-work c = λ shapes is. (
   c.in_ok-expand_list.ensures.work ∙ ap (λ l. c.args.work.now ++ l) c.deref-3.ensures.value,
   rw (c.in_ok-list.ensures, c.deref.ensures.value)
       (lists_affected shapes.new c.args.new.now c.order-order.result.now is.after c.order-order.ensures
-      shapes.old c.in_ok-flags.flags.items (c.in_ok-flags.ensures shapes.old shapes.new is.before is.after)),
+      shapes.old c.in_ok-flags.flags.items (c.in_ok-flags.ensures c.args.old.now shapes.old shapes.new c.requires.new_shapes is.before is.after)),
 )

@@ -1,7 +1,7 @@
 use Rattle.tangle_expansion.specs.Limits.{levels, heaviest}
 use Rattle.tangle_expansion.proofs.Unaffected.{stays}
 use Rattle.tangle_graph.specs.Stores.{title_in_store}
-use Rattle.tangle_affected.proofs.NameLemmas.{node_with_piece, some_unless}
+use Rattle.tangle_graph.proofs.NameLemmas.{node_with_piece, some_unless}
 use Rattle.tangle_affected.proofs.keeping.share_old.Goals as goal
 
 pub unwrap-before-requires : goal.unwrap-before-requires

@@ -1,25 +1,17 @@
-use Rattle.std.proofs.Common.{◌∙◌}
-use Rattle.std.proofs.lemmas.Option.{IfSome_then}
-use Rattle.tangle_graph.specs.Plans.{node_bodies}
-use Rattle.tangle_graph.proofs.BodyLemmas.{body_read, had_title}
+use Rattle.std.proofs.Common.{refl, subst}
+use Rattle.tangle_plans.specs.NodeBodies.{HoldsShape}
+use Rattle.tangle_plans.specs.Nodes.{title_at}
+use Rattle.tangle_graph.proofs.NameLemmas.{no_shape, shape_of_body}
 use Rattle.tangle_graph.proofs.bodies.body_before.Goals as goal
 
-pub returns-clause-title : goal.returns-clause-title
-returns-clause-title c =
-    let old = c.args.old in
-    let before = c.in_ok-before.before in
-    let had = body_read old.bodies.now before c.get.result (rw c.number.ensures at c.get.ensures.lookup) in
-    IfSome_then c.get.result had (λ body had.
-    had_title old.names.now (node_bodies old.bodies.now) before body.now.value c.requires.old had
-    ∙ c.in_ok-before.ensures.title)
+pub returns-in_err-before-clause-shape : goal.returns-in_err-before-clause-shape
+returns-in_err-before-clause-shape c = rw (c.in_ok-old.was, c.from_residual-in_err-before.ensures) (λ shapes is.
+    no_shape shapes c.in_ok-old.old.now (title_at c.args.names.now c.args.node) is
+    (rw c.names.ensures at (c.in_err-before.ensures.none refl)))
 
-pub returns-clause-before : goal.returns-clause-before
-returns-clause-before c =
-    let before = c.in_ok-before.before in
-    let had = body_read c.args.old.bodies.now before c.get.result (rw c.number.ensures at c.get.ensures.lookup) in
-    IfSome_then c.get.result had (λ body had. record {
-      before = before;
-      inside = c.in_ok-before.ensures.inside;
-      title = c.in_ok-before.ensures.title;
-      had = had;
-    })
+pub returns-clause-shape : goal.returns-clause-shape
+returns-clause-shape c = rw (c.in_ok-old.was, c.names-2.ensures) (λ shapes is.
+    subst (λ t. HoldsShape c.in_ok-old.old.now.names (shapes t) c.body.result.now.value)
+    (rw c.names.ensures at c.in_ok-before.ensures.title)
+    (shape_of_body shapes c.in_ok-old.old.now c.in_ok-before.before c.body.result.now.value is
+    (rw c.names.ensures at c.in_ok-before.ensures.inside) c.body.ensures.body))

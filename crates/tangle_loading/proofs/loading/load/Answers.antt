@@ -1,19 +1,21 @@
-use Rattle.std.proofs.Common.{◌∙◌, ap, subst, sym}
+use Rattle.std.proofs.Common.{◌∙◌, ap, inl, inr, refl, subst, sym}
 use Rattle.std.specs.Option.{option_copied}
 use Rattle.std.proofs.lemmas.Result.{err_from_is_err_and}
 use Rattle.tangle_files.specs.Roles.{RolesRead}
 use Rattle.tangle_loading.specs.Loading.{bad_name, ending_of}
 use Rattle.tangle_loading.specs.Loads.{Loads, StopsLoading}
-use Rattle.tangle_loading.proofs.RoundLemmas.{stops_at_once, stops_badly}
+use Rattle.tangle_loading.specs.Loads.StopsLoading.{IsUnasked}
 use Rattle.tangle_loading.proofs.loading.load.Goals as goal
 
 pub returns-in-Some-clause-err : goal.returns-in-Some-clause-err
 returns-in-Some-clause-err g c =
-    stops_badly c.args.names.now (g.F.Folder.state c.args.folder.now) _ (ending_of c.refused.result)
-    (sym c.first_bad.ensures ∙ ap option_copied c.in-Some.is) c.refused.ensures
+    IsUnasked refl (elim c.refused.ensures [
+      | inl e ↦ inl (_, sym c.first_bad.ensures ∙ ap option_copied c.in-Some.is, e)
+      | inr e ↦ inr e
+    ])
 
 pub returns-in_default-new-clause-err : goal.returns-in_default-new-clause-err
-returns-in_default-new-clause-err g c = stops_at_once c.args.names.now (g.F.Folder.state c.args.folder.now)
+returns-in_default-new-clause-err g c = IsUnasked refl (inr refl)
 
 pub load_files-requires : goal.load_files-requires
 load_files-requires g c =

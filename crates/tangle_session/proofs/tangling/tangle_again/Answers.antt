@@ -15,8 +15,8 @@ pub build-requires-clause-old : goal.build-requires-clause-old
 build-requires-clause-old c =
     record { files = c.args.old.now.files; roles = c.args.roles.now; made = c.requires.agrees.analysis }
 
-pub expand_again-requires-clause-bodies : goal.expand_again-requires-clause-bodies
-expand_again-requires-clause-bodies c = rw c.deref.ensures.value c.in_ok-analysis.ensures.kept
+pub expand_again-requires-clause-new_shapes : goal.expand_again-requires-clause-new_shapes
+expand_again-requires-clause-new_shapes c = rw c.deref.ensures.value c.in_ok-analysis.ensures.new_shapes
 
 pub expand_again-requires-clause-edit : goal.expand_again-requires-clause-edit
 expand_again-requires-clause-edit c =

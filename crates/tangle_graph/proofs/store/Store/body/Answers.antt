@@ -1,23 +1,21 @@
-use Rattle.std.proofs.Common.{◌≡◌, ◌∙◌, length, ap, sym}
-use Rattle.std.specs.Prelude.{slice_get}
-use Rattle.tangle_graph.specs.Stores.{StoreRead}
-use Rattle.tangle_graph.specs.Plans.{node_bodies}
-use Rattle.tangle_graph.proofs.BodyLemmas.{names_of_read, none_read}
+use Rattle.std.proofs.Common.{arith}
+use Rattle.tangle_graph.proofs.StoredBodies.{low, had, titled, named}
 use Rattle.tangle_graph.proofs.store.Store.body.Goals as goal
 
-pub returns-in-Some-clause-uses : goal.returns-in-Some-clause-uses
-returns-in-Some-clause-uses c =
-    let inside = c.self.inside in
-    let size : length inside.name_graph.value.names ≡ length c.args.self.now.names =
-    ap (λ (s : StoreRead). length s.names) c.self.view_is in
-    rw c.deref-body.ensures (names_of_read c.deref.result.now c.number.result
-    (length inside.name_graph.value.names) (length c.args.self.now.names) c.in-Some.body.now
-    (rw c.deref.ensures.value c.self.invariant.uses) size c.in-Some.ensures.lookup.0 c.in-Some.ensures.lookup.1)
+pub index-requires : goal.index-requires
+index-requires c =
+    let below = low c.self.inside c.args.self.now c.args.node c.number.result c.self.view_is c.self.invariant
+    c.number.ensures c.requires in
+    omega (arith, below, c.self.inside.bodies.ok)
 
-pub returns-in-None-clause-body : goal.returns-in-None-clause-body
-returns-in-None-clause-body c =
-    let same : node_bodies c.deref.result.now ≡ c.args.self.now.bodies =
-    ap node_bodies c.deref.ensures.value ∙ ap (λ (s : StoreRead). s.bodies) c.self.view_is in
-    sym (ap (slice_get c.args.self.now.bodies) (sym c.number.ensures)
-    ∙ ap (λ ts. slice_get ts c.number.result) (sym same)
-    ∙ none_read c.deref.result.now c.number.result c.in-None.ensures.lookup.0)
+pub returns-clause-body : goal.returns-clause-body
+returns-clause-body c = had c.self.inside c.args.self.now c.args.node c.number.result c.self.view_is c.self.invariant
+    c.number.ensures c.requires c.index.result.now c.index.ensures
+
+pub returns-clause-title : goal.returns-clause-title
+returns-clause-title c = titled c.self.inside c.args.self.now c.args.node c.number.result c.self.view_is c.self.invariant
+    c.number.ensures c.requires c.index.result.now c.index.ensures
+
+pub returns-clause-uses : goal.returns-clause-uses
+returns-clause-uses c = named c.self.inside c.args.self.now c.args.node c.number.result c.self.view_is c.self.invariant
+    c.number.ensures c.requires c.index.result.now c.index.ensures

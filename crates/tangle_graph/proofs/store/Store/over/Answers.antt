@@ -1,16 +1,14 @@
-use Rattle.std.proofs.Common.{◌≡◌, ◌∙◌, ◌+◌, ℕ, List, [], ◌∷◌, length, map, eqb, false, not, refl, ap, sym, subst}
+use Rattle.std.proofs.Common.{◌≡◌, ◌∙◌, ◌+◌, List, length, map, not, ap, sym, subst, ℕ}
 use Rattle.std.proofs.Common.{arith}
 use Rattle.std.specs.Global.{Global}
 use Rattle.std.specs.List.{IsDistinct}
 use Rattle.std.specs.Str.{bytes_eq}
 use Rattle.std.specs.declared.rc.Rc.{Rc}
-use Rattle.std.proofs.lemmas.Bool.Decides.{nat_tests}
 use Rattle.std.proofs.lemmas.List.{length-map}
 use Rattle.tangle_scan.specs.Web.{WebRead}
 use Rattle.tangle_names.specs.NameTable.{TableRead, table_of}
 use Rattle.tangle_names.proofs.LawLemmas.{once as names_once}
 use Rattle.tangle_plans.specs.NodeBodies.{body_uses}
-use Rattle.tangle_plans.specs.Nodes.{row_has_piece}
 use Rattle.tangle_plans.specs.WebShapes.{ResolvesInside}
 use Rattle.tangle_plans.proofs.InsideLemmas.{table_inside}
 use Rattle.tangle_plans.specs.declared.nodes.NodeBody.{NodeBody}
@@ -26,6 +24,7 @@ use Rattle.tangle_graph.proofs.NameGraphLemmas.{graph_over, nodes_inside, uses_i
 use Rattle.tangle_graph.proofs.OrderingLemmas.{order_is, grouped_by}
 use Rattle.tangle_graph.proofs.BodyLemmas.{bodies_titled}
 use Rattle.tangle_graph.proofs.StoreIs.{store_is}
+use Rattle.tangle_graph.proofs.StoreLemmas.{row_not_empty}
 use Rattle.tangle_graph.proofs.store.Store.over.Goals as goal
 
 inside : (web : WebRead) (table : TableRead) → table ≡ table_of web → ResolvesInside table
@@ -38,10 +37,6 @@ graph : (web : WebRead) (table : TableRead) (pieces : List (List ℕ)) (bodies :
 graph web table pieces bodies name_graph is =
     graph_over web table pieces bodies name_graph
     (subst (λ (t : TableRead). IsDistinct bytes_eq t.names) (sym is) (names_once web.occurrences)) (inside web table is)
-
-held : (row : List ℕ) → not (eqb (length row) 0) ≡ row_has_piece row
-held [] = refl
-held (n ∷ row) = (let apart : eqb (length (n ∷ row)) 0 ≡ false = grind (arith, nat_tests) in ap not apart)
 
 pub build-requires-clause-range : goal.build-requires-clause-range
 build-requires-clause-range c = rw c.deref-shared.ensures c.requires.name_graph.range
@@ -101,7 +96,7 @@ outputs-requires-clause-program c =
     c.args.nodes.name_graph.value c.requires.table c.requires.grouped c.requires.bodies c.requires.name_graph in
     let program =
     program_has_piece c.args.web.now c.args.table.now c.args.nodes.pieces.value c.args.nodes.name_graph.value.uses is in
-    ap not c.is_empty-has_program.ensures ∙ held c.row.result.now
+    ap not c.is_empty-has_program.ensures ∙ row_not_empty c.row.result.now
     ∙ rw (c.row.ensures, c.number.ensures, c.program.ensures, c.deref-rows.ensures) program
 
 pub returns-clause-store : goal.returns-clause-store

@@ -1,0 +1,187 @@
+-- What a macro's groups begin and end with: words and signs are of their kinds.
+use Rattle.std.proofs.Common.{◌≡◌, ℕ, Bool, true, false, ◌&&◌, ◌||◌, not, List, [], ◌∷◌, ◌++◌}
+use Rattle.std.proofs.Common.{Option, Some, None, inl, inr, refl, flat_map, ◌⊎◌}
+use Rattle.std.proofs.Common.{sym, subst, if◌then◌else◌}
+use Rattle.std.specs.List.{AllByRecursion, last_or, list_all}
+use Rattle.std.specs.Option.{IfSome}
+use Rattle.std.proofs.lemmas.Bool.{and_parts, and_from}
+use Rattle.c_tokens.specs.Bytes.{line_feed}
+use Rattle.c_tokens.specs.Borders.{is_whole, keep_lines}
+use Rattle.tangle_lexer.specs.declared.tokens.Token.{Token}
+use Rattle.tangle_lexer.specs.declared.tokens.Token.TheVariants as token
+use Rattle.tangle_lexer.specs.declared.tokens.SpanKind.TheVariants as span_kind
+use Rattle.tangle_scan.specs.Rules.{may_touch, next_item, ends_line}
+use Rattle.tangle_scan.specs.ReadAsMeant.{is_dropped_token, with_written, written_tokens}
+use Rattle.tangle_c_tokens.specs.Edges.{begins_as, ends_as, number_goes_on_with}
+use Rattle.tangle_c_tokens.specs.Kinds.{item_kind, is_range, HasItsKind, IsAlone, IsQuotedText}
+use Rattle.tangle_c_tokens.specs.Kinds.{AreTexts}
+use Rattle.tangle_c_tokens.specs.Groups.{Group, group_before, groups_after, group_text}
+use Rattle.tangle_c_tokens.specs.Macros.{text_of, stay_apart, IsReadAlone}
+
+module _ (texts : List (List ℕ)) where
+  -- an item begins and ends as a text of its kind does, unless it is a range of a quoted text
+  record HasItsEdges (e : Token) : Type 0 where
+    begins : is_range e ≡ false → begins_as (item_kind texts e) (text_of texts e) ≡ true
+    ends : is_range e ≡ false → ends_as (item_kind texts e) (text_of texts e) ≡ true
+
+  abbrev HaveEdges : List Token → Type 0
+  HaveEdges es = AllByRecursion HasItsEdges es
+
+  -- tokens that are texts have their edges
+
+  of-kind : (e : Token) → HasItsKind texts e → HasItsEdges e
+  of-kind (token.Span span_kind.Word s) kind =
+      record { begins = λ no_range. kind.begins; ends = λ no_range. kind.ends }
+  of-kind (token.Span span_kind.Sign s) kind =
+      record { begins = λ no_range. kind.begins; ends = λ no_range. kind.ends }
+  of-kind (token.Span span_kind.Quoted s) kind =
+      record { begins = λ no_range. absurd cc; ends = λ no_range. absurd cc }
+  of-kind (token.Span span_kind.Verbatim s) kind =
+      record { begins = λ no_range. refl; ends = λ no_range. refl }
+  of-kind _ kind = record { begins = λ no_range. refl; ends = λ no_range. refl }
+
+  of-range : (e : Token) → is_range e ≡ true → HasItsEdges e
+  of-range e range = record { begins = λ no_range. absurd cc; ends = λ no_range. absurd cc }
+
+  of-ranges : (part : List Token) → list_all is_range part ≡ true → (es : List Token) → HaveEdges es
+      → HaveEdges (part ++ es)
+  of-ranges [] all es more = more
+  of-ranges (e ∷ part) all es more =
+      let parts = and_parts (is_range e) (list_all is_range part) all in
+      (of-range e parts.0, of-ranges part parts.1 es more)
+
+  of-part : (part : List Token) → IsAlone texts part ⊎ IsQuotedText texts part → (es : List Token)
+      → HaveEdges es → HaveEdges (part ++ es)
+  of-part [] (inl alone) es more = absurd alone
+  of-part (e ∷ []) (inl alone) es more = (of-kind e alone.1, more)
+  of-part (e ∷ f ∷ part) (inl alone) es more = absurd alone
+  of-part part (inr quoted) es more = of-ranges part quoted.ranges es more
+
+  of-parts : (parts : List (List Token))
+      → AllByRecursion (λ part. IsAlone texts part ⊎ IsQuotedText texts part) parts →
+      HaveEdges (flat_map (λ part. part) parts)
+  of-parts [] all = tt
+  of-parts (part ∷ parts) all =
+      of-part part all.0 (flat_map (λ part. part) parts) (of-parts parts all.1)
+
+  of-texts : (es : List Token) → AreTexts texts es → HaveEdges es
+  of-texts es are = subst HaveEdges (sym are.1) (of-parts are.0 are.2)
+
+  of-written : (es : List Token) → HaveEdges es → HaveEdges (written_tokens texts es)
+  of-written [] all = tt
+  of-written (e ∷ es) all = with-first (written_tokens texts es) (of-written es all.1)
+    where
+      last : (dropped : Bool) → HaveEdges (if dropped then [] else e ∷ [])
+      last true = tt
+      last false = (all.0, tt)
+
+      with-first : (fs : List Token) → HaveEdges fs → HaveEdges (with_written texts e fs)
+      with-first [] rest = last (is_dropped_token texts e)
+      with-first (f ∷ fs) rest = (all.0, rest)
+
+  -- Groups that are read alone are apart: their edges are those of their kinds.
+
+  abbrev pub are_apart_at_edges : List ℕ → Option Token → Option Token → Bool
+  are_apart_at_edges text (Some e) (Some f) =
+      not (may_touch texts e f)
+      || ends_as (item_kind texts e) (text_of texts e) && begins_as (item_kind texts f)
+      (text_of texts f)
+      && not (number_goes_on_with text (text_of texts f))
+  are_apart_at_edges text e f = true
+
+  pub record IsApart (group : Group) : Type 0 where
+    pub whole : is_whole (group_text texts group.items) ≡ true
+    pub apart : ends_line group.rest ≡ true
+        → are_apart_at_edges (group_text texts group.items) (last_or None group.items)
+        (next_item group.rest) ≡ true
+    pub ended : next_item group.rest ≡ None
+        → keep_lines (group_text texts group.items) (line_feed ∷ []) ≡ true
+
+  lifted : (touch range_e range_f ends begins rest : Bool) → (range_e ≡ false → ends ≡ true)
+      → (range_f ≡ false → begins ≡ true) →
+      (not touch || (not range_e || ends) && (not range_f || begins) && rest) ≡ true
+      → (not touch || ends && begins && rest) ≡ true
+  lifted false range_e range_f ends begins rest of_e of_f h = refl
+  lifted true range_e range_f ends begins rest of_e of_f h =
+      let outer = and_parts ((not range_e || ends) && (not range_f || begins)) rest h in
+      let inner = and_parts (not range_e || ends) (not range_f || begins) outer.0 in
+      and_from (ends && begins) rest
+      (and_from ends begins (one range_e ends of_e inner.0)
+      (one range_f begins of_f inner.1)) outer.1
+    where
+      one : (range edge : Bool) → (range ≡ false → edge ≡ true) → (not range || edge) ≡ true
+          → edge ≡ true
+      one true edge of_edge h = h
+      one false edge of_edge h = of_edge refl
+
+  apart-edges : (text : List ℕ) (e f : Option Token) → IfSome e HasItsEdges → IfSome f HasItsEdges →
+      stay_apart texts text e f ≡ true → are_apart_at_edges text e f ≡ true
+  apart-edges text None f of_e of_f apart = refl
+  apart-edges text (Some e) None of_e of_f apart = refl
+  apart-edges text (Some e) (Some f) of_e of_f apart =
+      lifted (may_touch texts e f) (is_range e) (is_range f)
+      (ends_as (item_kind texts e) (text_of texts e))
+      (begins_as (item_kind texts f) (text_of texts f))
+      (not (number_goes_on_with text (text_of texts f))) of_e.ends of_f.begins apart
+
+  last-edges : (o : Option Token) (items : List Token) → IfSome o HasItsEdges → HaveEdges items
+      → IfSome (last_or o items) HasItsEdges
+  last-edges o [] of_o all = of_o
+  last-edges o (e ∷ items) of_o all = last-edges (Some e) items all.0 all.1
+
+  next-edges : (es : List Token) → HaveEdges es → IfSome (next_item es) HasItsEdges
+  next-edges [] all = tt
+  next-edges (token.White ∷ es) all = next-edges es all.1
+  next-edges (token.LineEnd line ∷ es) all = next-edges es all.1
+  next-edges (e ∷ es) all = all.0
+
+  group-apart : (items rest : List Token) → HaveEdges items → HaveEdges rest →
+      IsReadAlone texts (record { items = items; rest = rest })
+      → IsApart (record { items = items; rest = rest })
+  group-apart items rest of_items of_rest alone = record {
+    whole = alone.whole;
+    apart = λ ends.
+        apart-edges (group_text texts items) (last_or None items) (next_item rest)
+        (last-edges None items tt of_items)
+        (next-edges rest of_rest) (alone.apart ends);
+    ended = alone.ended;
+  }
+
+  before-apart : (items rest : List Token) (gs : List Group) → HaveEdges items → HaveEdges rest →
+      (AllByRecursion (IsReadAlone texts) gs → AllByRecursion IsApart gs) →
+      AllByRecursion (IsReadAlone texts) (group_before rest items ++ gs)
+      → AllByRecursion IsApart (group_before rest items ++ gs)
+  before-apart [] rest gs of_items of_rest next alone = next alone
+  before-apart (e ∷ items) rest gs of_items of_rest next alone =
+      (group-apart (e ∷ items) rest of_items of_rest alone.0, next alone.1)
+
+  more-edges : (items : List Token) (e : Token) → HaveEdges items → HasItsEdges e
+      → HaveEdges (items ++ e ∷ [])
+  more-edges [] e all of_e = (of_e, tt)
+  more-edges (x ∷ items) e all of_e = (all.0, more-edges items e all.1 of_e)
+
+  groups-apart : (items es : List Token) → HaveEdges items → HaveEdges es →
+      AllByRecursion (IsReadAlone texts) (groups_after items es)
+      → AllByRecursion IsApart (groups_after items es)
+  groups-apart items [] of_items all alone = one items of_items alone
+    where
+      one : (items : List Token) → HaveEdges items
+          → AllByRecursion (IsReadAlone texts) (group_before [] items) →
+          AllByRecursion IsApart (group_before [] items)
+      one [] of_items alone = tt
+      one (e ∷ items) of_items alone = (group-apart (e ∷ items) [] of_items tt alone.0, tt)
+  groups-apart items (token.White ∷ es) of_items all alone =
+      before-apart items (token.White ∷ es) (groups_after [] es) of_items all
+      (groups-apart [] es tt all.1) alone
+  groups-apart items (token.LineEnd line ∷ es) of_items all alone =
+      before-apart items (token.LineEnd line ∷ es) (groups_after [] es) of_items all
+      (groups-apart [] es tt all.1) alone
+  groups-apart items (e ∷ es) of_items all alone =
+      groups-apart (items ++ e ∷ []) es (more-edges items e of_items all.0) all.1 alone
+
+  -- the groups of a macro that are read alone
+  pub apart-groups : (es : List Token) → AreTexts texts es →
+      AllByRecursion (IsReadAlone texts) (groups_after [] (written_tokens texts es)) →
+      AllByRecursion IsApart (groups_after [] (written_tokens texts es))
+  apart-groups es are =
+      groups-apart [] (written_tokens texts es) tt (of-written es (of-texts es are))

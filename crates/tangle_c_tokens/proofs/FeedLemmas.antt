@@ -1,0 +1,38 @@
+-- Texts that take out no line feed after them.
+use Rattle.tangle_c_tokens.proofs.TextLemmas.{IsWholeLine}
+use Rattle.std.proofs.Common.{◌≡◌, ℕ, true, false, List, [], ◌∷◌}
+use Rattle.std.proofs.Common.{◌++◌}
+use Rattle.std.proofs.Common.{refl, ap, codes, ◌==◌}
+use Rattle.std.specs.Prelude.{decimal}
+use Rattle.c_tokens.specs.Bytes.{line_feed, backslash, slash}
+use Rattle.c_tokens.specs.Borders.{is_whole, keep_lines}
+use Rattle.tangle_expansion.specs.Numbers.{closing_bytes}
+use Rattle.tangle_c_tokens.specs.Edges.{ends_in}
+use Rattle.tangle_c_tokens.proofs.CommentLemmas.{last-slash}
+
+abbrev pub KeepsFeed : List ℕ → Type 0
+KeepsFeed t = ends_in (λ b. b == backslash) t ≡ false
+
+pub keeps-more : (a b : List ℕ) → KeepsFeed a → KeepsFeed b → KeepsFeed (a ++ b)
+keeps-more [] b of_a of_b = of_b
+keeps-more (x ∷ []) [] of_a of_b = of_a
+keeps-more (x ∷ []) (c ∷ b) of_a of_b = of_b
+keeps-more (x ∷ y ∷ a) b of_a of_b = keeps-more (y ∷ a) b of_a of_b
+
+pub keeps-last : (a b : List ℕ) (c : ℕ) → KeepsFeed (c ∷ b) → KeepsFeed (a ++ c ∷ b)
+keeps-last [] b c of_b = of_b
+keeps-last (x ∷ []) b c of_b = of_b
+keeps-last (x ∷ y ∷ a) b c of_b = keeps-last (y ∷ a) b c of_b
+
+-- a text and the closing of a piece
+pub closing-keeps : (a : List ℕ) (section : ℕ) → KeepsFeed (a ++ closing_bytes section)
+closing-keeps a section =
+    keeps-last a (42 ∷ 58 ∷ decimal section ++ codes "*/") slash
+    (ap (λ b. b == backslash) (last-slash 42 (58 ∷ decimal section)))
+
+pub line-of : (t : List ℕ) → is_whole t ≡ true → KeepsFeed t → IsWholeLine t
+line-of t whole keeps = record { whole = whole; kept = kept t keeps }
+  where
+    kept : (t : List ℕ) → KeepsFeed t → keep_lines t (line_feed ∷ []) ≡ true
+    kept [] keeps = refl
+    kept (x ∷ t) keeps = rw keeps refl

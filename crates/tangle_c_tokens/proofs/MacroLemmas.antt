@@ -1,0 +1,338 @@
+-- The tokens of the bytes of a macro are those of its groups.
+use Rattle.std.proofs.Common.{◌≡◌, ℕ, Bool, true, false, ◌&&◌, not, if◌then◌else◌, List, [], ◌∷◌}
+use Rattle.std.proofs.Common.{◌++◌, map, flat_map}
+use Rattle.std.proofs.Common.{append_assoc, append-nil, Option, Some, None, refl, ap, sym, ◌∙◌}
+use Rattle.std.proofs.Common.{subst, codes}
+use Rattle.std.specs.List.{AllByRecursion}
+use Rattle.std.proofs.lemmas.Bool.{and_parts, or_parts, not-true}
+use Rattle.std.proofs.lemmas.List.Concat.{flat_map-append}
+use Rattle.c_tokens.specs.Bytes.{space, line_feed, backslash}
+use Rattle.c_tokens.specs.Grammar.{is_element, is_token, is_punctuator}
+use Rattle.c_tokens.specs.Reading.{spliced}
+use Rattle.c_tokens.specs.Touching.{TextKind}
+use Rattle.c_tokens.specs.Borders.{is_whole, have_border}
+use Rattle.tangle_lexer.specs.declared.tokens.Token.{Token}
+use Rattle.tangle_lexer.specs.declared.tokens.Token.TheVariants as token
+use Rattle.tangle_lexer.specs.declared.tokens.SpanKind.TheVariants as span_kind
+use Rattle.tangle_scan.specs.Rules.{may_touch, next_item, has_blank_at_line_end}
+use Rattle.tangle_scan.specs.Rules.{is_name_part, macro_blanks, unmarked_items, is_front_gap}
+use Rattle.tangle_scan.specs.MacroBytes.{macro_item_bytes, macro_bytes}
+use Rattle.tangle_scan.specs.ReadAsMeant.{written_tokens}
+use Rattle.tangle_scan.proofs.lemmas.RuleLemmas.{macro_blanks-item}
+use Rattle.tangle_scan.proofs.laws.MacroEnds.{items_from, end-items}
+use Rattle.tangle_c_tokens.specs.Reading.{IsReadAs}
+use Rattle.tangle_c_tokens.specs.Edges.{begins_as, ends_as, number_goes_on_with}
+use Rattle.tangle_c_tokens.specs.Kinds.{item_kind, AreTexts}
+use Rattle.tangle_c_tokens.specs.Groups.{Group, group_before, groups_after, groups, group_text}
+use Rattle.tangle_c_tokens.specs.Macros.{text_of, IsReadAlone, IsReadByGroups}
+use Rattle.tangle_c_tokens.proofs.EdgeLemmas.{are_apart_at_edges, IsApart, apart-groups}
+use Rattle.tangle_c_tokens.proofs.kind_lemmas.TableKinds.{same-table}
+use Rattle.tangle_c_tokens.proofs.GroupLemmas.{last-item, group-one}
+use Rattle.tangle_c_tokens.proofs.TextLemmas.{feed-between, feed-front, space-between}
+use Rattle.tangle_c_tokens.proofs.TextLemmas.{taken-between, kinds-border}
+use Rattle.tangle_c_tokens.proofs.TextLemmas.{spliced-other, ends-as, white-next}
+use Rattle.tangle_c_tokens.proofs.TextLemmas.{with-text, with-nothing, no-text}
+
+-- `tail` is written after the macro, and read as the texts `ts`.
+module _ (texts : List (List ℕ)) (tail : List ℕ) (ts : List (List ℕ))
+    (read : IsReadAs ts tail) where
+  -- the bytes that rule 3 makes of the tokens of a macro, up to its end; the arguments before the
+  -- tokens are those of the rule
+  abbrev bytes_from : Bool → Option Token → Bool → List Token → List ℕ
+  bytes_from in_name before white es =
+      flat_map (macro_item_bytes texts)
+      (items_from texts in_name before white es) ++ line_feed ∷ tail
+
+  item-text : (e : Token) (es : List Token) → is_front_gap e ≡ false
+      → flat_map (macro_item_bytes texts) (unmarked_items (e ∷ es))
+      ≡ text_of texts e ++ flat_map (macro_item_bytes texts) (unmarked_items es)
+  item-text (token.Span span_kind.Word s) es item = refl
+  item-text _ es item = cc
+
+  item-bytes : (e : Token) (es : List Token) → is_front_gap e ≡ false
+      → flat_map (macro_item_bytes texts) (unmarked_items (e ∷ es)) ++ line_feed ∷ tail
+      ≡ text_of texts e
+      ++ (flat_map (macro_item_bytes texts) (unmarked_items es) ++ line_feed ∷ tail)
+  item-bytes e es item =
+      ap (λ bs. bs ++ line_feed ∷ tail) (item-text e es item)
+      ∙ append_assoc (text_of texts e) (flat_map (macro_item_bytes texts) (unmarked_items es))
+      (line_feed ∷ tail)
+
+  -- an item after white space on its line, directly after another item, and at the front of a line
+
+  white-item : (in_name : Bool) (before e : Token) (es : List Token) → is_front_gap e ≡ false →
+      bytes_from in_name (Some before) true
+      (e ∷ es) ≡ space
+      ∷ (text_of texts e ++ bytes_from (in_name && false && is_name_part e) (Some e) false es)
+  white-item in_name before e es item =
+      rw (macro_blanks-item texts in_name (Some before) true e es item)
+      (ap (λ bs. space ∷ bs)
+      (item-bytes e
+      (macro_blanks texts (in_name && false && is_name_part e) (Some e) false es) item))
+
+  next-item : (in_name : Bool) (before e : Token) (es : List Token) → is_front_gap e ≡ false →
+      bytes_from in_name (Some before) false (e ∷ es) ≡ text_of texts e ++ bytes_from
+      (in_name && true && is_name_part e) (Some e) false es
+  next-item in_name before e es item =
+      rw (macro_blanks-item texts in_name (Some before) false e es item)
+      (item-bytes e (macro_blanks texts (in_name && true && is_name_part e) (Some e) false es) item)
+
+  front-item : (in_name white : Bool) (e : Token) (es : List Token) → is_front_gap e ≡ false →
+      bytes_from in_name None white (e ∷ es) ≡ text_of texts e ++ bytes_from
+      (in_name && not white && is_name_part e) (Some e) false es
+  front-item in_name white e es item =
+      rw (macro_blanks-item texts in_name None white e es item)
+      (item-bytes e
+      (macro_blanks texts (in_name && not white && is_name_part e) (Some e) false es) item)
+
+  -- a line end that is taken out, between two items that may touch
+
+  abbrev Meets : List ℕ → Option Token → Type 0
+  Meets a None = Unit {0}
+  Meets a (Some f) = (more : List ℕ) → have_border a (spliced (text_of texts f ++ more)) ≡ true
+
+  front-border : (a : List ℕ) (in_name white : Bool) (es : List Token) → Meets a (next_item es) →
+      have_border a (spliced (bytes_from in_name None white es)) ≡ true
+  front-border a in_name white [] meets =
+      ap (have_border a) (spliced-other line_feed tail refl)
+      ∙ white-next a line_feed (spliced tail) refl
+  front-border a in_name white (token.White ∷ es) meets = front-border a in_name true es meets
+  front-border a in_name white (token.LineEnd line ∷ es) meets = front-border a false false es meets
+  front-border a in_name white (e ∷ es) meets =
+      ap (λ bs. have_border a (spliced bs)) (front-item in_name white e es refl)
+      ∙ meets (bytes_from (in_name && not white && is_name_part e) (Some e) false es)
+
+  group-text : (items : List Token) (e : Token)
+      → group_text texts (items ++ e ∷ []) ≡ group_text texts items ++ text_of texts e
+  group-text items e =
+      flat_map-append (text_of texts) items (e ∷ [])
+      ∙ ap (λ t. group_text texts items ++ t) (append-nil (text_of texts e))
+
+  meets-next : (items : List Token) (e f : Token) → may_touch texts e f ≡ true →
+      are_apart_at_edges texts (group_text texts (items ++ e ∷ [])) (Some e) (Some f) ≡ true →
+      Meets (spliced (group_text texts (items ++ e ∷ []))) (Some f)
+  meets-next items e f may apart more =
+      let k : TextKind = item_kind texts e in
+      let g : TextKind = item_kind texts f in
+      let a : List ℕ = group_text texts (items ++ e ∷ []) in
+      let edges = rw may at apart in
+      let outer =
+      and_parts (ends_as k (text_of texts e) && begins_as g (text_of texts f))
+      (not (number_goes_on_with a (text_of texts f))) edges in
+      let inner = and_parts (ends_as k (text_of texts e)) (begins_as g (text_of texts f)) outer.0 in
+      kinds-border k g (spliced a) (text_of texts f) more (sym (same-table texts e f) ∙ may)
+      (ap (λ t. ends_as k (spliced t)) (group-text items e)
+      ∙ ends-as k (group_text texts items) (text_of texts e) inner.0)
+      inner.1 (not-true (number_goes_on_with a (text_of texts f)) outer.1)
+
+  meets-if_no_blank : (in_name : Bool) (items : List Token) (e : Token) (next : Option Token) →
+      has_blank_at_line_end texts in_name (Some e) next ≡ false →
+      are_apart_at_edges texts (group_text texts (items ++ e ∷ [])) (Some e) next ≡ true →
+      Meets (spliced (group_text texts (items ++ e ∷ []))) next
+  meets-if_no_blank in_name items e None none apart = tt
+  meets-if_no_blank in_name items e (Some f) none apart =
+      meets-next items e f
+      (may (may_touch texts e f) (or_parts in_name (not (may_touch texts e f)) none).1) apart
+    where
+      may : (b : Bool) → not b ≡ false → b ≡ true
+      may true h = refl
+      may false h = sym h
+
+  -- The bytes from these tokens on are read as their groups.
+
+  abbrev texts_in : List Group → List (List ℕ)
+  texts_in gs = map (λ (group : Group). group_text texts group.items) gs
+
+  abbrev AreReadAlone : List Group → Type 0
+  AreReadAlone gs = AllByRecursion (IsApart texts) gs
+
+  abbrev ReadsAs : List Group → List ℕ → Type 0
+  ReadsAs gs bytes = AreReadAlone gs → IsReadAs (texts_in gs ++ ts) bytes
+
+  -- at the front of a line
+  abbrev ReadsFront : List Token → Type 0
+  ReadsFront es = (in_name white : Bool)
+      → ReadsAs (groups_after [] es) (bytes_from in_name None white es)
+
+  -- directly after an item
+  abbrev ReadsWithin : List Token → Type 0
+  ReadsWithin es = (in_name : Bool) (items : List Token) (e : Token) →
+      ReadsAs (groups_after (items ++ e ∷ []) es)
+      (group_text texts (items ++ e ∷ []) ++ bytes_from in_name (Some e) false es)
+
+  -- after a group
+  abbrev ReadsAfter : Bool → Bool → List Token → Type 0
+  ReadsAfter in_name white es = (items : List Token) (e : Token)
+      → IsApart texts (record { items = items ++ e ∷ []; rest = es })
+      → AreReadAlone (groups_after [] es)
+      → IsReadAs (group_text texts (items ++ e ∷ []) ∷ texts_in (groups_after [] es) ++ ts)
+      (group_text texts (items ++ e ∷ []) ++ bytes_from in_name (Some e) white es)
+
+  record Reads (es : List Token) : Type 0 where
+    front : ReadsFront es
+    within : ReadsWithin es
+    after_white : (in_name : Bool) → ReadsAfter in_name true es
+
+  -- from after a group to what is directly after an item
+  closed : (items : List Token) (e : Token) (rest : List Token) (bytes : List ℕ) (gs : List Group) →
+      (IsApart texts (record { items = items ++ e ∷ []; rest = rest }) → AreReadAlone gs →
+      IsReadAs (group_text texts (items ++ e ∷ []) ∷ texts_in gs ++ ts) bytes) →
+      ReadsAs (group_before rest (items ++ e ∷ []) ++ gs) bytes
+  closed items e rest bytes gs reads =
+      subst (λ hs. ReadsAs (hs ++ gs) bytes) (sym (group-one items e rest))
+      (λ alone. reads alone.0 alone.1)
+
+  at-end : (in_name white : Bool) → ReadsAfter in_name white []
+  at-end in_name white items e alone rest =
+      let t : List ℕ = group_text texts (items ++ e ∷ []) in
+      with-text t tail (t ++ line_feed ∷ tail) ts
+      (feed-between t tail alone.whole (alone.ended refl)) read
+
+  at-line_end : (line : ℕ) (es : List Token) → ReadsFront es → (in_name white : Bool)
+      → ReadsAfter in_name white (token.LineEnd line ∷ es)
+  at-line_end line es front in_name white items e alone rest =
+      by (has_blank_at_line_end texts in_name (Some e) (next_item es)) refl
+    where
+      apart : are_apart_at_edges texts (group_text texts (items ++ e ∷ [])) (Some e)
+          (next_item es) ≡ true
+      apart = ap
+          (λ last. are_apart_at_edges texts (group_text texts (items ++ e ∷ [])) last
+          (next_item es)) (sym (last-item None items e)) ∙ alone.apart refl
+
+      by : (blank : Bool) → has_blank_at_line_end texts in_name (Some e) (next_item es) ≡ blank →
+          IsReadAs (group_text texts (items ++ e ∷ []) ∷ texts_in (groups_after [] es) ++ ts)
+          (group_text texts (items ++ e ∷ []) ++ (flat_map (macro_item_bytes texts) (unmarked_items
+          ((if blank then token.White ∷ [] else []) ++ token.LineEnd line
+          ∷ macro_blanks texts false None false es)) ++ line_feed ∷ tail))
+      by true is =
+          let t : List ℕ = group_text texts (items ++ e ∷ []) in
+          let after : List ℕ = bytes_from false None false es in
+          let next = front false false rest in
+          with-text t (backslash ∷ line_feed ∷ after) (t ++ space ∷ backslash ∷ line_feed ∷ after)
+          (texts_in (groups_after [] es) ++ ts)
+          (space-between t (backslash ∷ line_feed ∷ after) alone.whole)
+          (record { read = next.read; whole = next.whole })
+      by false is =
+          let t : List ℕ = group_text texts (items ++ e ∷ []) in
+          let after : List ℕ = bytes_from false None false es in
+          with-text t after (t ++ backslash ∷ line_feed ∷ after)
+          (texts_in (groups_after [] es) ++ ts)
+          (taken-between t after alone.whole
+          (front-border (spliced t) false false es
+          (meets-if_no_blank in_name items e (next_item es) is apart)))
+          (front false false rest)
+
+  at-item : (e : Token) (es : List Token) → is_front_gap e ≡ false →
+      ((items : List Token) → groups_after items (e ∷ es) ≡ groups_after (items ++ e ∷ []) es)
+      → ReadsWithin es → Reads (e ∷ es)
+  at-item e es item more within = record {
+    front = λ in_name white alone.
+        subst (IsReadAs (texts_in (groups_after [] (e ∷ es)) ++ ts))
+        (sym (front-item in_name white e es item))
+        (first (in_name && not white && is_name_part e) alone);
+    within = λ in_name items before alone.
+        let after : List ℕ = bytes_from (in_name && true && is_name_part e) (Some e) false es in
+        let t : List ℕ = group_text texts (items ++ before ∷ []) in
+        subst (IsReadAs (texts_in (groups_after (items ++ before ∷ []) (e ∷ es)) ++ ts))
+        (sym (ap (λ bs. t ++ bs) (next-item in_name before e es item)
+        ∙ sym (append_assoc t (text_of texts e) after)
+        ∙ ap (λ bs. bs ++ after) (sym (group-text (items ++ before ∷ []) e))))
+        (subst (λ gs. ReadsAs gs (group_text texts ((items ++ before ∷ []) ++ e ∷ []) ++ after))
+        (sym (more (items ++ before ∷ [])))
+        (within (in_name && true && is_name_part e) (items ++ before ∷ []) e) alone);
+    after_white = λ in_name items before alone rest.
+        let after : List ℕ = text_of texts e ++ bytes_from (in_name && false && is_name_part e)
+        (Some e) false es in
+        let t : List ℕ = group_text texts (items ++ before ∷ []) in
+        subst (IsReadAs (t ∷ texts_in (groups_after [] (e ∷ es)) ++ ts))
+        (sym (ap (λ bs. t ++ bs) (white-item in_name before e es item)))
+        (with-text t after (t ++ space ∷ after) (texts_in (groups_after [] (e ∷ es)) ++ ts)
+        (space-between t after alone.whole)
+        (first (in_name && false && is_name_part e) rest));
+  }
+    where
+      first : (in_name : Bool)
+          → ReadsAs (groups_after [] (e ∷ es))
+          (text_of texts e ++ bytes_from in_name (Some e) false es)
+      first in_name =
+          subst (λ gs. ReadsAs gs (text_of texts e ++ bytes_from in_name (Some e) false es))
+          (sym (more []))
+          (subst (λ t. ReadsAs (groups_after (e ∷ []) es)
+          (t ++ bytes_from in_name (Some e) false es)) (append-nil (text_of texts e))
+          (within in_name [] e))
+
+  -- white space and line ends change nothing of a group before them
+  same-group : (items : List Token) (es : List Token)
+      → IsApart texts (record { items = items; rest = token.White ∷ es }) →
+      IsApart texts (record { items = items; rest = es })
+  same-group items es alone =
+      record { whole = alone.whole; apart = alone.apart; ended = alone.ended }
+
+  reads : (es : List Token) → Reads es
+  reads [] = record {
+    front = λ in_name white alone. with-nothing tail (line_feed ∷ tail) ts (feed-front tail) read;
+    within = λ in_name items e.
+        subst (λ gs. ReadsAs gs (group_text texts (items ++ e ∷ []) ++ line_feed ∷ tail))
+        (sym (group-one items e []))
+        (λ alone. at-end in_name false items e alone.0 alone.1);
+    after_white = λ in_name. at-end in_name true;
+  }
+  reads (token.White ∷ es) =
+      let next = reads es in
+      record {
+        front = λ in_name white. next.front in_name true;
+        within = λ in_name items e. closed items e (token.White ∷ es)
+            (group_text texts (items ++ e ∷ []) ++ bytes_from in_name (Some e) true es)
+            (groups_after [] es)
+            (λ alone. next.after_white in_name items e (same-group (items ++ e ∷ []) es alone));
+        after_white =
+            λ in_name items e alone. next.after_white in_name items e
+            (same-group (items ++ e ∷ []) es alone);
+      }
+  reads (token.LineEnd line ∷ es) =
+      let next = reads es in
+      record {
+        front = λ in_name white alone. let read =
+            next.front false false alone in record { read = read.read; whole = read.whole };
+        within = λ in_name items e. closed items e (token.LineEnd line ∷ es)
+            (group_text texts (items ++ e ∷ []) ++ bytes_from in_name (Some e) false
+            (token.LineEnd line ∷ es)) (groups_after [] es)
+            (at-line_end line es next.front in_name false items e);
+        after_white = λ in_name. at-line_end line es next.front in_name true;
+      }
+  reads (e ∷ es) = let next = reads es in at-item e es refl (λ items. refl) next.within
+
+  define-whole : is_whole (codes "#define") ≡ true
+  unfolding is_element is_token is_punctuator
+  define-whole = refl
+
+  pub macro-by-groups : (es : List Token) → AreTexts texts es →
+      AllByRecursion (IsReadAlone texts) (groups (written_tokens texts es)) →
+      IsReadAs (codes "#define" ∷ texts_in (groups (written_tokens texts es)) ++ ts)
+      (macro_bytes texts (unmarked_items (macro_blanks texts true None false es)) ++ tail)
+  macro-by-groups es are alone =
+      let written : List Token = written_tokens texts es in
+      let text : List ℕ = flat_map (macro_item_bytes texts)
+      (items_from texts true None false written) in
+      subst (IsReadAs (codes "#define" ∷ texts_in (groups written) ++ ts))
+      (sym (ap (λ xs. (codes "#define " ++ flat_map (macro_item_bytes texts) xs ++ codes "\n")
+      ++ tail) (end-items texts es true None false)
+      ∙ ap (λ bs. codes "#define " ++ bs) (append_assoc text (line_feed ∷ []) tail)))
+      (with-text (codes "#define") (bytes_from true None false written)
+      (codes "#define " ++ bytes_from true None false written)
+      (texts_in (groups written) ++ ts)
+      (space-between (codes "#define") (bytes_from true None false written) define-whole)
+      ((reads written).front true false (apart-groups texts es are alone)))
+
+-- the bytes of a macro alone
+pub one-macro : (texts : List (List ℕ)) (es : List Token) → AreTexts texts es →
+    IsReadByGroups texts es
+    (macro_bytes texts (unmarked_items (macro_blanks texts true None false es)))
+one-macro texts es are alone =
+    let text : List ℕ = macro_bytes texts
+    (unmarked_items (macro_blanks texts true None false es)) in
+    let of_groups : List (List ℕ) = map (λ (g : Group). group_text texts g.items)
+    (groups (written_tokens texts es)) in
+    subst (λ ts. IsReadAs ts text) (append-nil (codes "#define" ∷ of_groups))
+    (subst (IsReadAs (codes "#define" ∷ of_groups ++ [])) (append-nil text)
+    (macro-by-groups texts [] [] no-text es are alone))

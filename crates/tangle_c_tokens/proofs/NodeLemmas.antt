@@ -1,0 +1,175 @@
+-- The bytes of the pieces of a node are read as their parts.
+use Rattle.tangle_c_tokens.proofs.TextLemmas.{IsMarkText, IsWholeLine}
+use Rattle.std.proofs.Common.{◌≡◌, ℕ, Bool, true, false, if◌then◌else◌, List, [], ◌∷◌}
+use Rattle.std.proofs.Common.{◌++◌, map, drop, flat_map}
+use Rattle.std.proofs.Common.{append_assoc, get_or, refl, ap, sym, ◌∙◌, subst, cond}
+use Rattle.std.specs.Prelude.{filter}
+use Rattle.std.specs.List.{AllByRecursion}
+use Rattle.c_tokens.specs.Bytes.{line_feed}
+use Rattle.tangle_files.specs.declared.marks.MarkMode.{MarkMode}
+use Rattle.tangle_files.specs.declared.marks.MarkMode.TheVariants.{Full, Bare}
+use Rattle.tangle_lines.specs.declared.origin.Origin.{Origin}
+use Rattle.tangle_lines.specs.Reading.{SourceLine, origin_at}
+use Rattle.tangle_lexer.specs.declared.tokens.Token.{Token}
+use Rattle.tangle_scan.specs.Rules.{texts_of, part_tokens, part_items}
+use Rattle.tangle_scan.specs.Web.{PieceRead, Block, BlockKind, piece_of}
+use Rattle.tangle_scan.specs.Web.{kind_piece}
+use Rattle.tangle_scan.specs.Web.BlockKind.{OfMacro, OfPiece}
+use Rattle.tangle_names.specs.NameTable.{TableRead}
+use Rattle.tangle_plans.specs.Shapes.{Title}
+use Rattle.tangle_plans.specs.Flat.{Symbol}
+use Rattle.tangle_plans.specs.WebShapes.{is_piece_of}
+use Rattle.tangle_expansion.specs.Numbers.{NumbersRead, mark_bytes}
+use Rattle.tangle_expansion.specs.Numbers.{mark_bytes_at, mark_end}
+use Rattle.tangle_expansion.specs.Numbers.{opening_bytes, closing_bytes}
+use Rattle.tangle_expansion.specs.PieceBytes.{bytes_after_mark, used_bytes}
+use Rattle.tangle_expansion.specs.PieceBytes.{items_bytes, piece_bytes}
+use Rattle.tangle_c_tokens.specs.Pieces.{parts, IsRead, IsWholePart}
+use Rattle.tangle_c_tokens.specs.Files.{piece_texts, node_texts}
+use Rattle.tangle_c_tokens.proofs.TextLemmas.{feed-front}
+use Rattle.tangle_c_tokens.proofs.CommentLemmas.{after-opening, before-closing, after-closing}
+use Rattle.tangle_c_tokens.proofs.RowLemmas.{with-mark, without-text}
+use Rattle.tangle_c_tokens.proofs.PieceLemmas.{piece-by-parts}
+use Rattle.tangle_c_tokens.proofs.PartLemmas.{parts-whole}
+use Rattle.tangle_c_tokens.proofs.FeedLemmas.{KeepsFeed, keeps-more, closing-keeps}
+
+line_feed_first : (marks : MarkMode) (ending : List ℕ) (line : ℕ)
+    → mark_bytes marks ending line ≡ line_feed ∷ drop 1 (mark_bytes marks ending line)
+line_feed_first Full ending line = refl
+line_feed_first Bare ending line = refl
+
+grouped : (o m i c rest : List ℕ) → (o ++ m ++ i ++ c) ++ rest ≡ o ++ (m ++ (i ++ (c ++ rest)))
+grouped o m i c rest = simp append_assoc
+
+module _ (lines : List SourceLine) (numbers : NumbersRead) (table : TableRead)
+    (used : List ℕ → List Symbol)
+    (marks : (origin : Origin) → IsMarkText (bytes_after_mark numbers origin))
+    (used_whole : (occurrence : ℕ) → IsWholeLine (used_bytes numbers table used occurrence))
+    (macros_whole : IsWholeLine numbers.macros) where
+  abbrev pub mark : Origin → List ℕ
+  mark origin = bytes_after_mark numbers origin
+
+  abbrev pub bytes_of : PieceRead → List ℕ
+  bytes_of piece = piece_bytes numbers table used (texts_of lines) piece
+
+  abbrev pub IsBare : List Token → Type 0
+  IsBare es =
+      AllByRecursion (IsWholePart (texts_of lines) (λ occurrence. []) [])
+      (parts (texts_of lines) es)
+
+  abbrev pub texts_in : List Token → List (List ℕ)
+  texts_in es = piece_texts numbers table used (texts_of lines) es
+
+  -- a piece, and what is written after it
+  piece-read : (section line : ℕ) (origin : Origin) (es : List Token) (rest : List ℕ)
+      (ts : List (List ℕ)) →
+      IsBare (part_tokens (texts_of lines) es) → IsRead mark ts rest →
+      IsRead mark (texts_in (part_tokens (texts_of lines) es) ++ ts)
+      ((opening_bytes section ++ mark_bytes_at numbers origin
+      ++ items_bytes numbers table used (texts_of lines)
+      (part_items lines line es) ++ closing_bytes section) ++ rest)
+  piece-read section line origin es rest ts bare read =
+      let items : List ℕ = items_bytes numbers table used (texts_of lines)
+      (part_items lines line es) in
+      let tail : List ℕ = closing_bytes section ++ rest in
+      let inner =
+      piece-by-parts lines
+      (λ occurrence. used_bytes numbers table used occurrence) mark numbers.macros marks tail ts
+      (without-text mark tail rest ts (after-closing section rest) read)
+      (before-closing section rest) line es
+      (parts-whole (texts_of lines)
+      (λ occurrence. used_bytes numbers table used occurrence) numbers.macros used_whole macros_whole
+      [] (part_tokens (texts_of lines) es) refl bare) in
+      let us : List (List ℕ) = texts_in (part_tokens (texts_of lines) es) ++ ts in
+      let marked = with-mark mark origin (items ++ tail) us (marks origin) inner in
+      let after : List ℕ = line_feed ∷ (mark origin ++ (items ++ tail)) in
+      subst (IsRead mark us)
+      (sym (grouped (opening_bytes section) (mark_bytes_at numbers origin) items
+      (closing_bytes section) rest
+      ∙ ap (λ m. opening_bytes section ++ (m ++ (items ++ tail)))
+      (line_feed_first numbers.marks
+      (get_or numbers.mark_ends origin.file (mark_end [])) origin.line)))
+      (without-text mark (opening_bytes section ++ after) after us (after-opening section after)
+      (without-text mark after (mark origin ++ (items ++ tail)) us
+      (feed-front (mark origin ++ (items ++ tail))) marked))
+
+  -- the bytes of pieces do not end in a backslash
+  pub pieces-keep : (pieces : List PieceRead) → KeepsFeed (flat_map bytes_of pieces)
+  pieces-keep [] = refl
+  pieces-keep (piece ∷ pieces) =
+      keeps-more (bytes_of piece) (flat_map bytes_of pieces) (closing-keeps
+      (opening_bytes piece.section ++ mark_bytes_at numbers piece.origin
+      ++ items_bytes numbers table used (texts_of lines) piece.items)
+      piece.section) (pieces-keep pieces)
+
+  -- `tail` is written after the node, and read as the texts `us`.
+  module _ (node : Title) (tail : List ℕ) (us : List (List ℕ))
+      (tail_read : IsRead mark us tail) where
+    abbrev pub node_bytes : List PieceRead → List ℕ
+    node_bytes pieces = flat_map bytes_of (filter (is_piece_of table node) pieces) ++ tail
+
+    abbrev pub texts_then : List PieceRead → List (List Token) → List (List ℕ)
+    texts_then pieces tokens =
+        node_texts numbers table used (texts_of lines) node pieces tokens ++ us
+
+    pub node-read : (bs : List Block) →
+        AllByRecursion IsBare
+        (flat_map
+        (λ b. map (λ p. part_tokens (texts_of lines) b.tokens) (piece_of lines b)) bs) →
+        IsRead mark
+        (texts_then (flat_map (piece_of lines) bs)
+        (flat_map (λ b. map (λ p. part_tokens (texts_of lines) b.tokens) (piece_of lines b)) bs))
+        (node_bytes (flat_map (piece_of lines) bs))
+    node-read [] bare = tail_read
+    node-read (b ∷ bs) bare = by b.kind (node-read bs) bare
+      where
+        all : List PieceRead
+        all = flat_map (piece_of lines) bs
+
+        each : List (List Token)
+        each = flat_map
+            (λ b. map (λ p. part_tokens (texts_of lines) b.tokens) (piece_of lines b)) bs
+
+        ts : List (List ℕ)
+        ts = node_texts numbers table used (texts_of lines) node all each
+
+        later : List ℕ
+        later = flat_map bytes_of (filter (is_piece_of table node) all)
+
+        chosen : (piece : PieceRead) (es : List Token) (is : Bool)
+            → IsRead mark (ts ++ us) (later ++ tail) →
+            IsRead mark (texts_in es ++ (ts ++ us)) (bytes_of piece ++ (later ++ tail)) →
+            IsRead mark (((if is then texts_in es else []) ++ ts) ++ us)
+            (flat_map bytes_of
+            (cond is (piece ∷ filter (is_piece_of table node) all)
+            (filter (is_piece_of table node) all)) ++ tail)
+        chosen piece es true rest read =
+            subst (IsRead mark ((texts_in es ++ ts) ++ us))
+            (sym (append_assoc (bytes_of piece) later tail))
+            (subst (λ ws. IsRead mark ws (bytes_of piece ++ (later ++ tail)))
+            (sym (append_assoc (texts_in es) ts us)) read)
+        chosen piece es false rest read = rest
+
+        by : (kind : BlockKind)
+            → (AllByRecursion IsBare each → IsRead mark (ts ++ us) (later ++ tail)) →
+            AllByRecursion IsBare
+            (map (λ p. part_tokens (texts_of lines) b.tokens)
+            (kind_piece lines kind b) ++ each) →
+            IsRead mark
+            (texts_then (kind_piece lines kind b ++ all)
+            (map (λ p. part_tokens (texts_of lines) b.tokens) (kind_piece lines kind b) ++ each))
+            (node_bytes (kind_piece lines kind b ++ all))
+        by (OfMacro line) next bare = next bare
+        by (OfPiece occurrence line) next bare =
+            let origin : Origin = origin_at lines line in
+            let piece : PieceRead =
+            record {
+              section = b.section;
+              origin = origin;
+              occurrence = occurrence;
+              items =
+                  part_items lines line b.tokens;
+            } in
+            let rest = next bare.1 in
+            chosen piece (part_tokens (texts_of lines) b.tokens) (is_piece_of table node piece) rest
+            (piece-read b.section line origin b.tokens (later ++ tail) (ts ++ us) bare.0 rest)

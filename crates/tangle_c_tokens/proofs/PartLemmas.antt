@@ -1,0 +1,157 @@
+-- Parts are whole whatever whole texts are written for uses, if their groups of items are.
+use Rattle.tangle_c_tokens.proofs.TextLemmas.{IsWholeLine}
+use Rattle.std.proofs.Common.{◌≡◌, ℕ, Bool, true, false, ◌&&◌, not, if◌then◌else◌, List, [], ◌∷◌}
+use Rattle.std.proofs.Common.{◌++◌, refl, ap, sym, ◌∙◌, subst, None, ◌==◌}
+use Rattle.std.proofs.Common.{append-nil}
+use Rattle.std.specs.List.{AllByRecursion, last_or, list_all}
+use Rattle.std.proofs.lemmas.Bool.{and_parts, and_from, false≢true}
+use Rattle.c_tokens.specs.Bytes.{line_feed, slash}
+use Rattle.c_tokens.specs.Reading.{spliced}
+use Rattle.c_tokens.specs.Borders.{is_whole, keep_lines}
+use Rattle.tangle_lexer.specs.declared.tokens.Token.{Token}
+use Rattle.tangle_lexer.specs.declared.tokens.Token.TheVariants as token
+use Rattle.tangle_scan.specs.Rules.{is_continued, ends_line}
+use Rattle.tangle_scan.specs.ReadAsMeant.{token_bytes}
+use Rattle.tangle_c_tokens.specs.Edges.{ends_in}
+use Rattle.tangle_c_tokens.specs.Groups.{Group, group_before}
+use Rattle.tangle_c_tokens.specs.Pieces.{is_use, parts_after, written_for, part_text}
+use Rattle.tangle_c_tokens.specs.Pieces.{IsWholePart}
+
+module _ (texts : List (List ℕ)) (used : ℕ → List ℕ) (macros : List ℕ)
+    (used_whole : (occurrence : ℕ) → IsWholeLine (used occurrence))
+    (macros_whole : IsWholeLine macros) where
+  abbrev IsBare : Group → Type 0
+  IsBare part = IsWholePart texts (λ occurrence. []) [] part
+
+  abbrev IsWhole : Group → Type 0
+  IsWhole part = IsWholePart texts used macros part
+
+  abbrev AreItems : List Token → Type 0
+  AreItems items = list_all (λ e. not (is_use e)) items ≡ true
+
+  same-item : (e : Token) → not (is_use e) ≡ true →
+      token_bytes texts (written_for texts (λ occurrence. []) []) e ≡ token_bytes texts
+      (written_for texts used macros) e
+  same-item (token.UseOf line occurrence) item = absurd (false≢true item)
+  same-item (token.AllMacros line) item = absurd (false≢true item)
+  same-item _ item = refl
+
+  same-text : (items : List Token) → AreItems items
+      → part_text texts (λ occurrence. []) [] items ≡ part_text texts used macros items
+  same-text [] are = refl
+  same-text (e ∷ items) are =
+      let parts = and_parts (not (is_use e)) (list_all (λ e. not (is_use e)) items) are in
+      ap (λ t. t ++ part_text texts (λ occurrence. []) [] items) (same-item e parts.0)
+      ∙ ap (λ t. token_bytes texts (written_for texts used macros) e ++ t) (same-text items parts.1)
+
+  whole-group : (items rest : List Token) → AreItems items
+      → IsBare (record { items = items; rest = rest }) →
+      IsWhole (record { items = items; rest = rest })
+  whole-group items rest are bare =
+      let same = same-text items are in
+      record {
+        whole = ap is_whole (sym same) ∙ bare.whole;
+        kept = λ follows. ap (λ t. keep_lines t (line_feed ∷ [])) (sym same) ∙ bare.kept follows;
+        ended = λ last closed. subst (λ t. ends_in (λ d. d == slash) (spliced t) ≡ false) same
+            (bare.ended last closed);
+      }
+
+  whole-groups : (items rest : List Token) (gs : List Group) → AreItems items
+      → AllByRecursion IsBare (group_before rest items ++ gs) →
+      (AllByRecursion IsBare gs → AllByRecursion IsWhole gs)
+      → AllByRecursion IsWhole (group_before rest items ++ gs)
+  whole-groups [] rest gs are bare next = next bare
+  whole-groups (e ∷ items) rest gs are bare next =
+      (whole-group (e ∷ items) rest are bare.0, next bare.1)
+
+  use-line : (t : List ℕ) → IsWholeLine t → IsWholeLine (t ++ [])
+  use-line t line = subst IsWholeLine (sym (append-nil t)) line
+
+  more-items : (items : List Token) (e : Token) → AreItems items → not (is_use e) ≡ true
+      → AreItems (items ++ e ∷ [])
+  more-items [] e are item = and_from (not (is_use e)) true item refl
+  more-items (x ∷ items) e are item =
+      let parts = and_parts (not (is_use x)) (list_all (λ e. not (is_use e)) items) are in
+      and_from (not (is_use x)) (list_all (λ e. not (is_use e)) (items ++ e ∷ [])) parts.0
+      (more-items items e parts.1 item)
+
+  pub parts-whole : (items es : List Token) → AreItems items
+      → AllByRecursion IsBare (parts_after texts items es) →
+      AllByRecursion IsWhole (parts_after texts items es)
+  parts-whole items [] are bare = alone items are bare
+    where
+      alone : (items : List Token) → AreItems items → AllByRecursion IsBare (group_before [] items)
+          → AllByRecursion IsWhole (group_before [] items)
+      alone [] are bare = tt
+      alone (e ∷ items) are bare = (whole-group (e ∷ items) [] are bare.0, tt)
+  parts-whole items (token.White ∷ es) are bare =
+      by (is_continued texts (last_or None items) && ends_line es) (parts-whole items es are)
+      (parts-whole [] es refl) bare
+    where
+      by : (b : Bool)
+          → (AllByRecursion IsBare (parts_after texts items es)
+          → AllByRecursion IsWhole (parts_after texts items es)) →
+          (AllByRecursion IsBare (parts_after texts [] es)
+          → AllByRecursion IsWhole (parts_after texts [] es)) →
+          AllByRecursion IsBare
+          (if b then parts_after texts items es else group_before
+          (token.White ∷ es) items ++ parts_after texts [] es) →
+          AllByRecursion IsWhole
+          (if b then parts_after texts items es else group_before
+          (token.White ∷ es) items ++ parts_after texts [] es)
+      by true same next bare = same bare
+      by false same next bare =
+          whole-groups items (token.White ∷ es) (parts_after texts [] es) are bare next
+  parts-whole items (token.LineEnd line ∷ es) are bare =
+      by (is_continued texts (last_or None items))
+      (parts-whole (items ++ token.LineEnd line ∷ []) es
+      (more-items items (token.LineEnd line) are refl))
+      (parts-whole [] es refl) bare
+    where
+      more : List Token
+      more = items ++ token.LineEnd line ∷ []
+
+      by : (b : Bool)
+          → (AllByRecursion IsBare (parts_after texts more es)
+          → AllByRecursion IsWhole (parts_after texts more es)) →
+          (AllByRecursion IsBare (parts_after texts [] es)
+          → AllByRecursion IsWhole (parts_after texts [] es)) →
+          AllByRecursion IsBare
+          (if b then parts_after texts more es else group_before
+          (token.LineEnd line ∷ es) items ++ parts_after texts [] es) →
+          AllByRecursion IsWhole
+          (if b then parts_after texts more es else group_before
+          (token.LineEnd line ∷ es) items ++ parts_after texts [] es)
+      by true same next bare = same bare
+      by false same next bare =
+          whole-groups items (token.LineEnd line ∷ es) (parts_after texts [] es) are bare next
+  parts-whole items (token.UseOf line occurrence ∷ es) are bare =
+      let e : Token = token.UseOf line occurrence in
+      let of_use = use-line (used occurrence) (used_whole occurrence) in
+      whole-groups items (e ∷ es)
+      (record { items = e ∷ []; rest = es } ∷ parts_after texts [] es) are bare
+      (λ rest. (
+        record {
+          whole = of_use.whole;
+          kept = λ follows. of_use.kept;
+          ended =
+              λ last closed. absurd (false≢true closed);
+        },
+        parts-whole [] es refl rest.1,
+      ))
+  parts-whole items (token.AllMacros line ∷ es) are bare =
+      let e : Token = token.AllMacros line in
+      let of_use = use-line macros macros_whole in
+      whole-groups items (e ∷ es)
+      (record { items = e ∷ []; rest = es } ∷ parts_after texts [] es) are bare
+      (λ rest. (
+        record {
+          whole = of_use.whole;
+          kept = λ follows. of_use.kept;
+          ended =
+              λ last closed. absurd (false≢true closed);
+        },
+        parts-whole [] es refl rest.1,
+      ))
+  parts-whole items (e ∷ es) are bare =
+      parts-whole (items ++ e ∷ []) es (more-items items e are refl) bare

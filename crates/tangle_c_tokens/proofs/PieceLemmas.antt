@@ -1,0 +1,611 @@
+-- The tokens of the bytes of a piece are those of its parts.
+use Rattle.tangle_c_tokens.proofs.TextLemmas.{IsMarkText}
+use Rattle.std.proofs.Common.{◌≡◌, ℕ, ◌+◌, Bool, true, false, ◌&&◌, ◌==◌, not, if◌then◌else◌, List}
+use Rattle.std.proofs.Common.{[], ◌∷◌, ◌++◌, map, flat_map}
+use Rattle.std.proofs.Common.{append_assoc, append-nil, Option, Some, None, is_some, ◌⊎◌, inl, inr}
+use Rattle.std.proofs.Common.{refl, ap, sym, ◌∙◌, subst}
+use Rattle.std.proofs.Math.Bool.{and-true, and-false}
+use Rattle.std.specs.List.{AllByRecursion}
+use Rattle.std.proofs.lemmas.Bool.{not_from_false, and_parts, or_left, or_right, false≢true}
+use Rattle.std.proofs.lemmas.Bool.{and_from}
+use Rattle.std.proofs.lemmas.List.Concat.{flat_map-append}
+use Rattle.c_tokens.specs.Bytes.{space, line_feed, slash}
+use Rattle.c_tokens.specs.Reading.{spliced}
+use Rattle.c_tokens.specs.Borders.{is_whole, keep_lines}
+use Rattle.tangle_lines.specs.declared.origin.Origin.{Origin}
+use Rattle.tangle_lines.specs.Reading.{SourceLine, origin_at}
+use Rattle.tangle_lexer.specs.declared.tokens.Token.{Token}
+use Rattle.tangle_lexer.specs.declared.tokens.Token.TheVariants as token
+use Rattle.tangle_lexer.specs.declared.tokens.SpanKind.TheVariants as span_kind
+use Rattle.tangle_scan.specs.declared.items.Item.{Item}
+use Rattle.tangle_scan.specs.Rules.{texts_of, is_open, is_continued, ends_line, is_front_gap}
+use Rattle.tangle_scan.specs.Rules.{blanks, next_line}
+use Rattle.tangle_scan.specs.Rules.{part_tokens, part_items, next_item}
+use Rattle.tangle_scan.specs.LineTruth.{is_expected}
+use Rattle.tangle_scan.specs.Passes.{counted_after_token, items_by_origin}
+use Rattle.tangle_scan.specs.ItemBytes.{piece_item_bytes}
+use Rattle.tangle_scan.specs.ReadAsMeant.{token_bytes, use_bytes}
+use Rattle.tangle_scan.proofs.lemmas.ItemsByOrigin.{part_items-by_origin}
+use Rattle.tangle_scan.proofs.lemmas.RuleLemmas.{blanks-item}
+use Rattle.tangle_c_tokens.specs.Edges.{ends_in}
+use Rattle.tangle_c_tokens.specs.Groups.{Group, group_before}
+use Rattle.tangle_c_tokens.specs.Pieces.{is_use, begins_with_macros, parts_after, parts}
+use Rattle.tangle_c_tokens.specs.Pieces.{IsRead, written_for, part_text}
+use Rattle.tangle_c_tokens.specs.Pieces.{line_feed_follows}
+use Rattle.tangle_c_tokens.specs.Pieces.{is_closed, IsWholePart}
+use Rattle.tangle_c_tokens.proofs.GroupLemmas.{last-item, group-one}
+use Rattle.tangle_c_tokens.proofs.RowLemmas.{with-part, with-mark, without-text}
+use Rattle.tangle_c_tokens.proofs.TextLemmas.{Follows, follows-same, feed-between, feed-front}
+use Rattle.tangle_c_tokens.proofs.TextLemmas.{space-between, space-front}
+
+-- the last byte of a text is a slash
+abbrev pub has_slash : List ℕ → Bool
+has_slash t = ends_in (λ b. b == slash) (spliced t)
+
+-- `tail` is written after the piece, and read as the texts `ts`.
+module _ (lines : List SourceLine) (used : ℕ → List ℕ) (mark : Origin → List ℕ) (macros : List ℕ)
+    (marks : (origin : Origin) → IsMarkText (mark origin))
+    (tail : List ℕ) (ts : List (List ℕ)) (tail_read : IsRead mark ts tail)
+    (closes : (t : List ℕ) → is_whole t ≡ true → has_slash t ≡ false
+    → Follows t tail (t ++ tail)) where
+  abbrev texts : List (List ℕ)
+  texts = texts_of lines
+
+  abbrev item_bytes : Item → List ℕ
+  item_bytes x = piece_item_bytes texts used mark macros x
+
+  -- the bytes that rules 3 to 5 make of tokens; the arguments before the tokens are those of the
+  -- rules
+  abbrev text_from : Option Token → Bool → Origin → List Token → List ℕ
+  text_from before white counted es =
+      flat_map item_bytes (items_by_origin lines before counted (blanks texts before white es))
+
+  abbrev bytes_of : Token → List ℕ
+  bytes_of e = token_bytes texts (use_bytes lines used mark macros) e
+
+  abbrev text_of : Token → List ℕ
+  text_of e = token_bytes texts (written_for texts used macros) e
+
+  abbrev text : List Token → List ℕ
+  text items = part_text texts used macros items
+
+  abbrev blank_bytes : Bool → List ℕ
+  blank_bytes blank = if blank then space ∷ [] else []
+
+  text-blank : (before : Option Token) (counted : Origin) (blank : Bool) (es : List Token) →
+      flat_map item_bytes
+      (items_by_origin lines before counted ((if blank then token.White ∷ [] else []) ++ es))
+      ≡ blank_bytes blank ++ flat_map item_bytes (items_by_origin lines before counted es)
+  text-blank before counted true es = refl
+  text-blank before counted false es = refl
+
+  item-text : (before : Option Token) (counted : Origin) (e : Token) (es : List Token)
+      → is_front_gap e ≡ false →
+      flat_map item_bytes (items_by_origin lines before counted (e ∷ es))
+      ≡ bytes_of e ++ flat_map item_bytes
+      (items_by_origin lines (Some e) (counted_after_token lines counted e) es)
+  item-text before counted (token.Span span_kind.Word s) es item = refl
+  item-text before counted (token.UseOf line occurrence) es item =
+      ap (λ bytes. space ∷ bytes)
+      (sym (append_assoc (used occurrence) (line_feed ∷ mark (origin_at lines line)) _))
+  item-text before counted (token.AllMacros line) es item =
+      ap (λ bytes. line_feed ∷ bytes)
+      (sym (append_assoc macros (line_feed ∷ mark (origin_at lines line)) _))
+  item-text before counted _ es item = cc
+
+  -- the bytes of an item, and of a blank before it
+  text-item : (before : Option Token) (white : Bool) (counted : Origin) (e : Token)
+      (es : List Token)
+      → is_front_gap e ≡ false
+      → text_from before white counted (e ∷ es)
+      ≡ blank_bytes (is_some before && white)
+      ++ (bytes_of e ++ text_from (Some e) false (counted_after_token lines counted e) es)
+  text-item before white counted e es item =
+      let rest = blanks texts (Some e) false es in
+      rw (blanks-item texts before white e es item)
+      (text-blank before counted (is_some before && white) (e ∷ rest)
+      ∙ ap (λ bs. blank_bytes (is_some before && white) ++ bs)
+      (item-text before counted e rest item))
+
+  -- the same with what is written after the piece
+  abbrev bytes_from : Option Token → Bool → Origin → List Token → List ℕ
+  bytes_from before white counted es = text_from before white counted es ++ tail
+
+  bytes-item : (before : Option Token) (white : Bool) (counted : Origin) (e : Token)
+      (es : List Token)
+      → is_front_gap e ≡ false
+      → bytes_from before white counted (e ∷ es)
+      ≡ blank_bytes (is_some before && white)
+      ++ (bytes_of e ++ bytes_from (Some e) false (counted_after_token lines counted e) es)
+  bytes-item before white counted e es item =
+      let after : List ℕ = text_from (Some e) false (counted_after_token lines counted e) es in
+      ap (λ bs. bs ++ tail) (text-item before white counted e es item)
+      ∙ append_assoc (blank_bytes (is_some before && white)) (bytes_of e ++ after) tail
+      ∙ ap (λ bs. blank_bytes (is_some before && white) ++ bs)
+      (append_assoc (bytes_of e) after tail)
+
+  text-more : (items : List Token) (e : Token) → text (items ++ e ∷ []) ≡ text items ++ text_of e
+  text-more items e = flat_map-append text_of items (e ∷ [])
+      ∙ ap (λ t. text items ++ t) (append-nil (text_of e))
+
+  -- The tokens that follow are read, if their parts are whole.
+
+  abbrev AreWhole : List Group → Type 0
+  AreWhole ps = AllByRecursion (IsWholePart texts used macros) ps
+
+  abbrev texts_in : List Group → List (List ℕ)
+  texts_in ps = map (λ (part : Group). text part.items) ps
+
+  abbrev ReadsAs : List Group → List ℕ → Type 0
+  ReadsAs ps bytes = AreWhole ps → IsRead mark (texts_in ps ++ ts) bytes
+
+  abbrev is_continued_at : Token → List Token → Bool
+  is_continued_at e es = is_continued texts (Some e) && ends_line es
+
+  -- at the front of a line, and after a use
+  abbrev ReadsFront : List Token → Type 0
+  ReadsFront es = (before : Option Token) (white : Bool) (counted : Origin)
+      → is_continued texts before ≡ false →
+      ReadsAs (parts_after texts [] es) (bytes_from before white counted es)
+
+  -- directly after an item
+  abbrev ReadsWithin : List Token → Type 0
+  ReadsWithin es = (counted : Origin) (items : List Token) (e : Token) → is_use e ≡ false →
+      ReadsAs (parts_after texts (items ++ e ∷ []) es)
+      (text (items ++ e ∷ []) ++ bytes_from (Some e) false counted es)
+
+  -- after an item and white space, if the line is not continued there
+  abbrev ReadsAfter : Bool → List Token → Type 0
+  ReadsAfter white es = (counted : Origin) (items : List Token) (e : Token)
+      → is_continued_at e es ≡ false →
+      is_whole (text (items ++ e ∷ [])) ≡ true →
+      (ends_line es ≡ true → keep_lines (text (items ++ e ∷ [])) (line_feed ∷ []) ≡ true) →
+      (next_item es ≡ None → is_open texts (Some e) ≡ false
+      → has_slash (text (items ++ e ∷ [])) ≡ false) →
+      AreWhole (parts_after texts [] es) →
+      IsRead mark (text (items ++ e ∷ []) ∷ texts_in (parts_after texts [] es) ++ ts)
+      (text (items ++ e ∷ []) ++ bytes_from (Some e) white counted es)
+
+  -- between a backslash and a line end that it continues
+  abbrev ReadsContinued : List Token → Type 0
+  ReadsContinued es = (counted : Origin) (items : List Token) (e : Token) → is_use e ≡ false
+      → is_continued_at e es ≡ true →
+      ReadsAs (parts_after texts (items ++ e ∷ []) es)
+      (text (items ++ e ∷ []) ++ bytes_from (Some e) true counted es)
+
+  record Reads (es : List Token) : Type 0 where
+    front : ReadsFront es
+    within : ReadsWithin es
+    after_white : ReadsAfter true es
+    continued : ReadsContinued es
+
+  -- from after a group to what is directly after an item
+  closed : (items : List Token) (e : Token) (rest : List Token) (bytes : List ℕ) (ps : List Group) →
+      (IsWholePart texts used macros (record { items = items ++ e ∷ []; rest = rest })
+      → AreWhole ps →
+      IsRead mark (text (items ++ e ∷ []) ∷ texts_in ps ++ ts) bytes) →
+      ReadsAs (group_before rest (items ++ e ∷ []) ++ ps) bytes
+  closed items e rest bytes ps reads =
+      subst (λ hs. ReadsAs (hs ++ ps) bytes) (sym (group-one items e rest))
+      (λ whole. reads whole.0 whole.1)
+
+  -- a part at the end of a piece that no blank follows ends in no slash
+  ended-part : (items : List Token) (e : Token) (rest : List Token) → is_use e ≡ false →
+      IsWholePart texts used macros (record { items = items ++ e ∷ []; rest = rest }) →
+      next_item rest ≡ None → is_open texts (Some e) ≡ false
+      → has_slash (text (items ++ e ∷ [])) ≡ false
+  ended-part items e rest item whole last closed =
+      whole.ended last
+      (ap (is_closed texts used macros) (last-item None items e)
+      ∙ and_from (not (is_use e)) (not (is_open texts (Some e))) (not_from_false (is_use e) item)
+      (not_from_false (is_open texts (Some e)) closed))
+
+  -- the end of a piece
+
+  end-read : (t : List ℕ) (before : Option Token) (white : Bool) (counted : Origin)
+      → is_whole t ≡ true →
+      (is_open texts before ≡ false → has_slash t ≡ false) →
+      Follows t tail (t ++ bytes_from before white counted [])
+  end-read t before white counted whole ended = by (is_open texts before) refl
+    where
+      by : (b : Bool) → is_open texts before ≡ b →
+          Follows t tail
+          (t ++ (flat_map item_bytes
+          (items_by_origin lines before counted (if b then token.White ∷ [] else [])) ++ tail))
+      by true is = space-between t tail whole
+      by false is = closes t whole (ended is)
+
+  reads-end : Reads []
+  reads-end = record {
+    front = λ before white counted ends whole.
+        without-text mark (bytes_from before white counted []) tail ts
+        (end-read [] before white counted refl (λ closed. refl)) tail_read;
+    within = λ counted items e item.
+        subst (λ ps. ReadsAs ps (text (items ++ e ∷ []) ++ bytes_from (Some e) false counted []))
+        (sym (group-one items e []))
+        (λ whole. with-part mark (text (items ++ e ∷ []))
+        (text (items ++ e ∷ []) ++ bytes_from (Some e) false counted []) tail ts
+        (end-read (text (items ++ e ∷ [])) (Some e) false counted (whole.0).whole
+        (ended-part items e [] item whole.0 refl)) tail_read);
+    after_white = λ counted items e ends whole kept ended rest.
+        with-part mark (text (items ++ e ∷ []))
+        (text (items ++ e ∷ []) ++ bytes_from (Some e) true counted []) tail ts
+        (end-read (text (items ++ e ∷ [])) (Some e) true counted whole (ended refl)) tail_read;
+    continued =
+        λ counted items e item is. absurd
+        (false≢true (sym (and-false (is_continued texts (Some e))) ∙ is));
+  }
+
+  -- white space
+
+  reads-white : (es : List Token) → Reads es → Reads (token.White ∷ es)
+  reads-white es next = record {
+    front = λ before white counted. next.front before true counted;
+    within = λ counted items e item. subst (λ o. ReadsAs
+        (if is_continued texts o && ends_line es then parts_after texts (items ++ e ∷ []) es
+        else group_before (token.White ∷ es) (items ++ e ∷ []) ++ parts_after texts [] es)
+        (text (items ++ e ∷ []) ++ bytes_from (Some e) true counted es))
+        (sym (last-item None items e)) (by counted items e item (is_continued_at e es) refl);
+    after_white = next.after_white;
+    continued = λ counted items e item is. subst (λ o. ReadsAs
+        (if is_continued texts o && ends_line es then parts_after texts (items ++ e ∷ []) es
+        else group_before (token.White ∷ es) (items ++ e ∷ []) ++ parts_after texts [] es)
+        (text (items ++ e ∷ []) ++ bytes_from (Some e) true counted es))
+        (sym (last-item None items e)) (rw is (next.continued counted items e item is));
+  }
+    where
+      by : (counted : Origin) (items : List Token) (e : Token) → is_use e ≡ false → (b : Bool)
+          → is_continued_at e es ≡ b →
+          ReadsAs (if b then parts_after texts (items ++ e ∷ []) es
+          else group_before (token.White ∷ es) (items ++ e ∷ []) ++ parts_after texts [] es)
+          (text (items ++ e ∷ []) ++ bytes_from (Some e) true counted es)
+      by counted items e item true is = next.continued counted items e item is
+      by counted items e item false is =
+          closed items e (token.White ∷ es)
+          (text (items ++ e ∷ []) ++ bytes_from (Some e) true counted es)
+          (parts_after texts [] es)
+          (λ whole rest. next.after_white counted items e is whole.whole
+          (λ ends. whole.kept (kept items e ends))
+          (ended-part items e (token.White ∷ es) item whole) rest)
+        where
+          kept : (items : List Token) (e : Token) → ends_line es ≡ true →
+              line_feed_follows texts used macros
+              (record { items = items ++ e ∷ []; rest = token.White ∷ es }) ≡ true
+          kept items e ends = or_left _ _ (or_right _ _ ends)
+
+  -- a line end that does not continue its line: a line feed, or a mark
+
+  record LineEndBytes (us : List (List ℕ)) (bytes : List ℕ) : Type 0 where
+    rest : List ℕ
+    is : bytes ≡ line_feed ∷ rest
+    read : IsRead mark us rest
+
+  line_end-bytes : (line : ℕ) (es : List Token) (us : List (List ℕ)) →
+      ((counted : Origin) → IsRead mark us (bytes_from None false counted es)) →
+      (before : Option Token) (white : Bool) (counted : Origin)
+      → is_continued texts before ≡ false →
+      LineEndBytes us (bytes_from before white counted (token.LineEnd line ∷ es))
+  line_end-bytes line es us next before white counted ends =
+      by (is_expected lines counted line) refl
+    where
+      by : (b : Bool) → is_expected lines counted line ≡ b
+          → LineEndBytes us (bytes_from before white counted (token.LineEnd line ∷ es))
+      by true at =
+          rw (ends, at)
+          (record {
+            rest = bytes_from None false (next_line counted) es;
+            is = refl;
+            read =
+                next (next_line counted);
+          })
+      by false at =
+          let origin = origin_at lines (line + 1) in
+          rw (ends, at) (record {
+            rest = mark origin ++ bytes_from None false origin es;
+            is = ap (λ bs. line_feed ∷ bs)
+                (append_assoc (mark origin) (text_from None false origin es) tail);
+            read = with-mark mark origin (bytes_from None false origin es) us (marks origin)
+                (next origin);
+          })
+
+  line_end-after : (line : ℕ) (es : List Token) → ReadsFront es → (white : Bool)
+      → ReadsAfter white (token.LineEnd line ∷ es)
+  line_end-after line es next white counted items e ends whole kept ended rest =
+      let t : List ℕ = text (items ++ e ∷ []) in
+      let bytes =
+      line_end-bytes line es (texts_in (parts_after texts [] es) ++ ts)
+      (λ counted. next None false counted refl rest)
+      (Some e) white counted (sym (and-true (is_continued texts (Some e))) ∙ ends) in
+      with-part mark t (t ++ bytes_from (Some e) white counted (token.LineEnd line ∷ es)) bytes.rest
+      (texts_in (parts_after texts [] es) ++ ts)
+      (follows-same t bytes.rest (t ++ bytes_from (Some e) white counted (token.LineEnd line ∷ es))
+      (t ++ line_feed ∷ bytes.rest)
+      (ap (λ bs. t ++ bs) bytes.is) (feed-between t bytes.rest whole (kept refl))) bytes.read
+
+  line_end-continued : (line : ℕ) (es : List Token) → ReadsWithin es
+      → (counted : Origin) (items : List Token) (e : Token) (white : Bool) →
+      is_continued texts (Some e) ≡ true →
+      ReadsAs (parts_after texts ((items ++ e ∷ []) ++ token.LineEnd line ∷ []) es)
+      (text (items ++ e ∷ []) ++ bytes_from (Some e) white counted (token.LineEnd line ∷ es))
+  line_end-continued line es next counted items e white is =
+      let t : List ℕ = text (items ++ e ∷ []) in
+      let after : List ℕ = bytes_from (Some (token.LineEnd line)) false (next_line counted) es in
+      rw is
+      (subst (ReadsAs (parts_after texts ((items ++ e ∷ []) ++ token.LineEnd line ∷ []) es))
+      (ap (λ bs. bs ++ after) (text-more (items ++ e ∷ []) (token.LineEnd line))
+      ∙ append_assoc t (line_feed ∷ []) after)
+      (next (next_line counted) (items ++ e ∷ []) (token.LineEnd line) refl))
+
+  reads-line_end : (line : ℕ) (es : List Token) → Reads es → Reads (token.LineEnd line ∷ es)
+  reads-line_end line es next = record {
+    front = λ before white counted ends whole.
+        let bytes =
+        line_end-bytes line es (texts_in (parts_after texts [] es) ++ ts)
+        (λ counted. next.front None false counted refl whole)
+        before white counted ends in
+        without-text mark (bytes_from before white counted (token.LineEnd line ∷ es)) bytes.rest
+        (texts_in (parts_after texts [] es) ++ ts)
+        (follows-same [] bytes.rest (bytes_from before white counted (token.LineEnd line ∷ es))
+        (line_feed ∷ bytes.rest) bytes.is
+        (feed-front bytes.rest)) bytes.read;
+    within = λ counted items e item. subst (λ o. ReadsAs
+        (if is_continued texts o then parts_after texts
+        ((items ++ e ∷ []) ++ token.LineEnd line ∷ []) es
+        else group_before (token.LineEnd line ∷ es) (items ++ e ∷ []) ++ parts_after texts [] es)
+        (text (items ++ e ∷ []) ++ bytes_from (Some e) false counted (token.LineEnd line ∷ es)))
+        (sym (last-item None items e)) (by counted items e item (is_continued texts (Some e)) refl);
+    after_white = line_end-after line es next.front true;
+    continued = λ counted items e item is. subst (λ o. ReadsAs
+        (if is_continued texts o then parts_after texts
+        ((items ++ e ∷ []) ++ token.LineEnd line ∷ []) es
+        else group_before (token.LineEnd line ∷ es) (items ++ e ∷ []) ++ parts_after texts [] es)
+        (text (items ++ e ∷ []) ++ bytes_from (Some e) true counted (token.LineEnd line ∷ es)))
+        (sym (last-item None items e))
+        (let continued : is_continued texts
+        (Some e) ≡ true = (and_parts (is_continued texts (Some e)) true is).0 in
+        subst (λ b. ReadsAs
+        (if b then parts_after texts ((items ++ e ∷ []) ++ token.LineEnd line ∷ []) es
+        else group_before (token.LineEnd line ∷ es) (items ++ e ∷ []) ++ parts_after texts [] es)
+        (text (items ++ e ∷ []) ++ bytes_from (Some e) true counted (token.LineEnd line ∷ es)))
+        (sym continued) (line_end-continued line es next.within counted items e true continued));
+  }
+    where
+      by : (counted : Origin) (items : List Token) (e : Token) → is_use e ≡ false → (b : Bool)
+          → is_continued texts (Some e) ≡ b →
+          ReadsAs (if b then parts_after texts ((items ++ e ∷ []) ++ token.LineEnd line ∷ []) es
+          else group_before (token.LineEnd line ∷ es) (items ++ e ∷ []) ++ parts_after texts [] es)
+          (text (items ++ e ∷ []) ++ bytes_from (Some e) false counted (token.LineEnd line ∷ es))
+      by counted items e item true is =
+          line_end-continued line es next.within counted items e false is
+      by counted items e item false is =
+          closed items e (token.LineEnd line ∷ es)
+          (text (items ++ e ∷ []) ++ bytes_from (Some e) false counted
+          (token.LineEnd line ∷ es))
+          (parts_after texts [] es)
+          (λ whole rest. line_end-after line es next.front false counted items e
+          (ap (λ b. b && true) is) whole.whole
+          (λ ends. whole.kept (or_left _ _ (or_right _ _ refl)))
+          (ended-part items e (token.LineEnd line ∷ es) item whole) rest)
+
+  -- a blank before a token
+
+  after-blank : (b : Bool) (rest : List ℕ) (ts : List (List ℕ)) → IsRead mark ts rest
+      → IsRead mark ts (blank_bytes b ++ rest)
+  after-blank true rest ts read = without-text mark (space ∷ rest) rest ts (space-front rest) read
+  after-blank false rest ts read = read
+
+  -- an item
+
+  reads-item : (e : Token) (es : List Token) → is_front_gap e ≡ false → is_use e ≡ false
+      → ends_line (e ∷ es) ≡ false →
+      ((items : List Token)
+      → parts_after texts items (e ∷ es) ≡ parts_after texts (items ++ e ∷ []) es) →
+      bytes_of e ≡ text_of e → ReadsWithin es → Reads (e ∷ es)
+  reads-item e es item no_use line_goes_on more same next = record {
+    front = λ before white counted ends whole.
+        subst (IsRead mark (texts_in (parts_after texts [] (e ∷ es)) ++ ts))
+        (sym (bytes-item before white counted e es item))
+        (after-blank (is_some before && white) (bytes_of e ++ after counted)
+        (texts_in (parts_after texts [] (e ∷ es)) ++ ts) (first counted whole));
+    within = λ counted items before of_item whole.
+        subst (IsRead mark (texts_in (parts_after texts (items ++ before ∷ []) (e ∷ es)) ++ ts))
+        (sym (ap (λ bs. text (items ++ before ∷ []) ++ bs)
+        (bytes-item (Some before) false counted e es item ∙ ap (λ bs. bs ++ after counted) same)
+        ∙ sym (append_assoc (text (items ++ before ∷ [])) (text_of e) (after counted))
+        ∙ ap (λ bs. bs ++ after counted) (sym (text-more (items ++ before ∷ []) e))))
+        (subst (λ ps. ReadsAs ps (text ((items ++ before ∷ []) ++ e ∷ []) ++ after counted))
+        (sym (more (items ++ before ∷ [])))
+        (next (counted_after_token lines counted e) (items ++ before ∷ []) e no_use) whole);
+    after_white = λ counted items before ends whole kept ended rest.
+        with-part mark (text (items ++ before ∷ []))
+        (text (items ++ before ∷ []) ++ bytes_from (Some before) true counted (e ∷ es))
+        (bytes_of e ++ after counted) (texts_in (parts_after texts [] (e ∷ es)) ++ ts)
+        (follows-same (text (items ++ before ∷ [])) (bytes_of e ++ after counted)
+        (text (items ++ before ∷ []) ++ bytes_from (Some before) true counted (e ∷ es))
+        (text (items ++ before ∷ []) ++ space ∷ (bytes_of e ++ after counted))
+        (ap (λ bs. text (items ++ before ∷ []) ++ bs)
+        (bytes-item (Some before) true counted e es item))
+        (space-between (text (items ++ before ∷ [])) (bytes_of e ++ after counted) whole))
+        (first counted rest);
+    continued = λ counted items before of_item is.
+        absurd (false≢true
+        (sym (ap (λ b. is_continued texts (Some before) && b) line_goes_on
+        ∙ and-false (is_continued texts (Some before))) ∙ is));
+  }
+    where
+      after : Origin → List ℕ
+      after counted = bytes_from (Some e) false (counted_after_token lines counted e) es
+
+      first : (counted : Origin)
+          → ReadsAs (parts_after texts [] (e ∷ es)) (bytes_of e ++ after counted)
+      first counted = subst (λ ps. ReadsAs ps (bytes_of e ++ after counted)) (sym (more []))
+          (subst (ReadsAs (parts_after texts ([] ++ e ∷ []) es))
+          (ap (λ t. t ++ after counted) (append-nil (text_of e) ∙ sym same))
+          (next (counted_after_token lines counted e) [] e no_use))
+
+  -- a use or @h: its bytes begin with white space, and end with a line feed and a mark
+
+  abbrev IsFirst : Token → ℕ → Type 0
+  IsFirst e first =
+      (first ≡ space)
+      ⊎ ((first ≡ line_feed) × ((es : List Token) → begins_with_macros (e ∷ es) ≡ true))
+
+  record IsUse (e : Token) : Type 0 where
+    first : ℕ
+    origin : Origin
+    white : IsFirst e first
+    is : bytes_of e ≡ first ∷ (text (e ∷ []) ++ line_feed ∷ mark origin)
+    stands_alone : is_use e ≡ true
+    ends : is_continued texts (Some e) ≡ false
+
+  use-of : (line occurrence : ℕ) → IsUse (token.UseOf line occurrence)
+  use-of line occurrence = record {
+    first = space;
+    origin = origin_at lines line;
+    white = inl refl;
+    is = ap (λ t. space ∷ (t ++ line_feed ∷ mark (origin_at lines line)))
+        (sym (append-nil (used occurrence)));
+    stands_alone = refl;
+    ends = refl;
+  }
+
+  all-macros : (line : ℕ) → IsUse (token.AllMacros line)
+  all-macros line = record {
+    first = line_feed;
+    origin = origin_at lines line;
+    white = inr (refl, λ es. refl);
+    is = ap (λ t. line_feed ∷ (t ++ line_feed ∷ mark (origin_at lines line)))
+        (sym (append-nil macros));
+    stands_alone = refl;
+    ends = refl;
+  }
+
+  reads-use : (e : Token) (es : List Token) → is_front_gap e ≡ false → ends_line (e ∷ es) ≡ false →
+      ((items : List Token) → parts_after texts items (e ∷ es)
+      ≡ group_before
+      (e ∷ es) items ++ record { items = e ∷ []; rest = es } ∷ parts_after texts [] es) →
+      IsUse e → ReadsFront es → Reads (e ∷ es)
+  reads-use e es item line_goes_on more u next = record {
+    front = λ before white counted ends.
+        subst (λ ps. ReadsAs ps (bytes_from before white counted (e ∷ es))) (sym (more []))
+        (λ whole.
+        subst (IsRead mark (texts_in ps ++ ts)) (sym (bytes-item before white counted e es item))
+        (after-blank (is_some before && white) (bytes_of e ++ after counted) (texts_in ps ++ ts)
+        (use-read counted whole)));
+    within = λ counted items before of_item.
+        subst (λ ps. ReadsAs ps
+        (text (items ++ before ∷ []) ++ bytes_from (Some before) false counted (e ∷ es)))
+        (sym (more (items ++ before ∷ [])))
+        (closed items before (e ∷ es)
+        (text (items ++ before ∷ []) ++ bytes_from (Some before) false counted (e ∷ es)) ps
+        (λ whole rest. with-part mark (text (items ++ before ∷ []))
+        (text (items ++ before ∷ []) ++ bytes_from (Some before) false counted (e ∷ es))
+        (core counted) (texts_in ps ++ ts)
+        (follows-same (text (items ++ before ∷ [])) (core counted)
+        (text (items ++ before ∷ []) ++ bytes_from (Some before) false counted (e ∷ es))
+        (text (items ++ before ∷ []) ++ u.first ∷ core counted)
+        (ap (λ bs. text (items ++ before ∷ []) ++ bs)
+        (bytes-item (Some before) false counted e es item ∙ bytes counted))
+        (between items before counted whole u.white))
+        (core-read counted rest)));
+    after_white = λ counted items before ends whole kept ended.
+        subst (λ ps. AreWhole ps → IsRead mark (text (items ++ before ∷ []) ∷ texts_in ps ++ ts)
+        (text (items ++ before ∷ []) ++ bytes_from (Some before) true counted (e ∷ es)))
+        (sym (more [])) (λ rest.
+        with-part mark (text (items ++ before ∷ []))
+        (text (items ++ before ∷ []) ++ bytes_from (Some before) true counted (e ∷ es))
+        (bytes_of e ++ after counted) (texts_in ps ++ ts)
+        (follows-same (text (items ++ before ∷ [])) (bytes_of e ++ after counted)
+        (text (items ++ before ∷ []) ++ bytes_from (Some before) true counted (e ∷ es))
+        (text (items ++ before ∷ []) ++ space ∷ (bytes_of e ++ after counted))
+        (ap (λ bs. text (items ++ before ∷ []) ++ bs)
+        (bytes-item (Some before) true counted e es item))
+        (space-between (text (items ++ before ∷ [])) (bytes_of e ++ after counted) whole))
+        (use-read counted rest));
+    continued = λ counted items before of_item is.
+        absurd (false≢true
+        (sym (ap (λ b. is_continued texts (Some before) && b) line_goes_on
+        ∙ and-false (is_continued texts (Some before))) ∙ is));
+  }
+    where
+      ps : List Group
+      ps = record { items = e ∷ []; rest = es } ∷ parts_after texts [] es
+
+      after : Origin → List ℕ
+      after counted = bytes_from (Some e) false (counted_after_token lines counted e) es
+
+      -- the bytes without the white space before them
+      core : Origin → List ℕ
+      core counted = (text (e ∷ []) ++ line_feed ∷ mark u.origin) ++ after counted
+
+      bytes : (counted : Origin) → bytes_of e ++ after counted ≡ u.first ∷ core counted
+      bytes counted = ap (λ bs. bs ++ after counted) u.is
+
+      core-read : (counted : Origin) → ReadsAs ps (core counted)
+      core-read counted whole =
+          let t : List ℕ = text (e ∷ []) in
+          let of_use = whole.0 in
+          with-part mark t (core counted) (mark u.origin ++ after counted)
+          (texts_in (parts_after texts [] es) ++ ts)
+          (follows-same t (mark u.origin ++ after counted) (core counted)
+          (t ++ line_feed ∷ (mark u.origin ++ after counted))
+          (append_assoc t (line_feed ∷ mark u.origin) (after counted))
+          (feed-between t (mark u.origin ++ after counted) of_use.whole
+          (of_use.kept (or_left _ _ (or_left _ _ (and_from (is_use e) true u.stands_alone refl))))))
+          (with-mark mark u.origin (after counted) (texts_in (parts_after texts [] es) ++ ts)
+          (marks u.origin)
+          (next (Some e) false (counted_after_token lines counted e) u.ends whole.1))
+
+      without-white : (counted : Origin) (first : ℕ) → IsFirst e first
+          → Follows [] (core counted) (first ∷ core counted)
+      without-white counted first (inl same) =
+          subst (λ b. Follows [] (core counted) (b ∷ core counted)) (sym same)
+          (space-front (core counted))
+      without-white counted first (inr feed) =
+          subst (λ b. Follows [] (core counted) (b ∷ core counted)) (sym feed.0)
+          (feed-front (core counted))
+
+      use-read : (counted : Origin) → ReadsAs ps (bytes_of e ++ after counted)
+      use-read counted whole =
+          without-text mark (bytes_of e ++ after counted) (core counted) (texts_in ps ++ ts)
+          (follows-same [] (core counted) (bytes_of e ++ after counted) (u.first ∷ core counted)
+          (bytes counted)
+          (without-white counted u.first u.white)) (core-read counted whole)
+
+      between : (items : List Token) (before : Token) (counted : Origin) →
+          IsWholePart texts used macros (record { items = items ++ before ∷ []; rest = e ∷ es })
+          → IsFirst e u.first →
+          Follows (text (items ++ before ∷ [])) (core counted)
+          (text (items ++ before ∷ []) ++ u.first ∷ core counted)
+      between items before counted whole (inl same) =
+          subst (λ b. Follows (text (items ++ before ∷ [])) (core counted)
+          (text (items ++ before ∷ []) ++ b ∷ core counted)) (sym same)
+          (space-between (text (items ++ before ∷ [])) (core counted) whole.whole)
+      between items before counted whole (inr feed) =
+          subst (λ b. Follows (text (items ++ before ∷ [])) (core counted)
+          (text (items ++ before ∷ []) ++ b ∷ core counted)) (sym feed.0)
+          (feed-between (text (items ++ before ∷ [])) (core counted) whole.whole
+          (whole.kept (or_right _ _ (feed.1 es))))
+
+  reads : (es : List Token) → Reads es
+  reads [] = reads-end
+  reads (token.White ∷ es) = reads-white es (reads es)
+  reads (token.LineEnd line ∷ es) = reads-line_end line es (reads es)
+  reads (token.UseOf line occurrence ∷ es) =
+      let next =
+      reads es in reads-use (token.UseOf line occurrence) es refl refl (λ items. refl)
+      (use-of line occurrence) next.front
+  reads (token.AllMacros line ∷ es) =
+      let next =
+      reads es in reads-use (token.AllMacros line) es refl refl (λ items. refl)
+      (all-macros line) next.front
+  reads (e ∷ es) = let next =
+      reads es in reads-item e es refl refl refl (λ items. refl) refl next.within
+
+  pub piece-by-parts : (line : ℕ) (es : List Token)
+      → AreWhole (parts texts (part_tokens texts es)) →
+      IsRead mark (texts_in (parts texts (part_tokens texts es)) ++ ts)
+      (flat_map item_bytes (part_items lines line es) ++ tail)
+  piece-by-parts line es =
+      rw (part_items-by_origin lines line es)
+      ((reads (part_tokens texts es)).front None false (origin_at lines line) refl)

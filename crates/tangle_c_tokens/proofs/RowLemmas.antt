@@ -1,0 +1,37 @@
+-- Rows of parts and line marks, from their end on.
+use Rattle.tangle_c_tokens.proofs.TextLemmas.{IsMarkText}
+use Rattle.std.proofs.Common.{ℕ, List, [], ◌∷◌, ◌++◌, map, ap, refl}
+use Rattle.tangle_lines.specs.declared.origin.Origin.{Origin}
+use Rattle.tangle_c_tokens.specs.Pieces.{OfPart, OfMark, passage_text, IsRead}
+use Rattle.tangle_c_tokens.proofs.TextLemmas.{Follows, mark-between, with-text, with-nothing}
+use Rattle.tangle_c_tokens.proofs.TextLemmas.{no-text}
+
+module _ (mark : Origin → List ℕ) where
+  pub with-part : (t bytes rest : List ℕ) (ts : List (List ℕ)) → Follows t rest bytes
+      → IsRead mark ts rest → IsRead mark (t ∷ ts) bytes
+  with-part t bytes rest ts apart read = record {
+    row = OfPart t ∷ read.row;
+    in_row = ap (λ us. t ∷ us) read.in_row;
+    read = with-text t rest bytes (map (passage_text mark) read.row) apart read.read;
+  }
+
+  pub with-mark : (origin : Origin) (rest : List ℕ) (ts : List (List ℕ)) → IsMarkText (mark origin)
+      → IsRead mark ts rest →
+      IsRead mark ts (mark origin ++ rest)
+  with-mark origin rest ts is_mark read = record {
+    row = OfMark origin ∷ read.row;
+    in_row = read.in_row;
+    read = with-text (mark origin) rest (mark origin ++ rest) (map (passage_text mark) read.row)
+        (mark-between (mark origin) rest is_mark) read.read;
+  }
+
+  pub without-text : (bytes rest : List ℕ) (ts : List (List ℕ)) → Follows [] rest bytes
+      → IsRead mark ts rest → IsRead mark ts bytes
+  without-text bytes rest ts same read = record {
+    row = read.row;
+    in_row = read.in_row;
+    read = with-nothing rest bytes (map (passage_text mark) read.row) same read.read;
+  }
+
+  pub nothing : IsRead mark [] []
+  nothing = record { row = []; in_row = refl; read = no-text }

@@ -1,0 +1,121 @@
+-- Pieces of which C reads the tokens of the parts, and one for each premise that reads otherwise
+-- without it.
+use Rattle.std.proofs.Common.{◌≡◌, ℕ, true, false, List, [], ◌∷◌, map, flat_map, codes, refl}
+use Prim.Native.String.{String}
+use Rattle.c_tokens.specs.Grammar.{is_element, is_token, is_punctuator}
+use Rattle.c_tokens.specs.Reading.{tokens}
+use Rattle.c_tokens.specs.Borders.{is_whole, keep_lines}
+use Rattle.c_tokens.specs.Bytes.{line_feed}
+use Rattle.tangle_lines.specs.Reading.{SourceLine}
+use Rattle.tangle_lexer.specs.declared.tokens.Token.{Token}
+use Rattle.tangle_lexer.specs.declared.tokens.Token.TheVariants as token
+use Rattle.tangle_lexer.specs.declared.tokens.SpanKind.{SpanKind}
+use Rattle.tangle_lexer.specs.declared.tokens.SpanKind.TheVariants as span_kind
+use Rattle.tangle_scan.specs.Rules.{texts_of, part_tokens, part_items}
+use Rattle.tangle_scan.specs.ItemBytes.{piece_item_bytes}
+use Rattle.tangle_c_tokens.specs.Pieces.{parts, part_text}
+use Rattle.tangle_c_tokens.proofs.WorkedMacros.{words}
+
+-- The items of the examples. The second line has another origin than a compiler counts, so a mark
+-- is before it.
+
+abbrev lines : List SourceLine
+lines =
+    record {
+      bytes =
+          codes "els e x / * \\";
+      origin = record { file = 0; line = 1 };
+      changed = false;
+    }
+    ∷ record { bytes = []; origin = record { file = 0; line = 5 }; changed = true } ∷ []
+
+abbrev span : SpanKind → ℕ → ℕ → Token
+span kind start end = token.Span kind (record { line = 0; start = start; end = end })
+
+abbrev els : Token
+els = span span_kind.Word 0 3
+
+abbrev letter : Token
+letter = span span_kind.Word 4 5
+
+abbrev name : Token
+name = span span_kind.Word 6 7
+
+abbrev slash : Token
+slash = span span_kind.Sign 8 9
+
+abbrev asterisk : Token
+asterisk = span span_kind.Sign 10 11
+
+abbrev backslash_sign : Token
+backslash_sign = span span_kind.Sign 12 13
+
+abbrev line_end : Token
+line_end = token.LineEnd 0
+
+abbrev use_of_name : Token
+use_of_name = token.UseOf 0 0
+
+-- the bytes of a piece and the texts of its parts, if these are written for uses and for marks
+-- after their first line feed
+module _ (used mark : List ℕ) where
+  abbrev bytes : List Token → List ℕ
+  bytes es =
+      flat_map (piece_item_bytes (texts_of lines) (λ occurrence. used) (λ origin. mark) [])
+      (part_items lines 0 es)
+
+  abbrev texts : List Token → List (List ℕ)
+  texts es =
+      map (λ part. part_text (texts_of lines) (λ occurrence. used) [] part.items)
+      (parts (texts_of lines) (part_tokens (texts_of lines) es))
+
+  -- C reads these words of the piece, and these of its parts
+  abbrev AreRead : List Token → String → String → Type 0
+  AreRead es read of_parts =
+      (tokens (bytes es) ≡ words read) × (flat_map tokens (texts es) ≡ words of_parts)
+
+abbrev mark_text : List ℕ
+mark_text = codes "#line 5 \"a.w\"\n"
+
+-- A word over two lines of which the first is continued, a use, and a word after a line end.
+
+abbrev whole : List Token
+whole = els ∷ backslash_sign ∷ token.White ∷ line_end ∷ letter ∷ use_of_name ∷ line_end ∷ name ∷ []
+
+whole_written : bytes
+    (codes "y+z") mark_text whole ≡ codes "els\\\ne y+z\n#line 5 \"a.w\"\n\n#line 5 \"a.w\"\nx"
+whole_written = refl
+
+whole_parts : texts (codes "y+z") mark_text whole ≡ codes "els\\\ne" ∷ codes "y+z" ∷ codes "x" ∷ []
+whole_parts = refl
+
+whole_read : AreRead (codes "y+z") mark_text whole
+    "else y + z # line 5 \"a.w\" # line 5 \"a.w\" x" "else y + z x"
+unfolding is_element is_token is_punctuator
+whole_read = (refl, refl)
+
+-- A group that opens a comment.
+
+abbrev comment : List Token
+comment = slash ∷ asterisk ∷ line_end ∷ name ∷ []
+
+comment_read :
+    (tokens (bytes [] [] comment) ≡ []) × (flat_map tokens (texts [] [] comment) ≡ words "x")
+unfolding is_element is_token is_punctuator
+comment_read = (refl, refl)
+
+comment_refused : is_whole (codes "/*") ≡ false
+unfolding is_element is_token is_punctuator
+comment_refused = refl
+
+-- What is written for a use ends in a backslash.
+
+abbrev use_before : List Token
+use_before = use_of_name ∷ name ∷ []
+
+use_before_read : AreRead (codes "y\\") [] use_before "yx" "y \\ x"
+unfolding is_element is_token is_punctuator
+use_before_read = (refl, refl)
+
+use_before_refused : keep_lines (codes "y\\") (line_feed ∷ []) ≡ false
+use_before_refused = refl

@@ -1,0 +1,14 @@
+pub mod WordKinds
+pub mod Lines
+pub mod LineFeeds
+pub mod Texts
+pub mod QuotedTexts
+pub mod QuoteBytes
+pub mod Quotes
+pub mod Spans
+pub mod LexemeTexts
+pub mod RuleTexts
+pub mod MacroNames
+pub mod WebTexts
+pub mod TableKinds
+pub mod WorkedKinds

@@ -1,0 +1,300 @@
+-- The tokens of each lexeme are texts, one after another.
+use Rattle.std.proofs.Common.{◌≡◌, ℕ, zero, suc, ◌+◌, Bool, true, false, not, List, [], ◌∷◌, ◌++◌, Option, Some, None}
+use Rattle.std.proofs.Common.{refl, ap, sym, subst, append-nil, drop, map, flat_map}
+use Rattle.std.specs.Prelude.{◌==◌, ◌&&◌, ◌||◌, nat_lt}
+use Rattle.std.specs.List.{list_any}
+use Rattle.std.proofs.lemmas.Bool.{and_parts, or_parts, cond_both, eqb-true}
+use Rattle.tangle_faults.specs.declared.faults.FaultKind.{FaultKind}
+use Rattle.tangle_faults.specs.declared.faults.FaultKind.TheVariants as fault
+use Rattle.tangle_lines.specs.Bytes.{at_sign, double_quote, is_white}
+use Rattle.tangle_text.specs.declared.regions.Region.{Region}
+use Rattle.tangle_text.specs.declared.regions.Region.TheVariants as region
+use Rattle.tangle_text.specs.declared.regions.Unit.{Unit as Unit-of}
+use Rattle.tangle_text.specs.declared.regions.Unit.TheVariants as unit
+use Rattle.tangle_text.specs.Bytes.{holds, is_line_end, holds_word_byte, are_bytes, is_end_code, asterisk, slash}
+use Rattle.tangle_text.specs.Bytes.{apostrophe}
+use Rattle.tangle_text.specs.Bytes.{less_sign, is_word_byte}
+use Rattle.tangle_text.specs.Text.{Cell, byte_at, front_line, front_column, span_at}
+use Rattle.tangle_text.specs.Regions.{unit_at, more_by, units, count_before}
+use Rattle.tangle_lexer.specs.declared.modes.Mode.{Mode}
+use Rattle.tangle_lexer.specs.declared.modes.Mode.TheVariants as mode
+use Rattle.tangle_lexer.specs.declared.modes.IncludeState.{IncludeState}
+use Rattle.tangle_lexer.specs.declared.modes.IncludeState.TheVariants as include
+use Rattle.tangle_lexer.specs.declared.modes.LexerState.{LexerState}
+use Rattle.tangle_lexer.specs.declared.lexeme_kinds.ControlCode.{ControlCode}
+use Rattle.tangle_lexer.specs.declared.lexeme_kinds.ControlCode.TheVariants as code
+use Rattle.tangle_lexer.specs.declared.lexeme_kinds.LexemeKind.{LexemeKind}
+use Rattle.tangle_lexer.specs.declared.lexeme_kinds.LexemeKind.TheVariants as lexeme_kind
+use Rattle.tangle_lexer.specs.declared.constants.AsciiConstant.{AsciiConstant}
+use Rattle.tangle_lexer.specs.declared.tokens.Token.{Token}
+use Rattle.tangle_lexer.specs.declared.tokens.Token.TheVariants as token
+use Rattle.tangle_lexer.specs.declared.tokens.SpanKind.TheVariants as span_kind
+use Rattle.tangle_lexer.specs.LinesOfC.{inner_end_in}
+use Rattle.tangle_lexer.specs.Lexemes.{Lexeme, fault_if, is_in_directive}
+use Rattle.tangle_lexer.specs.Comments.{unit_line_end, line_ends, starts_section}
+use Rattle.tangle_lexer.specs.Quoted.{cut_range, unit_tokens, next_start, at_stop, cut_tokens, verbatim_end}
+use Rattle.tangle_lexer.specs.Quoted.{verbatim_tokens}
+use Rattle.tangle_lexer.specs.Quoted.{empty_end, ends_at_once}
+use Rattle.tangle_lexer.specs.Constants.{constant_at, constant_lexeme}
+use Rattle.tangle_lexer.specs.Names.{use_of_name, is_ended, name_end, has_single_equals, after_name, is_macro}
+use Rattle.tangle_lexer.specs.Names.{name_in_documentation, definition_or_mention, definition_count}
+use Rattle.tangle_lexer.specs.CText.{code_at, less_kind, kind_by, kind_at}
+use Rattle.tangle_lexer.specs.Steps.{documentation_code, c_code, c_lexeme, macro_lexeme, lexeme_in, lexeme, lexemes}
+use Rattle.tangle_lexer.proofs.lemmas.PlainTokens.{HasNone, none-append}
+use Rattle.tangle_scan.specs.Rules.{without_faults}
+use Rattle.tangle_c_tokens.specs.Kinds.{IsQuotedText, AreTexts}
+use Rattle.tangle_c_tokens.proofs.kind_lemmas.Lines.{IsInLine, AreInLines}
+use Rattle.tangle_c_tokens.proofs.kind_lemmas.Texts.{is_source, faults-append, texts-none, texts-alone, texts-part}
+use Rattle.tangle_c_tokens.proofs.kind_lemmas.Texts.{texts-append, others-texts}
+use Rattle.tangle_c_tokens.proofs.kind_lemmas.QuoteBytes.{goes-two}
+use Rattle.tangle_c_tokens.proofs.kind_lemmas.Quotes.{string-text, character-text, header-text}
+use Rattle.tangle_c_tokens.proofs.kind_lemmas.Spans.{sign-span, word-span}
+
+-- tokens without words, signs and quoted texts
+
+record HasNoSource (ts : List Token) : Type 0 where
+  pub none : HasNone is_source ts
+
+seen : (ts : List Token) → HasNone is_source ts → HasNoSource ts
+seen ts h = record { none = h }
+
+no-append : (xs ys : List Token) → HasNoSource xs → HasNoSource ys → HasNoSource (xs ++ ys)
+no-append xs ys h k = seen (xs ++ ys) (none-append is_source xs ys h.none k.none)
+
+no-fault : (b : Bool) (kind : FaultKind) (line : ℕ) → HasNoSource (fault_if b kind line)
+no-fault true kind line = seen _ refl
+no-fault false kind line = seen _ refl
+
+no-line_ends : (r : Region) (text : List Cell) → HasNoSource (line_ends r text)
+no-line_ends r text = all (units r text)
+  where
+    one : (u : List Cell) → HasNoSource (unit_line_end u)
+    one [] = seen _ refl
+    one (c ∷ cs) = cond_both (is_line_end c.byte) _ [] HasNoSource (λ e. seen _ refl) (λ e. seen _ refl)
+
+    all : (us : List (List Cell)) → HasNoSource (flat_map unit_line_end us)
+    all [] = seen _ refl
+    all (u ∷ us) = no-append _ _ (one u) (all us)
+
+no-white : (b : Bool) (ends faults : List Token) → HasNoSource ends → HasNoSource faults
+    → HasNoSource (token.White ∷ map (inner_end_in b) ends ++ faults)
+no-white b ends faults h k =
+    seen _ (none-append is_source (map (inner_end_in b) ends) faults (inner ends h.none) k.none)
+  where
+    same : (b : Bool) (t : Token) → is_source (inner_end_in b t) ≡ is_source t
+    same true (token.LineEnd line) = refl
+    same true _ = refl
+    same false t = refl
+
+    inner : (ts : List Token) → HasNone is_source ts → HasNone is_source (map (inner_end_in b) ts)
+    inner [] h = refl
+    inner (t ∷ ts) h =
+        let both = or_parts (is_source t) (list_any is_source ts) h in rw (same b t, both.0) (inner ts both.1)
+
+-- verbatim texts have no breaks
+
+no-range : (line start end : ℕ) → HasNoSource (cut_range region.Verbatim line start end)
+no-range line start end = cond_both (nat_lt start end) _ [] HasNoSource (λ e. seen _ refl) (λ e. seen _ refl)
+
+no-verbatim_end : (start : ℕ) (text : List Cell) → HasNoSource (verbatim_end start text)
+no-verbatim_end start [] = seen _ refl
+no-verbatim_end start (c ∷ cs) =
+    no-append _ _ (no-range c.line start c.column) (no-fault (is_line_end c.byte) fault.VerbatimEnd c.line)
+
+-- the tokens of a unit of a verbatim text, and those after it
+no-unit : (u : Unit-of) (start : ℕ) (c : Cell) (cs : List Cell) → unit_at region.Verbatim (c ∷ cs) ≡ u
+    → (rest : List Token) → HasNoSource rest
+    → HasNoSource (at_stop u (verbatim_end start (c ∷ cs))
+    (unit_tokens region.Verbatim u start c (byte_at 0 cs) ++ rest))
+no-unit unit.Stop start c cs e rest h = no-verbatim_end start (c ∷ cs)
+no-unit unit.One start c cs e rest h =
+    no-append _ _ (no-fault (holds at_sign c.byte) fault.StringAt c.line) h
+no-unit unit.Two start c cs e rest h =
+    let next : Option ℕ = byte_at 0 cs in
+    let goes = goes-two (is_line_end c.byte || is_end_code c.byte next) (are_bytes at_sign at_sign c.byte next) e in
+    let sign = (and_parts (holds at_sign c.byte) (holds at_sign next) goes.1).0 in
+    rw sign (no-append _ _ (no-range c.line start (c.column + 1)) h)
+
+no-cut : (k start : ℕ) (text : List Cell) → HasNoSource (cut_tokens verbatim_end region.Verbatim k start text)
+no-cut zero start [] = no-verbatim_end start []
+no-cut (suc k) start [] = no-verbatim_end start []
+no-cut (suc k) start (c ∷ cs) = no-cut k start cs
+no-cut zero start (c ∷ cs) =
+    let u : Unit-of = unit_at region.Verbatim (c ∷ cs) in
+    no-unit u start c cs refl _ (no-cut (more_by u) (next_start u start c (byte_at 0 cs)) cs)
+
+no-verbatim : (text : List Cell) → HasNoSource (verbatim_tokens text)
+no-verbatim text =
+    cond_both (ends_at_once region.Verbatim text) _ _ HasNoSource (λ e. seen _ (empty text).none)
+    (λ e. no-cut 0 (front_column text) text)
+  where
+    empty : (text : List Cell) → HasNoSource (empty_end text)
+    empty [] = seen _ refl
+    empty (c ∷ cs) = no-fault (is_line_end c.byte) fault.VerbatimEnd c.line
+
+-- names and constants
+
+no-use : (s : LexerState) (text : List Cell) → HasNoSource (use_of_name s text).tokens
+no-use s text =
+    seen _ (no-append _ _
+    (no-append _ _ (no-fault (is_in_directive s) fault.UseInDirective (front_line s.last_line text))
+    (no-fault (not (is_ended text)) fault.NameEnd (front_line s.last_line (name_end text))))
+    (no-fault (has_single_equals (after_name text)) fault.NameEquals (front_line s.last_line text))).none
+
+no-name : (s : LexerState) (text : List Cell) → HasNoSource (name_in_documentation s text).tokens
+no-name s text = by (definition_count text)
+  where
+    by : (count : Option ℕ) → HasNoSource (definition_or_mention count s text).tokens
+    by None =
+        no-append _ _ (no-fault (not (is_ended text)) fault.NameEnd (front_line s.last_line (name_end text)))
+        (no-fault (is_macro s.mode) fault.NameInMacro (front_line s.last_line text))
+    by (Some count) = seen _ refl
+
+no-constant : (constant : Option AsciiConstant) (s : LexerState) (text : List Cell)
+    → HasNoSource (constant_lexeme constant s text).tokens
+no-constant None s text = seen _ refl
+no-constant (Some constant) s text = seen _ refl
+
+-- what the first byte of a lexeme of this kind is
+abbrev Shows : LexemeKind → Option ℕ → Type 0
+Shows (lexeme_kind.Control code) b = holds at_sign b ≡ true
+Shows lexeme_kind.DoubleQuote b = b ≡ Some double_quote
+Shows lexeme_kind.Apostrophe b = b ≡ Some apostrophe
+Shows lexeme_kind.HeaderName b = b ≡ Some less_sign
+Shows lexeme_kind.Word b = holds_word_byte b ≡ true
+Shows lexeme_kind.Other b = is_line_end b ≡ false
+Shows _ b = Unit {0}
+
+kind-shows : (inc : IncludeState) (b next : Option ℕ) → Shows (kind_by inc b next) b
+kind-shows inc None next = tt
+kind-shows inc (Some b) next =
+    let P : LexemeKind → Type 0 = λ k. Shows k (Some b) in
+    cond_both (b == at_sign) (lexeme_kind.Control (code_at next)) _ P (λ e. e) (λ other.
+    cond_both (b == slash && holds asterisk next) lexeme_kind.BlockComment _ P (λ e. tt) (λ e.
+    cond_both (b == slash && holds slash next) lexeme_kind.LineComment _ P (λ e. tt) (λ e.
+    cond_both (b == double_quote) lexeme_kind.DoubleQuote _ P (λ e. same double_quote e) (λ e.
+    cond_both (b == apostrophe) lexeme_kind.Apostrophe _ P (λ e. same apostrophe e) (λ e.
+    cond_both (b == less_sign) (less_kind inc) _ P (λ e. less inc (same less_sign e)) (λ e.
+    cond_both (is_white b) lexeme_kind.White _ P (λ e. tt) (λ e.
+    cond_both (is_word_byte b) lexeme_kind.Word lexeme_kind.Other P (λ e. e) (λ e. refl))))))))
+  where
+    same : (k : ℕ) → (b == k) ≡ true → Some b ≡ Some k
+    same k e = ap (λ x. Some x) (eqb-true b k e)
+
+    less : (inc : IncludeState) → Some b ≡ Some less_sign → Shows (less_kind inc) (Some b)
+    less include.AfterInclude h = h
+    less _ h = refl
+
+module _ (texts : List (List ℕ)) where
+  -- these tokens are texts, without their faults
+  record AreWhole (ts : List Token) : Type 0 where
+    pub are : AreTexts texts (without_faults ts)
+
+  whole : (ts : List Token) → AreTexts texts (without_faults ts) → AreWhole ts
+  whole ts all = record { are = all }
+
+  others-whole : (ts : List Token) → HasNoSource ts → AreWhole ts
+  others-whole ts h = whole ts (others-texts texts ts h.none)
+
+  sign-whole : (c : Cell) (cs : List Cell) → IsInLine texts c cs → (b : Option ℕ) → c.byte ≡ b → is_line_end b ≡ false
+      → AreWhole (token.Span span_kind.Sign (span_at 1 (c ∷ cs)) ∷ [])
+  sign-whole c cs is None e byte = cc
+  sign-whole c cs is (Some b) e byte =
+      whole _ (texts-alone texts (token.Span span_kind.Sign (span_at 1 (c ∷ cs))) [] refl (sign-span texts c cs b e is)
+      (texts-none texts))
+
+  word-whole : (c : Cell) (cs : List Cell) → IsInLine texts c cs → (b : Option ℕ) → c.byte ≡ b
+      → holds_word_byte b ≡ true
+      → AreWhole (token.Span span_kind.Word (span_at (1 + count_before region.Word cs) (c ∷ cs)) ∷ [])
+  word-whole c cs is None e word = cc
+  word-whole c cs is (Some b) e word =
+      whole _ (texts-alone texts (token.Span span_kind.Word (span_at (1 + count_before region.Word cs)
+      (c ∷ cs))) [] refl
+      (word-span texts c cs b e word is) (texts-none texts))
+
+  quoted-whole : (ts : List Token) → IsQuotedText texts (without_faults ts) → AreWhole ts
+  quoted-whole ts quoted =
+      whole ts (subst (AreTexts texts) (append-nil (without_faults ts))
+      (texts-part texts (without_faults ts) [] quoted (texts-none texts)))
+
+  code-whole : (kind : ControlCode) (s : LexerState) (c : Cell) (cs : List Cell) → IsInLine texts c cs
+      → holds at_sign c.byte ≡ true → AreWhole (c_code kind s (c ∷ cs)).tokens
+  code-whole code.DoubleAt s c cs is sign = sign-whole c cs is c.byte refl (byte c.byte sign)
+    where
+      byte : (b : Option ℕ) → holds at_sign b ≡ true → is_line_end b ≡ false
+      byte None h = cc
+      byte (Some b) h = refl
+  code-whole code.ControlText s c cs is sign =
+      others-whole _ (no-white _ _ _ (no-line_ends region.ControlText (drop 2 (c ∷ cs)))
+      (no-fault _ fault.ControlText _))
+  code-whole code.Verbatim s c cs is sign = others-whole _ (no-verbatim (drop 2 (c ∷ cs)))
+  code-whole code.Name s c cs is sign = others-whole _ (no-use s (c ∷ cs))
+  code-whole code.AllMacros s c cs is sign = others-whole _ (seen _ (no-fault
+      (is_in_directive s) fault.UseInDirective c.line).none)
+  code-whole code.AsciiConstant s c cs is sign =
+      others-whole _ (no-constant (constant_at (drop 2 (c ∷ cs))) s (c ∷ cs))
+  code-whole _ s c cs is sign = others-whole _ (seen _ refl)
+
+  kind-whole : (kind : LexemeKind) (s : LexerState) (c : Cell) (cs : List Cell) → AreInLines texts (c ∷ cs)
+      → Shows kind c.byte → AreWhole (c_lexeme kind s (c ∷ cs)).tokens
+  kind-whole (lexeme_kind.Control code) s c cs is shows = code-whole code s c cs is.0 shows
+  kind-whole lexeme_kind.BlockComment s c cs is shows =
+      others-whole _ (no-white _ _ _ (no-line_ends region.BlockComment (drop 2 (c ∷ cs)))
+      (no-fault _ fault.CommentEnd _))
+  kind-whole lexeme_kind.LineComment s c cs is shows =
+      others-whole _ (no-white false [] _ (seen _ refl) (no-fault _ fault.CommentEnd _))
+  kind-whole lexeme_kind.DoubleQuote s c cs is shows = quoted-whole _ (string-text texts s c cs is shows)
+  kind-whole lexeme_kind.Apostrophe s c cs is shows = quoted-whole _ (character-text texts s c cs is shows)
+  kind-whole lexeme_kind.HeaderName s c cs is shows = quoted-whole _ (header-text texts s c cs is shows)
+  kind-whole lexeme_kind.LineEnd s c cs is shows = others-whole _ (seen _ refl)
+  kind-whole lexeme_kind.White s c cs is shows = others-whole _ (seen _ refl)
+  kind-whole lexeme_kind.Word s c cs is shows = word-whole c cs is.0 c.byte refl shows
+  kind-whole lexeme_kind.Other s c cs is shows = sign-whole c cs is.0 c.byte refl shows
+
+  documentation-whole : (kind : ControlCode) (s : LexerState) (text : List Cell)
+      → AreWhole (documentation_code kind s text).tokens
+  documentation-whole code.Name s text = others-whole _ (no-name s text)
+  documentation-whole _ s text = others-whole _ (seen _ refl)
+
+  macro-whole : (kind : LexemeKind) (s : LexerState) (c : Cell) (cs : List Cell) → AreInLines texts (c ∷ cs)
+      → Shows kind c.byte → AreWhole (macro_lexeme kind s (c ∷ cs)).tokens
+  macro-whole (lexeme_kind.Control code.Macro) s c cs is shows = others-whole _ (seen _ refl)
+  macro-whole (lexeme_kind.Control code.UnnamedPart) s c cs is shows = others-whole _ (seen _ refl)
+  macro-whole (lexeme_kind.Control code.Name) s c cs is shows = others-whole _ (no-name s (c ∷ cs))
+  macro-whole (lexeme_kind.Control code.Format) s c cs is shows = others-whole _ (seen _ refl)
+  macro-whole (lexeme_kind.Control code.AllMacros) s c cs is shows = others-whole _ (seen _ refl)
+  macro-whole (lexeme_kind.Control code) s c cs is shows = code-whole code s c cs is.0 shows
+  macro-whole kind s c cs is shows = kind-whole kind s c cs is shows
+
+  lexeme-whole : (s : LexerState) (c : Cell) (cs : List Cell) → AreInLines texts (c ∷ cs)
+      → AreWhole (lexeme s (c ∷ cs)).tokens
+  unfolding lexeme
+  lexeme-whole s c cs is = by s.mode
+    where
+      shows : Shows (kind_at s.line.include (c ∷ cs)) c.byte
+      shows = kind-shows s.line.include c.byte (byte_at 0 cs)
+
+      P : Lexeme → Type 0
+      P here = AreWhole here.tokens
+
+      by : (m : Mode) → AreWhole (lexeme_in m s (c ∷ cs)).tokens
+      by mode.Limbo =
+          cond_both (starts_section (c ∷ cs)) _ _ P (λ e. others-whole _ (seen _ refl))
+          (λ e. cond_both (holds at_sign c.byte) _ _ P (λ e. others-whole _ (no-fault _ fault.LimboCode c.line))
+          (λ e. others-whole _ (seen _ refl)))
+      by mode.Documentation =
+          cond_both (holds at_sign c.byte) _ _ P
+          (λ e. documentation-whole (code_at (byte_at 0 cs)) s (c ∷ cs)) (λ e. others-whole _ (seen _ refl))
+      by mode.CPart = kind-whole (kind_at s.line.include (c ∷ cs)) s c cs is shows
+      by mode.Macro = macro-whole (kind_at s.line.include (c ∷ cs)) s c cs is shows
+
+  pub lexemes-whole : (k : ℕ) (s : LexerState) (text : List Cell) → AreInLines texts text
+      → AreTexts texts (without_faults (flat_map (λ l. l.tokens) (lexemes k s text)))
+  lexemes-whole k s [] is = texts-none texts
+  lexemes-whole (suc k) s (c ∷ cs) is = lexemes-whole k s cs is.1
+  lexemes-whole zero s (c ∷ cs) is =
+      let here : Lexeme = lexeme s (c ∷ cs) in
+      let others : List Token = flat_map (λ l. l.tokens) (lexemes here.more here.after cs) in
+      subst (AreTexts texts) (sym (faults-append here.tokens others))
+      (texts-append texts (without_faults here.tokens) (without_faults others) (lexeme-whole s c cs is).are
+      (lexemes-whole here.more here.after cs is.1))

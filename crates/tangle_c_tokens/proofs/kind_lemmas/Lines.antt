@@ -1,0 +1,174 @@
+-- The cells of a text lie in the source lines: the bytes of a span are those of its cells.
+use Rattle.std.proofs.Common.{◌≡◌, ℕ, zero, suc, ◌+◌, ◌-◌, ◌<◌, ◌≤◌, true, false, List, [], ◌∷◌, ◌++◌}
+use Rattle.std.proofs.Common.{Option, Some, None, get_or, take, drop, drop-drop, refl, ap, sym, ◌∙◌, arith, add-zero}
+use Rattle.std.proofs.Common.{subst}
+use Rattle.std.proofs.Common.{length, length-drop}
+use Rattle.std.proofs.lemmas.List.{length-take-le}
+use Rattle.std.proofs.Math.Seq.{take-add}
+use Rattle.std.specs.Prelude.{◌==◌}
+use Rattle.std.specs.List.{list_any}
+use Rattle.std.proofs.lemmas.Bool.{or_parts}
+use Rattle.tangle_lines.specs.Reading.{SourceLine}
+use Rattle.tangle_text.specs.Bytes.{holds}
+use Rattle.tangle_text.specs.Text.{Cell, line_text, text_from, texts_of, span_at, span_text}
+use Rattle.tangle_lexer.specs.SpanBytes.{first_byte}
+use Rattle.c_tokens.specs.Bytes.{line_feed}
+use Rattle.c_tokens.specs.Borders.{has_bytes}
+use Rattle.tangle_c_tokens.specs.LineFeeds.{HaveNoLineFeed}
+
+abbrev pub bytes_by : Option ℕ → List ℕ → List ℕ
+bytes_by None rest = []
+bytes_by (Some b) rest = b ∷ rest
+
+-- the bytes of the cells up to the first line end
+abbrev pub line_bytes : List Cell → List ℕ
+line_bytes [] = []
+line_bytes (c ∷ cs) = bytes_by c.byte (line_bytes cs)
+
+-- the cells after a cell are at the next column, or at the front of a line after a line end
+abbrev pub Continues : Option ℕ → Cell → List Cell → Type 0
+Continues None c [] = Unit {0}
+Continues None c (d ∷ cs) = d.column ≡ 0
+Continues (Some b) c [] = ⊥
+Continues (Some b) c (d ∷ cs) = (d.line ≡ c.line) × (d.column ≡ c.column + 1)
+
+pub record IsInLine (texts : List (List ℕ)) (c : Cell) (cs : List Cell) : Type 0 where
+  pub bytes : drop c.column (get_or texts c.line []) ≡ line_bytes (c ∷ cs)
+  pub within : c.column ≤ length (get_or texts c.line [])
+  pub next : Continues c.byte c cs
+  pub no_feed : holds line_feed c.byte ≡ false
+
+abbrev pub AreInLines : List (List ℕ) → List Cell → Type 0
+AreInLines texts [] = Unit {0}
+AreInLines texts (c ∷ cs) = IsInLine texts c cs × AreInLines texts cs
+
+line-bytes : (line column : ℕ) (bs : List ℕ) (rest : List Cell) → line_bytes (line_text line column bs ++ rest) ≡ bs
+line-bytes line column [] rest = refl
+line-bytes line column (b ∷ bs) rest = ap (λ t. b ∷ t) (line-bytes line (column + 1) bs rest)
+
+-- the first cell of a text is at the front of its line
+abbrev IsAtFront : List Cell → Type 0
+IsAtFront [] = Unit {0}
+IsAtFront (c ∷ cs) = c.column ≡ 0
+
+drop-next : (n : ℕ) (xs : List ℕ) (b : ℕ) (bs : List ℕ) → drop n xs ≡ b ∷ bs → drop (n + 1) xs ≡ bs
+drop-next n xs b bs h = sym (drop-drop 1 n xs) ∙ ap (drop 1) h
+
+-- a line goes on after a column where it has a byte
+drop-within : (n : ℕ) (xs : List ℕ) (b : ℕ) (bs : List ℕ) → drop n xs ≡ b ∷ bs → n + 1 ≤ length xs
+drop-within n xs b bs h = omega (arith, length-drop n xs, ap length h)
+
+line-in-lines : (texts : List (List ℕ)) (line column : ℕ) (bs : List ℕ) (rest : List Cell)
+    → drop column (get_or texts line []) ≡ bs → column ≤ length (get_or texts line [])
+    → list_any (λ b. b == line_feed) bs ≡ false
+    → IsAtFront rest → AreInLines texts rest → AreInLines texts (line_text line column bs ++ rest)
+line-in-lines texts line column [] rest is low none front all =
+    (record { bytes = is; within = low; next = next rest front; no_feed = refl }, all)
+  where
+    next : (rest : List Cell) → IsAtFront rest
+        → Continues None (record { line = line; column = column; byte = None }) rest
+    next [] h = tt
+    next (c ∷ cs) h = h
+line-in-lines texts line column (b ∷ bs) rest is low none front all =
+    let parts = or_parts (b == line_feed) (list_any (λ c. c == line_feed) bs) none in (
+      record {
+        bytes = is ∙ sym (line-bytes line column (b ∷ bs) rest);
+        within = low;
+        next = next bs;
+        no_feed = parts.0;
+      },
+      line-in-lines texts line (column + 1) bs rest (drop-next column (get_or texts line []) b bs is)
+          (drop-within column (get_or texts line []) b bs is) parts.1 front all,
+    )
+  where
+    next : (bs : List ℕ) → Continues (Some b) (record { line = line; column = column; byte = Some b })
+        (line_text line (column + 1) bs ++ rest)
+    next [] = (refl, refl)
+    next (c ∷ cs) = (refl, refl)
+
+pub text-in-lines : (texts : List (List ℕ)) (n : ℕ) (lines : List SourceLine)
+    → ((k : ℕ) → get_or texts (n + k) [] ≡ get_or (texts_of lines) k [])
+    → HaveNoLineFeed lines → AreInLines texts (text_from n lines)
+text-in-lines texts n [] is none = tt
+text-in-lines texts n (l ∷ ls) is none =
+    line-in-lines texts n 0 l.bytes (text_from (n + 1) ls)
+    (ap (λ k. get_or texts k []) (sym (add-zero n)) ∙ is 0) (omega arith) none.0 (front ls)
+    (text-in-lines texts (n + 1) ls
+    (λ k. let e : n + 1 + k ≡ n + suc k = omega arith in ap (λ m. get_or texts m []) e ∙ is (suc k)) none.1)
+  where
+    front : (ls : List SourceLine) → IsAtFront (text_from (n + 1) ls)
+    front [] = tt
+    front (l ∷ ls) = by l.bytes
+      where
+        by : (bs : List ℕ) → IsAtFront (line_text (n + 1) 0 bs ++ text_from (n + 1 + 1) ls)
+        by [] = refl
+        by (b ∷ bs) = refl
+
+-- the cell after a byte is at the next column of the line
+pub after-byte : (texts : List (List ℕ)) (c d : Cell) (cs : List Cell) (b : ℕ) → c.byte ≡ Some b
+    → IsInLine texts c (d ∷ cs) → (d.line ≡ c.line) × (d.column ≡ c.column + 1)
+after-byte texts c d cs b e is = subst (λ x. Continues x c (d ∷ cs)) e is.next
+
+-- a byte is within its line
+pub byte-within : (texts : List (List ℕ)) (c : Cell) (cs : List Cell) (b : ℕ) → c.byte ≡ Some b → IsInLine texts c cs
+    → c.column + 1 ≤ length (get_or texts c.line [])
+byte-within texts c cs b e is =
+    drop-within c.column (get_or texts c.line []) b (line_bytes cs) (is.bytes ∙ ap (λ x. bytes_by x (line_bytes cs)) e)
+
+-- spans
+
+module _ (texts : List (List ℕ)) where
+  pub span-bytes : (n : ℕ) (c : Cell) (cs : List Cell) → IsInLine texts c cs
+      → span_text texts (span_at n (c ∷ cs)) ≡ take n (line_bytes (c ∷ cs))
+  span-bytes n c cs is =
+      let e : c.column + n - c.column ≡ n = omega arith in
+      ap (λ k. take k (drop c.column (get_or texts c.line []))) e ∙ ap (take n) is.bytes
+
+  front-of : (xs : List ℕ) (k : ℕ) → get_or xs k 0 ≡ get_or (drop k xs) 0 0
+  front-of xs zero = refl
+  front-of [] (suc k) = refl
+  front-of (x ∷ xs) (suc k) = front-of xs k
+
+  pub first-byte : (n : ℕ) (c : Cell) (cs : List Cell) → IsInLine texts c cs
+      → first_byte texts (span_at n (c ∷ cs)) ≡ get_or (line_bytes (c ∷ cs)) 0 0
+  first-byte n c cs is =
+      front-of (get_or texts c.line []) c.column ∙ ap (λ t. get_or t 0 0) is.bytes
+
+  -- the bytes of a line between two columns
+  abbrev pub range : ℕ → ℕ → ℕ → List ℕ
+  range line start end = take (end - start) (drop start (get_or texts line []))
+
+  pub range-none : (line column : ℕ) → range line column column ≡ []
+  range-none line column =
+      let e : column - column ≡ 0 = omega arith in ap (λ k. take k (drop column (get_or texts line []))) e
+
+  -- a range with one more byte
+  range-more : (line start column b : ℕ) (bs : List ℕ) → start ≤ column
+      → drop column (get_or texts line []) ≡ b ∷ bs
+      → range line start (column + 1) ≡ range line start column ++ b ∷ []
+  range-more line start column b bs h is =
+      let e : column + 1 - start ≡ (column - start) + 1 = omega (arith, h) in
+      let all : start + (column - start) ≡ column = omega (arith, h) in
+      let xs : List ℕ = drop start (get_or texts line []) in
+      let there : drop (column - start) xs ≡ b ∷ bs =
+      drop-drop (column - start) start (get_or texts line [])
+      ∙ ap (λ k. drop k (get_or texts line [])) all ∙ is in
+      ap (λ k. take k xs) e ∙ take-add (column - start) 1 xs
+      ∙ ap (λ t. take (column - start) xs ++ take 1 t) there
+
+  -- the bytes from a column on, up to a byte and with it
+  pub range-byte : (c : Cell) (cs : List Cell) (b start : ℕ) → c.byte ≡ Some b → IsInLine texts c cs → start ≤ c.column
+      → range c.line start (c.column + 1) ≡ range c.line start c.column ++ b ∷ []
+  range-byte c cs b start e is h =
+      range-more c.line start c.column b (line_bytes cs) h (is.bytes ∙ ap (λ x. bytes_by x (line_bytes cs)) e)
+
+  pub range-some : (line start end : ℕ) → start < end → end ≤ length (get_or texts line [])
+      → has_bytes (range line start end) ≡ true
+  range-some line start end some within =
+      let xs : List ℕ = drop start (get_or texts line []) in
+      let left : end - start ≤ length xs = omega (arith, length-drop start (get_or texts line []), within) in
+      by (range line start end) (omega (arith, length-take-le (end - start) xs left, some))
+    where
+      by : (t : List ℕ) → 0 < length t → has_bytes t ≡ true
+      by [] h = absurd (omega (arith, h))
+      by (b ∷ t) h = refl

@@ -1,0 +1,228 @@
+-- The bytes of string literals, character constants and header names, unit by unit: those of a text that ends, and
+-- those of one that does not.
+use Rattle.std.proofs.Common.{◌≡◌, inl, inr, ℕ, zero, suc, Bool, true, false, not, List, [], ◌∷◌, take, Option, Some}
+use Rattle.std.proofs.Common.{None}
+use Rattle.std.proofs.Common.{refl, ap, sym, ◌∙◌, subst}
+use Rattle.std.specs.Prelude.{◌==◌, ◌&&◌, ◌||◌, slice_get}
+use Rattle.std.proofs.lemmas.Bool.{and_parts, and_from, and_right, or_parts, or_cases, both_ways, false≢true}
+use Rattle.std.proofs.lemmas.Bool.{not_from_false}
+use Rattle.std.proofs.lemmas.Bool.{eqb-true}
+use Rattle.tangle_lines.specs.Bytes.{at_sign}
+use Rattle.tangle_text.specs.declared.regions.Region.{Region}
+use Rattle.tangle_text.specs.declared.regions.Region.TheVariants as region
+use Rattle.tangle_text.specs.declared.regions.Unit.TheVariants as unit
+use Rattle.tangle_text.specs.Bytes.{holds, are_bytes, backslash, greater_sign}
+use Rattle.tangle_text.specs.Regions.{unit_by, unit_of, quoted_unit}
+use Rattle.c_tokens.specs.Bytes.{line_feed}
+use Rattle.c_tokens.specs.Grammar.{ends_quoted}
+use Rattle.c_tokens.specs.Reading.{spliced}
+use Rattle.c_tokens.proofs.TouchingLemmas.{spliced-first}
+use Rattle.tangle_c_tokens.specs.Kinds.{ends_header_name}
+
+-- the tests of a unit
+
+goes-stop : (ends two : Bool) → unit_by ends two ≡ unit.Stop → ends ≡ true
+goes-stop true two e = refl
+goes-stop false true e = cc
+goes-stop false false e = cc
+
+goes-one : (ends two : Bool) → unit_by ends two ≡ unit.One → (ends ≡ false) × (two ≡ false)
+goes-one true two e = cc
+goes-one false true e = cc
+goes-one false false e = (refl, refl)
+
+pub goes-two : (ends two : Bool) → unit_by ends two ≡ unit.Two → (ends ≡ false) × (two ≡ true)
+goes-two true two e = cc
+goes-two false true e = (refl, refl)
+goes-two false false e = cc
+
+or-nothing : (x : Bool) → (x || false) ≡ true → x ≡ true
+or-nothing true h = refl
+or-nothing false h = h
+
+-- the bytes after the first one of a text end it, by this test, or no front of them does
+abbrev pub Gives : Bool → (List ℕ → Bool) → List ℕ → Type 0
+Gives true test bs = test bs ≡ true
+Gives false test bs = (n : ℕ) → test (take n bs) ≡ false
+
+pub gives-nothing : (test : List ℕ → Bool) → test [] ≡ false → Gives false test []
+gives-nothing test h zero = h
+gives-nothing test h (suc n) = h
+
+-- a byte before bytes that do not begin with a line feed is kept
+kept-first : (b : ℕ) (q : List ℕ) → holds line_feed (slice_get q 0) ≡ false → spliced (b ∷ q) ≡ b ∷ spliced q
+kept-first b [] h = refl
+kept-first b (c ∷ q) h = rw (and_right (b == backslash) (c == line_feed) h) refl
+
+-- texts in quotes
+module _ (close : ℕ) (no_sign : (at_sign == close) ≡ false) (no_back : (backslash == close) ≡ false) where
+  abbrev GivesQuoted : Bool → List ℕ → Type 0
+  GivesQuoted ends t = Gives ends (ends_quoted close) t
+
+  byte-true : (b : ℕ) (t : List ℕ) → (b == backslash) ≡ false → (b == close) ≡ false → (b == line_feed) ≡ false
+      → ends_quoted close t ≡ true → ends_quoted close (b ∷ t) ≡ true
+  byte-true b [] back closing feed h = absurd (false≢true h)
+  byte-true b (c ∷ t) back closing feed h = rw (back, closing, feed) h
+
+  byte-false : (b : ℕ) (t : List ℕ) → (b == backslash) ≡ false → (b == close) ≡ false
+      → ends_quoted close t ≡ false → ends_quoted close (b ∷ t) ≡ false
+  byte-false b [] back closing h = closing
+  byte-false b (c ∷ t) back closing h =
+      rw back (and_right (not (b == close || b == line_feed)) (ends_quoted close (c ∷ t)) h)
+
+  gives-byte : (ends : Bool) (b : ℕ) (t : List ℕ) → (b == backslash) ≡ false → (b == close) ≡ false
+      → (b == line_feed) ≡ false → GivesQuoted ends t → GivesQuoted ends (b ∷ t)
+  gives-byte true b t back closing feed h = byte-true b t back closing feed h
+  gives-byte false b t back closing feed h = all
+    where
+      all : GivesQuoted false (b ∷ t)
+      all zero = refl
+      all (suc n) = byte-false b (take n t) back closing (h n)
+
+  -- a backslash and the byte after it
+  gives-escape : (ends : Bool) (y : ℕ) (t : List ℕ) → (y == line_feed) ≡ false → GivesQuoted ends t
+      → GivesQuoted ends (backslash ∷ y ∷ t)
+  gives-escape true y t feed h =
+      and_from (not (y == line_feed)) (ends_quoted close t) (not_from_false (y == line_feed) feed) h
+  gives-escape false y t feed h = all
+    where
+      all : GivesQuoted false (backslash ∷ y ∷ t)
+      all zero = refl
+      all (suc zero) = no_back
+      all (suc (suc n)) = and_right (not (y == line_feed)) (ends_quoted close (take n t)) (h n)
+
+  -- what is after an @
+  gives-after : (ends : Bool) (t : List ℕ) → GivesQuoted ends (at_sign ∷ t) → GivesQuoted ends t
+  gives-after true [] h = absurd (both_ways (at_sign == close) no_sign h)
+  gives-after true (c ∷ t) h = (and_parts (not (at_sign == close || false)) (ends_quoted close (c ∷ t)) h).1
+  gives-after false t h = λ n. one (take n t) (h (suc n))
+    where
+      one : (u : List ℕ) → ends_quoted close (at_sign ∷ u) ≡ false → ends_quoted close u ≡ false
+      one [] h = refl
+      one (c ∷ u) h = subst (λ x. (not (x || false) && ends_quoted close (c ∷ u)) ≡ false) no_sign h
+
+  -- a backslash before an @
+  escaped-sign : (ends : Bool) (q : List ℕ) → holds at_sign (slice_get q 0) ≡ true → GivesQuoted ends (spliced q)
+      → GivesQuoted ends (backslash ∷ spliced q)
+  escaped-sign ends [] sign h = absurd (false≢true sign)
+  escaped-sign ends (z ∷ q) sign h =
+      let same : z ≡ at_sign = eqb-true z at_sign sign in
+      let split : spliced (z ∷ q) ≡ at_sign ∷ spliced q =
+      spliced-first z q (ap (λ k. k == backslash) same) ∙ ap (λ k. k ∷ spliced q) same in
+      subst (λ t. GivesQuoted ends (backslash ∷ t)) (sym split)
+      (gives-escape ends at_sign (spliced q) refl (gives-after ends (spliced q) (subst (GivesQuoted ends) split h)))
+
+  module _ (r : Region) (is : (b n : Option ℕ) → unit_of r b n ≡ quoted_unit close b n) where
+    pub quote-stops : (b : ℕ) (n : Option ℕ) → unit_of r (Some b) n ≡ unit.Stop → (b == close) ≡ true
+    quote-stops b n e =
+        or-nothing (b == close) (goes-stop (b == close || false)
+        (are_bytes at_sign at_sign (Some b) n || b == backslash && not (holds at_sign n)) (sym (is (Some b) n) ∙ e))
+
+    pub quote-one : (ends : Bool) (b : ℕ) (q : List ℕ) → unit_of r (Some b) (slice_get q 0) ≡ unit.One
+        → (b == line_feed) ≡ false → holds line_feed (slice_get q 0) ≡ false → GivesQuoted ends (spliced q)
+        → GivesQuoted ends (spliced (b ∷ q))
+    quote-one ends b q e feed next h =
+        let n : Option ℕ = slice_get q 0 in
+        let goes = goes-one (b == close || false)
+        (are_bytes at_sign at_sign (Some b) n || b == backslash && not (holds at_sign n)) (sym (is (Some b) n) ∙ e) in
+        let no_close = (or_parts (b == close) false goes.0).0 in
+        let no_pair = (or_parts (are_bytes at_sign at_sign (Some b) n) (b == backslash && not
+        (holds at_sign n)) goes.1).1 in
+        subst (GivesQuoted ends) (sym (kept-first b q next)) (by (b == backslash) refl no_close no_pair)
+      where
+        by : (back : Bool) → (b == backslash) ≡ back → (b == close) ≡ false
+            → (back && not (holds at_sign (slice_get q 0))) ≡ false → GivesQuoted ends (b ∷ spliced q)
+        by false back closing pair = gives-byte ends b (spliced q) back closing feed h
+        by true back closing pair =
+            subst (λ k. GivesQuoted ends (k ∷ spliced q)) (sym (eqb-true b backslash back))
+            (escaped-sign ends q (sign (holds at_sign (slice_get q 0)) pair) h)
+          where
+            sign : (s : Bool) → not s ≡ false → s ≡ true
+            sign true p = refl
+            sign false p = sym p
+
+    pub quote-signs : (ends : Bool) (q : List ℕ) → holds line_feed (slice_get q 0) ≡ false
+        → GivesQuoted ends (spliced q)
+        → GivesQuoted ends (spliced (at_sign ∷ q))
+    quote-signs ends q next h =
+        subst (GivesQuoted ends) (sym (kept-first at_sign q next))
+        (gives-byte ends at_sign (spliced q) refl no_sign refl h)
+
+    -- a unit of two bytes that are not @ begins with a backslash
+    backslash-first : (b : ℕ) (n : Option ℕ) → unit_of r (Some b) n ≡ unit.Two
+        → are_bytes at_sign at_sign (Some b) n ≡ false → b ≡ backslash
+    backslash-first b n e pair =
+        let goes = goes-two (b == close || false)
+        (are_bytes at_sign at_sign (Some b) n || b == backslash && not (holds at_sign n)) (sym (is (Some b) n) ∙ e) in
+        elim (or_cases (are_bytes at_sign at_sign (Some b) n) (b == backslash && not (holds at_sign n)) goes.1) [
+          | inl signs ↦ absurd (both_ways (are_bytes at_sign at_sign (Some b) n) pair signs)
+          | inr back ↦ eqb-true b backslash (and_parts (b == backslash) (not (holds at_sign n)) back).0
+        ]
+
+    pub quote-others : (ends : Bool) (b y : ℕ) (q : List ℕ) → unit_of r (Some b) (Some y) ≡ unit.Two
+        → (b == at_sign) ≡ false → (y == line_feed) ≡ false → holds line_feed (slice_get q 0) ≡ false
+        → GivesQuoted ends (spliced q) → GivesQuoted ends (spliced (b ∷ y ∷ q))
+    quote-others ends b y q e sign feed next h =
+        let back : b ≡ backslash = backslash-first b (Some y) e (rw sign refl) in
+        let kept : spliced (b ∷ y ∷ q) ≡ backslash ∷ y ∷ spliced q =
+        kept-first b (y ∷ q) feed ∙ ap (λ t. b ∷ t) (kept-first y q next) ∙ ap (λ k. k ∷ y ∷ spliced q) back in
+        subst (GivesQuoted ends) (sym kept) (gives-escape ends y (spliced q) feed h)
+
+    pub quote-broken : (ends : Bool) (b : ℕ) (q : List ℕ) → unit_of r (Some b) None ≡ unit.Two
+        → GivesQuoted ends (spliced q) → GivesQuoted ends (spliced (b ∷ line_feed ∷ q))
+    quote-broken ends b q e h =
+        let back : b ≡ backslash = backslash-first b None e (and_right (b == at_sign) false refl) in
+        subst (λ k. GivesQuoted ends (spliced (k ∷ line_feed ∷ q))) (sym back) h
+
+-- header names
+
+abbrev GivesHeader : Bool → List ℕ → Type 0
+GivesHeader ends q = Gives ends ends_header_name q
+
+header-true : (b : ℕ) (q : List ℕ) → (b == greater_sign) ≡ false → (b == line_feed) ≡ false
+    → ends_header_name q ≡ true → ends_header_name (b ∷ q) ≡ true
+header-true b [] closing feed h = absurd (false≢true h)
+header-true b (c ∷ q) closing feed h = rw (closing, feed) h
+
+header-false : (b : ℕ) (q : List ℕ) → (b == greater_sign) ≡ false → ends_header_name q ≡ false
+    → ends_header_name (b ∷ q) ≡ false
+header-false b [] closing h = closing
+header-false b (c ∷ q) closing h = and_right (not (b == greater_sign || b == line_feed)) (ends_header_name (c ∷ q)) h
+
+header-byte : (ends : Bool) (b : ℕ) (q : List ℕ) → (b == greater_sign) ≡ false → (b == line_feed) ≡ false
+    → GivesHeader ends q → GivesHeader ends (b ∷ q)
+header-byte true b q closing feed h = header-true b q closing feed h
+header-byte false b q closing feed h = all
+  where
+    all : GivesHeader false (b ∷ q)
+    all zero = refl
+    all (suc n) = header-false b (take n q) closing (h n)
+
+pub header-stops : (b : ℕ) (n : Option ℕ) → unit_of region.HeaderName (Some b) n ≡ unit.Stop
+    → (b == greater_sign) ≡ true
+header-stops b n e =
+    or-nothing (b == greater_sign) (goes-stop (b == greater_sign || false) (are_bytes at_sign at_sign (Some b) n) e)
+
+pub header-one : (ends : Bool) (b : ℕ) (q : List ℕ) → unit_of region.HeaderName (Some b) (slice_get q 0) ≡ unit.One
+    → (b == line_feed) ≡ false → holds line_feed (slice_get q 0) ≡ false → GivesHeader ends q
+    → GivesHeader ends (b ∷ q)
+header-one ends b q e feed next h =
+    let goes = goes-one (b == greater_sign || false) (are_bytes at_sign at_sign (Some b) (slice_get q 0)) e in
+    header-byte ends b q (or_parts (b == greater_sign) false goes.0).0 feed h
+
+pub header-signs : (ends : Bool) (q : List ℕ) → holds line_feed (slice_get q 0) ≡ false → GivesHeader ends q
+    → GivesHeader ends (at_sign ∷ q)
+header-signs ends q next h = header-byte ends at_sign q refl refl h
+
+pub header-others : (ends : Bool) (b y : ℕ) (q : List ℕ) → unit_of region.HeaderName (Some b) (Some y) ≡ unit.Two
+    → (b == at_sign) ≡ false → (y == line_feed) ≡ false → holds line_feed (slice_get q 0) ≡ false
+    → GivesHeader ends q → GivesHeader ends (b ∷ y ∷ q)
+header-others ends b y q e sign feed next h =
+    let goes = goes-two (b == greater_sign || false) (are_bytes at_sign at_sign (Some b) (Some y)) e in
+    absurd (both_ways (b == at_sign) sign (and_parts (b == at_sign) (y == at_sign) goes.1).0)
+
+pub header-broken : (ends : Bool) (b : ℕ) (q : List ℕ) → unit_of region.HeaderName (Some b) None ≡ unit.Two
+    → GivesHeader ends q → GivesHeader ends (b ∷ line_feed ∷ q)
+header-broken ends b q e h =
+    let goes = goes-two (b == greater_sign || false) (are_bytes at_sign at_sign (Some b) None) e in
+    absurd (false≢true (and_parts (b == at_sign) false goes.1).1)

@@ -1,0 +1,383 @@
+-- The ranges of a quoted text have the bytes of one text, unit by unit.
+use Rattle.std.proofs.Common.{◌≡◌, ℕ, suc, ◌+◌, ◌≤◌, Bool, true, false, List, [], ◌∷◌, ◌++◌}
+use Rattle.std.proofs.Common.{Option, Some, None, refl, ap, sym, ◌∙◌, subst, arith, append_assoc, append-nil}
+use Rattle.std.proofs.Common.{cond, get_or, length}
+use Rattle.std.specs.Prelude.{◌==◌, ◌&&◌, nat_lt, slice_get}
+use Rattle.std.specs.List.{list_all}
+use Rattle.std.proofs.lemmas.Bool.{false≢true, both_ways}
+use Rattle.std.proofs.lemmas.Bool.{eqb-true, eq-eqb, ltb-true, ltb-false}
+use Rattle.tangle_faults.specs.declared.faults.FaultKind.TheVariants as fault
+use Rattle.tangle_lines.specs.Bytes.{at_sign}
+use Rattle.tangle_text.specs.declared.regions.Region.{Region}
+use Rattle.tangle_text.specs.declared.regions.Unit.{Unit as Unit-of}
+use Rattle.tangle_text.specs.declared.regions.Unit.TheVariants as unit
+use Rattle.tangle_text.specs.Bytes.{holds, is_line_end, backslash}
+use Rattle.tangle_text.specs.Text.{Cell, byte_at}
+use Rattle.tangle_text.specs.Regions.{unit_of, unit_at, count_before}
+use Rattle.tangle_lexer.specs.declared.tokens.Token.{Token}
+use Rattle.tangle_lexer.specs.declared.tokens.Token.TheVariants as token
+use Rattle.tangle_lexer.specs.declared.tokens.SpanKind.TheVariants as span_kind
+use Rattle.tangle_lexer.specs.Lexemes.{fault_if}
+use Rattle.tangle_lexer.specs.Quoted.{kind_in, cut_range, unit_tokens, next_start, cut_tokens, quote_end}
+use Rattle.tangle_lexer.proofs.lemmas.CutLemmas.{cut-stop}
+use Rattle.tangle_lexer.proofs.laws.CutTexts.{IsCut}
+use Rattle.tangle_lexer.proofs.laws.RegionUnits.{units-by}
+use Rattle.tangle_scan.specs.Rules.{without_faults}
+use Rattle.tangle_scan.specs.ReadAsMeant.{token_bytes}
+use Rattle.c_tokens.specs.Bytes.{line_feed}
+use Rattle.c_tokens.specs.Borders.{has_bytes}
+use Rattle.tangle_c_tokens.specs.Edges.{ends_in}
+use Rattle.tangle_c_tokens.specs.Kinds.{is_range, range_bytes}
+use Rattle.tangle_c_tokens.proofs.kind_lemmas.Lines.{IsInLine, AreInLines, Continues, after-byte, byte-within, range}
+use Rattle.tangle_c_tokens.proofs.kind_lemmas.Lines.{range-none, range-byte, range-some}
+
+-- the last byte of a text is that of the text with one more byte before it
+last-more : (test : ℕ → Bool) (b : ℕ) (q : List ℕ) → ends_in test q ≡ true → ends_in test (b ∷ q) ≡ true
+last-more test b [] h = absurd (false≢true h)
+last-more test b (c ∷ q) h = h
+
+-- `Closes` is true of the bytes of a text after its opening byte: of a text that ends, or of one that does not. `r` is
+-- the region of such texts, which this byte closes.
+module _ (texts : List (List ℕ)) (r : Region) (close last_line : ℕ) (cut : IsCut r) (kind : kind_in r
+    ≡ span_kind.Quoted)
+    (stops : (b : ℕ) (n : Option ℕ) → unit_of r (Some b) n ≡ unit.Stop → (b == close) ≡ true)
+    (Closes : Bool → List ℕ → Type 0) (ending : Closes true (close ∷ [])) (unended : Closes false [])
+    (one : (ends : Bool) (b : ℕ) (q : List ℕ) → unit_of r (Some b) (slice_get q 0) ≡ unit.One → (b == line_feed) ≡ false
+    → holds line_feed (slice_get q 0) ≡ false → Closes ends q → Closes ends (b ∷ q))
+    (signs : (ends : Bool) (q : List ℕ) → holds line_feed (slice_get q 0) ≡ false → Closes ends q
+    → Closes ends (at_sign ∷ q))
+    (others : (ends : Bool) (b y : ℕ) (q : List ℕ) → unit_of r (Some b) (Some y) ≡ unit.Two → (b == at_sign) ≡ false
+    → (y == line_feed) ≡ false → holds line_feed (slice_get q 0) ≡ false → Closes ends q → Closes ends (b ∷ y ∷ q))
+    (broken : (ends : Bool) (b : ℕ) (q : List ℕ) → unit_of r (Some b) None ≡ unit.Two → Closes ends q
+    → Closes ends (b ∷ line_feed ∷ q)) where
+  abbrev tokens_of : ℕ → List Cell → List Token
+  tokens_of start text = cut_tokens (quote_end r close last_line) r 0 start text
+
+  -- the closing byte is last
+  abbrev is_closing : ℕ → Bool
+  is_closing b = b == close
+
+  abbrev is_full : Token → Bool
+  is_full t = has_bytes (token_bytes texts (λ t. []) t)
+
+  -- The tokens without faults are ranges that have these bytes, and then those of the text that is still ahead, which
+  -- begins with `front`.
+  record Ends (before : List ℕ) (front : Option ℕ) (ts : List Token) : Type 0 where
+    pub ends : Bool
+    pub ahead : List ℕ
+    pub bytes : range_bytes texts (without_faults ts) ≡ before ++ ahead
+    pub first : slice_get ahead 0 ≡ front
+    pub closes : Closes ends ahead
+    pub last : ends ≡ true → ends_in is_closing ahead ≡ true
+    pub ranges : list_all is_range (without_faults ts) ≡ true
+    pub full : list_all is_full (without_faults ts) ≡ true
+
+  -- a text from the start of a range on, which is 0 at the end of the source
+  abbrev Holds : ℕ → List Cell → Type 0
+  Holds n [] = Ends [] None (tokens_of 0 [])
+  Holds n (c ∷ cs) =
+      AreInLines texts (c ∷ cs) → (start : ℕ) → start ≤ c.column
+      → Ends (range texts c.line start c.column) c.byte (tokens_of start (c ∷ cs))
+
+  end-holds : Holds 0 []
+  end-holds = record {
+    ends = false;
+    ahead = [];
+    bytes = refl;
+    first = refl;
+    closes = unended;
+    last = λ e. cc;
+    ranges = refl;
+    full = refl;
+  }
+
+  -- the tokens after a range are ranges with these bytes
+  abbrev IsAfter : ℕ → ℕ → ℕ → List Token → Type 0
+  IsAfter line start end ts =
+      (range_bytes texts (without_faults (cut_range r line start end ++ ts))
+      ≡ range texts line start end ++ range_bytes texts (without_faults ts))
+      × (list_all is_range (without_faults (cut_range r line start end ++ ts)) ≡ list_all is_range (without_faults ts))
+      × (list_all is_full (without_faults (cut_range r line start end ++ ts)) ≡ list_all is_full (without_faults ts))
+
+  -- a range that may be empty
+  cut-range : (line start end : ℕ) → start ≤ end → end ≤ length (get_or texts line []) → (ts : List Token)
+      → IsAfter line start end ts
+  cut-range line start end low within ts = by (nat_lt start end) refl
+    where
+      by : (some : Bool) → nat_lt start end ≡ some → IsAfter line start end ts
+      by true h =
+          let some : has_bytes (range texts line start end) ≡ true =
+          range-some texts line start end (ltb-true start end h) within in
+          rw (h, kind, some) (refl, refl, refl)
+      by false h =
+          let same : end ≡ start = omega (arith, low, ltb-false start end h) in
+          let none : range texts line start end ≡ [] = ap (range texts line start) same ∙ range-none texts line start in
+          rw (h, none) (refl, refl, refl)
+
+  no-byte : (n : Option ℕ) → (u : Unit-of) → unit_of r None n ≡ u → (u ≡ unit.Stop → ⊥) → ⊥
+  no-byte n u e go = go (sym e ∙ cut.stops n)
+
+  -- the end of the text
+
+  stop-by : (c : Cell) (cs : List Cell) (start : ℕ) (closed : Bool) → holds close c.byte ≡ closed
+      → unit_at r (c ∷ cs) ≡ unit.Stop → IsInLine texts c cs → start ≤ c.column
+      → Ends (range texts c.line start c.column) c.byte
+      (cond closed (cut_range r c.line start (c.column + 1))
+      (cut_range r c.line start c.column ++ token.Fault fault.StringEnd c.line ∷ []))
+  stop-by c cs start false same e is low =
+      let cut = cut-range c.line start c.column low is.within (token.Fault fault.StringEnd c.line ∷ []) in
+      record {
+        ends = false;
+        ahead = [];
+        bytes = cut.0;
+        first = line-end c.byte same e;
+        closes = unended;
+        last = λ e. cc;
+        ranges = cut.1;
+        full = cut.2;
+      }
+    where
+      line-end : (b : Option ℕ) → holds close b ≡ false → unit_of r b (byte_at 0 cs) ≡ unit.Stop → None ≡ b
+      line-end None h e = refl
+      line-end (Some b) h e = absurd (both_ways (b == close) h (stops b (byte_at 0 cs) e))
+  stop-by c cs start true same stop is low =
+      let e : c.byte ≡ Some close = closing c.byte same in
+      let only = cut-range c.line start (c.column + 1) (omega (arith, low)) (byte-within texts c cs close e is) [] in
+      let ts = sym (append-nil (cut_range r c.line start (c.column + 1))) in
+      record {
+        ends = true;
+        ahead = close ∷ [];
+        bytes = ap (λ us. range_bytes texts (without_faults us)) ts ∙ only.0
+            ∙ append-nil (range texts c.line start (c.column + 1)) ∙ range-byte texts c cs close start e is low;
+        first = sym e;
+        closes = ending;
+        last = λ e. eq-eqb close close refl;
+        ranges = ap (λ us. list_all is_range (without_faults us)) ts ∙ only.1;
+        full = ap (λ us. list_all is_full (without_faults us)) ts ∙ only.2;
+      }
+    where
+      closing : (b : Option ℕ) → holds close b ≡ true → b ≡ Some close
+      closing None h = cc
+      closing (Some b) h = ap (λ x. Some x) (eqb-true b close h)
+
+  stop-holds : (text : List Cell) → unit_at r text ≡ unit.Stop → Holds 0 text
+  stop-holds [] e = end-holds
+  stop-holds (c ∷ cs) e = λ is start low.
+      subst (Ends (range texts c.line start c.column) c.byte)
+      (sym (cut-stop (quote_end r close last_line) r start (c ∷ cs) e))
+      (stop-by c cs start (holds close c.byte) refl e is.0 low)
+
+  -- a unit of one byte
+
+  no-faults : (b : Bool) (line : ℕ) (ts : List Token)
+      → without_faults (fault_if b fault.StringAt line ++ ts) ≡ without_faults ts
+  no-faults true line ts = refl
+  no-faults false line ts = refl
+
+  one-holds : (n : ℕ) (c : Cell) (cs : List Cell) → unit_at r (c ∷ cs) ≡ unit.One → Holds n cs → Holds (suc n) (c ∷ cs)
+  one-holds n c [] e next is start low = absurd (alone c.byte e is.0.next)
+    where
+      alone : (x : Option ℕ) → unit_of r x None ≡ unit.One → Continues x c [] → ⊥
+      alone None e k = no-byte None unit.One e (λ u. cc)
+      alone (Some b) e k = k
+  one-holds n c (d ∷ cs) e next is start low = by c.byte refl
+    where
+      by : (x : Option ℕ) → c.byte ≡ x → Ends (range texts c.line start c.column) c.byte (tokens_of start (c ∷ d ∷ cs))
+      by None x = absurd (no-byte d.byte unit.One (subst (λ y. unit_of r y d.byte ≡ unit.One) x e) (λ u. cc))
+      by (Some b) x =
+          let at = after-byte texts c d cs b x is.0 in
+          let tail : List Token = tokens_of start (d ∷ cs) in
+          let faults : List Token = fault_if (holds at_sign c.byte) fault.StringAt c.line in
+          let tokens : tokens_of start (c ∷ d ∷ cs) ≡ faults ++ tail = rw e refl in
+          let kept : without_faults (tokens_of start (c ∷ d ∷ cs)) ≡ without_faults tail =
+          ap without_faults tokens ∙ no-faults (holds at_sign c.byte) c.line tail in
+          let further = next is.1 start (omega (arith, low, at.1)) in
+          let moved : range texts d.line start d.column ≡ range texts c.line start c.column ++ b ∷ [] =
+          (λ i. range texts (at.0 i) start (at.1 i)) ∙ range-byte texts c (d ∷ cs) b start x is.0 low in
+          record {
+            ends = further.ends;
+            ahead = b ∷ further.ahead;
+            bytes = ap (range_bytes texts) kept ∙ further.bytes ∙ ap (λ t. t ++ further.ahead) moved
+                ∙ append_assoc (range texts c.line start c.column) (b ∷ []) further.ahead;
+            first = sym x;
+            closes = one further.ends b further.ahead ((λ i. unit_of r (sym x i) (further.first i)) ∙ e)
+                (ap (holds line_feed) (sym x) ∙ is.0.no_feed) (ap (holds line_feed) further.first ∙ is.1.0.no_feed)
+                further.closes;
+            last = λ k. last-more is_closing b further.ahead (further.last k);
+            ranges = ap (list_all is_range) kept ∙ further.ranges;
+            full = ap (list_all is_full) kept ∙ further.full;
+          }
+
+  -- a unit of two bytes, or of a backslash and a line end
+
+  -- the text from the front of a line on
+  from-front : (n : ℕ) (d : Cell) (cs : List Cell) → d.byte ≡ None → Holds n cs → AreInLines texts (d ∷ cs)
+      → (front : Option ℕ) × Ends [] front (tokens_of 0 cs)
+  from-front n d [] y next is = (None, next)
+  from-front n d (f ∷ cs) y next is =
+      let front : f.column ≡ 0 = subst (λ z. Continues z d (f ∷ cs)) y is.0.next in
+      let none : range texts f.line 0 f.column ≡ [] = ap (range texts f.line 0) front ∙ range-none texts f.line 0 in
+      (f.byte, subst (λ t. Ends t f.byte (tokens_of 0 (f ∷ cs))) none (next is.1 0 (omega arith)))
+
+  broken-holds : (n : ℕ) (c d : Cell) (cs : List Cell) (b start : ℕ) → c.byte ≡ Some b → d.byte ≡ None
+      → unit_of r c.byte d.byte ≡ unit.Two → Holds n cs → AreInLines texts (c ∷ d ∷ cs) → start ≤ c.column
+      → tokens_of start (c ∷ d ∷ cs) ≡ cut_range r c.line start (c.column + 1) ++ token.QuoteBreak ∷ tokens_of 0 cs
+      → Ends (range texts c.line start c.column) c.byte (tokens_of start (c ∷ d ∷ cs))
+  broken-holds n c d cs b start x y e next is low tokens =
+      let cut = cut-range c.line start (c.column + 1) (omega (arith, low)) (byte-within texts c (d ∷ cs) b x is.0)
+      (token.QuoteBreak ∷ tokens_of 0 cs) in
+      let further = (from-front n d cs y next is.1).1 in
+      record {
+        ends = further.ends;
+        ahead = b ∷ line_feed ∷ further.ahead;
+        bytes = ap (λ ts. range_bytes texts (without_faults ts)) tokens ∙ cut.0
+            ∙ ap (λ t. range texts c.line start (c.column + 1) ++ line_feed ∷ t) further.bytes
+            ∙ ap (λ t. t ++ line_feed ∷ further.ahead) (range-byte texts c (d ∷ cs) b start x is.0 low)
+            ∙ append_assoc (range texts c.line start c.column) (b ∷ []) (line_feed ∷ further.ahead);
+        first = sym x;
+        closes = broken further.ends b further.ahead ((λ i. unit_of r (sym x i) (sym y i)) ∙ e) further.closes;
+        last = λ k. last-more is_closing b (line_feed ∷ further.ahead)
+            (last-more is_closing line_feed further.ahead (further.last k));
+        ranges = ap (λ ts. list_all is_range (without_faults ts)) tokens ∙ cut.1 ∙ further.ranges;
+        full = ap (λ ts. list_all is_full (without_faults ts)) tokens ∙ cut.2 ∙ further.full;
+      }
+
+  signs-holds : (n : ℕ) (c d : Cell) (cs : List Cell) (y start : ℕ) → holds at_sign c.byte ≡ true → d.byte ≡ Some y
+      → Holds n cs → AreInLines texts (c ∷ d ∷ cs) → start ≤ c.column
+      → tokens_of start (c ∷ d ∷ cs) ≡ cut_range r c.line start (c.column + 1) ++ tokens_of (c.column + 2) cs
+      → Ends (range texts c.line start c.column) c.byte (tokens_of start (c ∷ d ∷ cs))
+  signs-holds n c d [] y start sign z next is low tokens =
+      absurd (subst (λ x. Continues x d []) z is.1.0.next)
+  signs-holds n c d (f ∷ cs) y start sign z next is low tokens =
+      let x : c.byte ≡ Some at_sign = here c.byte sign in
+      let at = after-byte texts c d (f ∷ cs) at_sign x is.0 in
+      let then = after-byte texts d f cs y z is.1.0 in
+      let tail : List Token = tokens_of (c.column + 2) (f ∷ cs) in
+      let cut = cut-range c.line start (c.column + 1) (omega (arith, low))
+      (byte-within texts c (d ∷ f ∷ cs) at_sign x is.0) tail in
+      let column : f.column ≡ c.column + 2 = omega (arith, at.1, then.1) in
+      let further = next is.1.1 (c.column + 2) (omega (arith, column)) in
+      let none : range texts f.line (c.column + 2) f.column ≡ [] =
+      ap (range texts f.line (c.column + 2)) column ∙ range-none texts f.line (c.column + 2) in
+      record {
+        ends = further.ends;
+        ahead = at_sign ∷ further.ahead;
+        bytes = ap (λ ts. range_bytes texts (without_faults ts)) tokens ∙ cut.0
+            ∙ ap (λ t. range texts c.line start (c.column + 1) ++ t) (further.bytes ∙ ap (λ t. t ++ further.ahead) none)
+            ∙ ap (λ t. t ++ further.ahead) (range-byte texts c (d ∷ f ∷ cs) at_sign start x is.0 low)
+            ∙ append_assoc (range texts c.line start c.column) (at_sign ∷ []) further.ahead;
+        first = sym x;
+        closes = signs further.ends further.ahead (ap (holds line_feed) further.first
+            ∙ is.1.1.0.no_feed) further.closes;
+        last = λ k. last-more is_closing at_sign further.ahead (further.last k);
+        ranges = ap (λ ts. list_all is_range (without_faults ts)) tokens ∙ cut.1 ∙ further.ranges;
+        full = ap (λ ts. list_all is_full (without_faults ts)) tokens ∙ cut.2 ∙ further.full;
+      }
+    where
+      here : (b : Option ℕ) → holds at_sign b ≡ true → b ≡ Some at_sign
+      here None h = cc
+      here (Some b) h = ap (λ k. Some k) (eqb-true b at_sign h)
+
+  others-holds : (n : ℕ) (c d : Cell) (cs : List Cell) (b y start : ℕ) → c.byte ≡ Some b → d.byte ≡ Some y
+      → unit_of r c.byte d.byte ≡ unit.Two → holds at_sign c.byte ≡ false
+      → Holds n cs → AreInLines texts (c ∷ d ∷ cs) → start ≤ c.column
+      → tokens_of start (c ∷ d ∷ cs) ≡ tokens_of start cs
+      → Ends (range texts c.line start c.column) c.byte (tokens_of start (c ∷ d ∷ cs))
+  others-holds n c d [] b y start x z e other next is low tokens =
+      absurd (subst (λ k. Continues k d []) z is.1.0.next)
+  others-holds n c d (f ∷ cs) b y start x z e other next is low tokens =
+      let at = after-byte texts c d (f ∷ cs) b x is.0 in
+      let then = after-byte texts d f cs y z is.1.0 in
+      let further = next is.1.1 start (omega (arith, low, at.1, then.1)) in
+      let moved : range texts f.line start f.column ≡ (range texts c.line start c.column ++ b ∷ []) ++ y ∷ [] =
+      (λ i. range texts (then.0 i) start (then.1 i))
+      ∙ range-byte texts d (f ∷ cs) y start z is.1.0 (omega (arith, low, at.1))
+      ∙ ap (λ t. t ++ y ∷ []) ((λ i. range texts (at.0 i) start (at.1 i))
+      ∙ range-byte texts c (d ∷ f ∷ cs) b start x is.0 low) in
+      record {
+        ends = further.ends;
+        ahead = b ∷ y ∷ further.ahead;
+        bytes = ap (λ ts. range_bytes texts (without_faults ts)) tokens ∙ further.bytes
+            ∙ ap (λ t. t ++ further.ahead) moved
+            ∙ append_assoc (range texts c.line start c.column ++ b ∷ []) (y ∷ []) further.ahead
+            ∙ append_assoc (range texts c.line start c.column) (b ∷ []) (y ∷ further.ahead);
+        first = sym x;
+        closes = others further.ends b y further.ahead ((λ i. unit_of r (sym x i) (sym z i))
+            ∙ e) (ap (holds at_sign) (sym x) ∙ other)
+            (ap (holds line_feed) (sym z) ∙ is.1.0.no_feed) (ap (holds line_feed) further.first ∙ is.1.1.0.no_feed)
+            further.closes;
+        last = λ k. last-more is_closing b (y ∷ further.ahead)
+            (last-more is_closing y further.ahead (further.last k));
+        ranges = ap (λ ts. list_all is_range (without_faults ts)) tokens ∙ further.ranges;
+        full = ap (λ ts. list_all is_full (without_faults ts)) tokens ∙ further.full;
+      }
+
+  two-holds : (n : ℕ) (c d : Cell) (cs : List Cell) → unit_at r (c ∷ d ∷ cs) ≡ unit.Two → Holds n cs
+      → Holds (suc (suc n)) (c ∷ d ∷ cs)
+  two-holds n c d cs e next is start low = by c.byte refl d.byte refl (holds at_sign c.byte) refl
+    where
+      tokens : tokens_of start (c ∷ d ∷ cs)
+          ≡ unit_tokens r unit.Two start c d.byte ++ tokens_of (next_start unit.Two start c d.byte) cs
+      tokens = rw e refl
+
+      by : (x : Option ℕ) → c.byte ≡ x → (z : Option ℕ) → d.byte ≡ z → (sign : Bool) → holds at_sign c.byte ≡ sign
+          → Ends (range texts c.line start c.column) c.byte (tokens_of start (c ∷ d ∷ cs))
+      by None x z k sign s =
+          absurd (no-byte d.byte unit.Two (subst (λ y. unit_of r y d.byte ≡ unit.Two) x e) (λ u. cc))
+      by (Some b) x None k true s =
+          absurd (false≢true (sym (ap (holds at_sign) k) ∙ sym (cut.pairs c.byte d.byte e) ∙ s))
+      by (Some b) x None k false s =
+          let back : holds backslash c.byte ≡ true =
+          cut.takes c.byte (subst (λ y. unit_of r c.byte y ≡ unit.Two) k e) in
+          broken-holds n c d cs b start x k e next is low
+          (tokens ∙ rw (s, back, k) (append_assoc (cut_range r c.line start (c.column + 1)) (token.QuoteBreak ∷ [])
+          (tokens_of 0 cs)))
+      by (Some b) x (Some y) k true s =
+          signs-holds n c d cs y start s k next is low (tokens ∙ rw s refl)
+      by (Some b) x (Some y) k false s =
+          others-holds n c d cs b y start x k e s next is low (tokens ∙ rw s (none (holds backslash c.byte) d.byte k))
+        where
+          none : (slash : Bool) (z : Option ℕ) → z ≡ Some y
+              → cond (slash && is_line_end z) (cut_range r c.line start (c.column + 1) ++ token.QuoteBreak ∷ []) []
+              ++ tokens_of (cond (slash && is_line_end z) 0 start) cs ≡ tokens_of start cs
+          none slash None same = cc
+          none true (Some z) same = refl
+          none false (Some z) same = refl
+
+  -- the bytes of a whole text after its first byte
+  pub record IsWhole (opening : ℕ) (ts : List Token) : Type 0 where
+    pub ends : Bool
+    pub ahead : List ℕ
+    pub bytes : range_bytes texts (without_faults ts) ≡ opening ∷ ahead
+    pub closes : Closes ends ahead
+    pub last : ends ≡ true → ends_in is_closing ahead ≡ true
+    pub ranges : list_all is_range (without_faults ts) ≡ true
+    pub full : list_all is_full (without_faults ts) ≡ true
+
+  pub text-whole : (c : Cell) (cs : List Cell) (b : ℕ) → c.byte ≡ Some b → AreInLines texts (c ∷ cs)
+      → IsWhole b (tokens_of c.column cs)
+  text-whole c [] b x is = absurd (subst (λ k. Continues k c []) x is.0.next)
+  text-whole c (d ∷ cs) b x is =
+      let at = after-byte texts c d cs b x is.0 in
+      let all : Holds (count_before r (d ∷ cs)) (d ∷ cs) =
+      units-by r Holds stop-holds end-holds one-holds two-holds (λ f e. lone f e) (d ∷ cs) in
+      let text = all is.1 c.column (omega (arith, at.1)) in
+      let first : range texts d.line c.column d.column ≡ b ∷ [] =
+      (λ i. range texts (at.0 i) c.column (at.1 i)) ∙ range-byte texts c (d ∷ cs) b c.column x is.0 (omega arith)
+      ∙ ap (λ t. t ++ b ∷ []) (range-none texts c.line c.column) in
+      record {
+        ends = text.ends;
+        ahead = text.ahead;
+        bytes = text.bytes ∙ ap (λ t. t ++ text.ahead) first;
+        closes = text.closes;
+        last = text.last;
+        ranges = text.ranges;
+        full = text.full;
+      }
+    where
+      lone : (f : Cell) → unit_at r (f ∷ []) ≡ unit.Two → Holds 1 (f ∷ [])
+      lone f e is start low = absurd (by f.byte e is.0.next)
+        where
+          by : (x : Option ℕ) → unit_of r x None ≡ unit.Two → Continues x f [] → ⊥
+          by None e k = no-byte None unit.Two e (λ u. cc)
+          by (Some b) e k = k

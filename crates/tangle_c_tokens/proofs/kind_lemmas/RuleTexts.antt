@@ -1,0 +1,233 @@
+-- The rules that make items of tokens leave texts as they are.
+use Rattle.std.proofs.Common.{◌≡◌, ℕ, Bool, true, false, List, [], ◌∷◌, ◌++◌, refl, ap, sym, ◌∙◌, subst, map}
+use Rattle.std.specs.List.{AllByRecursion, list_all}
+use Rattle.std.proofs.lemmas.Bool.{and_parts, cond_both, both_ways}
+use Rattle.tangle_text.specs.declared.spans.Span.{Span}
+use Rattle.tangle_lexer.specs.declared.tokens.Token.{Token}
+use Rattle.tangle_lexer.specs.declared.tokens.Token.TheVariants as token
+use Rattle.tangle_lexer.specs.declared.tokens.SpanKind.TheVariants as span_kind
+use Rattle.tangle_lexer.specs.Heads.{is_head}
+use Rattle.tangle_scan.specs.Rules.{without_faults, white_inner_end, clean_tokens, would_merge, with_spaces}
+use Rattle.tangle_scan.specs.Rules.{may_follow_name}
+use Rattle.tangle_scan.specs.Rules.{with_space_after, with_name_space, has_join, is_gap, map_runs, left_of_run}
+use Rattle.tangle_scan.specs.Rules.{without_joins}
+use Rattle.tangle_scan.specs.Rules.{is_line_backslash, without_backslashes, is_front_gap, without_front_gaps}
+use Rattle.tangle_scan.specs.Rules.{part_tokens}
+use Rattle.tangle_scan.specs.Rules.{macro_tokens}
+use Rattle.tangle_lexer.specs.LinesOfParts.{body}
+use Rattle.tangle_c_tokens.specs.Kinds.{HasItsKind, is_range, IsQuotedText, AreTexts}
+use Rattle.tangle_c_tokens.proofs.kind_lemmas.Texts.{texts-none, texts-alone, texts-part, texts-by, texts-append}
+
+-- what is true of ranges and breaks
+pub range-by : (P : Token → Type 0) → ((s : Span) → P (token.Span span_kind.Quoted s)) → P token.QuoteBreak
+    → (t : Token) → is_range t ≡ true → P t
+range-by P range break (token.Span span_kind.Quoted s) h = range s
+range-by P range break (token.Span span_kind.Word s) h = cc
+range-by P range break (token.Span span_kind.Sign s) h = cc
+range-by P range break (token.Span span_kind.Verbatim s) h = cc
+range-by P range break token.QuoteBreak h = break
+range-by P range break _ h = cc
+
+-- `f` keeps each range
+abbrev KeepsRanges : (List Token → List Token) → Type 0
+KeepsRanges f = (t : Token) (ts : List Token) → is_range t ≡ true → f (t ∷ ts) ≡ t ∷ f ts
+
+keeps-part : (f : List Token → List Token) → KeepsRanges f → (part ts : List Token) → list_all is_range part ≡ true
+    → f (part ++ ts) ≡ part ++ f ts
+keeps-part f keeps [] ts h = refl
+keeps-part f keeps (t ∷ part) ts h =
+    let both = and_parts (is_range t) (list_all is_range part) h in
+    keeps t (part ++ ts) both.0 ∙ ap (λ us. t ∷ us) (keeps-part f keeps part ts both.1)
+
+-- a range is where the name of a macro should be
+abbrev pub name_is_range : List Token → Bool
+name_is_range [] = false
+name_is_range (token.White ∷ ts) = name_is_range ts
+name_is_range (token.LineEnd line ∷ ts) = name_is_range ts
+name_is_range (token.Join ∷ ts) = name_is_range ts
+name_is_range (t ∷ ts) = is_range t
+
+module _ (texts : List (List ℕ)) where
+  -- `f` makes of each other token and of texts after it texts
+  edited-texts : (f : List Token → List Token) → AreTexts texts (f []) → KeepsRanges f
+      → ((t : Token) (ts : List Token) → is_range t ≡ false → HasItsKind texts t → AreTexts texts (f ts)
+      → AreTexts texts (f (t ∷ ts)))
+      → (ts : List Token) → AreTexts texts ts → AreTexts texts (f ts)
+  edited-texts f none keeps others =
+      texts-by texts (λ ts. AreTexts texts (f ts)) none (λ t ts alone kind all made. others t ts alone kind made)
+      (λ part ts quoted all made.
+      subst (AreTexts texts) (sym (keeps-part f keeps part ts quoted.ranges)) (texts-part texts part
+      (f ts) quoted made))
+
+  white : (ts : List Token) → AreTexts texts ts → AreTexts texts (token.White ∷ ts)
+  white ts all = texts-alone texts token.White ts refl tt all
+
+  -- the tokens before the next head
+  pub body-texts : (ts : List Token) → AreTexts texts ts → AreTexts texts (body ts)
+  body-texts = edited-texts body (texts-none texts)
+      (λ t ts h. range-by (λ t. body (t ∷ ts) ≡ t ∷ body ts) (λ s. refl) refl t h)
+      (λ t ts alone kind made.
+      cond_both (is_head t) [] (t ∷ body ts) (AreTexts texts) (λ e. texts-none texts)
+      (λ e. texts-alone texts t (body ts) alone kind made))
+
+  inner-texts : (ts : List Token) → AreTexts texts ts → AreTexts texts (map white_inner_end ts)
+  inner-texts = edited-texts (map white_inner_end) (texts-none texts)
+      (λ t ts h. range-by (λ t. map white_inner_end (t ∷ ts) ≡ t ∷ map white_inner_end ts) (λ s. refl) refl t h)
+      (λ t ts alone kind made. one t (map white_inner_end ts) alone kind made)
+    where
+      one : (t : Token) (ts : List Token) → is_range t ≡ false → HasItsKind texts t → AreTexts texts ts
+          → AreTexts texts (white_inner_end t ∷ ts)
+      one (token.InnerLineEnd line) ts alone kind made = white ts made
+      one t ts alone kind made = texts-alone texts t ts alone kind made
+
+  spaces-texts : (ts : List Token) → AreTexts texts ts → AreTexts texts (with_spaces texts ts)
+  spaces-texts = edited-texts (with_spaces texts) (texts-none texts)
+      (λ t ts h. range-by (λ t. with_spaces texts (t ∷ ts) ≡ t ∷ with_spaces texts ts) (λ s. range s ts) (break ts) t h)
+      (λ t ts alone kind made. one t ts alone kind made)
+    where
+      range : (s : Span) (ts : List Token) → with_spaces texts (token.Span span_kind.Quoted s ∷ ts)
+          ≡ token.Span span_kind.Quoted s ∷ with_spaces texts ts
+      range s [] = refl
+      range s (f ∷ ts) = refl
+
+      break : (ts : List Token) → with_spaces texts (token.QuoteBreak ∷ ts) ≡ token.QuoteBreak ∷ with_spaces texts ts
+      break [] = refl
+      break (f ∷ ts) = refl
+
+      one : (t : Token) (ts : List Token) → is_range t ≡ false → HasItsKind texts t
+          → AreTexts texts (with_spaces texts ts)
+          → AreTexts texts (with_spaces texts (t ∷ ts))
+      one t [] alone kind made = texts-alone texts t [] alone kind made
+      one t (f ∷ ts) alone kind made =
+          texts-alone texts t _ alone kind
+          (cond_both (would_merge texts t f) (token.White ∷ []) []
+          (λ ws. AreTexts texts (ws ++ with_spaces texts (f ∷ ts))) (λ e. white _ made) (λ e. made))
+
+  pub backslashes-texts : (ts : List Token) → AreTexts texts ts → AreTexts texts (without_backslashes texts ts)
+  backslashes-texts = edited-texts (without_backslashes texts) (texts-none texts)
+      (λ t ts h. range-by (λ t. without_backslashes texts (t ∷ ts) ≡ t ∷ without_backslashes texts ts)
+      (λ s. refl) refl t h)
+      (λ t ts alone kind made.
+      cond_both (is_line_backslash texts t ts) [] (t ∷ []) (λ us. AreTexts texts (us ++ without_backslashes texts ts))
+      (λ e. made) (λ e. texts-alone texts t (without_backslashes texts ts) alone kind made))
+
+  -- joins
+
+  abbrev AreAlone : List Token → Type 0
+  AreAlone run = AllByRecursion (λ t. (is_range t ≡ false) × HasItsKind texts t) run
+
+  alone-texts : (run : List Token) → AreAlone run → AreTexts texts run
+  alone-texts [] all = texts-none texts
+  alone-texts (t ∷ run) all = texts-alone texts t run all.0.0 all.0.1 (alone-texts run all.1)
+
+  alone-last : (run : List Token) (t : Token) → AreAlone run → is_range t ≡ false → HasItsKind texts t
+      → AreAlone (run ++ t ∷ [])
+  alone-last [] t all alone kind = ((alone, kind), tt)
+  alone-last (u ∷ run) t all alone kind = (all.0, alone-last run t all.1 alone kind)
+
+  left-texts : (run : List Token) → AreAlone run → AreTexts texts (left_of_run run)
+  left-texts run all =
+      cond_both (has_join run) [] run (AreTexts texts) (λ e. texts-none texts) (λ e. alone-texts run all)
+
+  runs-keep : KeepsRanges (map_runs left_of_run [])
+  runs-keep t ts h =
+      range-by (λ t. map_runs left_of_run [] (t ∷ ts) ≡ t ∷ map_runs left_of_run [] ts) (λ s. refl) refl t h
+
+  runs-texts : (ts : List Token) → AreTexts texts ts → (run : List Token) → AreAlone run
+      → AreTexts texts (map_runs left_of_run run ts)
+  runs-texts =
+      texts-by texts (λ ts. (run : List Token) → AreAlone run → AreTexts texts (map_runs left_of_run run ts)) left-texts
+      (λ t ts alone kind all made run is.
+      cond_both (is_gap t) (map_runs left_of_run (run ++ t ∷ []) ts) (left_of_run run ++ t ∷ map_runs left_of_run [] ts)
+      (AreTexts texts) (λ e. made (run ++ t ∷ []) (alone-last run t is alone kind))
+      (λ e. texts-append texts (left_of_run run) _ (left-texts run is)
+      (texts-alone texts t (map_runs left_of_run [] ts) alone kind (made [] tt))))
+      (λ part ts quoted all made run is. by part ts quoted run is (made run is) (made [] tt))
+    where
+      by : (part ts : List Token) → IsQuotedText texts part → (run : List Token) → AreAlone run
+          → AreTexts texts (map_runs left_of_run run ts) → AreTexts texts (map_runs left_of_run [] ts)
+          → AreTexts texts (map_runs left_of_run run (part ++ ts))
+      by [] ts quoted run is after made = after
+      by (t ∷ part) ts quoted run is after made =
+          let both = and_parts (is_range t) (list_all is_range part) quoted.ranges in
+          let first : map_runs left_of_run run (t ∷ part ++ ts)
+          ≡ left_of_run run ++ t ∷ map_runs left_of_run [] (part ++ ts)
+          = range-by (λ u. map_runs left_of_run run (u ∷ part ++ ts)
+          ≡ left_of_run run ++ u ∷ map_runs left_of_run [] (part ++ ts)) (λ s. refl) refl t both.0 in
+          let all = ap (λ us. left_of_run run ++ t ∷ us) (keeps-part
+          (map_runs left_of_run []) runs-keep part ts both.1) in
+          subst (AreTexts texts) (sym (first ∙ all))
+          (texts-append texts (left_of_run run) _ (left-texts run is)
+          (texts-part texts (t ∷ part) (map_runs left_of_run [] ts) quoted made))
+
+  pub joins-texts : (ts : List Token) → AreTexts texts ts → AreTexts texts (without_joins [] ts)
+  joins-texts ts all = runs-texts ts all [] tt
+
+  pub part-texts : (ts : List Token) → AreTexts texts (without_faults ts) → AreTexts texts (part_tokens texts ts)
+  part-texts ts all =
+      joins-texts (with_spaces texts (clean_tokens ts)) (spaces-texts (clean_tokens ts) (inner-texts
+      (without_faults ts) all))
+
+  -- macros
+
+  front_gaps-texts : (ts : List Token) → AreTexts texts ts → AreTexts texts (without_front_gaps ts)
+  front_gaps-texts =
+      texts-by texts (λ ts. AreTexts texts (without_front_gaps ts)) (texts-none texts)
+      (λ t ts alone kind all made.
+      cond_both (is_front_gap t) (without_front_gaps ts) (t ∷ ts) (AreTexts texts) (λ e. made)
+      (λ e. texts-alone texts t ts alone kind all))
+      (λ part ts quoted all made. by part ts quoted all made)
+    where
+      by : (part ts : List Token) → IsQuotedText texts part → AreTexts texts ts → AreTexts texts (without_front_gaps ts)
+          → AreTexts texts (without_front_gaps (part ++ ts))
+      by [] ts quoted all made = made
+      by (t ∷ part) ts quoted all made =
+          let range = (and_parts (is_range t) (list_all is_range part) quoted.ranges).0 in
+          subst (AreTexts texts)
+          (sym (range-by (λ u. without_front_gaps (u ∷ part ++ ts) ≡ u ∷ part ++ ts) (λ s. refl) refl t range))
+          (texts-part texts (t ∷ part) ts quoted all)
+
+  name_space-texts : (ts : List Token) → AreTexts texts ts → name_is_range ts ≡ false
+      → AreTexts texts (with_name_space texts ts)
+  name_space-texts =
+      texts-by texts (λ ts. name_is_range ts ≡ false → AreTexts texts (with_name_space texts ts))
+      (λ h. texts-none texts)
+      (λ t ts alone kind all made h. one t ts alone kind all made h)
+      (λ part ts quoted all made h. by part ts quoted made h)
+    where
+      name : (t : Token) (ts : List Token) → is_range t ≡ false → HasItsKind texts t → AreTexts texts ts
+          → AreTexts texts (with_space_after texts t ts)
+      name t [] alone kind all = texts-alone texts t [] alone kind all
+      name t (f ∷ ts) alone kind all =
+          texts-alone texts t _ alone kind
+          (cond_both (may_follow_name texts f) [] (token.White ∷ []) (λ ws. AreTexts texts (ws ++ f ∷ ts))
+          (λ e. all) (λ e. white (f ∷ ts) all))
+
+      one : (t : Token) (ts : List Token) → is_range t ≡ false → HasItsKind texts t → AreTexts texts ts
+          → (name_is_range ts ≡ false → AreTexts texts (with_name_space texts ts)) → name_is_range (t ∷ ts) ≡ false
+          → AreTexts texts (with_name_space texts (t ∷ ts))
+      one token.White ts alone kind all made h = texts-alone texts token.White _ alone kind (made h)
+      one (token.LineEnd line) ts alone kind all made h = texts-alone texts (token.LineEnd line) _ alone kind (made h)
+      one token.Join ts alone kind all made h = texts-alone texts token.Join _ alone kind (made h)
+      one t ts alone kind all made h = name t ts alone kind all
+
+      by : (part ts : List Token) → IsQuotedText texts part
+          → (name_is_range ts ≡ false → AreTexts texts (with_name_space texts ts)) → name_is_range (part ++ ts) ≡ false
+          → AreTexts texts (with_name_space texts (part ++ ts))
+      by [] ts quoted made h = made h
+      by (t ∷ part) ts quoted made h =
+          let range = (and_parts (is_range t) (list_all is_range part) quoted.ranges).0 in
+          absurd (both_ways (name_is_range (t ∷ part ++ ts)) h
+          (range-by (λ u. name_is_range (u ∷ part ++ ts) ≡ true) (λ s. refl) refl t range))
+
+  -- the tokens of a macro before its name is looked for
+  abbrev pub front_tokens : List Token → List Token
+  front_tokens ts = with_spaces texts (without_front_gaps (clean_tokens ts))
+
+  pub macro-texts : (ts : List Token) → AreTexts texts (without_faults ts) → name_is_range (front_tokens ts) ≡ false
+      → AreTexts texts (macro_tokens texts ts)
+  macro-texts ts all h =
+      joins-texts (with_name_space texts (front_tokens ts))
+      (name_space-texts (front_tokens ts)
+      (spaces-texts (without_front_gaps (clean_tokens ts))
+      (front_gaps-texts (clean_tokens ts) (inner-texts (without_faults ts) all))) h)

@@ -1,0 +1,10 @@
+-- What a C compiler reads of bytes that are written for several texts.
+use Rattle.std.specs.Prelude.{◌≡◌, ℕ, true, List, flat_map}
+use Rattle.c_tokens.specs.Reading.{tokens}
+use Rattle.c_tokens.specs.Borders.{is_whole}
+
+-- The tokens of the bytes are those of the texts, one text after another, and the comments and
+-- quoted texts of the bytes are all ended.
+pub record IsReadAs (texts : List (List ℕ)) (bytes : List ℕ) : Type 0 where
+  pub read : tokens bytes ≡ flat_map tokens texts
+  pub whole : is_whole bytes ≡ true

@@ -1,0 +1,39 @@
+//! Laws of webs: the table of what may touch rests on C's grammar of tokens.
+ghost use Rattle.std.specs.Prelude.{◌≡◌, ℕ, List};
+ghost use Rattle.std.specs.List.{AllByRecursion};
+ghost use Rattle.tangle_files.specs.Lines.{FileTable, cut};
+ghost use Rattle.tangle_files.specs.Roles.{RolesRead};
+ghost use Rattle.tangle_lines.specs.Reading.{SourceLine, source_of};
+ghost use Rattle.tangle_text.specs.Text.{texts_of};
+ghost use Rattle.tangle_lexer.specs.Steps.{all_tokens};
+ghost use Rattle.tangle_lexer.specs.declared.tokens.Token.{Token};
+ghost use Rattle.tangle_scan.specs.Rules.{without_faults, may_touch};
+ghost use Rattle.tangle_scan.specs.ReadAsMeant.{all_piece_tokens, all_macro_tokens};
+ghost use Rattle.c_tokens.specs.Touching.{kinds_may_touch};
+ghost use Rattle.tangle_c_tokens.specs.Kinds.{item_kind, AreTexts};
+ghost use Rattle.tangle_c_tokens.specs.LineFeeds.{HasNoLineFeed, HaveNoLineFeed};
+ghost use Rattle.tangle_c_tokens.specs.LineFeeds.{FilesHaveNoLineFeed};
+
+/// The table of what may touch is that of the kinds of texts of C's grammar (`table`). Each word
+/// and each sign of a web is a text of its kind. So is each quoted text, with all its ranges,
+/// except for `''`, for a header name, and for a text that does not end, which is a fault. This is
+/// true of the tokens of the source, and so of the tokens of each piece and of each macro. The
+/// premise is that no line has a line feed in it (`lines_have_no_line_feeds`).
+pub fn items_are_of_their_kinds()
+    ensures table { (texts : List (List ℕ)) (e f : Token)
+        → may_touch texts e f ≡ kinds_may_touch (item_kind texts e) (item_kind texts f) }
+    ensures source { (lines : List SourceLine) → HaveNoLineFeed lines
+        → AreTexts (texts_of lines) (without_faults (all_tokens lines)) }
+    ensures pieces { (lines : List SourceLine) → HaveNoLineFeed lines
+        → AllByRecursion (AreTexts (texts_of lines)) (all_piece_tokens lines) }
+    ensures macros { (lines : List SourceLine) → HaveNoLineFeed lines
+        → AllByRecursion (AreTexts (texts_of lines)) (all_macro_tokens lines) }
+{}
+
+/// No line that bytes are cut into has a line feed in it. If no line of the files has one, then
+/// none of the source has.
+pub fn lines_have_no_line_feeds()
+    ensures cut { (bytes : List ℕ) → AllByRecursion HasNoLineFeed (cut bytes) }
+    ensures source { (files : FileTable) (roles : RolesRead) → FilesHaveNoLineFeed files
+        → HaveNoLineFeed (source_of files roles).lines }
+{}

@@ -1,0 +1,27 @@
+//! The tokens that a C compiler reads of macros and files are those of their groups of items.
+ghost use Rattle.tangle_files.specs.declared.marks.MarkMode.{MarkMode};
+ghost use Rattle.tangle_lines.specs.Reading.{SourceRead};
+ghost use Rattle.tangle_scan.specs.Web.{web_of};
+ghost use Rattle.tangle_c_tokens.specs.Macros.{MacrosAreReadByGroups};
+ghost use Rattle.tangle_c_tokens.specs.Files.{GroupsAreWhole, NodesAreReadByParts};
+ghost use Rattle.tangle_c_tokens.specs.Files.{FilesAreReadByParts};
+
+use tangle_expansion::nodes_are_written_by_pieces;
+
+/// Of each macro a C compiler reads `#define`, and then the tokens of its groups of items, one group
+/// after another.
+pub fn macros_are_read_by_groups()
+    ensures { (source : SourceRead) → MacrosAreReadByGroups source (web_of source) }
+{}
+
+/// Of what a node expands to a C compiler reads the tokens of its groups of items and of what is
+/// written for its uses, one after another, with line marks between them (`names`). The same of a
+/// file, which may begin with all macros (`files`).
+pub fn files_are_read_by_parts()
+    ensures names { (source : SourceRead) (marks : MarkMode) → GroupsAreWhole source
+        → NodesAreReadByParts source marks }
+    ensures files { (source : SourceRead) (marks : MarkMode) → GroupsAreWhole source
+        → FilesAreReadByParts source marks }
+{
+    nodes_are_written_by_pieces();
+}
