@@ -14,7 +14,7 @@ use Rattle.tangle_scan.specs.ReadAsMeant.{written_tokens}
 use Rattle.tangle_scan.specs.Web.{Block, BlockKind}
 use Rattle.tangle_scan.specs.Web.{macro_of, kind_macro}
 use Rattle.tangle_scan.specs.Web.BlockKind.{OfMacro, OfPiece}
-use Rattle.tangle_c_tokens.specs.Reading.{IsReadAs}
+use Rattle.tangle_c_tokens.specs.Reading.{IsReadAsTexts}
 use Rattle.tangle_c_tokens.specs.Groups.{groups}
 use Rattle.tangle_c_tokens.specs.Kinds.{AreTexts}
 use Rattle.tangle_c_tokens.specs.Macros.{IsReadAlone}
@@ -39,7 +39,7 @@ both P Q (x ∷ xs) p q = ((p.0, q.0), both P Q xs p.1 q.1)
 
 -- `rest` is written after all macros, and read as the texts `ts`.
 module _ (lines : List SourceLine) (rest : List ℕ) (ts : List (List ℕ))
-    (read : IsReadAs ts rest) where
+    (read : IsReadAsTexts ts rest) where
   abbrev pub macro_tokens_of : Block → List Token
   macro_tokens_of b = without_backslashes (texts_of lines) (macro_tokens (texts_of lines) b.tokens)
 
@@ -50,7 +50,7 @@ module _ (lines : List SourceLine) (rest : List ℕ) (ts : List (List ℕ))
 
   abbrev pub AreRead : List (List Item) → List (List Token) → Type 0
   AreRead macros tokens = AllByRecursion IsAlone tokens →
-      IsReadAs (flat_map (macro_texts (texts_of lines)) tokens ++ ts)
+      IsReadAsTexts (flat_map (macro_texts (texts_of lines)) tokens ++ ts)
       (flat_map (macro_bytes (texts_of lines)) macros ++ rest)
 
   pub macros-whole : (bs : List Block) →
@@ -76,8 +76,8 @@ module _ (lines : List SourceLine) (rest : List ℕ) (ts : List (List ℕ))
           let later : List ℕ = flat_map (macro_bytes (texts_of lines)) all in
           let texts : List (List ℕ) = macro_texts (texts_of lines) (macro_tokens_of b) in
           let more : List (List ℕ) = flat_map (macro_texts (texts_of lines)) each in
-          subst (IsReadAs ((texts ++ more) ++ ts)) (sym (append_assoc bytes later rest))
-          (subst (λ us. IsReadAs us (bytes ++ (later ++ rest))) (sym (append_assoc texts more ts))
+          subst (IsReadAsTexts ((texts ++ more) ++ ts)) (sym (append_assoc bytes later rest))
+          (subst (λ us. IsReadAsTexts us (bytes ++ (later ++ rest))) (sym (append_assoc texts more ts))
           (macro-by-groups (texts_of lines) (later ++ rest) (more ++ ts) (next alone.1)
           (macro_tokens_of b) (alone.0).0 (alone.0).1))
 

@@ -29,7 +29,7 @@ use Rattle.tangle_expansion.specs.Numbers.{NumbersRead, numbers_of, expansion_by
 use Rattle.tangle_expansion.specs.PieceBytes.{bytes_after_mark, resolved_bytes}
 use Rattle.tangle_expansion.specs.PieceBytes.{piece_bytes}
 use Rattle.tangle_expansion.proofs.SameShapes.{flat_by_uses}
-use Rattle.tangle_c_tokens.specs.Reading.{IsReadAs}
+use Rattle.tangle_c_tokens.specs.Reading.{IsReadAsTexts}
 use Rattle.tangle_c_tokens.specs.Groups.{groups}
 use Rattle.tangle_c_tokens.specs.Kinds.{AreTexts}
 use Rattle.tangle_c_tokens.specs.Macros.{IsReadAlone}
@@ -59,11 +59,11 @@ texts-of mark (t ∷ texts) row = ap (λ us. t ∷ us) (texts-of mark texts row)
 
 after-texts : (mark : Origin → List ℕ) (texts ts : List (List ℕ)) (rest bytes : List ℕ)
     (read : IsRead mark ts rest) →
-    IsReadAs (texts ++ map (passage_text mark) read.row) bytes → IsRead mark (texts ++ ts) bytes
+    IsReadAsTexts (texts ++ map (passage_text mark) read.row) bytes → IsRead mark (texts ++ ts) bytes
 after-texts mark texts ts rest bytes read all = record {
   row = map OfPart texts ++ read.row;
   in_row = with-texts texts read.row ∙ ap (λ us. texts ++ us) read.in_row;
-  read = subst (λ us. IsReadAs us bytes) (sym (texts-of mark texts read.row)) all;
+  read = subst (λ us. IsReadAsTexts us bytes) (sym (texts-of mark texts read.row)) all;
 }
 
 -- what is written for names

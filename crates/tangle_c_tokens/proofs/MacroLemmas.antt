@@ -20,7 +20,7 @@ use Rattle.tangle_scan.specs.MacroBytes.{macro_item_bytes, macro_bytes}
 use Rattle.tangle_scan.specs.ReadAsMeant.{written_tokens}
 use Rattle.tangle_scan.proofs.lemmas.RuleLemmas.{macro_blanks-item}
 use Rattle.tangle_scan.proofs.laws.MacroEnds.{items_from, end-items}
-use Rattle.tangle_c_tokens.specs.Reading.{IsReadAs}
+use Rattle.tangle_c_tokens.specs.Reading.{IsReadAsTexts}
 use Rattle.tangle_c_tokens.specs.Edges.{begins_as, ends_as, number_goes_on_with}
 use Rattle.tangle_c_tokens.specs.Kinds.{item_kind, AreTexts}
 use Rattle.tangle_c_tokens.specs.Groups.{Group, group_before, groups_after, groups, group_text}
@@ -35,7 +35,7 @@ use Rattle.tangle_c_tokens.proofs.TextLemmas.{with-text, with-nothing, no-text}
 
 -- `tail` is written after the macro, and read as the texts `ts`.
 module _ (texts : List (List ℕ)) (tail : List ℕ) (ts : List (List ℕ))
-    (read : IsReadAs ts tail) where
+    (read : IsReadAsTexts ts tail) where
   -- the bytes that rule 3 makes of the tokens of a macro, up to its end; the arguments before the
   -- tokens are those of the rule
   abbrev bytes_from : Bool → Option Token → Bool → List Token → List ℕ
@@ -147,7 +147,7 @@ module _ (texts : List (List ℕ)) (tail : List ℕ) (ts : List (List ℕ))
   AreReadAlone gs = AllByRecursion (IsApart texts) gs
 
   abbrev ReadsAs : List Group → List ℕ → Type 0
-  ReadsAs gs bytes = AreReadAlone gs → IsReadAs (texts_in gs ++ ts) bytes
+  ReadsAs gs bytes = AreReadAlone gs → IsReadAsTexts (texts_in gs ++ ts) bytes
 
   -- at the front of a line
   abbrev ReadsFront : List Token → Type 0
@@ -165,7 +165,7 @@ module _ (texts : List (List ℕ)) (tail : List ℕ) (ts : List (List ℕ))
   ReadsAfter in_name white es = (items : List Token) (e : Token)
       → IsApart texts (record { items = items ++ e ∷ []; rest = es })
       → AreReadAlone (groups_after [] es)
-      → IsReadAs (group_text texts (items ++ e ∷ []) ∷ texts_in (groups_after [] es) ++ ts)
+      → IsReadAsTexts (group_text texts (items ++ e ∷ []) ∷ texts_in (groups_after [] es) ++ ts)
       (group_text texts (items ++ e ∷ []) ++ bytes_from in_name (Some e) white es)
 
   record Reads (es : List Token) : Type 0 where
@@ -176,7 +176,7 @@ module _ (texts : List (List ℕ)) (tail : List ℕ) (ts : List (List ℕ))
   -- from after a group to what is directly after an item
   closed : (items : List Token) (e : Token) (rest : List Token) (bytes : List ℕ) (gs : List Group) →
       (IsApart texts (record { items = items ++ e ∷ []; rest = rest }) → AreReadAlone gs →
-      IsReadAs (group_text texts (items ++ e ∷ []) ∷ texts_in gs ++ ts) bytes) →
+      IsReadAsTexts (group_text texts (items ++ e ∷ []) ∷ texts_in gs ++ ts) bytes) →
       ReadsAs (group_before rest (items ++ e ∷ []) ++ gs) bytes
   closed items e rest bytes gs reads =
       subst (λ hs. ReadsAs (hs ++ gs) bytes) (sym (group-one items e rest))
@@ -200,7 +200,7 @@ module _ (texts : List (List ℕ)) (tail : List ℕ) (ts : List (List ℕ))
           (next_item es)) (sym (last-item None items e)) ∙ alone.apart refl
 
       by : (blank : Bool) → has_blank_at_line_end texts in_name (Some e) (next_item es) ≡ blank →
-          IsReadAs (group_text texts (items ++ e ∷ []) ∷ texts_in (groups_after [] es) ++ ts)
+          IsReadAsTexts (group_text texts (items ++ e ∷ []) ∷ texts_in (groups_after [] es) ++ ts)
           (group_text texts (items ++ e ∷ []) ++ (flat_map (macro_item_bytes texts) (unmarked_items
           ((if blank then token.White ∷ [] else []) ++ token.LineEnd line
           ∷ macro_blanks texts false None false es)) ++ line_feed ∷ tail))
@@ -227,13 +227,13 @@ module _ (texts : List (List ℕ)) (tail : List ℕ) (ts : List (List ℕ))
       → ReadsWithin es → Reads (e ∷ es)
   at-item e es item more within = record {
     front = λ in_name white alone.
-        subst (IsReadAs (texts_in (groups_after [] (e ∷ es)) ++ ts))
+        subst (IsReadAsTexts (texts_in (groups_after [] (e ∷ es)) ++ ts))
         (sym (front-item in_name white e es item))
         (first (in_name && not white && is_name_part e) alone);
     within = λ in_name items before alone.
         let after : List ℕ = bytes_from (in_name && true && is_name_part e) (Some e) false es in
         let t : List ℕ = group_text texts (items ++ before ∷ []) in
-        subst (IsReadAs (texts_in (groups_after (items ++ before ∷ []) (e ∷ es)) ++ ts))
+        subst (IsReadAsTexts (texts_in (groups_after (items ++ before ∷ []) (e ∷ es)) ++ ts))
         (sym (ap (λ bs. t ++ bs) (next-item in_name before e es item)
         ∙ sym (append_assoc t (text_of texts e) after)
         ∙ ap (λ bs. bs ++ after) (sym (group-text (items ++ before ∷ []) e))))
@@ -244,7 +244,7 @@ module _ (texts : List (List ℕ)) (tail : List ℕ) (ts : List (List ℕ))
         let after : List ℕ = text_of texts e ++ bytes_from (in_name && false && is_name_part e)
         (Some e) false es in
         let t : List ℕ = group_text texts (items ++ before ∷ []) in
-        subst (IsReadAs (t ∷ texts_in (groups_after [] (e ∷ es)) ++ ts))
+        subst (IsReadAsTexts (t ∷ texts_in (groups_after [] (e ∷ es)) ++ ts))
         (sym (ap (λ bs. t ++ bs) (white-item in_name before e es item)))
         (with-text t after (t ++ space ∷ after) (texts_in (groups_after [] (e ∷ es)) ++ ts)
         (space-between t after alone.whole)
@@ -308,13 +308,13 @@ module _ (texts : List (List ℕ)) (tail : List ℕ) (ts : List (List ℕ))
 
   pub macro-by-groups : (es : List Token) → AreTexts texts es →
       AllByRecursion (IsReadAlone texts) (groups (written_tokens texts es)) →
-      IsReadAs (codes "#define" ∷ texts_in (groups (written_tokens texts es)) ++ ts)
+      IsReadAsTexts (codes "#define" ∷ texts_in (groups (written_tokens texts es)) ++ ts)
       (macro_bytes texts (unmarked_items (macro_blanks texts true None false es)) ++ tail)
   macro-by-groups es are alone =
       let written : List Token = written_tokens texts es in
       let text : List ℕ = flat_map (macro_item_bytes texts)
       (items_from texts true None false written) in
-      subst (IsReadAs (codes "#define" ∷ texts_in (groups written) ++ ts))
+      subst (IsReadAsTexts (codes "#define" ∷ texts_in (groups written) ++ ts))
       (sym (ap (λ xs. (codes "#define " ++ flat_map (macro_item_bytes texts) xs ++ codes "\n")
       ++ tail) (end-items texts es true None false)
       ∙ ap (λ bs. codes "#define " ++ bs) (append_assoc text (line_feed ∷ []) tail)))
@@ -333,6 +333,6 @@ one-macro texts es are alone =
     (unmarked_items (macro_blanks texts true None false es)) in
     let of_groups : List (List ℕ) = map (λ (g : Group). group_text texts g.items)
     (groups (written_tokens texts es)) in
-    subst (λ ts. IsReadAs ts text) (append-nil (codes "#define" ∷ of_groups))
-    (subst (IsReadAs (codes "#define" ∷ of_groups ++ [])) (append-nil text)
+    subst (λ ts. IsReadAsTexts ts text) (append-nil (codes "#define" ∷ of_groups))
+    (subst (IsReadAsTexts (codes "#define" ∷ of_groups ++ [])) (append-nil text)
     (macro-by-groups texts [] [] no-text es are alone))

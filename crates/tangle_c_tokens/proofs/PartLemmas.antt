@@ -14,7 +14,8 @@ use Rattle.tangle_scan.specs.Rules.{is_continued, ends_line}
 use Rattle.tangle_scan.specs.ReadAsMeant.{token_bytes}
 use Rattle.tangle_c_tokens.specs.Edges.{ends_in}
 use Rattle.tangle_c_tokens.specs.Groups.{Group, group_before}
-use Rattle.tangle_c_tokens.specs.Pieces.{is_use, parts_after, written_for, part_text}
+use Rattle.tangle_lexer.specs.LinesOfParts.{is_use}
+use Rattle.tangle_c_tokens.specs.Pieces.{parts_after, written_for, part_text}
 use Rattle.tangle_c_tokens.specs.Pieces.{IsWholePart}
 
 module _ (texts : List (List ℕ)) (used : ℕ → List ℕ) (macros : List ℕ)

@@ -29,7 +29,8 @@ use Rattle.tangle_scan.proofs.lemmas.ItemsByOrigin.{part_items-by_origin}
 use Rattle.tangle_scan.proofs.lemmas.RuleLemmas.{blanks-item}
 use Rattle.tangle_c_tokens.specs.Edges.{ends_in}
 use Rattle.tangle_c_tokens.specs.Groups.{Group, group_before}
-use Rattle.tangle_c_tokens.specs.Pieces.{is_use, begins_with_macros, parts_after, parts}
+use Rattle.tangle_lexer.specs.LinesOfParts.{is_use}
+use Rattle.tangle_c_tokens.specs.Pieces.{begins_with_macros, parts_after, parts}
 use Rattle.tangle_c_tokens.specs.Pieces.{IsRead, written_for, part_text}
 use Rattle.tangle_c_tokens.specs.Pieces.{line_feed_follows}
 use Rattle.tangle_c_tokens.specs.Pieces.{is_closed, IsWholePart}

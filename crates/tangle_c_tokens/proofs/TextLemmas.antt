@@ -20,7 +20,7 @@ use Rattle.c_tokens.specs.Borders.{is_border_of_bytes, is_border, have_border, k
 use Rattle.c_tokens.specs.Borders.{is_plain_byte}
 use Rattle.c_tokens.proofs.BorderLemmas.{border-elements}
 use Rattle.c_tokens.proofs.TouchingLemmas.{spliced-both}
-use Rattle.tangle_c_tokens.specs.Reading.{IsReadAs}
+use Rattle.tangle_c_tokens.specs.Reading.{IsReadAsTexts}
 use Rattle.tangle_c_tokens.specs.Edges.{begins_in, ends_in, begins_as, ends_as, goes_on}
 
 -- the bytes are read as a text and the rest
@@ -388,7 +388,7 @@ mark-between m rest (inr some) =
 -- texts, one after another
 
 pub with-text : (t rest bytes : List ℕ) (ts : List (List ℕ)) → Follows t rest bytes
-    → IsReadAs ts rest → IsReadAs (t ∷ ts) bytes
+    → IsReadAsTexts ts rest → IsReadAsTexts (t ∷ ts) bytes
 with-text t rest bytes ts follows read =
     record {
       read = follows.read ∙ ap (λ us. tokens t ++ us) read.read;
@@ -397,9 +397,9 @@ with-text t rest bytes ts follows read =
     }
 
 pub with-nothing : (rest bytes : List ℕ) (ts : List (List ℕ)) → Follows [] rest bytes
-    → IsReadAs ts rest → IsReadAs ts bytes
+    → IsReadAsTexts ts rest → IsReadAsTexts ts bytes
 with-nothing rest bytes ts follows read =
     record { read = follows.read ∙ read.read; whole = follows.whole ∙ read.whole }
 
-pub no-text : IsReadAs [] []
+pub no-text : IsReadAsTexts [] []
 no-text = record { read = refl; whole = refl }

@@ -10,7 +10,7 @@ use Rattle.tangle_scan.specs.Rules.{may_touch, next_item, ends_line}
 use Rattle.tangle_scan.specs.MacroBytes.{macro_bytes}
 use Rattle.tangle_scan.specs.ReadAsMeant.{token_bytes, written_tokens, all_macro_tokens}
 use Rattle.tangle_scan.specs.Web.{WebRead}
-use Rattle.tangle_c_tokens.specs.Reading.{IsReadAs}
+use Rattle.tangle_c_tokens.specs.Reading.{IsReadAsTexts}
 use Rattle.tangle_c_tokens.specs.Edges.{begins_as, ends_as, number_goes_on_with}
 use Rattle.tangle_c_tokens.specs.Kinds.{item_kind, is_range}
 use Rattle.tangle_c_tokens.specs.LineFeeds.{HaveNoLineFeed}
@@ -45,7 +45,7 @@ module _ (texts : List (List ℕ)) where
   abbrev pub IsReadByGroups : List Token → List ℕ → Type 0
   IsReadByGroups es bytes =
       AllByRecursion IsReadAlone (groups (written_tokens texts es))
-      → IsReadAs
+      → IsReadAsTexts
       (codes "#define"
       ∷ map (λ group. group_text texts group.items) (groups (written_tokens texts es)))
       bytes

@@ -9,16 +9,12 @@ use Rattle.c_tokens.specs.Borders.{is_whole, keep_lines}
 use Rattle.tangle_lines.specs.declared.origin.Origin.{Origin}
 use Rattle.tangle_lexer.specs.declared.tokens.Token.{Token}
 use Rattle.tangle_lexer.specs.declared.tokens.Token.TheVariants as token
+use Rattle.tangle_lexer.specs.LinesOfParts.{is_use}
 use Rattle.tangle_scan.specs.Rules.{is_continued, is_open, ends_line, next_item}
 use Rattle.tangle_scan.specs.ReadAsMeant.{token_bytes}
-use Rattle.tangle_c_tokens.specs.Reading.{IsReadAs}
+use Rattle.tangle_c_tokens.specs.Reading.{IsReadAsTexts}
 use Rattle.tangle_c_tokens.specs.Edges.{ends_in}
 use Rattle.tangle_c_tokens.specs.Groups.{Group, group_before}
-
-abbrev pub is_use : Token → Bool
-is_use (token.UseOf line occurrence) = true
-is_use (token.AllMacros line) = true
-is_use e = false
 
 abbrev pub begins_with_macros : List Token → Bool
 begins_with_macros (token.AllMacros line ∷ es) = true
@@ -68,7 +64,7 @@ passage_text mark (OfMark origin) = mark origin
 pub record IsRead (mark : Origin → List ℕ) (parts : List (List ℕ)) (bytes : List ℕ) : Type 0 where
   pub row : List Passage
   pub in_row : parts_of row ≡ parts
-  pub read : IsReadAs (map (passage_text mark) row) bytes
+  pub read : IsReadAsTexts (map (passage_text mark) row) bytes
 
 module _ (texts : List (List ℕ)) (used : ℕ → List ℕ) (macros : List ℕ) where
   -- what is written for an item, a use or @h

@@ -5,6 +5,6 @@ use Rattle.c_tokens.specs.Borders.{is_whole}
 
 -- The tokens of the bytes are those of the texts, one text after another, and the comments and
 -- quoted texts of the bytes are all ended.
-pub record IsReadAs (texts : List (List ℕ)) (bytes : List ℕ) : Type 0 where
+pub record IsReadAsTexts (texts : List (List ℕ)) (bytes : List ℕ) : Type 0 where
   pub read : tokens bytes ≡ flat_map tokens texts
   pub whole : is_whole bytes ≡ true
