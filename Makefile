@@ -105,7 +105,7 @@ check:
 
 further:
 	$(kit)
-	tests/wrong_bodies.sh
+	python3 -B tests/wrong_bodies.py
 
 clean:
 	rm -rf bin examples/out

@@ -24,10 +24,10 @@ SIZES = (10, 1000, 10000)
 
 # What an edit takes for a node that it changed, and that uses none: the expansion; and for its body
 # the name, the bytes, the tags, and what holds these. For the first such node also the list of the
-# affected nodes and that of the work. An edit that changes no node has the buffers too in which
-# bodies are built: the new ones are compared there with the old ones.
+# work. An edit that changes no node has the buffers too in which bodies are built: the new ones are
+# compared there with the old ones.
 ANOTHER = 5
-ONE_NODE = ANOTHER + 2
+ONE_NODE = ANOTHER + 1
 # Allocations of lists with an entry for each node: each of them doubles the capacity of one list.
 DOUBLINGS = 60
 CYCLE = '@<z@>'
@@ -90,15 +90,14 @@ def taken(project, before, edit, work):
 def check_one(name, project, before):
     """An edit that affects one node takes ONE_NODE allocations more than one that affects none, and
     one that affects two nodes takes ANOTHER more: whatever else the project has, and after other
-    edits. Affected nodes are kept after all others, so the list of kept expansions may grow once
-    more."""
+    edits."""
     first, second = project.lines_of_files
     nothing = taken(project, before, [(first, '1')], 0)
     one = taken(project, before, [(first, '2')], 1) - nothing
-    check(one - ONE_NODE in (0, 1), name, 'for one node %d allocations, not %d' % (one, ONE_NODE))
+    check(one == ONE_NODE, name, 'for one node %d allocations, not %d' % (one, ONE_NODE))
     two = (taken(project, before, [(first, '2'), (second, '2')], 2)
            - taken(project, before, [(first, '1'), (second, '1')], 0))
-    check(two - ONE_NODE - ANOTHER in (0, 1), name,
+    check(two == ONE_NODE + ANOTHER, name,
           'for two nodes %d allocations, not %d' % (two, ONE_NODE + ANOTHER))
     return nothing
 

@@ -18,8 +18,8 @@ from sources import crates_in, exported_of, functions_in
 # The page that explains a crate, or a file as CRATE/FILE, which goes before its crate.
 PAGES = {
     'PROOFS.md': [
-        'tangle_session/Headline', 'tangle_session/Tangle', 'tangle_session/Files',
-        'tangle_session/Sessions', 'ctangle_cli/Histories', 'tangle_streams'],
+        'tangle_session/Headline', 'tangle_session/Sessions', 'ctangle_cli/Histories',
+        'tangle_streams'],
     'docs/reading.md': ['tangle_files', 'tangle_lines'],
     'docs/scanning.md': ['tangle_text', 'tangle_lexer', 'tangle_scan'],
     'docs/names.md': [
@@ -32,8 +32,7 @@ PAGES = {
         'tangle_expansion/PieceBytes', 'tangle_expansion/Outputs', 'tangle_expansion/Location',
         'tangle_graph/Outputs', 'tangle_session/Writes'],
     'docs/faults.md': [
-        'tangle_faults', 'tangle_names/Faults', 'tangle_graph/Faults', 'tangle_session/Faults',
-        'tangle_session/Laws'],
+        'tangle_faults', 'tangle_names/Faults', 'tangle_graph/Faults', 'tangle_session/Laws'],
     'docs/edits.md': ['tangle_expansion/Affected', 'tangle_affected', 'tangle_session/Moves'],
     'docs/sessions.md': [
         'tangle_files/Edits', 'tangle_files/Edited', 'tangle_session/Edits', 'tangle_script',

@@ -74,8 +74,7 @@ CALLS = {
     'expand_again': ['tangle_session/tangling.rt: tangle_again'],
     'affected': [],
     'reaching_new_shapes': ['tangle_affected/edits.rt: affected', 'tangle_affected/keeping.rt: expand_again'],
-    'expand_list': ['tangle_affected/keeping.rt: expand_all', 'tangle_affected/keeping.rt: expand_again'],
-    'expand_next': ['tangle_affected/keeping.rt: expand_list'],
+    'expand_next': ['tangle_affected/keeping.rt: expand_all', 'tangle_affected/keeping.rt: expand_again'],
     'expand': ['tangle_affected/keeping.rt: expand_next', 'tangle_graph/store.rt: expand'],
     'expansion_of': ['tangle_expansion/expanding.rt: expand'],
     'make': ['tangle_graph/bodies.rt: body_after'],
@@ -84,14 +83,12 @@ CALLS = {
     'write_text': [],
     'write_file': ['tangle_expansion/outputs.rt: file_size', 'tangle_session/session.rt: write_output_at'],
     'create_output': ['ctangle_cli/writing.rt: create_outputs'],
-    'Session::start': ['tangle_session/headline.rt: start_and_edit', 'ctangle_cli/run.rt: run_loaded',
-                       'retangle/main.rt: run_named'],
+    'Session::start': ['ctangle_cli/run.rt: run_loaded', 'retangle/main.rt: run_named'],
     'Analysis::build': ['tangle_session/session.rt: start', 'tangle_session/tangling.rt: tangle_again'],
     'tangle_again': ['tangle_session/session.rt: apply_all'],
-    'apply_all': ['tangle_session/session.rt: apply', 'tangle_session/headline.rt: apply_edits',
-                  'ctangle_cli/conversation.rt: commit'],
+    'apply_all': ['tangle_session/session.rt: apply', 'ctangle_cli/conversation.rt: commit'],
     'write_output_at': ['tangle_session/session.rt: write_output', 'ctangle_cli/writing.rt: create_output'],
-    'write_output': ['tangle_session/headline.rt: ask_all', 'ctangle_cli/conversation.rt: show_output'],
+    'write_output': ['ctangle_cli/conversation.rt: show_output'],
     'file_size': ['tangle_session/session.rt: output_size'],
 }
 
@@ -103,16 +100,17 @@ MADE = {
     'Expansion': ['tangle_expansion/expanding.rt: expansion_of', 'tangle_expansion/expansion.rt: share'],
 }
 
-# The callers that have a loop, and what they do in it: each node of a list is expanded, what an
+# The callers that have a loop, and what they do in it: nodes are expanded in their order, what an
 # expansion uses is written where it is used, and the outputs are written one by one.
-LOOPS = ['tangle_affected/keeping.rt: expand_list', 'tangle_expansion/expanding.rt: expansion_of',
-         'tangle_expansion/writing.rt: write_text_after', 'ctangle_cli/writing.rt: create_outputs']
+LOOPS = ['tangle_affected/keeping.rt: expand_all', 'tangle_affected/keeping.rt: expand_again',
+         'tangle_expansion/expanding.rt: expansion_of', 'tangle_expansion/writing.rt: write_text_after',
+         'ctangle_cli/writing.rt: create_outputs']
 
 # Bugs that no clause sees, in a file of a crate: what is replaced and by what, in turn.
 PLANTED = {
     'all nodes are expanded in a second work at each edit': (
-        'tangle_affected', 'keeping.rt', '    expand_list(alloc, new, &list, &mut kept, work)?;\n',
-        '    expand_list(alloc, new, &list, &mut kept, work)?;\n'
+        'tangle_affected', 'keeping.rt', '    let flags = reaching_new_shapes(alloc, new, new_shapes, order)?;\n',
+        '    let flags = reaching_new_shapes(alloc, new, new_shapes, order)?;\n'
         '    let mut second = Work::new(alloc);\n    drop(expand_all(alloc, new, &mut second)?);\n'),
     'each node is expanded in a second work too': (
         'tangle_graph', 'store.rt', '        expand(alloc, node, &self.bodies[node.number()], kept, work)\n',

@@ -1,21 +1,17 @@
 -- The answered commands of a script extend a history.
-use Rattle.std.proofs.Common.{◌≡◌, List, [], ◌∷◌, ◌++◌, refl, ap, sym, subst, append_assoc, append-nil, inl, inr}
-use Rattle.std.specs.Prelude.{ℕ, Option, None, Some, false, Ok, Err, unwrap_or}
+use Rattle.std.proofs.Common.{◌≡◌, List, [], ◌∷◌, ◌++◌, refl, sym, subst, append_assoc, append-nil, inl, inr}
+use Rattle.std.specs.Prelude.{ℕ, Option, None, Some, false}
 use Rattle.tangle_files.specs.Lines.{FileTable}
 use Rattle.tangle_files.specs.Roles.{RolesRead}
 use Rattle.tangle_files.specs.declared.edits.Edit.{Edit}
-use Rattle.tangle_files.specs.declared.refusal.Refusal.TheVariants.{NoMemory}
 use Rattle.tangle_script.specs.Requests.{Command, Request, is_edit, request_of}
 use Rattle.tangle_script.specs.Requests.Request.{Show, Begin, Commit, Cancel}
 use Rattle.tangle_script.specs.Requests.Request.{Faults, Work, Quit, BadCommand}
 use Rattle.tangle_script.specs.Script.{Dialogue, Replies}
-use Rattle.tangle_session.specs.Edits.{list_memory, of_first}
-use Rattle.tangle_session.specs.Headline.{Call, Single, Several, History, Edited}
+use Rattle.tangle_session.specs.Headline.{Call, Apply, ApplyAll, History, Answered}
 use Rattle.tangle_session.specs.Sessions.{SessionRead}
-use Rattle.ctangle_cli.specs.Conversation.{AnswersBegin, AnswersCancel, AnswersCommit, AnswersEdit, AnswersIn}
-use Rattle.ctangle_cli.specs.Conversation.{AnswersList}
-use Rattle.ctangle_cli.specs.Conversation.{SessionAndDraft, IsMade, IsRefused, IsListMade, IsListRefused}
-use Rattle.ctangle_cli.specs.Conversation.{IsListOutOfMemory, answers, request_for}
+use Rattle.ctangle_cli.specs.Conversation.{AnswersBegin, AnswersCancel, AnswersCommit, AnswersIn}
+use Rattle.ctangle_cli.specs.Conversation.{SessionAndDraft, answers, request_for}
 use Rattle.ctangle_cli.specs.Histories.{AreCallsOf, IsCallOf, IsEdit, IsHeld, IsOpened, IsCommitted, IsDropped}
 use Rattle.ctangle_cli.specs.Histories.{IsNoEdit, IsOutOfMemory, is_of_list}
 
@@ -41,44 +37,14 @@ module _ (files : FileTable) (roles : RolesRead) where
     stays s t request output history none apart same =
         rw same ([], IsNoEdit s.draft none apart, still s.session history)
 
-    made : (s t : SessionRead) (request : Request) (edit : Edit) (output : List ℕ)
-        → History files roles calls s → request_for edit ≡ request → AnswersEdit s edit output t
-        → GoesOn request output (at s None) (at t None)
-    made s t request edit output history asked (IsMade none said are) = (
-      (Single edit, Ok (tt {0})) ∷ [],
-      IsEdit edit (Ok (tt {0})) asked said,
-      Edited s (Single edit) (Ok (tt {0})) history (none, are),
-    )
-    made s t request edit output history asked (IsRefused refusal some said same) = (
-      (Single edit, Err (of_first refusal)) ∷ [],
-      IsEdit edit (Err refusal) asked said,
-      Edited s (Single edit) (Err (of_first refusal)) history
-          (ap (λ o. of_first (unwrap_or o NoMemory)) (sym some), same),
-    )
-
-    committed : (s t : SessionRead) (held : List Edit) (output : List ℕ)
-        → History files roles calls s → AnswersList s held output t → GoesOn Commit output (at s (Some held)) (at t None)
-    committed s t held output history (IsListMade none said are) = (
-      (Several held, Ok (tt {0})) ∷ [],
-      IsCommitted held (Ok (tt {0})) refl said,
-      Edited s (Several held) (Ok (tt {0})) history (none, are),
-    )
-    committed s t held output history (IsListRefused refused some said same) = (
-      (Several held, Err refused) ∷ [],
-      IsCommitted held (Err refused) refl said,
-      Edited s (Several held) (Err refused) history (inl some, same),
-    )
-    committed s t held output history (IsListOutOfMemory said same) = (
-      (Several held, Err list_memory) ∷ [],
-      IsCommitted held (Err list_memory) refl said,
-      Edited s (Several held) (Err list_memory) history (inr refl, same),
-    )
-
     edits : (s : SessionRead) (draft : Option (List Edit)) (t : SessionAndDraft)
         (request : Request) (edit : Edit) (output : List ℕ) → History files roles calls s
         → request_for edit ≡ request → AnswersIn draft (at s draft) edit output t → GoesOn request output (at s draft) t
-    edits s None t request edit output history asked a =
-        rw a.1 (made s t.session request edit output history asked a.0)
+    edits s None t request edit output history asked a = rw a.3 (
+      Apply edit a.0 ∷ [],
+      IsEdit edit a.0 asked a.2,
+      Answered s (Apply edit a.0) history a.1,
+    )
     edits s (Some held) t request edit output history asked a = rw a.1 ([], IsHeld held edit asked a.0, still s history)
 
     begins : (s : SessionRead) (draft : Option (List Edit)) (t : SessionAndDraft) (output : List ℕ)
@@ -89,7 +55,11 @@ module _ (files : FileTable) (roles : RolesRead) where
     commits : (s : SessionRead) (draft : Option (List Edit)) (t : SessionAndDraft) (output : List ℕ)
         → History files roles calls s → AnswersCommit draft (at s draft) output t → GoesOn Commit output (at s draft) t
     commits s None t output history a = stays (at s None) t Commit output history refl refl a.1
-    commits s (Some held) t output history a = rw a.1 (committed s t.session held output history a.0)
+    commits s (Some held) t output history a = rw a.3 (
+      ApplyAll held a.0 ∷ [],
+      IsCommitted held a.0 refl a.2,
+      Answered s (ApplyAll held a.0) history a.1,
+    )
 
     cancels : (s : SessionRead) (draft : Option (List Edit)) (t : SessionAndDraft) (output : List ℕ)
         → History files roles calls s → AnswersCancel draft (at s draft) output t → GoesOn Cancel output (at s draft) t

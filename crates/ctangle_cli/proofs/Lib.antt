@@ -7,4 +7,3 @@ mod RetangleLemmas
 mod WorkedArguments
 mod AnswerLemmas
 mod HistoryLemmas
-mod PlainLemmas

@@ -6,13 +6,12 @@ use Rattle.std.specs.Io.KnownBytes.{Appends}
 use Rattle.tangle_streams.specs.Streams.{Stream, Failed, TakesAll, TakesPrefix}
 use Rattle.tangle_faults.specs.Faults.{FaultRead, is_error}
 use Rattle.tangle_files.specs.Roles.{RolesRead}
-use Rattle.tangle_folders.specs.Folder.{FolderRead}
+use Rattle.tangle_folders.specs.Folder.{File, FolderRead}
 use Rattle.tangle_folders.specs.declared.folder.FolderFault.{FolderFault}
 use Rattle.tangle_folders.specs.declared.folder.FolderFault.TheVariants.{NoMemory as FolderMemory}
 use Rattle.tangle_loading.specs.Loading.{LoadEnd}
 use Rattle.tangle_loading.specs.Loading.LoadEnd.{NoMemory}
 use Rattle.ctangle_cli.specs.Messages.{ending_line, fault_lines, no_memory_line, faults_status, unwritten_line}
-use Rattle.tangle_session.specs.Tangle.{Tangling}
 use Rattle.ctangle_cli.specs.Run.{NamedEnds, RunEnds, TangledEnds, moment, nothing_done}
 use Rattle.ctangle_cli.specs.Run.RunEnds.{IsMisused, IsCutAtUsage, IsUnnamed, IsNamed}
 use Rattle.ctangle_cli.specs.Run.NamedEnds.{IsUnloaded, IsUntangled, IsTangled}
@@ -60,11 +59,12 @@ small_status (f ∷ fs) = by (is_error f) (small_status fs)
     by true h = omega arith
     by false h = h
 
-tangled_not_3 : (t : Tangling) (folder : FolderRead) → TangledEnds t (moment folder silent_stream) nothing_done 3 → ⊥
-tangled_not_3 t folder (IsDone reported created unfailed status) = let h = small_status t.faults in omega arith
-tangled_not_3 t folder (IsCutAtFaults reported created status) = no_failure reported.3
-tangled_not_3 t folder (IsUnwritten stop status) =
-    silent_after stop.between.stream (fault_lines t.faults) (unwritten_line stop.fault stop.name)
+tangled_not_3 : (outputs : List File) (faults : List FaultRead) (folder : FolderRead)
+    → TangledEnds outputs faults (moment folder silent_stream) nothing_done 3 → ⊥
+tangled_not_3 outputs faults folder (IsDone reported created unfailed status) = let h = small_status faults in omega arith
+tangled_not_3 outputs faults folder (IsCutAtFaults reported created status) = no_failure reported.3
+tangled_not_3 outputs faults folder (IsUnwritten stop status) =
+    silent_after stop.between.stream (fault_lines faults) (unwritten_line stop.fault stop.name)
     (stop_some stop.fault stop.name) stop.faults_reported stop.output_reported
 
 named_not_3 : (roles : RolesRead) → NamedEnds roles nothing_done nothing_done 3 → ⊥
@@ -72,7 +72,7 @@ named_not_3 roles (IsUnloaded ending why reported status) =
     silent (ending_line (codes "ctangle") ending) (ending_some ending) reported
 named_not_3 roles (IsUntangled files loaded loads reported created status) =
     silent no_memory_line (ending_some NoMemory) reported
-named_not_3 roles (IsTangled files loaded loads ends) = tangled_not_3 ends.tangling loaded ends.ends
+named_not_3 roles (IsTangled files loaded loads ends) = tangled_not_3 ends.outputs ends.faults loaded ends.ends
 
 pub run_not_3 : (arguments : List (List ℕ)) → RunEnds arguments nothing_done nothing_done 3 → ⊥
 run_not_3 arguments (IsMisused none reported created status) = omega arith

@@ -11,12 +11,10 @@ use Rattle.std.specs.List.{fold}
 use Rattle.std.proofs.lemmas.List.Sums.{fold-append, fold_more}
 use Rattle.tangle_script.specs.Script.{WritesAnswer}
 use Rattle.tangle_faults.specs.Faults.{FaultRead}
-use Rattle.tangle_files.specs.Lines.{FileTable}
-use Rattle.tangle_files.specs.Roles.{RolesRead}
 use Rattle.tangle_folders.specs.declared.folder.FolderFault.{FolderFault}
 use Rattle.tangle_folders.specs.declared.folder.FolderFault.TheVariants.{NoMemory}
-use Rattle.tangle_session.specs.Tangle.{Tangling, AreFaultsOf, outputs_of}
-use Rattle.ctangle_cli.specs.Run.{AsksNothing, Moment, SessionEnds, StopsAt, TangledEnds}
+use Rattle.tangle_folders.specs.Folder.{File}
+use Rattle.ctangle_cli.specs.Run.{Moment, StopsAt, TangledEnds}
 use Rattle.ctangle_cli.specs.Run.TangledEnds.{IsUnwritten}
 use Rattle.ctangle_cli.specs.Messages.{fault_lines, unwritten_line}
 
@@ -109,14 +107,14 @@ answer_then a b c xs ys (Ok x) p q = whole_then_whole a b c xs ys p q
 answer_then a b c xs ys (Err e) p q = whole_then_cut a b c xs ys p q
 
 -- writing stopped because memory ran out, or because the folder failed
-pub tangled_stops : (t : Tangling) (old new : Moment) (mid : Stream)
+pub tangled_stops : (outputs : List File) (faults : List FaultRead) (old new : Moment) (mid : Stream)
     (name : List ℕ) (fault : FolderFault) (r : Result ℕ WriteFault)
-    → StopsAt t.outputs old.folder.created new.folder.created name fault
+    → StopsAt outputs old.folder.created new.folder.created name fault
     → (fault ≢ NoMemory → Failed old.folder.failures new.folder.failures)
-    → (fault ≡ NoMemory → new.folder.failures ≡ old.folder.failures) → TakesAll old.stream mid (fault_lines t.faults)
+    → (fault ≡ NoMemory → new.folder.failures ≡ old.folder.failures) → TakesAll old.stream mid (fault_lines faults)
     → IsWritten mid new.stream (unwritten_line fault name) r
-    → TangledEnds t old new 3
-tangled_stops t old new mid name fault r stops why calm reported put = IsUnwritten (record {
+    → TangledEnds outputs faults old new 3
+tangled_stops outputs faults old new mid name fault r stops why calm reported put = IsUnwritten (record {
   name = name;
   stops = stops;
   fault = fault;
@@ -127,17 +125,3 @@ tangled_stops t old new mid name fault r stops why calm reported put = IsUnwritt
   faults_reported = reported;
   output_reported = tries_from mid new.stream r (unwritten_line fault name) put;
 }) refl
-
--- the tangling with these faults
-abbrev pub tangling_with : FileTable → RolesRead → List FaultRead → Tangling
-tangling_with files roles faults = record { faults = faults; outputs = outputs_of files roles }
-
-pub ends_with_faults : (files : FileTable) (roles : RolesRead) (faults : List FaultRead) (old new : Moment) (status : ℕ)
-    → AreFaultsOf files roles faults → AsksNothing old new
-    → TangledEnds (tangling_with files roles faults) old new status → SessionEnds files roles old new status
-ends_with_faults files roles faults old new status are unasked ends = record {
-  tangling = tangling_with files roles faults;
-  is = record { faults = are; outputs = refl };
-  ends = ends;
-  asks_nothing = unasked;
-}

@@ -18,34 +18,36 @@ use Rattle.tangle_lexer.specs.Steps.{tokens_from, lexeme, occurrences_from}
 use Rattle.tangle_files.specs.Roles.{RolesRead, roles_of}
 use Rattle.tangle_files.specs.declared.marks.MarkMode.TheVariants.{Bare}
 use Rattle.tangle_names.specs.Faults.{name_faults}
-use Rattle.tangle_names.specs.NameTable.{table_of}
 use Rattle.tangle_expansion.specs.Limits.{levels, heaviest}
 use Rattle.tangle_graph.specs.Faults.{graph_faults}
-use Rattle.tangle_session.specs.Files.{source_at, web_at}
-use Rattle.tangle_session.specs.Tangle.{Tangling, outputs_of}
+use Rattle.tangle_session.specs.Headline.{output_files, source_at, table_at, web_at}
+
+-- the faults and the output files
+abbrev FaultsAndFiles : Type 0
+FaultsAndFiles = List FaultRead × List (List ℕ × List ℕ)
 
 -- what tangling gives where no node contains itself or reaches a name that does
-abbrev tangle_of : FileTable → RolesRead → Tangling
-tangle_of files roles = record {
-  faults = (source_at files roles).faults ++ ((web_at files roles).faults ++ (name_faults (web_at files roles)
-      ++ graph_faults (web_at files roles) (table_of (web_at files roles)) roles.out (λ n. false) (λ n. false)));
-  outputs = outputs_of files roles;
-}
+abbrev tangle_of : FileTable → RolesRead → FaultsAndFiles
+tangle_of files roles = (
+  (source_at files roles).faults ++ ((web_at files roles).faults ++ (name_faults (web_at files roles)
+      ++ graph_faults (web_at files roles) (table_at files roles) roles.out (λ n. false) (λ n. false))),
+  output_files files roles,
+)
 
 -- tangling these files, whose web is `a.w`; a web alone; and a web with a change file
-abbrev tangled_files : FileTable → Tangling
+abbrev tangled_files : FileTable → FaultsAndFiles
 tangled_files files = tangle_of files (roles_of (codes "a.w") None (codes "a.c"))
 
-abbrev tangled_web : List ℕ → Tangling
+abbrev tangled_web : List ℕ → FaultsAndFiles
 tangled_web web = tangled_files ((codes "a.w", cut web) ∷ [])
 
-abbrev tangled_change : List ℕ → List ℕ → Tangling
+abbrev tangled_change : List ℕ → List ℕ → FaultsAndFiles
 tangled_change web change =
     tangle_of ((codes "a.w", cut web) ∷ (codes "a.ch", cut change) ∷ [])
     (roles_of (codes "a.w") (Some (codes "a.ch")) (codes "a.c"))
 
-abbrev gives : List FaultRead → List ℕ → Tangling
-gives faults bytes = record { faults = faults; outputs = (codes "a.c", bytes) ∷ [] }
+abbrev gives : List FaultRead → List ℕ → FaultsAndFiles
+gives faults bytes = (faults, (codes "a.c", bytes) ∷ [])
 
 abbrev line_of : List ℕ → ℕ → PlaceRead
 line_of file n = record { file = file; line = n }
@@ -172,13 +174,13 @@ record Names : Type 0 where
       ≡ gives []
       (codes "/*1:*/\n#line 2 \"a.w\"\n\nint x= /*2:*/\n#line 4 \"a.w\"\n\n1\n/*:2*/\n#line 3 \"a.w\"\n;\n/*:1*/\n")
   pub a_named_file : tangled_web (codes "@ A.\n@(h.h@>=\n@<I...@>\n@ @<In@>=\n1\n@ @<u@>=\n@h\n")
-      ≡ record {
-        faults = fault_about Unused (line 6) (codes "u") ∷ fault_unplaced NoProgram ∷ [];
-        outputs = (codes "a.c", []) ∷ (
+      ≡ (
+        fault_about Unused (line 6) (codes "u") ∷ fault_unplaced NoProgram ∷ [],
+        (codes "a.c", []) ∷ (
           codes "h.h",
           codes "/*1:*/\n#line 2 \"a.w\"\n\n /*2:*/\n#line 4 \"a.w\"\n\n1\n/*:2*/\n#line 3 \"a.w\"\n\n/*:1*/\n",
-        ) ∷ [];
-      }
+        ) ∷ [],
+      )
 
 names : Names
 unfolding source_at web_at reads_in tokens_from lexeme occurrences_from levels heaviest digits

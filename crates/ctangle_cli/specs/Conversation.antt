@@ -6,6 +6,8 @@ use Rattle.std.specs.List.{list_any}
 use Rattle.std.specs.Option.{option_map}
 use Rattle.std.specs.declared.vec.Vec.{Vec}
 use Rattle.tangle_faults.specs.Faults.{FaultRead, is_error}
+use Rattle.tangle_files.specs.Lines.{FileTable}
+use Rattle.tangle_files.specs.Roles.{RolesRead}
 use Rattle.tangle_files.specs.declared.edits.Edit.{Edit}
 use Rattle.tangle_files.specs.declared.edits.Edit.TheVariants as edit
 use Rattle.tangle_files.specs.declared.marks.MarkMode.{MarkMode}
@@ -16,9 +18,9 @@ use Rattle.tangle_script.specs.Requests.{Request}
 use Rattle.tangle_script.specs.Requests.Request.{Insert, Replace, Remove, Create, Discard}
 use Rattle.tangle_script.specs.Requests.Request.{Show, MarksFull, MarksNone, Begin, Commit, Cancel}
 use Rattle.tangle_script.specs.Requests.Request.{Faults, Work, Quit, BadCommand}
-use Rattle.tangle_session.specs.Edits.{list_memory, list_refusal, session_refusal}
-use Rattle.tangle_session.specs.Sessions.{AreMade, SessionRead}
-use Rattle.tangle_session.specs.Tangle.{AreFaultsOf, output_at}
+use Rattle.tangle_session.specs.Headline.{Apply, ApplyAll, IsAnswered, IsPlainTangling}
+use Rattle.tangle_session.specs.Headline.{output_at, output_files}
+use Rattle.tangle_session.specs.Sessions.{SessionRead}
 use Rattle.tangle_session.specs.declared.refusing.ListRefusal.{ListRefusal}
 use Rattle.ctangle_cli.specs.Messages.{fault_lines, refusal_name}
 use Rattle.ctangle_cli.specs.declared.conversation.Accepted.{Accepted}
@@ -49,6 +51,11 @@ request_for (edit.Marks mode) = marks_request mode
 abbrev pub refused_line : Refusal → List ℕ
 refused_line refusal = codes "no " ++ refusal_name refusal ++ codes "\n"
 
+-- the answer to an edit that was passed to the session
+abbrev pub one_line : Result (Unit {0}) Refusal → List ℕ
+one_line (Ok done) = codes "ok\n"
+one_line (Err refusal) = refused_line refusal
+
 -- the answer to an edit, which was made, or is held in the open list, or is refused
 abbrev pub edit_line : Result Accepted Refusal → List ℕ
 edit_line (Ok Made) = codes "ok\n"
@@ -73,31 +80,16 @@ abbrev pub list_line : {T : Type 0} → Result T ListRefusal → List ℕ
 list_line (Ok done) = codes "ok\n"
 list_line (Err refused) = list_refused_line refused
 
--- an edit is made, and the answer is `ok`; or it is refused, and changes nothing
-pub data AnswersEdit (s : SessionRead) (made : Edit) (output : List ℕ) (t : SessionRead) :
-    Type 0 where
-  IsMade : session_refusal s.files s.roles made ≡ None → output ≡ codes "ok\n"
-      → AreMade s (made ∷ []) t → AnswersEdit s made output t
-  IsRefused : (refusal : Refusal) → session_refusal s.files s.roles made ≡ Some refusal
-      → output ≡ refused_line refusal → t ≡ s → AnswersEdit s made output t
-
--- a list of edits is made, and the answer is `ok`; or it is refused, or memory runs out, and then
--- nothing changes
-pub data AnswersList (s : SessionRead) (made : List Edit) (output : List ℕ) (t : SessionRead) :
-    Type 0 where
-  IsListMade : list_refusal s.files s.roles made ≡ None → output ≡ codes "ok\n" → AreMade s made t
-      → AnswersList s made output t
-  IsListRefused : (refused : ListRefusal) → list_refusal s.files s.roles made ≡ Some refused
-      → output ≡ list_refused_line refused → t ≡ s → AnswersList s made output t
-  IsListOutOfMemory : output ≡ list_refused_line list_memory → t ≡ s → AnswersList s made output t
-
--- an edit is made while no list is open; else it is added at the end of the open list
+-- an edit is passed to the session while no list is open; else it is added at the end of the open
+-- list
 abbrev pub AnswersIn :
     Option (List Edit) → SessionAndDraft → Edit → List ℕ → SessionAndDraft → Type 0
-AnswersIn None s made output t = AnswersEdit s.session made output t.session × (t.draft ≡ None)
-AnswersIn (Some held) s made output t =
+AnswersIn None s edit output t =
+    (answer : Result (Unit {0}) Refusal) × IsAnswered s.session (Apply edit answer) t.session
+    × (output ≡ one_line answer) × (t.draft ≡ None)
+AnswersIn (Some held) s edit output t =
     (output ≡ codes "held\n")
-    × (t ≡ record { session = s.session; draft = Some (held ++ made ∷ []) })
+    × (t ≡ record { session = s.session; draft = Some (held ++ edit ∷ []) })
 
 -- the answer to a request for an edit
 abbrev pub AnswersRequest : SessionAndDraft → Request → List ℕ → SessionAndDraft → Type 0
@@ -114,12 +106,13 @@ AnswersBegin None s output t =
     (output ≡ codes "ok\n") × (t ≡ record { session = s.session; draft = Some [] })
 AnswersBegin (Some held) s output t = IsBad s output t
 
--- all edits of the open list are made or none, and the list is closed
+-- the open list is passed to the session, and is closed
 abbrev pub AnswersCommit :
     Option (List Edit) → SessionAndDraft → List ℕ → SessionAndDraft → Type 0
 AnswersCommit None s output t = IsBad s output t
 AnswersCommit (Some held) s output t =
-    AnswersList s.session held output t.session × (t.draft ≡ None)
+    (answer : Result (Unit {0}) ListRefusal) × IsAnswered s.session (ApplyAll held answer) t.session
+    × (output ≡ list_line answer) × (t.draft ≡ None)
 
 -- the open list is dropped
 abbrev pub AnswersCancel :
@@ -140,9 +133,10 @@ listed_faults faults =
     codes "faults " ++ decimal (length faults) ++ codes "\n" ++ fault_lines faults
 
 -- the faults of the files are listed
-abbrev pub ListsFaults : SessionRead → List ℕ → Type 0
-ListsFaults s output =
-    (faults : List FaultRead) × AreFaultsOf s.files s.roles faults × (output ≡ listed_faults faults)
+abbrev pub ListsFaults : FileTable → RolesRead → List ℕ → Type 0
+ListsFaults files roles output =
+    (faults : List FaultRead) × IsPlainTangling files roles (output_files files roles) faults
+    × (output ≡ listed_faults faults)
 
 -- The output answers the request, which takes the session with its open list from `s` to `t`.
 -- Questions are answered from the session, whether a list is open or not, and change nothing.
@@ -159,7 +153,7 @@ answers s Commit output t = AnswersCommit s.draft s output t
 answers s Cancel output t = AnswersCancel s.draft s output t
 answers s (Show file) output t =
     (output ≡ shown file (output_at s.session.files s.session.roles file)) × (t ≡ s)
-answers s Faults output t = ListsFaults s.session output × (t ≡ s)
+answers s Faults output t = ListsFaults s.session.files s.session.roles output × (t ≡ s)
 answers s Work output t =
     (output ≡ codes "work " ++ decimal (length s.session.work) ++ codes "\n") × (t ≡ s)
 answers s Quit output t = (output ≡ codes "ok\n") × (t ≡ s)
@@ -168,5 +162,7 @@ answers s BadCommand output t = IsBad s output t
 -- whether an error is among the faults of the files
 abbrev pub HasError : SessionAndDraft → Bool → Type 0
 HasError s error =
-    (faults : List FaultRead) × AreFaultsOf s.session.files s.session.roles faults
+    (faults : List FaultRead)
+    × IsPlainTangling s.session.files s.session.roles
+    (output_files s.session.files s.session.roles) faults
     × (error ≡ list_any is_error faults)

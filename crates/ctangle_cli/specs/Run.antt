@@ -3,7 +3,8 @@ use Rattle.std.specs.Prelude.{◌≡◌, ◌≢◌, ◌⊎◌, ℕ, List, [], �
 use Rattle.tangle_streams.specs.Streams.{Stream, Failed, TakesAll, TakesPrefix}
 use Rattle.tangle_files.specs.Lines.{FileTable}
 use Rattle.tangle_files.specs.Roles.{RolesRead}
-use Rattle.tangle_session.specs.Tangle.{Tangling, IsTanglingOf}
+use Rattle.tangle_faults.specs.Faults.{FaultRead}
+use Rattle.tangle_session.specs.Headline.{IsPlainTangling}
 use Rattle.tangle_folders.specs.declared.folder.FolderFault.{FolderFault}
 use Rattle.tangle_folders.specs.declared.folder.FolderFault.TheVariants.{NoMemory}
 use Rattle.tangle_folders.specs.Folder.{File, FolderRead, with_created}
@@ -63,37 +64,41 @@ pub record StopsAt (outputs : List File) (old new : Option (List File))
 
 -- Writing the outputs stopped at one of them, because the folder or an allocation failed. The lines
 -- of the faults were written before, and then the line of this output, or a prefix of it.
-pub record IsStopped (tangling : Tangling) (old new : Moment) : Type 0 where
+pub record IsStopped (outputs : List File) (faults : List FaultRead)
+    (old new : Moment) : Type 0 where
   pub name : List ℕ
   pub fault : FolderFault
-  pub stops : StopsAt tangling.outputs old.folder.created new.folder.created name fault
+  pub stops : StopsAt outputs old.folder.created new.folder.created name fault
   pub why : fault ≢ NoMemory → Failed old.folder.failures new.folder.failures
   pub no_failure : fault ≡ NoMemory → new.folder.failures ≡ old.folder.failures
   -- the moment when the lines of the faults are written, and no file is created yet
   pub between : Moment
   pub nothing_yet : CreatesNothing old between
-  pub faults_reported : Writes old between (fault_lines tangling.faults)
+  pub faults_reported : Writes old between (fault_lines faults)
   pub output_reported : TriesToWrite between new (unwritten_line fault name)
 
--- how a run ends after tangling
-pub data TangledEnds (tangling : Tangling) (old new : Moment) (status : ℕ) : Type 0 where
+-- how a run ends after tangling has given these output files and faults
+pub data TangledEnds (outputs : List File) (faults : List FaultRead)
+    (old new : Moment) (status : ℕ) : Type 0 where
   -- status 0 or 1: the lines of the faults are written, and just the outputs are created
-  IsDone : Writes old new (fault_lines tangling.faults)
-      → new.folder.created ≡ with_created old.folder.created tangling.outputs
-      → new.folder.failures ≡ old.folder.failures → status ≡ faults_status tangling.faults
-      → TangledEnds tangling old new status
+  IsDone : Writes old new (fault_lines faults)
+      → new.folder.created ≡ with_created old.folder.created outputs
+      → new.folder.failures ≡ old.folder.failures → status ≡ faults_status faults
+      → TangledEnds outputs faults old new status
   -- status 3: the error stream fails while the lines of the faults are written; no file is created
-  IsCutAtFaults : IsCutOff old new (fault_lines tangling.faults) → LeavesFolder old new → status ≡ 3
-      → TangledEnds tangling old new status
+  IsCutAtFaults : IsCutOff old new (fault_lines faults) → LeavesFolder old new → status ≡ 3
+      → TangledEnds outputs faults old new status
   -- status 3: an output can't be written
-  IsUnwritten : IsStopped tangling old new → status ≡ 3 → TangledEnds tangling old new status
+  IsUnwritten : IsStopped outputs faults old new → status ≡ 3
+      → TangledEnds outputs faults old new status
 
 -- how a run ends after it has started a session of these files
 pub record SessionEnds (files : FileTable) (roles : RolesRead)
     (old new : Moment) (status : ℕ) : Type 0 where
-  pub tangling : Tangling
-  pub is : IsTanglingOf files roles tangling
-  pub ends : TangledEnds tangling old new status
+  pub outputs : List File
+  pub faults : List FaultRead
+  pub plain : IsPlainTangling files roles outputs faults
+  pub ends : TangledEnds outputs faults old new status
   pub asks_nothing : AsksNothing old new
 
 -- how a run ends if its arguments give these names;

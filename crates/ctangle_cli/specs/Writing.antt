@@ -2,7 +2,7 @@
 use Rattle.std.specs.Prelude.{◌≡◌, ◌⊎◌, ℕ, List, [], ◌∷◌, Option, take, unwrap_or}
 use Rattle.tangle_files.specs.Lines.{FileTable}
 use Rattle.tangle_files.specs.Roles.{RolesRead}
-use Rattle.tangle_session.specs.Tangle.{output_at}
+use Rattle.tangle_session.specs.Headline.{output_at}
 use Rattle.tangle_folders.specs.Folder.{File, with_created}
 
 -- the output of this name, with its bytes, where tangling the files gives one

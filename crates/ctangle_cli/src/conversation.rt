@@ -14,7 +14,7 @@ ghost use Rattle.tangle_script.specs.Requests.Request.{Create as create, Discard
 ghost use Rattle.tangle_script.specs.Requests.Request.{Insert as insert, Remove as remove};
 ghost use Rattle.tangle_script.specs.Requests.Request.{Replace as replace};
 ghost use Rattle.tangle_script.specs.Script.{Replies, WritesAnswer, conversation};
-ghost use Rattle.tangle_session.specs.Tangle.{output_at};
+ghost use Rattle.tangle_session.specs.Headline.{output_at};
 ghost use Rattle.ctangle_cli.specs.Conversation.{HasError, answers, edit_line};
 ghost use Rattle.ctangle_cli.specs.Conversation.{edit_number, list_line, listed_faults};
 ghost use Rattle.ctangle_cli.specs.Conversation.{marks_request, request_for, session_and_draft};

@@ -1,12 +1,14 @@
 //! Laws of scripts.
-ghost use Rattle.std.specs.Prelude.{◌++◌, ℕ, List};
+ghost use Rattle.std.specs.Prelude.{◌≡◌, ◌++◌, ℕ, List};
 ghost use Rattle.tangle_files.specs.Lines.{FileTable};
 ghost use Rattle.tangle_files.specs.Roles.{RolesRead};
 ghost use Rattle.tangle_script.specs.Requests.{Command};
+ghost use Rattle.tangle_script.specs.Requests.Request.{Faults, Show};
 ghost use Rattle.tangle_script.specs.Script.{Dialogue};
-ghost use Rattle.tangle_session.specs.Headline.{Call, History, accepted, files_after, roles_with};
-ghost use Rattle.ctangle_cli.specs.Conversation.{SessionAndDraft, answers};
-ghost use Rattle.ctangle_cli.specs.Histories.{AreCallsOf, ShowsPlainOf};
+ghost use Rattle.tangle_session.specs.Headline.{Call, History, accepted, files_after, output_at};
+ghost use Rattle.tangle_session.specs.Headline.{roles_with};
+ghost use Rattle.ctangle_cli.specs.Conversation.{ListsFaults, SessionAndDraft, answers, shown};
+ghost use Rattle.ctangle_cli.specs.Histories.{AreCallsOf};
 
 /// The commands of a script extend the history of the session: each edit that is passed, and each
 /// list of edits, is one more call, with the answer that was written. Held edits and questions
@@ -20,13 +22,18 @@ pub fn the_answers_of_a_script_are_a_history()
         × History files roles (calls ++ more) new.session }
 {}
 
-/// After any commands of a script, `show` and `faults` are answered with what plain tangling gives
-/// for the files and the roles of the start in which the accepted edits are made.
+/// At the end of any history, as after any commands of a script, `show` and `faults` are answered
+/// with what plain tangling gives for the files and the roles of the start in which the accepted
+/// edits are made.
 pub fn scripts_show_plain_tangling()
-    ensures { (files : FileTable) (roles : RolesRead) (calls : List Call)
-        (old new : SessionAndDraft) (commands : List Command) (output : List ℕ)
-        → History files roles calls old.session → Dialogue answers old commands output new
-        → (more : List Call) × AreCallsOf commands output old.draft more new.draft
-        × ShowsPlainOf (files_after files (accepted (calls ++ more)))
-        (roles_with roles (accepted (calls ++ more))) new }
+    ensures show { (files : FileTable) (roles : RolesRead) (calls : List Call)
+        (s t : SessionAndDraft) (name output : List ℕ)
+        → History files roles calls s.session → answers s (Show name) output t
+        → output ≡ shown name (output_at (files_after files (accepted calls))
+        (roles_with roles (accepted calls)) name) }
+    ensures faults { (files : FileTable) (roles : RolesRead) (calls : List Call)
+        (s t : SessionAndDraft) (output : List ℕ)
+        → History files roles calls s.session → answers s Faults output t
+        → ListsFaults (files_after files (accepted calls)) (roles_with roles (accepted calls))
+        output }
 {}

@@ -3,7 +3,7 @@ ghost use Rattle.std.specs.Prelude.{◌≡◌, ◌≢◌, ◌∷◌, [], IsSome,
 ghost use Rattle.tangle_streams.specs.Streams.{Failed};
 ghost use Rattle.tangle_folders.specs.Folder.{with_created};
 ghost use Rattle.tangle_folders.specs.declared.folder.FolderFault.TheVariants.{NoMemory};
-ghost use Rattle.tangle_session.specs.Tangle.{output_at, outputs_of};
+ghost use Rattle.tangle_session.specs.Headline.{output_at, output_files};
 ghost use Rattle.ctangle_cli.specs.Writing.{AddsPrefix, output_file};
 ghost use Rattle.ctangle_cli.specs.Run.{StopsAt};
 
@@ -67,9 +67,9 @@ pub fn create_outputs<'a, F: Folder>(
 ) -> Result<(), UnwrittenOutput<'a>>
     ensures whole { OnOk result ((F.state folder.new).created
         ≡ with_created (F.state folder.old).created
-        (outputs_of session.now.files session.now.roles)) }
+        (output_files session.now.files session.now.roles)) }
     ensures unfailed { OnOk result ((F.state folder.new).failures ≡ (F.state folder.old).failures) }
-    ensures stopped { IfErr result (λ stop. StopsAt (outputs_of session.now.files session.now.roles)
+    ensures stopped { IfErr result (λ stop. StopsAt (output_files session.now.files session.now.roles)
         (F.state folder.old).created (F.state folder.new).created stop.name.now stop.fault) }
     ensures failed { IfErr result
         (λ stop. stop.fault ≢ NoMemory

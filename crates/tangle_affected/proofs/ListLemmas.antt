@@ -7,31 +7,42 @@ use Rattle.std.proofs.lemmas.List.Elements.{Contains-get_or}
 use Rattle.std.proofs.lemmas.List.Kept.{AllPairs-filter}
 use Rattle.tangle_expansion.specs.Affected.{IsAffected}
 use Rattle.tangle_expansion.specs.Limits.{levels, heaviest, IsExpandableNode}
-use Rattle.tangle_plans.specs.Shapes.{Title, Shapes, Reaches}
+use Rattle.tangle_plans.specs.Shapes.{Title, Shapes, Uses}
 use Rattle.digraph.specs.Nodes.{Node, program}
-use Rattle.tangle_graph.specs.Nodes.{UsesTitle}
+use Rattle.digraph.specs.Reach.{Reaches}
 use Rattle.tangle_graph.specs.Ordering.{IsOrderIn}
 use Rattle.tangle_graph.specs.Stores.{StoreRead, IsStoreOf, IsNodeIn, flag_at, is_expandable_at, title_in_store}
 use Rattle.tangle_affected.specs.Affected.{ListsAffected}
-use Rattle.tangle_affected.specs.Keeping.{IsExpandableList, ListsExpandable}
+use Rattle.tangle_affected.specs.Keeping.{ListsExpandable}
 use Rattle.tangle_affected.specs.Flags.{AreFlagged, is_expandable_and_flagged}
 use Rattle.tangle_names.proofs.ContainsLemmas.{into_filter, out_of_filter}
 use Rattle.tangle_affected.proofs.FilterLemmas.{filter_position}
+use Rattle.tangle_graph.proofs.ExpandLemmas.{expandable_at}
 use Rattle.tangle_graph.proofs.NameLemmas.{node_with_piece}
+
+pub lists_expandable : (store : StoreRead) (order : List Node)
+    → IsOrderIn store order → ListsExpandable store (filter (is_expandable_at store) order)
+lists_expandable store order ordered = record {
+  once = AllPairs-filter (λ a b. a ≢ b) (is_expandable_at store) order ordered.once;
+  just = λ a. (
+    λ c. (let there = out_of_filter (is_expandable_at store) order a c in (ordered.inside a there.0, there.1)),
+    λ both. into_filter (is_expandable_at store) order a (ordered.expandable a both.0 both.1) both.1,
+  );
+}
 
 module _ (shapes : Shapes) (store : StoreRead) (order : List Node)
     (is : IsStoreOf shapes store) (ordered : IsOrderIn store order) where
   -- a node of a filter of the order comes after those of the filter that it uses
   filtered_after : (p : Node → Bool) (k : ℕ) (used : Node)
       → k < length (filter p order) → Contains (filter p order) used
-      → UsesTitle shapes (title_in_store store (get_or (filter p order) k program)) (title_in_store store used)
+      → Uses shapes (title_in_store store (get_or (filter p order) k program)) (title_in_store store used)
       → Contains (take k (filter p order)) used
   filtered_after p k used h c u =
       let position = filter_position p order k program h in
       let there = out_of_filter p order used c in
-      let user : UsesTitle shapes (title_in_store store (get_or order position.at program))
+      let user : Uses shapes (title_in_store store (get_or order position.at program))
       (title_in_store store used) =
-      subst (λ a. UsesTitle shapes (title_in_store store a) (title_in_store store used)) (sym position.same) u in
+      subst (λ a. Uses shapes (title_in_store store a) (title_in_store store used)) (sym position.same) u in
       let uses =
       (is.uses (get_or order position.at program) used
       (ordered.inside (get_or order position.at program) (Contains-get_or order position.at program position.inside))).1
@@ -39,29 +50,13 @@ module _ (shapes : Shapes) (store : StoreRead) (order : List Node)
       let before = ordered.after position.at used position.inside uses in
       subst (λ l. Contains l used) (sym position.front) (into_filter p (take position.at order) used before there.1)
 
-  pub expandable_list : (p : Node → Bool)
-      → ((a : Node) → p a ≡ true → is_expandable_at store a ≡ true) → IsExpandableList shapes store (filter p order)
-  expandable_list p passes = record {
-    expandable = λ a c. passes a (out_of_filter p order a c).1;
-    after = λ k used h c u. filtered_after p k used h c u;
-  }
-
-  pub lists_expandable : ListsExpandable store (filter (is_expandable_at store) order)
-  lists_expandable = record {
-    once = AllPairs-filter (λ a b. a ≢ b) (is_expandable_at store) order ordered.once;
-    just = λ a. (
-      λ c. (let there = out_of_filter (is_expandable_at store) order a c in (ordered.inside a there.0, there.1)),
-      λ both. into_filter (is_expandable_at store) order a (ordered.expandable a both.0 both.1) both.1,
-    );
-  }
-
   module _ (old : Shapes) (flags : List Bool) (are : AreFlagged old shapes store flags order) where
     pub is_affected : (a : Node) → Contains order a → is_expandable_at store a ≡ true → flag_at flags a ≡ true
         → IsAffected levels heaviest old shapes (title_in_store store a)
     is_affected a c flag is_flagged =
         let r = (are a c).0 is_flagged in
         record {
-          expandable = (is.expandable a (ordered.inside a c)).0 flag;
+          expandable = (expandable_at shapes store is a (ordered.inside a c)).0 flag;
           cause = r.0;
           reaches = r.1;
           changed = r.2;
@@ -80,11 +75,11 @@ module _ (shapes : Shapes) (store : StoreRead) (order : List Node)
             × Contains (filter (is_expandable_and_flagged store flags) order) a
         all node affected =
             let at = node_with_piece shapes store node is affected.expandable.has_piece in
-            let flag = (is.expandable at.0 at.1).1 (subst (IsExpandableNode shapes) (sym at.2) affected.expandable) in
+            let flag = (expandable_at shapes store is at.0 at.1).1 (subst (IsExpandableNode shapes) (sym at.2) affected.expandable) in
             let c = ordered.expandable at.0 at.1 flag in
             let is_flagged = (are at.0 c).1 (
               affected.cause,
-              subst (λ t. Reaches shapes t affected.cause) (sym at.2) affected.reaches,
+              subst (λ t. Reaches (Uses shapes) t affected.cause) (sym at.2) affected.reaches,
               affected.changed,
             ) in (
               at.0,

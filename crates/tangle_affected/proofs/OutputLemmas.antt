@@ -8,6 +8,7 @@ use Rattle.tangle_expansion.specs.Limits.{heaviest, flat_of, IsExpandableNode}
 use Rattle.tangle_expansion.specs.Outputs.{OutputRead, IsReady, node_symbols}
 use Rattle.tangle_expansion.specs.declared.kept.Kept.{Kept}
 use Rattle.tangle_graph.specs.Stores.{StoreRead, IsStoreOf, is_expandable_at, title_in_store}
+use Rattle.tangle_graph.proofs.ExpandLemmas.{expandable_at}
 use Rattle.tangle_graph.proofs.OutputLemmas.{IsFit}
 use Rattle.tangle_affected.specs.Keeping.{KeepsJust}
 
@@ -16,13 +17,13 @@ module _ (shapes : Shapes) (store : StoreRead) (kept : Kept) (is : IsStoreOf sha
     (fit : IsFit shapes store.names output) where
   pub kept_there : output.has_piece ≡ true
       → kept_at kept output.node ≡ Some (flat_of shapes (title_in_store store output.node))
-  kept_there t = keeps.expandable output.node ((is.expandable output.node fit.inside).1 (fit.there t))
+  kept_there t = keeps.expandable output.node ((expandable_at shapes store is output.node fit.inside).1 (fit.there t))
 
   kept_none : output.has_piece ≡ false → kept_at kept output.node ≡ None
   kept_none f =
       keeps.others output.node
       (false_from_ne_true (is_expandable_at store output.node)
-      (λ e. ((is.expandable output.node fit.inside).0 e).has_piece (fit.none f)))
+      (λ e. ((expandable_at shapes store is output.node fit.inside).0 e).has_piece (fit.none f)))
 
   pub ready : ((p : Shapes) (t : Title) → IsExpandableNode p t → length (flat_of p t) ≤ heaviest) → IsReady output kept
   ready law = record {

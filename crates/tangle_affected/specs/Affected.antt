@@ -3,9 +3,8 @@ use Rattle.std.specs.Prelude.{◌≡◌, ◌≢◌, ◌<◌, ◌++◌, ℕ, List
 use Rattle.std.specs.Prelude.{Contains}
 use Rattle.tangle_expansion.specs.Affected.{IsAffected}
 use Rattle.tangle_expansion.specs.Limits.{levels, heaviest}
-use Rattle.tangle_plans.specs.Shapes.{Title, Shapes}
+use Rattle.tangle_plans.specs.Shapes.{Title, Shapes, Uses}
 use Rattle.digraph.specs.Nodes.{Node, program}
-use Rattle.tangle_graph.specs.Nodes.{UsesTitle}
 use Rattle.tangle_graph.specs.Stores.{StoreRead, IsNodeIn, title_in_store}
 
 -- the shapes before an edit and after it
@@ -23,7 +22,7 @@ pub record ListsAffected (old new : Shapes) (store : StoreRead) (nodes : List No
       → IsNodeIn store node × IsAffected levels heaviest old new (title_in_store store node)
   pub once : AllPairs (λ a b. a ≢ b) nodes
   pub after : (k : ℕ) (used : Node) → k < length nodes → Contains nodes used
-      → UsesTitle new (title_in_store store (slice_index_or nodes k program))
+      → Uses new (title_in_store store (slice_index_or nodes k program))
       (title_in_store store used)
       → Contains (take k nodes) used
 

@@ -1,14 +1,15 @@
 -- What flags of a store's nodes mean. Only private contracts cite these definitions.
 use Rattle.std.specs.Prelude.{◌≡◌, ◌≢◌, ◌↔◌, ◌&&◌, Bool, true, List, Contains}
 use Rattle.std.specs.List.{list_any}
-use Rattle.tangle_plans.specs.Shapes.{Title, Shapes, Reaches}
+use Rattle.tangle_plans.specs.Shapes.{Title, Shapes, Uses}
 use Rattle.digraph.specs.Nodes.{Node}
+use Rattle.digraph.specs.Reach.{Reaches}
 use Rattle.tangle_graph.specs.Stores.{StoreRead, flag_at, is_expandable_at, uses_at}
 use Rattle.tangle_graph.specs.Stores.{title_in_store}
 
 -- the node with this title reaches one whose shape differs from its old shape
 abbrev pub ReachesNewShape : Shapes → Shapes → Title → Type 0
-ReachesNewShape old new title = (cause : Title) × Reaches new title cause × (new cause ≢ old cause)
+ReachesNewShape old new title = (cause : Title) × Reaches (Uses new) title cause × (new cause ≢ old cause)
 
 -- exactly those of these nodes are flagged that reach one with a new shape
 abbrev pub AreFlagged : Shapes → Shapes → StoreRead → List Bool → List Node → Type 0

@@ -1,13 +1,12 @@
 -- Which expansions of a web's nodes are kept, and which nodes were expanded to make them.
-use Rattle.std.specs.Prelude.{◌≡◌, ◌≢◌, ◌<◌, ◌↔◌, ◌++◌, ℕ, Bool, true, false, List, length, take}
-use Rattle.std.specs.Prelude.{slice_index_or, Some, None, AllPairs, Contains}
+use Rattle.std.specs.Prelude.{◌≡◌, ◌≢◌, ◌↔◌, ◌++◌, true, false, List}
+use Rattle.std.specs.Prelude.{Some, None, AllPairs, Contains}
 use Rattle.tangle_expansion.specs.Affected.{IsAffected}
 use Rattle.tangle_expansion.specs.Kept.{kept_at}
 use Rattle.tangle_expansion.specs.Limits.{levels, heaviest, flat_of, IsExpandableNode}
 use Rattle.tangle_plans.specs.Shapes.{Shapes}
 use Rattle.tangle_expansion.specs.declared.kept.Kept.{Kept}
-use Rattle.digraph.specs.Nodes.{Node, program}
-use Rattle.tangle_graph.specs.Nodes.{UsesTitle}
+use Rattle.digraph.specs.Nodes.{Node}
 use Rattle.tangle_graph.specs.Stores.{StoreRead, IsStoreOf, IsNodeIn, is_expandable_at}
 use Rattle.tangle_graph.specs.Stores.{title_in_store}
 use Rattle.tangle_affected.specs.Affected.{EditedShapes}
@@ -46,34 +45,3 @@ pub record ListsExpandable (store : StoreRead) (nodes : List Node) : Type 0 wher
 abbrev pub ListsExpandableAfter : StoreRead → List Node → List Node → Type 0
 ListsExpandableAfter store before after =
     (nodes : List Node) × (after ≡ before ++ nodes) × ListsExpandable store nodes
-
--- the nodes can be expanded in the order of the list: each is expandable, and comes after those of
--- the list that it uses
-pub record IsExpandableList (shapes : Shapes) (store : StoreRead) (nodes : List Node) : Type 0 where
-  pub expandable : (node : Node) → Contains nodes node → is_expandable_at store node ≡ true
-  pub after : (k : ℕ) (used : Node) → k < length nodes → Contains nodes used
-      → UsesTitle shapes (title_in_store store (slice_index_or nodes k program))
-      (title_in_store store used)
-      → Contains (take k nodes) used
-
--- The right expansion is kept for each expandable node that is outside the list or among its first
--- `done` nodes, and none is kept for a node that isn't expandable.
-pub record KeepsDone (shapes : Shapes) (store : StoreRead)
-    (list : List Node) (done : ℕ) (kept : Kept) : Type 0 where
-  pub expandable : (node : Node) → is_expandable_at store node ≡ true
-      → (Contains list node → Contains (take done list) node) → IsKeptRight shapes store kept node
-  pub others : (node : Node) → is_expandable_at store node ≡ false → kept_at kept node ≡ None
-
--- for each of these nodes that is expandable and has no flag the right expansion is kept
-pub record KeepsUnflagged (shapes : Shapes) (store : StoreRead)
-    (flagged : Node → Bool) (nodes : List Node) (kept : Kept) : Type 0 where
-  pub unflagged : (node : Node) → Contains nodes node → is_expandable_at store node ≡ true
-      → flagged node ≡ false → IsKeptRight shapes store kept node
-  pub others : (node : Node) → is_expandable_at store node ≡ false → kept_at kept node ≡ None
-
--- the list can be expanded: for each expandable node outside it the right expansion is kept
-pub record CanExpand (shapes : Shapes) (store : StoreRead)
-    (list : List Node) (kept : Kept) : Type 0 where
-  pub store_is : IsStoreOf shapes store
-  pub list_is : IsExpandableList shapes store list
-  pub expansions : KeepsDone shapes store list 0 kept

@@ -13,7 +13,7 @@ use Rattle.c_tokens.specs.Reading.{spliced, elements, elements_from, tokens}
 use Rattle.c_tokens.specs.Borders.{is_unfinished, is_whole, last_element, last_byte}
 use Rattle.c_tokens.specs.Borders.{is_border_of_bytes, have_border, keep_lines}
 use Rattle.c_tokens.proofs.TouchingLemmas.{one-element, comment-element}
-use Rattle.tangle_c_tokens.specs.Edges.{ends_in}
+use Rattle.tangle_c_tokens.specs.Edges.{last_byte_passes}
 use Rattle.tangle_c_tokens.proofs.TextLemmas.{Follows, follows-same, apart-from}
 use Rattle.tangle_c_tokens.proofs.TextLemmas.{keep-other, spliced-other, slash-border}
 use Rattle.tangle_expansion.specs.Numbers.{opening_bytes, closing_bytes}
@@ -152,7 +152,7 @@ comment-front inside rest all =
     }
 
 comment-after : (a inside rest : List ℕ) → is_whole a ≡ true
-    → ends_in (λ d. d == slash) (spliced a) ≡ false →
+    → last_byte_passes (λ d. d == slash) (spliced a) ≡ false →
     Follows a (comment inside ++ rest) (a ++ (comment inside ++ rest))
 comment-after a inside rest whole ends =
     apart-from a (comment inside ++ rest) whole
@@ -179,7 +179,7 @@ after-opening n rest =
     (comment-front (decimal n ++ codes ":") rest (opening-inside n))
 
 pub before-closing : (n : ℕ) (rest a : List ℕ) → is_whole a ≡ true
-    → ends_in (λ d. d == slash) (spliced a) ≡ false →
+    → last_byte_passes (λ d. d == slash) (spliced a) ≡ false →
     Follows a (closing_bytes n ++ rest) (a ++ (closing_bytes n ++ rest))
 before-closing n rest a whole ends = comment-after a (58 ∷ decimal n) rest whole ends
 

@@ -7,11 +7,11 @@ use Rattle.std.specs.Prelude.{decimal}
 use Rattle.c_tokens.specs.Bytes.{line_feed, backslash, slash}
 use Rattle.c_tokens.specs.Borders.{is_whole, keep_lines}
 use Rattle.tangle_expansion.specs.Numbers.{closing_bytes}
-use Rattle.tangle_c_tokens.specs.Edges.{ends_in}
+use Rattle.tangle_c_tokens.specs.Edges.{last_byte_passes}
 use Rattle.tangle_c_tokens.proofs.CommentLemmas.{last-slash}
 
 abbrev pub KeepsFeed : List ℕ → Type 0
-KeepsFeed t = ends_in (λ b. b == backslash) t ≡ false
+KeepsFeed t = last_byte_passes (λ b. b == backslash) t ≡ false
 
 pub keeps-more : (a b : List ℕ) → KeepsFeed a → KeepsFeed b → KeepsFeed (a ++ b)
 keeps-more [] b of_a of_b = of_b

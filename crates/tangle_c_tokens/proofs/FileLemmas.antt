@@ -34,8 +34,8 @@ use Rattle.tangle_c_tokens.specs.Groups.{groups}
 use Rattle.tangle_c_tokens.specs.Kinds.{AreTexts}
 use Rattle.tangle_c_tokens.specs.Macros.{IsReadAlone}
 use Rattle.tangle_c_tokens.proofs.kind_lemmas.WebTexts.{macros-texts}
-use Rattle.tangle_c_tokens.specs.Pieces.{IsRead}
-use Rattle.tangle_c_tokens.specs.Pieces.{Passage, OfPart, parts_of, passage_text}
+use Rattle.tangle_c_tokens.specs.Pieces.{IsReadInParts}
+use Rattle.tangle_c_tokens.specs.Pieces.{Passage, OfPart, parts_in_row, passage_text}
 use Rattle.tangle_c_tokens.specs.Files.{node_texts, numbers_in, shapes_in}
 use Rattle.tangle_c_tokens.specs.Files.{GroupsAreWhole, texts_of_node, NodesAreReadByParts}
 use Rattle.tangle_c_tokens.specs.Files.{FilesAreReadByParts, macro_texts}
@@ -48,7 +48,7 @@ use Rattle.tangle_c_tokens.proofs.NodeLemmas.{pieces-keep, node-read}
 -- texts before a row
 
 with-texts : (texts : List (List ℕ)) (row : List Passage)
-    → parts_of (map OfPart texts ++ row) ≡ texts ++ parts_of row
+    → parts_in_row (map OfPart texts ++ row) ≡ texts ++ parts_in_row row
 with-texts [] row = refl
 with-texts (t ∷ texts) row = ap (λ us. t ∷ us) (with-texts texts row)
 
@@ -58,8 +58,8 @@ texts-of mark [] row = refl
 texts-of mark (t ∷ texts) row = ap (λ us. t ∷ us) (texts-of mark texts row)
 
 after-texts : (mark : Origin → List ℕ) (texts ts : List (List ℕ)) (rest bytes : List ℕ)
-    (read : IsRead mark ts rest) →
-    IsReadAsTexts (texts ++ map (passage_text mark) read.row) bytes → IsRead mark (texts ++ ts) bytes
+    (read : IsReadInParts mark ts rest) →
+    IsReadAsTexts (texts ++ map (passage_text mark) read.row) bytes → IsReadInParts mark (texts ++ ts) bytes
 after-texts mark texts ts rest bytes read all = record {
   row = map OfPart texts ++ read.row;
   in_row = with-texts texts read.row ∙ ap (λ us. texts ++ us) read.in_row;
@@ -129,11 +129,11 @@ module _ (written : AreWrittenByPieces) (source : SourceRead) (modes : MarkMode)
 
   node-by-parts : (used : List ℕ → List Symbol)
       → ((name : List ℕ) → IsWholeLine (expansion_bytes numbers (used name))) → (node : Title) →
-      (tail : List ℕ) (us : List (List ℕ)) → IsRead mark_text us tail →
-      IsRead mark_text (texts_by used node ++ us)
+      (tail : List ℕ) (us : List (List ℕ)) → IsReadInParts mark_text us tail →
+      IsReadInParts mark_text (texts_by used node ++ us)
       (expansion_bytes numbers (pieces_flat used node 0 (all_shapes node)) ++ tail)
   node-by-parts used lines node tail us read =
-      subst (λ bytes. IsRead mark_text (texts_by used node ++ us) (bytes ++ tail))
+      subst (λ bytes. IsReadInParts mark_text (texts_by used node ++ us) (bytes ++ tail))
       (sym (written (web_of source) table modes used node (table_inside (web_of source))))
       (node-read source.lines numbers table used mark-lines
       (λ occurrence. resolved-line used lines
@@ -161,21 +161,21 @@ module _ (written : AreWrittenByPieces) (source : SourceRead) (modes : MarkMode)
       (node-keeps used (used-lines fuel) (Named name))
 
   node-then : (node : Title) → IsExpandableNode all_shapes node → (tail : List ℕ)
-      → IsRead mark_text [] tail →
-      IsRead mark_text (texts_of_node source modes node)
+      → IsReadInParts mark_text [] tail →
+      IsReadInParts mark_text (texts_of_node source modes node)
       (expansion_bytes numbers (flat_of all_shapes node) ++ tail)
   node-then node expandable tail read =
       let used : List ℕ → List Symbol = λ name. flat_of all_shapes (Named name) in
-      subst (λ us. IsRead mark_text us (expansion_bytes numbers (flat_of all_shapes node) ++ tail))
+      subst (λ us. IsReadInParts mark_text us (expansion_bytes numbers (flat_of all_shapes node) ++ tail))
       (append-nil (texts_by used node))
-      (subst (λ symbols. IsRead mark_text (texts_by used node ++ [])
+      (subst (λ symbols. IsReadInParts mark_text (texts_by used node ++ [])
       (expansion_bytes numbers symbols ++ tail))
       (sym (flat_by_uses levels all_shapes node expandable.shallow))
       (node-by-parts used (used-lines levels) node tail [] read))
 
   pub node-is_read : NodesAreReadByParts source modes
   node-is_read node expandable =
-      subst (IsRead mark_text (texts_of_node source modes node))
+      subst (IsReadInParts mark_text (texts_of_node source modes node))
       (append-nil (expansion_bytes numbers (flat_of all_shapes node)))
       (node-then node expandable [] (nothing mark_text))
 
@@ -185,7 +185,7 @@ module _ (written : AreWrittenByPieces) (source : SourceRead) (modes : MarkMode)
 
   node-in-file : (has_piece : Bool) (node : Title)
       → (has_piece ≡ true → IsExpandableNode all_shapes node) →
-      IsRead mark_text (if has_piece then texts_of_node source modes node else [])
+      IsReadInParts mark_text (if has_piece then texts_of_node source modes node else [])
       (bytes_in_file has_piece node)
   node-in-file false node expandable = nothing mark_text
   node-in-file true node expandable =

@@ -24,7 +24,7 @@ use Rattle.tangle_expansion.specs.Numbers.{mark_bytes_at, mark_end}
 use Rattle.tangle_expansion.specs.Numbers.{opening_bytes, closing_bytes}
 use Rattle.tangle_expansion.specs.PieceBytes.{bytes_after_mark, used_bytes}
 use Rattle.tangle_expansion.specs.PieceBytes.{items_bytes, piece_bytes}
-use Rattle.tangle_c_tokens.specs.Pieces.{parts, IsRead, IsWholePart}
+use Rattle.tangle_c_tokens.specs.Pieces.{parts, IsReadInParts, IsWholePart}
 use Rattle.tangle_c_tokens.specs.Files.{piece_texts, node_texts}
 use Rattle.tangle_c_tokens.proofs.TextLemmas.{feed-front}
 use Rattle.tangle_c_tokens.proofs.CommentLemmas.{after-opening, before-closing, after-closing}
@@ -63,8 +63,8 @@ module _ (lines : List SourceLine) (numbers : NumbersRead) (table : TableRead)
   -- a piece, and what is written after it
   piece-read : (section line : ℕ) (origin : Origin) (es : List Token) (rest : List ℕ)
       (ts : List (List ℕ)) →
-      IsBare (part_tokens (texts_of lines) es) → IsRead mark ts rest →
-      IsRead mark (texts_in (part_tokens (texts_of lines) es) ++ ts)
+      IsBare (part_tokens (texts_of lines) es) → IsReadInParts mark ts rest →
+      IsReadInParts mark (texts_in (part_tokens (texts_of lines) es) ++ ts)
       ((opening_bytes section ++ mark_bytes_at numbers origin
       ++ items_bytes numbers table used (texts_of lines)
       (part_items lines line es) ++ closing_bytes section) ++ rest)
@@ -83,7 +83,7 @@ module _ (lines : List SourceLine) (numbers : NumbersRead) (table : TableRead)
       let us : List (List ℕ) = texts_in (part_tokens (texts_of lines) es) ++ ts in
       let marked = with-mark mark origin (items ++ tail) us (marks origin) inner in
       let after : List ℕ = line_feed ∷ (mark origin ++ (items ++ tail)) in
-      subst (IsRead mark us)
+      subst (IsReadInParts mark us)
       (sym (grouped (opening_bytes section) (mark_bytes_at numbers origin) items
       (closing_bytes section) rest
       ∙ ap (λ m. opening_bytes section ++ (m ++ (items ++ tail)))
@@ -104,7 +104,7 @@ module _ (lines : List SourceLine) (numbers : NumbersRead) (table : TableRead)
 
   -- `tail` is written after the node, and read as the texts `us`.
   module _ (node : Title) (tail : List ℕ) (us : List (List ℕ))
-      (tail_read : IsRead mark us tail) where
+      (tail_read : IsReadInParts mark us tail) where
     abbrev pub node_bytes : List PieceRead → List ℕ
     node_bytes pieces = flat_map bytes_of (filter (is_piece_of table node) pieces) ++ tail
 
@@ -116,7 +116,7 @@ module _ (lines : List SourceLine) (numbers : NumbersRead) (table : TableRead)
         AllByRecursion IsBare
         (flat_map
         (λ b. map (λ p. part_tokens (texts_of lines) b.tokens) (piece_of lines b)) bs) →
-        IsRead mark
+        IsReadInParts mark
         (texts_then (flat_map (piece_of lines) bs)
         (flat_map (λ b. map (λ p. part_tokens (texts_of lines) b.tokens) (piece_of lines b)) bs))
         (node_bytes (flat_map (piece_of lines) bs))
@@ -137,25 +137,25 @@ module _ (lines : List SourceLine) (numbers : NumbersRead) (table : TableRead)
         later = flat_map bytes_of (filter (is_piece_of table node) all)
 
         chosen : (piece : PieceRead) (es : List Token) (is : Bool)
-            → IsRead mark (ts ++ us) (later ++ tail) →
-            IsRead mark (texts_in es ++ (ts ++ us)) (bytes_of piece ++ (later ++ tail)) →
-            IsRead mark (((if is then texts_in es else []) ++ ts) ++ us)
+            → IsReadInParts mark (ts ++ us) (later ++ tail) →
+            IsReadInParts mark (texts_in es ++ (ts ++ us)) (bytes_of piece ++ (later ++ tail)) →
+            IsReadInParts mark (((if is then texts_in es else []) ++ ts) ++ us)
             (flat_map bytes_of
             (cond is (piece ∷ filter (is_piece_of table node) all)
             (filter (is_piece_of table node) all)) ++ tail)
         chosen piece es true rest read =
-            subst (IsRead mark ((texts_in es ++ ts) ++ us))
+            subst (IsReadInParts mark ((texts_in es ++ ts) ++ us))
             (sym (append_assoc (bytes_of piece) later tail))
-            (subst (λ ws. IsRead mark ws (bytes_of piece ++ (later ++ tail)))
+            (subst (λ ws. IsReadInParts mark ws (bytes_of piece ++ (later ++ tail)))
             (sym (append_assoc (texts_in es) ts us)) read)
         chosen piece es false rest read = rest
 
         by : (kind : BlockKind)
-            → (AllByRecursion IsBare each → IsRead mark (ts ++ us) (later ++ tail)) →
+            → (AllByRecursion IsBare each → IsReadInParts mark (ts ++ us) (later ++ tail)) →
             AllByRecursion IsBare
             (map (λ p. part_tokens (texts_of lines) b.tokens)
             (kind_piece lines kind b) ++ each) →
-            IsRead mark
+            IsReadInParts mark
             (texts_then (kind_piece lines kind b ++ all)
             (map (λ p. part_tokens (texts_of lines) b.tokens) (kind_piece lines kind b) ++ each))
             (node_bytes (kind_piece lines kind b ++ all))

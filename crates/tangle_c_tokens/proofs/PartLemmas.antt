@@ -12,7 +12,7 @@ use Rattle.tangle_lexer.specs.declared.tokens.Token.{Token}
 use Rattle.tangle_lexer.specs.declared.tokens.Token.TheVariants as token
 use Rattle.tangle_scan.specs.Rules.{is_continued, ends_line}
 use Rattle.tangle_scan.specs.ReadAsMeant.{token_bytes}
-use Rattle.tangle_c_tokens.specs.Edges.{ends_in}
+use Rattle.tangle_c_tokens.specs.Edges.{last_byte_passes}
 use Rattle.tangle_c_tokens.specs.Groups.{Group, group_before}
 use Rattle.tangle_lexer.specs.LinesOfParts.{is_use}
 use Rattle.tangle_c_tokens.specs.Pieces.{parts_after, written_for, part_text}
@@ -53,7 +53,7 @@ module _ (texts : List (List ℕ)) (used : ℕ → List ℕ) (macros : List ℕ)
       record {
         whole = ap is_whole (sym same) ∙ bare.whole;
         kept = λ follows. ap (λ t. keep_lines t (line_feed ∷ [])) (sym same) ∙ bare.kept follows;
-        ended = λ last closed. subst (λ t. ends_in (λ d. d == slash) (spliced t) ≡ false) same
+        ended = λ last closed. subst (λ t. last_byte_passes (λ d. d == slash) (spliced t) ≡ false) same
             (bare.ended last closed);
       }
 

@@ -27,11 +27,11 @@ use Rattle.tangle_scan.specs.ItemBytes.{piece_item_bytes}
 use Rattle.tangle_scan.specs.ReadAsMeant.{token_bytes, use_bytes}
 use Rattle.tangle_scan.proofs.lemmas.ItemsByOrigin.{part_items-by_origin}
 use Rattle.tangle_scan.proofs.lemmas.RuleLemmas.{blanks-item}
-use Rattle.tangle_c_tokens.specs.Edges.{ends_in}
+use Rattle.tangle_c_tokens.specs.Edges.{last_byte_passes}
 use Rattle.tangle_c_tokens.specs.Groups.{Group, group_before}
 use Rattle.tangle_lexer.specs.LinesOfParts.{is_use}
 use Rattle.tangle_c_tokens.specs.Pieces.{begins_with_macros, parts_after, parts}
-use Rattle.tangle_c_tokens.specs.Pieces.{IsRead, written_for, part_text}
+use Rattle.tangle_c_tokens.specs.Pieces.{IsReadInParts, written_for, part_text}
 use Rattle.tangle_c_tokens.specs.Pieces.{line_feed_follows}
 use Rattle.tangle_c_tokens.specs.Pieces.{is_closed, IsWholePart}
 use Rattle.tangle_c_tokens.proofs.GroupLemmas.{last-item, group-one}
@@ -41,12 +41,12 @@ use Rattle.tangle_c_tokens.proofs.TextLemmas.{space-between, space-front}
 
 -- the last byte of a text is a slash
 abbrev pub has_slash : List ℕ → Bool
-has_slash t = ends_in (λ b. b == slash) (spliced t)
+has_slash t = last_byte_passes (λ b. b == slash) (spliced t)
 
 -- `tail` is written after the piece, and read as the texts `ts`.
 module _ (lines : List SourceLine) (used : ℕ → List ℕ) (mark : Origin → List ℕ) (macros : List ℕ)
     (marks : (origin : Origin) → IsMarkText (mark origin))
-    (tail : List ℕ) (ts : List (List ℕ)) (tail_read : IsRead mark ts tail)
+    (tail : List ℕ) (ts : List (List ℕ)) (tail_read : IsReadInParts mark ts tail)
     (closes : (t : List ℕ) → is_whole t ≡ true → has_slash t ≡ false
     → Follows t tail (t ++ tail)) where
   abbrev texts : List (List ℕ)
@@ -138,7 +138,7 @@ module _ (lines : List SourceLine) (used : ℕ → List ℕ) (mark : Origin → 
   texts_in ps = map (λ (part : Group). text part.items) ps
 
   abbrev ReadsAs : List Group → List ℕ → Type 0
-  ReadsAs ps bytes = AreWhole ps → IsRead mark (texts_in ps ++ ts) bytes
+  ReadsAs ps bytes = AreWhole ps → IsReadInParts mark (texts_in ps ++ ts) bytes
 
   abbrev is_continued_at : Token → List Token → Bool
   is_continued_at e es = is_continued texts (Some e) && ends_line es
@@ -164,7 +164,7 @@ module _ (lines : List SourceLine) (used : ℕ → List ℕ) (mark : Origin → 
       (next_item es ≡ None → is_open texts (Some e) ≡ false
       → has_slash (text (items ++ e ∷ [])) ≡ false) →
       AreWhole (parts_after texts [] es) →
-      IsRead mark (text (items ++ e ∷ []) ∷ texts_in (parts_after texts [] es) ++ ts)
+      IsReadInParts mark (text (items ++ e ∷ []) ∷ texts_in (parts_after texts [] es) ++ ts)
       (text (items ++ e ∷ []) ++ bytes_from (Some e) white counted es)
 
   -- between a backslash and a line end that it continues
@@ -184,7 +184,7 @@ module _ (lines : List SourceLine) (used : ℕ → List ℕ) (mark : Origin → 
   closed : (items : List Token) (e : Token) (rest : List Token) (bytes : List ℕ) (ps : List Group) →
       (IsWholePart texts used macros (record { items = items ++ e ∷ []; rest = rest })
       → AreWhole ps →
-      IsRead mark (text (items ++ e ∷ []) ∷ texts_in ps ++ ts) bytes) →
+      IsReadInParts mark (text (items ++ e ∷ []) ∷ texts_in ps ++ ts) bytes) →
       ReadsAs (group_before rest (items ++ e ∷ []) ++ ps) bytes
   closed items e rest bytes ps reads =
       subst (λ hs. ReadsAs (hs ++ ps) bytes) (sym (group-one items e rest))
@@ -279,10 +279,10 @@ module _ (lines : List SourceLine) (used : ℕ → List ℕ) (mark : Origin → 
   record LineEndBytes (us : List (List ℕ)) (bytes : List ℕ) : Type 0 where
     rest : List ℕ
     is : bytes ≡ line_feed ∷ rest
-    read : IsRead mark us rest
+    read : IsReadInParts mark us rest
 
   line_end-bytes : (line : ℕ) (es : List Token) (us : List (List ℕ)) →
-      ((counted : Origin) → IsRead mark us (bytes_from None false counted es)) →
+      ((counted : Origin) → IsReadInParts mark us (bytes_from None false counted es)) →
       (before : Option Token) (white : Bool) (counted : Origin)
       → is_continued texts before ≡ false →
       LineEndBytes us (bytes_from before white counted (token.LineEnd line ∷ es))
@@ -390,8 +390,8 @@ module _ (lines : List SourceLine) (used : ℕ → List ℕ) (mark : Origin → 
 
   -- a blank before a token
 
-  after-blank : (b : Bool) (rest : List ℕ) (ts : List (List ℕ)) → IsRead mark ts rest
-      → IsRead mark ts (blank_bytes b ++ rest)
+  after-blank : (b : Bool) (rest : List ℕ) (ts : List (List ℕ)) → IsReadInParts mark ts rest
+      → IsReadInParts mark ts (blank_bytes b ++ rest)
   after-blank true rest ts read = without-text mark (space ∷ rest) rest ts (space-front rest) read
   after-blank false rest ts read = read
 
@@ -404,12 +404,12 @@ module _ (lines : List SourceLine) (used : ℕ → List ℕ) (mark : Origin → 
       bytes_of e ≡ text_of e → ReadsWithin es → Reads (e ∷ es)
   reads-item e es item no_use line_goes_on more same next = record {
     front = λ before white counted ends whole.
-        subst (IsRead mark (texts_in (parts_after texts [] (e ∷ es)) ++ ts))
+        subst (IsReadInParts mark (texts_in (parts_after texts [] (e ∷ es)) ++ ts))
         (sym (bytes-item before white counted e es item))
         (after-blank (is_some before && white) (bytes_of e ++ after counted)
         (texts_in (parts_after texts [] (e ∷ es)) ++ ts) (first counted whole));
     within = λ counted items before of_item whole.
-        subst (IsRead mark (texts_in (parts_after texts (items ++ before ∷ []) (e ∷ es)) ++ ts))
+        subst (IsReadInParts mark (texts_in (parts_after texts (items ++ before ∷ []) (e ∷ es)) ++ ts))
         (sym (ap (λ bs. text (items ++ before ∷ []) ++ bs)
         (bytes-item (Some before) false counted e es item ∙ ap (λ bs. bs ++ after counted) same)
         ∙ sym (append_assoc (text (items ++ before ∷ [])) (text_of e) (after counted))
@@ -490,7 +490,7 @@ module _ (lines : List SourceLine) (used : ℕ → List ℕ) (mark : Origin → 
     front = λ before white counted ends.
         subst (λ ps. ReadsAs ps (bytes_from before white counted (e ∷ es))) (sym (more []))
         (λ whole.
-        subst (IsRead mark (texts_in ps ++ ts)) (sym (bytes-item before white counted e es item))
+        subst (IsReadInParts mark (texts_in ps ++ ts)) (sym (bytes-item before white counted e es item))
         (after-blank (is_some before && white) (bytes_of e ++ after counted) (texts_in ps ++ ts)
         (use-read counted whole)));
     within = λ counted items before of_item.
@@ -510,7 +510,7 @@ module _ (lines : List SourceLine) (used : ℕ → List ℕ) (mark : Origin → 
         (between items before counted whole u.white))
         (core-read counted rest)));
     after_white = λ counted items before ends whole kept ended.
-        subst (λ ps. AreWhole ps → IsRead mark (text (items ++ before ∷ []) ∷ texts_in ps ++ ts)
+        subst (λ ps. AreWhole ps → IsReadInParts mark (text (items ++ before ∷ []) ∷ texts_in ps ++ ts)
         (text (items ++ before ∷ []) ++ bytes_from (Some before) true counted (e ∷ es)))
         (sym (more [])) (λ rest.
         with-part mark (text (items ++ before ∷ []))
@@ -605,7 +605,7 @@ module _ (lines : List SourceLine) (used : ℕ → List ℕ) (mark : Origin → 
 
   pub piece-by-parts : (line : ℕ) (es : List Token)
       → AreWhole (parts texts (part_tokens texts es)) →
-      IsRead mark (texts_in (parts texts (part_tokens texts es)) ++ ts)
+      IsReadInParts mark (texts_in (parts texts (part_tokens texts es)) ++ ts)
       (flat_map item_bytes (part_items lines line es) ++ tail)
   piece-by-parts line es =
       rw (part_items-by_origin lines line es)

@@ -2,13 +2,13 @@
 use Rattle.tangle_c_tokens.proofs.TextLemmas.{IsMarkText}
 use Rattle.std.proofs.Common.{ℕ, List, [], ◌∷◌, ◌++◌, map, ap, refl}
 use Rattle.tangle_lines.specs.declared.origin.Origin.{Origin}
-use Rattle.tangle_c_tokens.specs.Pieces.{OfPart, OfMark, passage_text, IsRead}
+use Rattle.tangle_c_tokens.specs.Pieces.{OfPart, OfMark, passage_text, IsReadInParts}
 use Rattle.tangle_c_tokens.proofs.TextLemmas.{Follows, mark-between, with-text, with-nothing}
 use Rattle.tangle_c_tokens.proofs.TextLemmas.{no-text}
 
 module _ (mark : Origin → List ℕ) where
   pub with-part : (t bytes rest : List ℕ) (ts : List (List ℕ)) → Follows t rest bytes
-      → IsRead mark ts rest → IsRead mark (t ∷ ts) bytes
+      → IsReadInParts mark ts rest → IsReadInParts mark (t ∷ ts) bytes
   with-part t bytes rest ts apart read = record {
     row = OfPart t ∷ read.row;
     in_row = ap (λ us. t ∷ us) read.in_row;
@@ -16,8 +16,8 @@ module _ (mark : Origin → List ℕ) where
   }
 
   pub with-mark : (origin : Origin) (rest : List ℕ) (ts : List (List ℕ)) → IsMarkText (mark origin)
-      → IsRead mark ts rest →
-      IsRead mark ts (mark origin ++ rest)
+      → IsReadInParts mark ts rest →
+      IsReadInParts mark ts (mark origin ++ rest)
   with-mark origin rest ts is_mark read = record {
     row = OfMark origin ∷ read.row;
     in_row = read.in_row;
@@ -26,12 +26,12 @@ module _ (mark : Origin → List ℕ) where
   }
 
   pub without-text : (bytes rest : List ℕ) (ts : List (List ℕ)) → Follows [] rest bytes
-      → IsRead mark ts rest → IsRead mark ts bytes
+      → IsReadInParts mark ts rest → IsReadInParts mark ts bytes
   without-text bytes rest ts same read = record {
     row = read.row;
     in_row = read.in_row;
     read = with-nothing rest bytes (map (passage_text mark) read.row) same read.read;
   }
 
-  pub nothing : IsRead mark [] []
+  pub nothing : IsReadInParts mark [] []
   nothing = record { row = []; in_row = refl; read = no-text }

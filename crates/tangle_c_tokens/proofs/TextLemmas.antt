@@ -21,7 +21,7 @@ use Rattle.c_tokens.specs.Borders.{is_plain_byte}
 use Rattle.c_tokens.proofs.BorderLemmas.{border-elements}
 use Rattle.c_tokens.proofs.TouchingLemmas.{spliced-both}
 use Rattle.tangle_c_tokens.specs.Reading.{IsReadAsTexts}
-use Rattle.tangle_c_tokens.specs.Edges.{begins_in, ends_in, begins_as, ends_as, goes_on}
+use Rattle.tangle_c_tokens.specs.Edges.{first_byte_passes, last_byte_passes, begins_as, ends_as, last_number_goes_on}
 
 -- the bytes are read as a text and the rest
 pub record Follows (text rest bytes : List ℕ) : Type 0 where
@@ -73,17 +73,17 @@ apart-from a b whole kept border =
 never-border : (element : List ℕ) (d c : ℕ) → are_never_in_one d c ≡ true
     → is_border element d c ≡ true
 never-border element d c never =
-    let goes_on : Bool = is_number element && number_goes_on d c in
+    let last_number_goes_on : Bool = is_number element && number_goes_on d c in
     or_left (is_border_of_bytes (is_number element) d c) (is_comment element && d == slash)
-    (or_left (are_never_in_one d c) (not goes_on && is_at_operator d c) never)
+    (or_left (are_never_in_one d c) (not last_number_goes_on && is_at_operator d c) never)
 
 operator-border : (element : List ℕ) (d c : ℕ) → (is_number element && number_goes_on d c) ≡ false
     → is_at_operator d c ≡ true → is_border element d c ≡ true
 operator-border element d c none at =
-    let goes_on : Bool = is_number element && number_goes_on d c in
+    let last_number_goes_on : Bool = is_number element && number_goes_on d c in
     or_left (is_border_of_bytes (is_number element) d c) (is_comment element && d == slash)
-    (or_right (are_never_in_one d c) (not goes_on && is_at_operator d c)
-    (and_from (not goes_on) (is_at_operator d c) (not_from_false goes_on none) at))
+    (or_right (are_never_in_one d c) (not last_number_goes_on && is_at_operator d c)
+    (and_from (not last_number_goes_on) (is_at_operator d c) (not_from_false last_number_goes_on none) at))
 
 -- either byte is white space or a separator
 gap-border : (element : List ℕ) (d c : ℕ)
@@ -105,7 +105,7 @@ white-next (x ∷ a) w b white =
     (or_right (is_white d) (is_white w) white)))
 
 -- a slash after another byte than a slash
-pub slash-border : (a b : List ℕ) → ends_in (λ d. d == slash) a ≡ false
+pub slash-border : (a b : List ℕ) → last_byte_passes (λ d. d == slash) a ≡ false
     → have_border a (slash ∷ b) ≡ true
 slash-border [] b ends = refl
 slash-border (x ∷ a) b ends =
@@ -125,7 +125,7 @@ white-before w (c ∷ b) white =
 -- A border is where two texts may touch by their kinds, unless a number is before an operator or
 -- ends in one.
 
-separator-before : (a b : List ℕ) → ends_in is_separator a ≡ true → have_border a b ≡ true
+separator-before : (a b : List ℕ) → last_byte_passes is_separator a ≡ true → have_border a b ≡ true
 separator-before [] b ends = refl
 separator-before (x ∷ a) [] ends = refl
 separator-before (x ∷ a) (c ∷ b) ends =
@@ -134,7 +134,7 @@ separator-before (x ∷ a) (c ∷ b) ends =
     (or_left (is_white d || is_white c || is_separator d) (is_separator c)
     (or_right (is_white d || is_white c) (is_separator d) ends))
 
-separator-next : (a b : List ℕ) → begins_in is_separator b ≡ true → have_border a b ≡ true
+separator-next : (a b : List ℕ) → first_byte_passes is_separator b ≡ true → have_border a b ≡ true
 separator-next [] b begins = refl
 separator-next (x ∷ a) [] begins = refl
 separator-next (x ∷ a) (c ∷ b) begins =
@@ -142,8 +142,8 @@ separator-next (x ∷ a) (c ∷ b) begins =
     gap-border (last_element [] (elements_from 0 (x ∷ a))) d c
     (or_right (is_white d || is_white c || is_separator d) (is_separator c) begins)
 
-operator-before : (a b : List ℕ) → goes_on a b ≡ false → ends_in is_operator a ≡ true
-    → begins_in is_plain_byte b ≡ true → have_border a b ≡ true
+operator-before : (a b : List ℕ) → last_number_goes_on a b ≡ false → last_byte_passes is_operator a ≡ true
+    → first_byte_passes is_plain_byte b ≡ true → have_border a b ≡ true
 operator-before [] b none ends begins = refl
 operator-before (x ∷ a) [] none ends begins = refl
 operator-before (x ∷ a) (c ∷ b) none ends begins =
@@ -152,8 +152,8 @@ operator-before (x ∷ a) (c ∷ b) none ends begins =
     (or_left (is_operator d && is_plain_byte c) (is_plain_byte d && is_operator c)
     (and_from (is_operator d) (is_plain_byte c) ends begins))
 
-operator-next : (a b : List ℕ) → goes_on a b ≡ false → ends_in is_plain_byte a ≡ true
-    → begins_in is_operator b ≡ true → have_border a b ≡ true
+operator-next : (a b : List ℕ) → last_number_goes_on a b ≡ false → last_byte_passes is_plain_byte a ≡ true
+    → first_byte_passes is_operator b ≡ true → have_border a b ≡ true
 operator-next [] b none ends begins = refl
 operator-next (x ∷ a) [] none ends begins = refl
 operator-next (x ∷ a) (c ∷ b) none ends begins =
@@ -170,59 +170,59 @@ spliced-other b [] other = refl
 spliced-other b (c ∷ bs) other = rw other refl
 
 begins-front : (test : ℕ → Bool) → test backslash ≡ false → (t more : List ℕ)
-    → begins_in test t ≡ true →
-    begins_in test (spliced (t ++ more)) ≡ true
+    → first_byte_passes test t ≡ true →
+    first_byte_passes test (spliced (t ++ more)) ≡ true
 begins-front test none [] more begins = absurd (false≢true begins)
 begins-front test none (b ∷ t) more begins =
     let other : (b == backslash) ≡ false =
     false_from_ne_true (b == backslash)
     (λ same. both_ways (test backslash) none
     (sym (ap test (eqb-true b backslash same)) ∙ begins)) in
-    ap (begins_in test) (spliced-other b (t ++ more) other) ∙ begins
+    ap (first_byte_passes test) (spliced-other b (t ++ more) other) ∙ begins
 
-ends-after : (test : ℕ → Bool) (b : ℕ) (bs : List ℕ) → ends_in test bs ≡ true
-    → ends_in test (b ∷ bs) ≡ true
+ends-after : (test : ℕ → Bool) (b : ℕ) (bs : List ℕ) → last_byte_passes test bs ≡ true
+    → last_byte_passes test (b ∷ bs) ≡ true
 ends-after test b [] ends = absurd (false≢true ends)
 ends-after test b (c ∷ bs) ends = ends
 
-ends-append : (test : ℕ → Bool) (a t : List ℕ) → ends_in test t ≡ true
-    → ends_in test (a ++ t) ≡ true
+ends-append : (test : ℕ → Bool) (a t : List ℕ) → last_byte_passes test t ≡ true
+    → last_byte_passes test (a ++ t) ≡ true
 ends-append test [] t ends = ends
 ends-append test (b ∷ a) t ends = ends-after test b (a ++ t) (ends-append test a t ends)
 
-ends-spliced : (test : ℕ → Bool) → test line_feed ≡ false → (t : List ℕ) → ends_in test t ≡ true
-    → ends_in test (spliced t) ≡ true
+ends-spliced : (test : ℕ → Bool) → test line_feed ≡ false → (t : List ℕ) → last_byte_passes test t ≡ true
+    → last_byte_passes test (spliced t) ≡ true
 ends-spliced test none [] ends = ends
 ends-spliced test none (b ∷ []) ends = ends
 ends-spliced test none (b ∷ c ∷ bs) ends =
     by (b == backslash && c == line_feed) refl (ends-spliced test none (c ∷ bs) ends)
     (λ feed. ends-spliced test none bs (rest bs ends feed))
   where
-    rest : (bs : List ℕ) → ends_in test (c ∷ bs) ≡ true → (c == line_feed) ≡ true
-        → ends_in test bs ≡ true
+    rest : (bs : List ℕ) → last_byte_passes test (c ∷ bs) ≡ true → (c == line_feed) ≡ true
+        → last_byte_passes test bs ≡ true
     rest [] ends feed =
         absurd (both_ways (test line_feed) none (sym (ap test (eqb-true c line_feed feed)) ∙ ends))
     rest (d ∷ bs) ends feed = ends
 
     by : (taken : Bool) → (b == backslash && c == line_feed) ≡ taken
-        → ends_in test (spliced (c ∷ bs)) ≡ true →
-        ((c == line_feed) ≡ true → ends_in test (spliced bs) ≡ true) →
-        ends_in test (if taken then spliced bs else b ∷ spliced (c ∷ bs)) ≡ true
+        → last_byte_passes test (spliced (c ∷ bs)) ≡ true →
+        ((c == line_feed) ≡ true → last_byte_passes test (spliced bs) ≡ true) →
+        last_byte_passes test (if taken then spliced bs else b ∷ spliced (c ∷ bs)) ≡ true
     by true is left later = later (and_parts (b == backslash) (c == line_feed) is).1
     by false is left later = ends-after test b (spliced (c ∷ bs)) left
 
 -- what a number goes on with does not depend on what is after the second text
 same-next : (test : ℕ → Bool) → test backslash ≡ false → (a t more : List ℕ)
-    → begins_in test t ≡ true → goes_on a (spliced (t ++ more)) ≡ goes_on a t
+    → first_byte_passes test t ≡ true → last_number_goes_on a (spliced (t ++ more)) ≡ last_number_goes_on a t
 same-next test none a [] more begins = absurd (false≢true begins)
 same-next test none a (b ∷ t) more begins =
     let other : (b == backslash) ≡ false =
     false_from_ne_true (b == backslash)
     (λ same. both_ways (test backslash) none
     (sym (ap test (eqb-true b backslash same)) ∙ begins)) in
-    ap (goes_on a) (spliced-other b (t ++ more) other) ∙ first a
+    ap (last_number_goes_on a) (spliced-other b (t ++ more) other) ∙ first a
   where
-    first : (a : List ℕ) → goes_on a (b ∷ spliced (t ++ more)) ≡ goes_on a (b ∷ t)
+    first : (a : List ℕ) → last_number_goes_on a (b ∷ spliced (t ++ more)) ≡ last_number_goes_on a (b ∷ t)
     first [] = refl
     first (x ∷ a) = refl
 
@@ -244,7 +244,7 @@ ends-as Plain a t ends =
 ends-as Other a t ends = refl
 
 pub kinds-border : (k g : TextKind) (a t more : List ℕ) → kinds_may_touch k g ≡ true
-    → ends_as k a ≡ true → begins_as g t ≡ true → goes_on a t ≡ false
+    → ends_as k a ≡ true → begins_as g t ≡ true → last_number_goes_on a t ≡ false
     → have_border a (spliced (t ++ more)) ≡ true
 kinds-border k g a t more may ends begins none =
     by k g may ends begins (begins-as g t more begins)

@@ -16,15 +16,15 @@ use Rattle.tangle_c_tokens.proofs.kind_lemmas.WebTexts.{macros-texts}
 use Rattle.tangle_c_tokens.proofs.MacroLemmas.{one-macro}
 
 module _ (lines : List SourceLine) where
-  abbrev IsRead : List Item → List Token → Type 0
-  IsRead items es = IsReadByGroups (texts_of lines) es (macro_bytes (texts_of lines) items)
+  abbrev IsReadInParts : List Item → List Token → Type 0
+  IsReadInParts items es = IsReadByGroups (texts_of lines) es (macro_bytes (texts_of lines) items)
 
   abbrev macro_tokens_of : Block → List Token
   macro_tokens_of b = without_backslashes (texts_of lines) (macro_tokens (texts_of lines) b.tokens)
 
   abbrev AreRead : List (List Item) → List (List Token) → Type 0
   AreRead macros tokens = AllByRecursion (AreTexts (texts_of lines)) tokens
-      → AllZip IsRead macros tokens
+      → AllZip IsReadInParts macros tokens
 
   blocks-by-groups : (bs : List Block) →
       AreRead (flat_map (macro_of lines) bs)

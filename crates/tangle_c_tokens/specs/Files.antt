@@ -19,7 +19,7 @@ use Rattle.tangle_expansion.specs.PieceBytes.{bytes_after_mark, used_bytes}
 use Rattle.tangle_c_tokens.specs.Groups.{groups, group_text}
 use Rattle.tangle_c_tokens.specs.Macros.{IsReadAlone}
 use Rattle.tangle_c_tokens.specs.LineFeeds.{HasNoLineFeed, HaveNoLineFeed}
-use Rattle.tangle_c_tokens.specs.Pieces.{parts, part_text, IsRead, IsWholePart}
+use Rattle.tangle_c_tokens.specs.Pieces.{parts, part_text, IsReadInParts, IsWholePart}
 
 module _ (numbers : NumbersRead) (table : TableRead) (used : List ℕ → List Symbol)
     (texts : List (List ℕ)) where
@@ -75,7 +75,7 @@ module _ (source : SourceRead) (marks : MarkMode) where
   abbrev pub NodesAreReadByParts : Type 0
   NodesAreReadByParts =
       (node : Title) → IsExpandableNode shapes_in node
-      → IsRead (bytes_after_mark numbers_in) (texts_of_node node)
+      → IsReadInParts (bytes_after_mark numbers_in) (texts_of_node node)
       (expansion_bytes numbers_in (flat_of shapes_in node))
 
   -- A file is read as the groups of all macros, if it begins with them, and as the parts of its
@@ -84,7 +84,7 @@ module _ (source : SourceRead) (marks : MarkMode) where
   FilesAreReadByParts =
       (has_macros has_piece : Bool) (node : Title)
       → (has_piece ≡ true → IsExpandableNode shapes_in node)
-      → IsRead (bytes_after_mark numbers_in)
+      → IsReadInParts (bytes_after_mark numbers_in)
       ((if has_macros
       then flat_map (macro_texts (texts_of source.lines)) (all_macro_tokens source.lines) else [])
       ++ (if has_piece then texts_of_node node else []))

@@ -20,8 +20,8 @@ use Rattle.c_tokens.specs.Borders.{has_bytes}
 use Rattle.tangle_c_tokens.specs.Edges.{begins_as, ends_as}
 
 -- the kind of a sign with this byte
-abbrev pub sign_kind : ℕ → TextKind
-sign_kind b = if is_separator b then Separator else if is_operator b then Operator else Other
+abbrev pub text_kind_of_sign : ℕ → TextKind
+text_kind_of_sign b = if is_separator b then Separator else if is_operator b then Operator else Other
 
 -- a text of this kind, which has a byte, and begins and ends as such texts do
 pub record IsTextOfKind (kind : TextKind) (text : List ℕ) : Type 0 where
@@ -33,7 +33,7 @@ pub record IsTextOfKind (kind : TextKind) (text : List ℕ) : Type 0 where
 module _ (texts : List (List ℕ)) where
   -- the kind of text that an item is for C
   abbrev pub item_kind : Token → TextKind
-  item_kind (token.Span span_kind.Sign s) = sign_kind (first_byte texts s)
+  item_kind (token.Span span_kind.Sign s) = text_kind_of_sign (first_byte texts s)
   item_kind (token.Span span_kind.Word s) = if is_digit (first_byte texts s) then Other else Plain
   item_kind (token.Span span_kind.Quoted s) = Plain
   item_kind _ = Other

@@ -13,7 +13,7 @@ use Rattle.tangle_lexer.specs.LinesOfParts.{is_use}
 use Rattle.tangle_scan.specs.Rules.{is_continued, is_open, ends_line, next_item}
 use Rattle.tangle_scan.specs.ReadAsMeant.{token_bytes}
 use Rattle.tangle_c_tokens.specs.Reading.{IsReadAsTexts}
-use Rattle.tangle_c_tokens.specs.Edges.{ends_in}
+use Rattle.tangle_c_tokens.specs.Edges.{last_byte_passes}
 use Rattle.tangle_c_tokens.specs.Groups.{Group, group_before}
 
 abbrev pub begins_with_macros : List Token → Bool
@@ -51,19 +51,19 @@ pub data Passage : Type 0 where
   OfPart : List ℕ → Passage
   OfMark : Origin → Passage
 
-abbrev pub parts_of : List Passage → List (List ℕ)
-parts_of [] = []
-parts_of (OfPart text ∷ row) = text ∷ parts_of row
-parts_of (OfMark origin ∷ row) = parts_of row
+abbrev pub parts_in_row : List Passage → List (List ℕ)
+parts_in_row [] = []
+parts_in_row (OfPart text ∷ row) = text ∷ parts_in_row row
+parts_in_row (OfMark origin ∷ row) = parts_in_row row
 
 abbrev pub passage_text : (Origin → List ℕ) → Passage → List ℕ
 passage_text mark (OfPart text) = text
 passage_text mark (OfMark origin) = mark origin
 
 -- the bytes are read as the parts, one after another, with line marks between them
-pub record IsRead (mark : Origin → List ℕ) (parts : List (List ℕ)) (bytes : List ℕ) : Type 0 where
+pub record IsReadInParts (mark : Origin → List ℕ) (parts : List (List ℕ)) (bytes : List ℕ) : Type 0 where
   pub row : List Passage
-  pub in_row : parts_of row ≡ parts
+  pub in_row : parts_in_row row ≡ parts
   pub read : IsReadAsTexts (map (passage_text mark) row) bytes
 
 module _ (texts : List (List ℕ)) (used : ℕ → List ℕ) (macros : List ℕ) where
@@ -94,4 +94,4 @@ module _ (texts : List (List ℕ)) (used : ℕ → List ℕ) (macros : List ℕ)
     pub kept : line_feed_follows part ≡ true
         → keep_lines (part_text part.items) (line_feed ∷ []) ≡ true
     pub ended : next_item part.rest ≡ None → is_closed (last_or None part.items) ≡ true
-        → ends_in (λ b. b == slash) (spliced (part_text part.items)) ≡ false
+        → last_byte_passes (λ b. b == slash) (spliced (part_text part.items)) ≡ false

@@ -1,6 +1,6 @@
 -- One more tag of a body is written.
 use Rattle.std.proofs.Common.{◌≡◌, ◌∙◌, ℕ, ◌+◌, ◌-◌, ◌^◌, ◌<◌, ◌≤◌, true, min, List, [], ◌∷◌, ◌++◌, map, take}
-use Rattle.std.proofs.Common.{drop, length, get_or, refl, ap, sym, subst, append_assoc, append-nil, arith, drop-drop, length-drop}
+use Rattle.std.proofs.Common.{drop, length, get_or, refl, ap, sym, append_assoc, append-nil, arith, drop-drop, length-drop}
 use Rattle.std.specs.Prelude.{Result}
 use Rattle.std.proofs.Math.Decide.{dec_lt}
 use Rattle.std.proofs.lemmas.List.{drop_all, take_all}
@@ -93,10 +93,9 @@ pub record WroteTo (a b : Stream) (r s : Result ℕ WriteFault) (pending : List 
   pub writes : IsWrittenAfter a b r done s
   pub split : (used : List (List Symbol)) → whole used ≡ done ++ (pending ++ rest used)
 
-pub wrote_to_first : (a : Stream) (r : Result ℕ WriteFault) (pending : List ℕ) (whole : List (List Symbol) → List ℕ)
-    → pending ≡ [] → WroteTo a a r r pending whole whole
-wrote_to_first a r pending whole none =
-    record { done = []; writes = writes_nothing a r; split = λ used. ap (λ l. l ++ whole used) (sym none) }
+pub wrote_to_first : (a : Stream) (r : Result ℕ WriteFault) (whole : List (List Symbol) → List ℕ)
+    → WroteTo a a r r [] whole whole
+wrote_to_first a r whole = record { done = []; writes = writes_nothing a r; split = λ used. refl }
 
 -- more bytes are still to be written
 pub wrote_to_more : (a b : Stream) (r s : Result ℕ WriteFault) (pending more next : List ℕ)
@@ -112,14 +111,26 @@ wrote_to_more a b r s pending more next left rest whole w e is = record {
 }
 
 -- they are written
-pub wrote_to_write : (a b c : Stream) (r s t : Result ℕ WriteFault) (pending none : List ℕ)
+pub wrote_to_write : (a b c : Stream) (r s t : Result ℕ WriteFault) (pending : List ℕ)
     (rest whole : List (List Symbol) → List ℕ)
-    → WroteTo a b r s pending rest whole → IsWrittenAfter b c s pending t → none ≡ [] → WroteTo a c r t none rest whole
-wrote_to_write a b c r s t pending none rest whole w p is = record {
+    → WroteTo a b r s pending rest whole → IsWrittenAfter b c s pending t → WroteTo a c r t [] rest whole
+wrote_to_write a b c r s t pending rest whole w p = record {
   done = w.done ++ pending;
   writes = writes_then a b c r s t w.done pending w.writes p;
-  split = λ used. w.split used ∙ sym (append_assoc w.done pending (rest used))
-      ∙ ap (λ l. (w.done ++ pending) ++ (l ++ rest used)) (sym is);
+  split = λ used. w.split used ∙ sym (append_assoc w.done pending (rest used));
+}
+
+-- nothing is still to be written, and the rest begins with a use, or is nothing
+written_to_use : (numbers : NumbersRead) (a b : Stream) (r s : Result ℕ WriteFault)
+    (rest after whole : List (List Symbol) → List ℕ) → WroteTo a b r s [] rest whole → rest [] ≡ []
+    → ((symbols : List Symbol) (used : List (List Symbol))
+    → rest (symbols ∷ used) ≡ space ∷ (expansion_bytes numbers symbols ++ after used))
+    → WritesToUse numbers a b r s whole after
+written_to_use numbers a b r s rest after whole w none next = record {
+  done = w.done;
+  writes = w.writes;
+  none = w.split [] ∙ ap (λ l. w.done ++ l) none ∙ append-nil w.done;
+  next = λ symbols used. w.split (symbols ∷ used) ∙ ap (λ l. w.done ++ l) (next symbols used);
 }
 
 -- the tags before a use, or before the end
@@ -190,24 +201,13 @@ module _ (numbers : NumbersRead) (body : NodeBody) (at next : Cursor) (t : ItemT
   stops_at_use is_use a b c r s v pending all whole w more p =
       let own = take t.size (drop at.start body.bytes.items) in
       let node = title_of body.name in
-      let text : (used : List (List Symbol)) → whole used
-      ≡ (w.done ++ all) ++ expansion_bytes numbers (with_used tag.Use (own_symbols node at.piece at.marks tag.Use) used
-      (symbols_from body next)) = λ used.
-      let left = expansion_bytes numbers (with_used tag.Use (own_symbols node at.piece at.marks tag.Use) used
-      (symbols_from body next)) in
-      w.split used
-      ∙ ap (λ l. w.done ++ (pending ++ l)) (bytes_next numbers body at t next used h is after
-      ∙ ap (λ k. own ++ expansion_bytes numbers (with_used k (own_symbols node at.piece at.marks k) used
-      (symbols_from body next))) is_use)
-      ∙ ap (λ l. w.done ++ l) (sym (append_assoc pending own left) ∙ ap (λ l. l ++ left) more)
-      ∙ sym (append_assoc w.done all left) in
-      record {
-        done = w.done ++ all;
-        writes = writes_then a b c r s v w.done all w.writes p;
-        none = text [] ∙ append-nil (w.done ++ all);
-        next = λ symbols used. text (symbols ∷ used)
-            ∙ ap (λ l. (w.done ++ all) ++ space ∷ l) (flat_map-append (symbol_bytes numbers) symbols (symbols_from body next used));
-      }
+      let rest = λ (k : ItemKind) (used : List (List Symbol)).
+      expansion_bytes numbers (with_used k (own_symbols node at.piece at.marks k) used (symbols_from body next)) in
+      written_to_use numbers a c r v (rest tag.Use) (bytes_from body next numbers) whole
+      (wrote_to_write a b c r s v all (rest tag.Use) whole
+      (wrote_to_more a b r s pending own all (bytes_from body at numbers) (rest tag.Use) whole w
+      (λ used. bytes_next numbers body at t next used h is after ∙ ap (λ k. own ++ rest k used) is_use) more) p)
+      refl (λ symbols used. ap (λ l. space ∷ l) (flat_map-append (symbol_bytes numbers) symbols (symbols_from body next used)))
 
 module _ (numbers : NumbersRead) (body : NodeBody) (at : Cursor) (end : length body.tags.items ≤ at.tag) where
   pub stops_at_end : (a b c : Stream) (r s v : Result ℕ WriteFault) (pending all : List ℕ)
@@ -215,19 +215,14 @@ module _ (numbers : NumbersRead) (body : NodeBody) (at : Cursor) (end : length b
       → pending ≡ all → IsWrittenAfter b c s all v
       → WritesToUse numbers a c r v whole (bytes_from body at numbers)
   stops_at_end a b c r s v pending all whole w same p =
-      let rest : (used : List (List Symbol)) → bytes_from body at numbers used ≡ expansion_bytes numbers (left_over used) =
-      λ used. ap (λ ts. expansion_bytes numbers
+      let rest = λ (used : List (List Symbol)). expansion_bytes numbers (left_over used) in
+      let ended : (used : List (List Symbol)) → bytes_from body at numbers used ≡ rest used = λ used.
+      ap (λ ts. expansion_bytes numbers
       (tags_flat (title_of body.name) at.piece at.marks (drop at.start body.bytes.items) ts used))
       (drop_all at.tag body.tags.items end) in
-      let text : (used : List (List Symbol)) → whole used ≡ (w.done ++ pending) ++ expansion_bytes numbers (left_over used) =
-      λ used. w.split used ∙ sym (append_assoc w.done pending (bytes_from body at numbers used))
-      ∙ ap (λ l. (w.done ++ pending) ++ l) (rest used) in
-      record {
-        done = w.done ++ pending;
-        writes = writes_then a b c r s v w.done pending w.writes (subst (λ l. IsWrittenAfter b c s l v) (sym same) p);
-        none = text [] ∙ append-nil (w.done ++ pending);
-        next = λ symbols used. text (symbols ∷ used)
-            ∙ ap (λ l. (w.done ++ pending) ++ space ∷ l)
-            (flat_map-append (symbol_bytes numbers) symbols (left_over used)
-            ∙ ap (λ l. expansion_bytes numbers symbols ++ l) (sym (rest used)));
-      }
+      written_to_use numbers a c r v rest (bytes_from body at numbers) whole
+      (wrote_to_write a b c r s v all rest whole
+      (wrote_to_more a b r s pending [] all (bytes_from body at numbers) rest whole w ended (append-nil pending ∙ same)) p)
+      refl
+      (λ symbols used. ap (λ l. space ∷ l) (flat_map-append (symbol_bytes numbers) symbols (left_over used)
+      ∙ ap (λ l. expansion_bytes numbers symbols ++ l) (sym (ended used))))

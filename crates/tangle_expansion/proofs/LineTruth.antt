@@ -11,7 +11,7 @@ use Rattle.tangle_scan.specs.LineTruth.{with_line_end, counted_items, Location, 
 use Rattle.tangle_scan.specs.LineTruth.{PiecesAreAtTheirLines}
 use Rattle.tangle_scan.specs.Web.{WebRead, PieceRead}
 use Rattle.tangle_names.specs.declared.Resolved.{Resolved}
-use Rattle.tangle_names.specs.declared.Resolved.TheVariants.{Name, NoFullName, Ambiguous}
+use Rattle.tangle_names.specs.declared.Resolved.TheVariants.{Name}
 use Rattle.tangle_names.specs.NameTable.{TableRead, table_of}
 use Rattle.tangle_plans.specs.Shapes.{Title, Named}
 use Rattle.tangle_plans.specs.Flat.{Byte, marks_after_shape_item}
@@ -69,8 +69,7 @@ module _ (numbers : NumbersRead) where
     located-append q (used (slice_index_or table.names id []))
         (items_located used node piece marks items) (all (slice_index_or table.names id []) q) h,
   )
-  use_is_located table used node piece marks items all h q NoFullName = (tt, h q)
-  use_is_located table used node piece marks items all h q Ambiguous = (tt, h q)
+  use_is_located table used node piece marks items all h q _ = (tt, h q)
 
 -- the first of the items from a position on, as the next mark of a piece, and the rest
 pub next_of : {X : Type 0} (d : X) (xs : List X) (k : ℕ) (first : X) (rest : List X)

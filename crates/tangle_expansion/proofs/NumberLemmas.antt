@@ -10,7 +10,7 @@ use Rattle.std.proofs.lemmas.Bool.{false_from_ne_true, both_ways}
 use Rattle.std.proofs.lemmas.List.Folds.{list_any_at}
 use Rattle.tangle_scan.specs.Web.{WebRead, PieceRead}
 use Rattle.tangle_names.specs.declared.Resolved.{Resolved}
-use Rattle.tangle_names.specs.declared.Resolved.TheVariants.{Name, NoFullName, Ambiguous}
+use Rattle.tangle_names.specs.declared.Resolved.TheVariants.{Name}
 use Rattle.tangle_names.specs.NameTable.{TableRead}
 use Rattle.tangle_plans.specs.Shapes.{Title, Program, Named}
 use Rattle.tangle_plans.specs.WebShapes.{is_node, node_of, node_of_occurrence, is_piece_of, pieces_of, resolved_at}
@@ -36,8 +36,7 @@ module _ (table : TableRead) (name : List ℕ) (none : list_any (bytes_eq name) 
   no_node : (r : Resolved) → IsNameBelow (length table.names) r → is_node table (Named name) (node_of table r) ≡ false
   no_node (Name id) h = false_from_ne_true (bytes_eq name (slice_index_or table.names id []))
       (λ e. both_ways _ none (list_any_at (bytes_eq name) table.names id [] h e))
-  no_node NoFullName h = refl
-  no_node Ambiguous h = refl
+  no_node _ h = refl
 
   no_piece : ResolvesInside table → (o : Option ℕ) → is_node table (Named name) (node_of_occurrence table o) ≡ false
   no_piece inside None = refl

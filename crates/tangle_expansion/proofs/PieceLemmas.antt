@@ -10,7 +10,7 @@ use Rattle.tangle_scan.specs.declared.items.Item.TheVariants as item
 use Rattle.tangle_scan.specs.ItemBytes.{bytes_in}
 use Rattle.tangle_scan.specs.Web.{PieceRead}
 use Rattle.tangle_names.specs.declared.Resolved.{Resolved}
-use Rattle.tangle_names.specs.declared.Resolved.TheVariants.{Name, NoFullName, Ambiguous}
+use Rattle.tangle_names.specs.declared.Resolved.TheVariants.{Name}
 use Rattle.tangle_names.specs.NameTable.{TableRead}
 use Rattle.tangle_plans.specs.Shapes.{Title, ShapeItem}
 use Rattle.tangle_plans.specs.Flat.{Symbol, Byte, MarkOf, items_flat, pieces_flat}
@@ -66,8 +66,7 @@ module _ (numbers : NumbersRead) where
         ++ expansion_bytes numbers (items_flat used node piece marks items)
     use_then piece marks items (Name id) = ap (λ l. space ∷ l)
         (flat_map-append (symbol_bytes numbers) (used (slice_index_or table.names id [])) (items_flat used node piece marks items))
-    use_then piece marks items NoFullName = refl
-    use_then piece marks items Ambiguous = refl
+    use_then piece marks items _ = refl
 
     -- the items of a piece, after this number of its marks
     items_written : (piece marks : ℕ) (items : List Item)

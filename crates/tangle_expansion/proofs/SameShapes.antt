@@ -3,12 +3,13 @@ use Rattle.std.proofs.Common.{◌≡◌, ◌∙◌, ℕ, ◌+◌, ◌<◌, ◌�
 use Rattle.std.proofs.Common.{◌≢◌, arith, length}
 use Rattle.tangle_files.specs.Bytes.{space}
 use Rattle.tangle_plans.specs.Shapes.{Title, Named, ShapeItem, Use, Shape, Shapes, IsUseOf, UsesInPiece, UsesInShape}
-use Rattle.tangle_plans.specs.Shapes.{Uses, Reaches, here, on, ContainsItself}
+use Rattle.digraph.specs.Reach.{Reaches, here, on, ContainsItself, ReachesCycle}
+use Rattle.tangle_plans.specs.Shapes.{Uses}
 use Rattle.tangle_plans.specs.Flat.{Symbol, Byte, marks_after_shape_item, item_flat, items_flat, pieces_flat, flat}
 use Rattle.tangle_plans.specs.Flat.{item_weight, items_weight, pieces_weight, weight, item_depth, items_depth}
 use Rattle.tangle_plans.specs.Flat.{pieces_depth, depth}
 use Rattle.tangle_expansion.specs.Affected.{IsExpandable}
-use Rattle.tangle_expansion.proofs.UsedLemmas.{pieces_depth-use, pieces_weight-use}
+use Rattle.tangle_expansion.proofs.UsedLemmas.{pieces_depth-use, pieces_weight-use, deeper, heavier}
 use Rattle.tangle_expansion.proofs.Weights.{weight-length, pieces_weight-length}
 
 -- the symbols of an item, of a piece and of a shape are equal if those of the used names are
@@ -85,7 +86,7 @@ depth-bound (suc fuel) shapes node = pieces_depth-bound fuel (λ name. depth fue
 
 -- in the old shapes, each node that the node reaches in the new ones has the same shape
 abbrev pub SameReached : Shapes → Shapes → Title → Type 0
-SameReached old new node = (other : Title) → Reaches new node other → new other ≡ old other
+SameReached old new node = (other : Title) → Reaches (Uses new) node other → new other ≡ old other
 
 pub flat-same : (fuel : ℕ) (old new : Shapes) (node : Title)
     → SameReached old new node → flat fuel new node ≡ flat fuel old node
@@ -147,27 +148,22 @@ depth_by_uses fuel shapes node = omega (arith, (settles fuel shapes node).1, dep
 
 -- A node that reaches a cycle is deeper and heavier than any number.
 
-abbrev pub ReachesCycle : Shapes → Title → Type 0
-ReachesCycle shapes node = (other : Title) × (Reaches shapes node other) × ContainsItself shapes other
+first_use : (shapes : Shapes) (node other : Title) → Reaches (Uses shapes) node other
+    → ContainsItself (Uses shapes) other → (used : Title) × Uses shapes node used × ReachesCycle (Uses shapes) used
+first_use shapes node other here c = (c.0, c.1, (node, c.2, c))
+first_use shapes node other (on {b = used} u r) c = (used, u, (other, r, c))
 
-ReachesCycle-use : (shapes : Shapes) (node other : Title) → Reaches shapes node other → ContainsItself shapes other
-    → (name : List ℕ) × (Uses shapes node name) × ReachesCycle shapes (Named name)
-ReachesCycle-use shapes node other here c = (c.0, c.1, (node, c.2, c))
-ReachesCycle-use shapes node other (on {name = name} u r) c = (name, u, (other, r, c))
-
-pub cycle_deep_and_heavy : (fuel : ℕ) (shapes : Shapes) (node : Title) → ReachesCycle shapes node
+pub cycle_deep_and_heavy : (fuel : ℕ) (shapes : Shapes) (node : Title) → ReachesCycle (Uses shapes) node
     → (fuel ≤ depth fuel shapes node) × (fuel ≤ weight fuel shapes node)
 cycle_deep_and_heavy zero shapes node c = (omega arith, omega arith)
 cycle_deep_and_heavy (suc fuel) shapes node c =
-    let next = ReachesCycle-use shapes node c.0 c.1 c.2 in
-    let more = cycle_deep_and_heavy fuel shapes (Named next.0) next.2 in (
-      omega (arith, more.0, pieces_depth-use (λ name. depth fuel shapes (Named name)) (shapes node) next.0 next.1),
-      omega (arith, more.1, pieces_weight-use (λ name. weight fuel shapes (Named name)) (shapes node) next.0 next.1),
-    )
+    let next = first_use shapes node c.0 c.1 c.2 in
+    let more = cycle_deep_and_heavy fuel shapes next.0 next.2 in
+    (deeper fuel shapes node next.0 next.1 more.0, heavier fuel shapes node next.0 next.1 more.1)
 
 -- a name with a piece that an expandable node uses is expandable
 pub used_expandable : (levels limit : ℕ) (shapes : Shapes) (node : Title) (name : List ℕ)
-    → IsExpandable levels limit shapes node → Uses shapes node name → shapes (Named name) ≢ []
+    → IsExpandable levels limit shapes node → Uses shapes node (Named name) → shapes (Named name) ≢ []
     → IsExpandable levels limit shapes (Named name)
 used_expandable levels limit shapes node name e u has =
     let shallow = pieces_depth-use (λ m. depth levels shapes (Named m)) (shapes node) name u in

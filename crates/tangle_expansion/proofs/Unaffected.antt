@@ -4,11 +4,12 @@ use mathlib.Core.HLevel.{Discrete, ×_discrete}
 use mathlib.Core.List.{List-discrete}
 use native.Mathlib.Decide.{ℕ_discrete}
 use Rattle.std.proofs.Math.Decide.{map_dec}
+use Rattle.digraph.specs.Reach.{here, ReachesCycle}
 use Rattle.tangle_plans.specs.Shapes.{Title, Kind, Word, Sign, Quoted, QuoteBreak, Verbatim, AsciiConstant, Blank}
-use Rattle.tangle_plans.specs.Shapes.{LineEnd, ShapeItem, Written, Mark, AllMacros, Use, NoUse, Shape, Shapes, here}
+use Rattle.tangle_plans.specs.Shapes.{LineEnd, ShapeItem, Written, Mark, AllMacros, Use, NoUse, Shape, Shapes, Uses}
 use Rattle.tangle_plans.specs.Flat.{flat}
 use Rattle.tangle_expansion.specs.Affected.{IsExpandable, IsAffected}
-use Rattle.tangle_expansion.proofs.SameShapes.{SameReached, flat-same, depth-same, ReachesCycle, cycle_deep_and_heavy}
+use Rattle.tangle_expansion.proofs.SameShapes.{SameReached, flat-same, depth-same, cycle_deep_and_heavy}
 use Rattle.tangle_expansion.proofs.Weights.{weight-length}
 
 -- equality of shapes can be decided
@@ -63,6 +64,6 @@ stays levels limit old new node expandable unaffected =
 
 -- an expandable node reaches no name that contains itself
 pub no_cycle : (levels limit : ℕ) (shapes : Shapes) (node : Title)
-    → IsExpandable levels limit shapes node → ReachesCycle shapes node → ⊥
+    → IsExpandable levels limit shapes node → ReachesCycle (Uses shapes) node → ⊥
 no_cycle levels limit shapes node expandable c =
     absurd (omega (arith, (cycle_deep_and_heavy levels shapes node c).0, expandable.shallow))

@@ -1,7 +1,9 @@
 -- A used name is less deep than its user, and weighs less.
 use Rattle.std.proofs.Common.{◌≤◌, ℕ, suc, List, [], ◌∷◌, ap, inl, inr, arith}
-use Rattle.tangle_plans.specs.Shapes.{ShapeItem, Use, Shape, IsUseOf, UsesInPiece, UsesInShape}
+use Rattle.tangle_plans.specs.Shapes.{Title, Program, Named, ShapeItem, Use, Shape, Shapes, IsUseOf, UsesInPiece}
+use Rattle.tangle_plans.specs.Shapes.{UsesInShape, Uses}
 use Rattle.tangle_plans.specs.Flat.{item_weight, items_weight, pieces_weight, item_depth, items_depth, pieces_depth}
+use Rattle.tangle_plans.specs.Flat.{weight, depth}
 
 module _ (f : List ℕ → ℕ) where
   item_depth-use : (item : ShapeItem) (name : List ℕ) → IsUseOf item name → f name ≤ item_depth f item
@@ -32,3 +34,17 @@ module _ (f : List ℕ → ℕ) where
   pieces_weight-use [] name u = absurd u
   pieces_weight-use (items ∷ pieces) name (inl u) = omega (arith, items_weight-use items name u)
   pieces_weight-use (items ∷ pieces) name (inr u) = omega (arith, pieces_weight-use pieces name u)
+
+-- A node is one level deeper than a name that it uses, and heavier by at least 1.
+
+pub deeper : (steps : ℕ) (shapes : Shapes) (a b : Title)
+    → Uses shapes a b → steps ≤ depth steps shapes b → suc steps ≤ depth (suc steps) shapes a
+deeper steps shapes a Program u h = absurd u
+deeper steps shapes a (Named name) u h =
+    omega (arith, h, pieces_depth-use (λ other. depth steps shapes (Named other)) (shapes a) name u)
+
+pub heavier : (steps : ℕ) (shapes : Shapes) (a b : Title)
+    → Uses shapes a b → steps ≤ weight steps shapes b → suc steps ≤ weight (suc steps) shapes a
+heavier steps shapes a Program u h = absurd u
+heavier steps shapes a (Named name) u h =
+    omega (arith, h, pieces_weight-use (λ other. weight steps shapes (Named other)) (shapes a) name u)

@@ -2,6 +2,7 @@
 use Rattle.std.proofs.Common.{◌≡◌, ◌∙◌, ℕ, ◌+◌, zero, suc, Bool, true, false, List, [], ◌∷◌, map, drop, refl, ap}
 use Rattle.std.specs.Prelude.{filter, if◌then◌else◌}
 use Rattle.std.proofs.lemmas.List.{map-append}
+use Rattle.std.proofs.lemmas.Simd.{map-map}
 use Rattle.tangle_files.specs.Bytes.{space}
 use Rattle.tangle_lines.specs.Reading.{SourceLine, SourceRead}
 use Rattle.tangle_scan.specs.declared.items.Item.{Item}
@@ -16,17 +17,12 @@ use Rattle.tangle_expansion.specs.Location.{ByteClass, LocatedItem, LocatedSymbo
 use Rattle.tangle_expansion.specs.Location.{located_items, located_pieces, located_shapes, located_item, items_located}
 use Rattle.tangle_expansion.specs.Location.{pieces_located, located}
 
-bytes_without_class : (class : ByteClass) (bytes : List ℕ)
-    → map (λ (p : LocatedSymbol). p.symbol) (map (λ b. record { symbol = Byte b; class = class }) bytes)
-    ≡ map Byte bytes
-bytes_without_class class [] = refl
-bytes_without_class class (b ∷ bytes) = ap (λ t. Byte b ∷ t) (bytes_without_class class bytes)
-
 module _ (used : List ℕ → List LocatedSymbol) (f : List ℕ → List Symbol)
     (same : (name : List ℕ) → map (λ p. p.symbol) (used name) ≡ f name) where
   item_without_class : (node : Title) (piece marks : ℕ) (class : ByteClass) (x : ShapeItem)
       → map (λ p. p.symbol) (located_item used node piece marks class x) ≡ item_flat f node piece marks x
-  item_without_class node piece marks class (Written kind bytes) = bytes_without_class class bytes
+  item_without_class node piece marks class (Written kind bytes) =
+      map-map (λ (p : LocatedSymbol). p.symbol) (λ b. record { symbol = Byte b; class = class }) bytes
   item_without_class node piece marks class (Use name) = ap (λ t. Byte space ∷ t) (same name)
   item_without_class node piece marks class _ = refl
 
@@ -89,11 +85,7 @@ module _ (texts : List (List ℕ)) (table : TableRead) (lines : List SourceLine)
           else located_pieces texts table lines node pieces (drop 1 locations))
           ≡ map (λ piece. map (shape_item texts table) piece.items)
           (if t then piece ∷ filter (is_piece_of table node) pieces else filter (is_piece_of table node) pieces)
-      by true rest =
-          ap (λ t.
-          t ∷ map (map (λ (x : LocatedItem). x.item)) (located_pieces texts table lines node pieces (drop 1 locations)))
-          (piece_items_without_classes _ piece.items)
-          ∙ ap (λ t. map (shape_item texts table) piece.items ∷ t) rest
+      by true rest = λ i. piece_items_without_classes (first_locations locations) piece.items i ∷ rest i
       by false rest = rest
 
 -- for a web and any source

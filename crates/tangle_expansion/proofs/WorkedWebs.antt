@@ -6,7 +6,8 @@ use Rattle.tangle_lines.specs.Reading.{SourceLine, SourceRead}
 use Rattle.tangle_lexer.specs.Steps.{lexeme, occurrences_from, tokens_from}
 use Rattle.tangle_scan.specs.Web.{WebRead, web_of}
 use Rattle.tangle_names.specs.NameTable.{table_of}
-use Rattle.tangle_plans.specs.Shapes.{Title, Program, Named, ContainsItself, here, on}
+use Rattle.digraph.specs.Reach.{here, on, ContainsItself}
+use Rattle.tangle_plans.specs.Shapes.{Title, Program, Named, Uses}
 use Rattle.tangle_plans.specs.Flat.{flat, weight, depth}
 use Rattle.tangle_plans.specs.WebShapes.{shapes}
 use Rattle.tangle_expansion.specs.Numbers.{numbers_of, expansion_bytes}
@@ -131,12 +132,12 @@ cyclic_file : output cyclic (Named (codes "h.h"))
 unfolding lexeme tokens_from occurrences_from digits
 cyclic_file = refl
 
-cyclic_names : ContainsItself (shapes (web cyclic) (table_of (web cyclic))) (Named (codes "A"))
-    × ContainsItself (shapes (web cyclic) (table_of (web cyclic))) (Named (codes "B"))
+cyclic_names : ContainsItself (Uses (shapes (web cyclic) (table_of (web cyclic)))) (Named (codes "A"))
+    × ContainsItself (Uses (shapes (web cyclic) (table_of (web cyclic)))) (Named (codes "B"))
 unfolding lexeme tokens_from occurrences_from digits
 cyclic_names = (
-  (codes "B", inl (inr (inl refl)), on (inl (inr (inl refl))) here),
-  (codes "A", inl (inr (inl refl)), on (inl (inr (inl refl))) here),
+  (Named (codes "B"), inl (inr (inl refl)), on (inl (inr (inl refl))) here),
+  (Named (codes "A"), inl (inr (inl refl)), on (inl (inr (inl refl))) here),
 )
 
 -- the same web without the cycle

@@ -1,6 +1,7 @@
 -- Which nodes are expandable, and which of them an edit affects.
 use Rattle.std.specs.Prelude.{◌≢◌, ℕ, ◌≤◌, ◌<◌, []}
-use Rattle.tangle_plans.specs.Shapes.{Title, Shapes, Reaches}
+use Rattle.digraph.specs.Reach.{Reaches}
+use Rattle.tangle_plans.specs.Shapes.{Title, Shapes, Uses}
 use Rattle.tangle_plans.specs.Flat.{weight, depth}
 
 -- The node has a piece and is within both limits; `levels` is one more than the greatest allowed
@@ -16,5 +17,5 @@ pub record IsExpandable (levels limit : ℕ) (shapes : Shapes) (node : Title) : 
 pub record IsAffected (levels limit : ℕ) (old new : Shapes) (node : Title) : Type 0 where
   pub expandable : IsExpandable levels limit new node
   pub cause : Title
-  pub reaches : Reaches new node cause
+  pub reaches : Reaches (Uses new) node cause
   pub changed : new cause ≢ old cause

@@ -5,9 +5,10 @@ pub mod Location
 pub mod Expanded
 pub mod Longer
 pub mod NumbersKept
+pub mod PieceNumbers
+pub mod StoredOrigins
 pub mod SymbolLimits
 pub mod Kept
 pub mod Outputs
 pub mod PieceBytes
-pub mod NumberRows
 pub mod Writing

@@ -8,8 +8,8 @@ ghost use Rattle.tangle_scan.specs.LineTruth.{PiecesAreAtTheirLines};
 ghost use Rattle.tangle_names.specs.NameTable.{TableRead, table_of};
 ghost use Rattle.tangle_files.specs.declared.marks.MarkMode.{MarkMode};
 ghost use Rattle.tangle_files.specs.declared.marks.MarkMode.TheVariants.{Full};
-ghost use Rattle.tangle_plans.specs.Shapes.{Title, Named, Shapes, Uses, Reaches};
-ghost use Rattle.tangle_plans.specs.Shapes.{ContainsItself};
+ghost use Rattle.digraph.specs.Reach.{Reaches, ContainsItself};
+ghost use Rattle.tangle_plans.specs.Shapes.{Title, Named, Shapes, Uses};
 ghost use Rattle.tangle_plans.specs.Meaning.{body_flat};
 ghost use Rattle.tangle_plans.specs.NodeBodies.{HoldsShape, body_title, body_uses};
 ghost use Rattle.tangle_plans.specs.declared.nodes.NodeBody.{NodeBody};
@@ -74,12 +74,14 @@ pub fn unaffected_nodes_stay()
 /// that reaches such a name are at least the fuel: the limit of depth alone excludes the node.
 pub fn expandable_nodes_reach_no_cycle()
     ensures none { (levels limit : ℕ) (shapes : Shapes) (node other : Title)
-        → IsExpandable levels limit shapes node → Reaches shapes node other
-        → ¬ (ContainsItself shapes other) }
+        → IsExpandable levels limit shapes node → Reaches (Uses shapes) node other
+        → ¬ (ContainsItself (Uses shapes) other) }
     ensures depth { (fuel : ℕ) (shapes : Shapes) (node other : Title)
-        → Reaches shapes node other → ContainsItself shapes other → fuel ≤ depth fuel shapes node }
+        → Reaches (Uses shapes) node other → ContainsItself (Uses shapes) other
+        → fuel ≤ depth fuel shapes node }
     ensures weight { (fuel : ℕ) (shapes : Shapes) (node other : Title)
-        → Reaches shapes node other → ContainsItself shapes other → fuel ≤ weight fuel shapes node }
+        → Reaches (Uses shapes) node other → ContainsItself (Uses shapes) other
+        → fuel ≤ weight fuel shapes node }
 {}
 
 /// The expansion of a node, its capped weight and its capped depth follow from those of the names
@@ -101,8 +103,8 @@ pub fn nodes_expand_by_uses()
 /// is made from those of expandable names.
 pub fn used_names_are_expandable()
     ensures { (levels limit : ℕ) (shapes : Shapes) (node : Title) (name : List ℕ)
-        → IsExpandable levels limit shapes node → Uses shapes node name → shapes (Named name) ≢ []
-        → IsExpandable levels limit shapes (Named name) }
+        → IsExpandable levels limit shapes node → Uses shapes node (Named name)
+        → shapes (Named name) ≢ [] → IsExpandable levels limit shapes (Named name) }
 {}
 
 /// The expansion of an expandable node has no more symbols than the limit of weight, which

@@ -5,17 +5,18 @@
 //! [`Numbers`].
 #![tactic(auto)]
 
-mod building;
 mod cursor;
 mod expanding;
 mod expansion;
 mod kept;
 mod laws;
 mod macros;
+mod mark_ends;
 mod node_numbers;
 mod numbers;
 mod outputs;
 mod passing;
+mod piece_numbers;
 mod work;
 mod writing;
 

@@ -1,17 +1,23 @@
 //! The section numbers and origins of a web, and the bytes of its macros.
-ghost use Rattle.std.specs.Prelude.{◌≡◌, ◌<◌, ◌+◌, ◌^◌, [], drop, get_or, length, map, vec_len};
-ghost use Rattle.std.specs.Prelude.{slice_index_or};
-ghost use Rattle.std.specs.List.{All, zip};
+ghost use Rattle.std.specs.Prelude.{◌≡◌, ◌+◌, [], IfOk, get_or, length};
+ghost use Rattle.tangle_names.specs.NameTable.{table_of};
 ghost use Rattle.tangle_plans.specs.Meaning.{title_of};
-ghost use Rattle.tangle_expansion.specs.Numbers.{node_numbers, mark_end};
-ghost use Rattle.digraph.specs.Graph.{row_at};
-ghost use Rattle.tangle_expansion.specs.SymbolLimits.{IsShort, SymbolsAreShort};
+ghost use Rattle.tangle_plans.specs.Nodes.{IsGroupedBy};
+ghost use Rattle.tangle_expansion.specs.Numbers.{node_numbers, numbers_of, mark_end};
+ghost use Rattle.tangle_expansion.specs.PieceNumbers.{row_number};
+ghost use Rattle.tangle_expansion.specs.SymbolLimits.{SymbolsAreShort};
 
-use crate::node_numbers::{NodeNumbers, PieceNumbers};
-use digraph::Node;
+use crate::macros::macros_bytes;
+use crate::mark_ends::mark_ends;
+use crate::node_numbers::NodeNumbers;
+use crate::piece_numbers::PieceNumbers;
+use digraph::{Node, Rows};
+use std::alloc::Global;
 use std::marker::Model;
-use tangle_lines::{MarkMode, Origin};
+use std::rc::Rc;
+use tangle_lines::{MarkMode, NoMemory, Origin};
 use tangle_names::Names;
+use tangle_scan::Web;
 
 /// What the outputs of a web need besides the symbols of its expansions: section numbers, origins
 /// of marks and the bytes of the macros.
@@ -19,8 +25,9 @@ use tangle_names::Names;
 pub struct Numbers {
     mark_ends: Vec<Vec<u8>>,
     names: Names,
-    // For each node the numbers of its pieces.
-    nodes: Vec<NodeNumbers>,
+    // For each node the positions of its pieces in the web.
+    rows: Rc<Rows<usize>>,
+    pieces: PieceNumbers,
     macros: Vec<u8>,
     marks: MarkMode,
 }
@@ -37,47 +44,41 @@ impl Model for Numbers {
 }
 
 impl Numbers {
-    /// Assembles the numbers from their parts.
-    pub(crate) fn new(
-        mark_ends: Vec<Vec<u8>>,
-        names: Names,
-        nodes: Vec<NodeNumbers>,
-        macros: Vec<u8>,
+    /// Reads from a web what its outputs need besides the symbols: section numbers, the origins of
+    /// marks and the bytes of the macros. Line marks are written as `marks` says. The names must be
+    /// those of the web; the rows have the numbers of the pieces of each node.
+    ///
+    /// # Errors
+    ///
+    /// `NoMemory` where an allocation failed.
+    pub fn build(
+        alloc: Global,
+        web: &Web,
+        names: &Names,
+        pieces: &Rc<Rows<usize>>,
         marks: MarkMode,
-    ) -> Self
-        requires mark_ends { All (λ e. vec_len e < 2 ^ 64) mark_ends.items }
-        requires size { length nodes.items ≡ length names + 1 }
-        requires nodes { All (All IsShort) nodes.items }
-        ensures { result ≡ record {
-          mark_ends = map (λ e. e.items) mark_ends.items;
-          program =
-              slice_index_or nodes.items 0 [];
-          names = zip names (drop 1 nodes.items);
-          macros = macros.items;
-          marks = marks;
-        } }
+    ) -> Result<Numbers, NoMemory>
+        requires names { names.now ≡ (table_of web.now).names }
+        requires pieces { IsGroupedBy web.now (table_of web.now) pieces.now.value }
+        ensures { IfOk result (λ numbers. numbers ≡ numbers_of web.now (table_of web.now) marks) }
     {
-        Numbers {
-            mark_ends,
-            names,
-            nodes,
-            macros,
+        Ok(Numbers {
+            mark_ends: mark_ends(alloc, web)?,
+            names: names.share()?,
+            rows: pieces.clone()?,
+            pieces: PieceNumbers::read(alloc, web)?,
+            macros: macros_bytes(alloc, web)?,
             marks,
-        }
+        })
     }
 
     /// The numbers of the pieces of the name, or of the program where there is no name.
-    pub(crate) fn of_node(&self, name: &Option<Vec<u8>>) -> &[PieceNumbers]
-        ensures numbers { result.now ≡ node_numbers self.now (title_of name.now) }
+    pub(crate) fn of_node(&self, name: &Option<Vec<u8>>) -> NodeNumbers<'_>
+        ensures numbers { result ≡ node_numbers self.now (title_of name.now) }
         ensures short { SymbolsAreShort self.now }
     {
-        match name {
-            None => row_at(&self.nodes, Node::program()),
-            Some(name) => match self.names.find(name.as_slice()) {
-                Some(id) => row_at(&self.nodes, Node::name(id)),
-                None => &[],
-            },
-        }
+        let row = row_number(&self.names, name, self.rows.len());
+        NodeNumbers::at(&self.pieces, &self.rows, row)
     }
 
     /// What comes after the number in the line marks of the file at this origin.
@@ -105,12 +106,17 @@ impl Numbers {
     }
 }
 
-/// The row of the node; an empty one where there is none.
-fn row_at(rows: &[NodeNumbers], node: Node) -> &[PieceNumbers]
-    ensures { result.now ≡ row_at rows.now node }
+/// The number of the row of the name, or of the program where there is no name; `none` where the
+/// name is none of these.
+fn row_number(names: &Names, name: &Option<Vec<u8>>, none: usize) -> usize
+    requires { none ≡ length names.now + 1 }
+    ensures { result ≡ row_number names.now (title_of name.now) }
 {
-    match rows.get(node.number()) {
-        Some(row) => row.as_slice(),
-        None => &[],
+    match name {
+        None => Node::program().number(),
+        Some(name) => match names.find(name.as_slice()) {
+            Some(id) => Node::name(id).number(),
+            None => none,
+        },
     }
 }

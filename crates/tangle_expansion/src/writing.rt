@@ -10,7 +10,7 @@ ghost use Rattle.tangle_expansion.specs.Writing.{WritesToUse, bytes_between, byt
 
 use crate::cursor::{Cursor, first_cursor};
 use crate::expansion::{Expansion, SharedExpansion};
-use crate::node_numbers::{PieceNumbers, mark_origin_at, section_at};
+use crate::node_numbers::NodeNumbers;
 use crate::numbers::Numbers;
 use crate::passing::{after_bytes, cursor_after};
 use itoa::Buffer;
@@ -23,7 +23,7 @@ use tangle_plans::{ItemKind, NodeBody};
 struct NodeParts<'n> {
     numbers: &'n Numbers,
     body: &'n NodeBody,
-    pieces: &'n [PieceNumbers],
+    pieces: NodeNumbers<'n>,
 }
 
 /// Writes a number between these bytes, unless `so_far` is an error.
@@ -108,7 +108,7 @@ fn write_symbols<S: Sink>(
     sink: &mut S,
     so_far: Result<u128, WriteFault>,
 ) -> Result<u128, WriteFault>
-    requires ours { text.now.pieces.now
+    requires ours { text.now.pieces
         ≡ node_numbers text.now.numbers.now (title_of text.now.body.now.name) }
     requires tag { at.tag + 1 < 2 ^ 64 }
     ensures { IsWrittenAfter (S.stream sink.old) (S.stream sink.new) so_far
@@ -118,14 +118,14 @@ fn write_symbols<S: Sink>(
     match kind {
         ItemKind::PieceStart => write_opening(
             text.numbers,
-            section_at(text.pieces, at.piece),
-            mark_origin_at(text.pieces, at.piece, 0),
+            text.pieces.section(at.piece),
+            text.pieces.mark_origin(at.piece, 0),
             sink,
             so_far,
         ),
         ItemKind::Mark => write_mark(
             text.numbers,
-            mark_origin_at(text.pieces, at.piece, at.marks + 1),
+            text.pieces.mark_origin(at.piece, at.marks + 1),
             sink,
             so_far,
         ),
@@ -136,7 +136,7 @@ fn write_symbols<S: Sink>(
         ItemKind::Use | ItemKind::NoUse => write_after(sink, so_far, b" "),
         ItemKind::PieceEnd => write_between(
             b"/*:",
-            section_at(text.pieces, at.piece),
+            text.pieces.section(at.piece),
             b"*/",
             sink,
             so_far,
@@ -152,7 +152,7 @@ fn write_to_use<S: Sink>(
     sink: &mut S,
     so_far: Result<u128, WriteFault>,
 ) -> (Cursor, Result<u128, WriteFault>)
-    requires { text.now.pieces.now
+    requires { text.now.pieces
         ≡ node_numbers text.now.numbers.now (title_of text.now.body.now.name) }
     ensures { WritesToUse text.now.numbers.now (S.stream sink.old) (S.stream sink.new)
         so_far result.1 (bytes_from text.now.body.now from text.now.numbers.now)

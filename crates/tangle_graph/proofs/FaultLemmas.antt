@@ -1,50 +1,46 @@
 -- The first uses of names, the faults of names one by one, and the flags of nodes.
-use Rattle.std.proofs.Common.{◌≡◌, ◌≢◌, ◌∙◌, ◌<◌, ◌≤◌, ◌+◌, ◌↔◌, ◌&&◌, ℕ, zero, suc, Bool, true, false, cond, not}
+use Rattle.std.proofs.Common.{◌≡◌, ◌∙◌, ◌<◌, ◌≤◌, ◌+◌, ◌↔◌, ◌&&◌, ℕ, zero, suc, Bool, true, false, cond, not}
 use Rattle.std.proofs.Common.{List, [], ◌∷◌, ◌++◌, length, map, flat_map, take, get_or, refl, ap, sym, subst, arith}
 use Rattle.std.proofs.Common.{append-nil, append_assoc, add-zero, zero-add}
 use Rattle.std.specs.List.{range_with_len}
-use Rattle.std.proofs.lemmas.List.{flat_map_more, take_all, take_more}
+use Rattle.std.proofs.lemmas.List.{flat_map_more, take_more}
 use Rattle.std.specs.Prelude.{None, if◌then◌else◌}
 use Rattle.tangle_faults.specs.declared.faults.FaultKind.{FaultKind}
 use Rattle.tangle_faults.specs.declared.faults.FaultKind.TheVariants as kind
 use Rattle.tangle_faults.specs.Faults.{FaultRead, fault_unplaced}
 use Rattle.tangle_lexer.specs.Occurrences.{OccurrenceRead}
 use Rattle.tangle_scan.specs.Web.{WebRead}
-use Rattle.tangle_names.specs.declared.first_numbers.Counted.TheVariants.{Uses}
+use Rattle.tangle_names.specs.declared.first_numbers.Counted.TheVariants as counted
 use Rattle.tangle_names.specs.declared.Resolved.{Resolved}
 use Rattle.tangle_names.specs.NameTable.{TableRead, table_of}
 use Rattle.tangle_names.specs.Numbers.{first_by_number}
 use Rattle.tangle_names.specs.Resolving.{resolve}
 use Rattle.tangle_plans.specs.WebShapes.{shapes}
-use Rattle.tangle_plans.specs.Shapes.{ContainsItself}
-use Rattle.tangle_expansion.specs.Limits.{IsExpandableNode}
-use Rattle.digraph.specs.Flags.{FlagsJust}
-use Rattle.digraph.specs.Graph.{Graph, HasUse, row_at}
 use Rattle.digraph.specs.Nodes.{Node, program}
-use Rattle.digraph.specs.Reach as graph
-use Rattle.digraph.proofs.TitleLemmas.{cycle_alike}
-use Rattle.tangle_graph.specs.Faults.{has_piece_of_node, is_too_large, ReachesCycle, AreGraphFaults, fault_of, fault_occurrence}
+use Rattle.digraph.specs.Reach.{ContainsItself}
+use Rattle.tangle_graph.specs.Faults.{has_piece_of_node, is_too_large, AreGraphFaults, fault_of, fault_occurrence}
 use Rattle.tangle_graph.specs.Faults.{faults_of_names, first_occurrence_number, graph_faults, large_program, no_program}
-use Rattle.tangle_graph.specs.Groups.{IsGraphOf}
-use Rattle.tangle_plans.specs.Nodes.{row_has_piece, title_at}
-use Rattle.tangle_graph.specs.Nodes.{UsesTitle}
+use Rattle.tangle_plans.specs.Nodes.{title_at}
+use Rattle.tangle_plans.specs.Shapes.{Uses}
+use Rattle.tangle_graph.specs.Measures.{measure_at, measure_of}
 use Rattle.tangle_graph.specs.Outputs.{is_expandable}
-use Rattle.tangle_graph.specs.Stores.{StoreRead, flag_at}
+use Rattle.tangle_graph.specs.Stores.{StoreRead, flag_at, has_piece_at, is_expandable_at}
+use Rattle.tangle_graph.specs.declared.measures.Measure.{Measure}
 use Rattle.tangle_graph.specs.WebStores.{IsStoreOfWeb}
-use Rattle.tangle_graph.proofs.ReachLemmas.{cycle_by_titles}
-use Rattle.tangle_graph.proofs.StoreLemmas.{expandable_is, piece_of_shape}
+use Rattle.tangle_graph.proofs.StoreLemmas.{piece_by_measure}
 
 -- the first uses, counted over the occurrences of the web
 pub uses_of_web : (web : WebRead) (table : TableRead) (os : List OccurrenceRead) (numbers : List ℕ)
     → table ≡ table_of web → os ≡ web.occurrences
     → ((f : OccurrenceRead → Resolved) → table.resolved ≡ map f os → (id : ℕ)
-    → id < length table.names → get_or numbers id 0 ≡ first_by_number f Uses os id)
+    → id < length table.names → get_or numbers id 0 ≡ first_by_number f counted.Uses os id)
     → (id : ℕ)
-    → id < length table.names → get_or numbers id 0 ≡ first_by_number (resolve web.occurrences) Uses web.occurrences id
+    → id < length table.names
+    → get_or numbers id 0 ≡ first_by_number (resolve web.occurrences) counted.Uses web.occurrences id
 uses_of_web web table os numbers is read known id h =
     known (resolve web.occurrences)
     (ap (λ (t : TableRead). t.resolved) is ∙ ap (map (resolve web.occurrences)) (sym read)) id h
-    ∙ ap (λ l. first_by_number (resolve web.occurrences) Uses l id) read
+    ∙ ap (λ l. first_by_number (resolve web.occurrences) counted.Uses l id) read
 
 -- the faults of one more name
 pub range_more : (g : ℕ → List FaultRead) (a n : ℕ)
@@ -74,36 +70,12 @@ candidates_step g n names false none sofar =
     ap (flat_map g) (append-nil names) ∙ sofar ∙ sym (append-nil (flat_map g (range_with_len 0 n)))
     ∙ ap (λ l. flat_map g (range_with_len 0 n) ++ l) (sym (ap g (zero-add n) ∙ none refl)) ∙ sym (range_more g 0 n)
 
--- the faults of one more kind
-pub kinds_step : (f : FaultKind → List FaultRead) (ks : List FaultKind)
-    (i : ℕ) (d : FaultKind) (before now : List FaultRead)
-    → i < length ks
-    → before ≡ flat_map f (take i ks) → now ≡ before ++ f (get_or ks i d) → now ≡ flat_map f (take (i + 1) ks)
-kinds_step f ks i d before now h sofar is =
-    rw (is, sofar, take_more ks i d h, ← flat_map_more f [] (take i ks) (get_or ks i d)) refl
-
-pub kinds_whole : (f : FaultKind → List FaultRead) (ks : List FaultKind) (i : ℕ) (now : List FaultRead)
-    → length ks ≤ i → now ≡ flat_map f (take i ks) → now ≡ flat_map f ks
-kinds_whole f ks i now h is = is ∙ ap (flat_map f) (take_all i ks h)
-
 -- two tests of one fact
 same_flag : {P : Type 0} (a b : Bool) → ((a ≡ true) ↔ P) → ((b ≡ true) ↔ P) → a ≡ b
 same_flag true true p q = refl
 same_flag true false p q = sym (q.1 (p.0 refl))
 same_flag false true p q = p.1 (q.0 refl)
 same_flag false false p q = refl
-
--- a node reaches a name that contains itself, if it does so in the graph of numbers
-pub reaching_flag : (web : WebRead) (table : TableRead) (rows uses : Graph) → IsGraphOf web table rows uses
-    → (flags : List Bool) → FlagsJust uses flags (graph.ReachesCycle (HasUse uses)) → (n : ℕ)
-    → n ≤ length table.names
-    → (flag_at flags n ≡ true) ↔ ReachesCycle (shapes web table) (title_at table.names n)
-reaching_flag web table rows uses is flags just n low =
-    let below : n < length uses = omega (arith, low, is.uses_size) in
-    let alike = cycle_alike uses (UsesTitle (shapes web table)) (title_at table.names) is.titled n below in
-    let titles = cycle_by_titles (shapes web table) (title_at table.names n) in
-    let flag = just n below in
-    (λ e. titles.0 (alike.0 (flag.0 e)), λ c. flag.1 (alike.1 (titles.1 c)))
 
 -- the rows and the flags of a web's store
 module _ (web : WebRead) (table : TableRead) (out : List ℕ) (made : StoreRead)
@@ -114,27 +86,26 @@ module _ (web : WebRead) (table : TableRead) (out : List ℕ) (made : StoreRead)
   titled : title_at made.names n ≡ title_at table.names n
   titled = ap (λ names. title_at names n) is.names
 
-  pub has_piece_flag : row_has_piece (row_at made.pieces n) ≡ has_piece_of_node web table n
-  has_piece_flag = same_flag (row_has_piece (row_at made.pieces n)) (has_piece_of_node web table n)
-      (subst (λ t. (row_has_piece (row_at made.pieces n) ≡ true) ↔ (shapes web table t ≢ [])) titled
-      (is.store.has_piece n there)) (piece_of_shape (shapes web table (title_at table.names n)))
+  measured : measure_at made.measures n ≡ measure_of (shapes web table) (title_at table.names n)
+  measured = is.store.measures n there ∙ ap (measure_of (shapes web table)) titled
+
+  pub has_piece_flag : has_piece_at made n ≡ has_piece_of_node web table n
+  has_piece_flag = piece_by_measure (shapes web table) (title_at table.names n) _ measured
 
   pub containing_flag : (flag_at made.self_containing n ≡ true)
-      ↔ ContainsItself (shapes web table) (title_at table.names n)
-  containing_flag = subst (λ t. (flag_at made.self_containing n ≡ true) ↔ ContainsItself (shapes web table) t)
+      ↔ ContainsItself (Uses (shapes web table)) (title_at table.names n)
+  containing_flag = subst (λ t. (flag_at made.self_containing n ≡ true) ↔ ContainsItself (Uses (shapes web table)) t)
       titled (is.store.contains_itself n there)
 
-  pub expandable_flag : flag_at made.expandable n ≡ is_expandable (shapes web table) (title_at table.names n)
-  expandable_flag =
-      same_flag (flag_at made.expandable n) (is_expandable (shapes web table) (title_at table.names n))
-      (subst (λ t. (flag_at made.expandable n ≡ true) ↔ IsExpandableNode (shapes web table) t) titled
-      (is.store.expandable n there)) (expandable_is (shapes web table) (title_at table.names n))
+  pub expandable_flag : is_expandable_at made n ≡ is_expandable (shapes web table) (title_at table.names n)
+  expandable_flag = ap (λ (m : Measure). m.is_expandable) measured
 
--- lists that are appended one after another, the first four at once
-pub joined : {X : Type 0} (now a b c d e f g : List X) (l0 l1 l2 : List X)
-    → l0 ≡ a ++ (b ++ (c ++ (d ++ []))) → l1 ≡ l0 ++ e → l2 ≡ l1 ++ f → now ≡ l2 ++ g
+-- lists that are appended one after another
+pub joined : {X : Type 0} (a b c d e f g l0 l1 l2 l3 l4 l5 l6 now : List X)
+    → l0 ≡ [] → l1 ≡ l0 ++ a → l2 ≡ l1 ++ b → l3 ≡ l2 ++ c → l4 ≡ l3 ++ d → l5 ≡ l4 ++ e → l6 ≡ l5 ++ f → now ≡ l6 ++ g
     → now ≡ a ++ (b ++ (c ++ (d ++ (e ++ (f ++ g)))))
-joined now a b c d e f g l0 l1 l2 h0 h1 h2 h3 = rw (h3, h2, h1, h0) (simp append_assoc)
+joined a b c d e f g l0 l1 l2 l3 l4 l5 l6 now h0 h1 h2 h3 h4 h5 h6 h7 =
+    rw (h7, h6, h5, h4, h3, h2, h1, h0) (simp append_assoc)
 
 pub unless : {X : Type 0} (b : Bool) (xs : List X) → cond (not b) xs [] ≡ cond b [] xs
 unless true xs = refl

@@ -1,89 +1,89 @@
--- The rows that grouping makes are the pieces and the uses of each node.
-use Rattle.std.proofs.Common.{◌≡◌, ◌∙◌, ◌<◌, ◌≤◌, ◌+◌, ℕ, suc, List, [], length, ap, sym, subst, arith, Contains}
+-- The rows that grouping makes are the pieces of each node, and uses by number are uses by title.
+use Rattle.std.proofs.Common.{◌≡◌, ◌∙◌, ◌<◌, ◌≤◌, ◌+◌, ℕ, suc, List, [], length, map, ap, sym, subst, arith}
+use Rattle.std.proofs.Common.{All, Contains}
 use Rattle.std.specs.List.{IsDistinct}
 use Rattle.std.specs.Str.{bytes_eq}
+use Rattle.std.specs.Prelude.{Some, slice_get}
+use Rattle.std.proofs.lemmas.List.{length-map}
+use Rattle.std.proofs.lemmas.List.Elements.{All-contains, All-from_get_or}
 use Rattle.tangle_scan.specs.Web.{WebRead}
-use Rattle.tangle_names.specs.NameTable.{TableRead}
+use Rattle.tangle_names.specs.NameTable.{TableRead, table_of}
 use Rattle.tangle_names.proofs.ContainsLemmas.{into_map, out_of_map}
+use Rattle.tangle_names.proofs.LawLemmas.{once as names_once}
+use Rattle.tangle_plans.specs.NodeBodies.{body_uses}
 use Rattle.tangle_plans.specs.Nodes.{pieces_at, no_piece, title_at}
-use Rattle.tangle_plans.specs.Shapes.{Title, Named}
+use Rattle.tangle_plans.specs.Shapes.{Title, Named, Shapes, Uses}
 use Rattle.tangle_plans.specs.Shapes as title
-use Rattle.tangle_plans.specs.WebShapes.{ResolvesInside, shapes}
-use Rattle.digraph.specs.Graph.{Graph, HasUse, InRange, row_at}
+use Rattle.tangle_plans.specs.WebShapes.{ResolvesInside, pieces_of}
+use Rattle.tangle_plans.specs.declared.nodes.NodeBody.{NodeBody}
+use Rattle.tangle_plans.proofs.InsideLemmas.{table_inside}
+use Rattle.digraph.specs.Graph.{Graph, HasUse, row_at}
 use Rattle.digraph.specs.Rows.{IsRowsOf}
-use Rattle.digraph.specs.Titles.{IsTitled}
-use Rattle.digraph.proofs.GraphLemmas.{node_in, use_in}
-use Rattle.tangle_graph.specs.Grouping.{is_piece_of_node, positions_of, used_numbers}
-use Rattle.tangle_graph.specs.Groups.{IsGraphOf}
+use Rattle.digraph.proofs.GraphLemmas.{node_in}
+use Rattle.tangle_graph.specs.Bodies.{AreBodiesOf}
+use Rattle.tangle_graph.specs.Grouping.{is_piece_of_node, positions_of}
 use Rattle.tangle_graph.specs.NameGraphs.{AreUsesOf}
-use Rattle.tangle_graph.specs.Nodes.{UsesTitle}
-use Rattle.tangle_graph.proofs.GroupLemmas.{pieces_by_number, number_uses, title_uses}
-use Rattle.tangle_graph.proofs.NodeLemmas.{title_inside, once_titled}
-use Rattle.tangle_graph.proofs.RowLemmas.{positions_read}
-use Rattle.tangle_graph.proofs.UsesLemmas.{pieces_inside}
+use Rattle.tangle_graph.proofs.BodyLemmas.{name_used, part_read, used_name}
+use Rattle.tangle_graph.proofs.GroupLemmas.{pieces_by_number}
+use Rattle.tangle_graph.proofs.NodeLemmas.{title_inside}
+use Rattle.tangle_graph.proofs.RowLemmas.{positions_below, positions_read}
 
-module _ (web : WebRead) (table : TableRead) (rows used : List (List ℕ))
-    (uses : Graph) (distinct : IsDistinct bytes_eq table.names) (inside : ResolvesInside table)
-    (grouped : IsRowsOf (length table.names + 1) (positions_of table web.pieces) rows)
-    (collected : IsRowsOf (length table.names + 1) (used_numbers table web.pieces) used)
-    (are : AreUsesOf used uses) (range : InRange uses) where
-  uses_count : length uses ≡ length table.names + 1
-  uses_count = are.size ∙ collected.size
+module _ (web : WebRead) (table : TableRead) (ours : table ≡ table_of web) where
+  pub resolves_inside : ResolvesInside table
+  resolves_inside = subst ResolvesInside (sym ours) (table_inside web)
 
-  node_below : (n m : ℕ) → HasUse uses n m → n ≤ length table.names
-  node_below n m u = (let low : n < length uses = node_in uses n m u in omega (arith, low, uses_count))
+  pub distinct_names : IsDistinct bytes_eq table.names
+  distinct_names = subst (λ (t : TableRead). IsDistinct bytes_eq t.names) (sym ours) (names_once web.occurrences)
 
-  -- each use is of a name that the node uses
-  use_down : (n m : ℕ) → HasUse uses n m → (id : ℕ) × Contains (used_numbers table web.pieces n) id × (suc id ≡ m)
-  use_down n m u =
-      let low : n < length table.names + 1 = omega (arith, node_below n m u) in
-      subst (λ r. (id : ℕ) × Contains r id × (suc id ≡ m)) (collected.row n low)
-      (out_of_map suc (row_at used n) m (((are.once n (omega (arith, low, collected.size))).same m).0 u))
-
-  use_up : (n id : ℕ) → n ≤ length table.names → Contains (used_numbers table web.pieces n) id → HasUse uses n (suc id)
-  use_up n id low c =
-      let within : n < length table.names + 1 = omega (arith, low) in
-      ((are.once n (omega (arith, within, collected.size))).same (suc id)).1
-      (into_map suc (row_at used n) id (subst (λ r. Contains r id) (sym (collected.row n within)) c))
-
-  to_title : (n : ℕ) (t : Title) → n ≤ length table.names → UsesTitle (shapes web table) (title_at table.names n) t
-      → (m : ℕ) × HasUse uses n m × (m < length uses) × (title_at table.names m ≡ t)
-  to_title n title.Program low u = absurd u
-  to_title n (Named name) low u =
-      let found = title_uses web table distinct inside n name low u in (
-        suc found.0,
-        use_up n found.0 low found.1,
-        omega (arith, found.2, uses_count),
-        title_inside table.names found.0 found.2 ∙ ap Named found.3,
-      )
-
-  from_title : (n m : ℕ) → HasUse uses n m
-      → UsesTitle (shapes web table) (title_at table.names n) (title_at table.names m)
-  from_title n m u =
-      let down = use_down n m u in
-      let within : m < length uses = use_in uses range n m u in
-      let low : down.0 < length table.names = omega (arith, within, uses_count, down.2) in
-      subst (λ k. UsesTitle (shapes web table) (title_at table.names n) (title_at table.names k)) down.2
-      (subst (UsesTitle (shapes web table) (title_at table.names n)) (sym (title_inside table.names down.0 low))
-      (number_uses web table distinct inside n down.0 (node_below n m u) down.1))
-
-  titled : IsTitled uses (UsesTitle (shapes web table)) (title_at table.names)
-  titled = record {
-    once = λ n m hn hm e.
-        once_titled table.names n m distinct (omega (arith, hn, uses_count)) (omega (arith, hm, uses_count)) e;
-    sound = from_title;
-    complete = λ n t h u. to_title n t (omega (arith, h, uses_count)) u;
-  }
-
-  pub graph_of : IsGraphOf web table rows uses
-  graph_of = record {
-    rows_size = grouped.size;
-    uses_size = uses_count;
-    numbers = λ n h. pieces_inside table web.pieces rows grouped n [] h;
-    pieces = λ n h. (let within : n < length table.names + 1 = omega (arith, h, grouped.size) in
-        ap (pieces_at web.pieces) (grouped.row n within)
+  module _ (rows : List (List ℕ))
+      (grouped : IsRowsOf (length table.names + 1) (positions_of table web.pieces) rows) where
+    pub pieces_are : (n : ℕ) → n ≤ length table.names
+        → pieces_at web.pieces (row_at rows n) ≡ pieces_of web table (title_at table.names n)
+    pieces_are n low =
+        ap (pieces_at web.pieces) (grouped.row n (omega (arith, low)))
         ∙ positions_read (is_piece_of_node table n) [] web.pieces no_piece
-        ∙ pieces_by_number table distinct inside web n (omega (arith, within)));
-    range = range;
-    titled = titled;
-  }
+        ∙ pieces_by_number table distinct_names resolves_inside web n low
+
+    -- the positions of pieces are numbers of pieces
+    pub pieces_inside : All (All (λ i. i < length web.pieces)) rows
+    pieces_inside = All-from_get_or (All (λ i. i < length web.pieces)) rows []
+        (λ n h. subst (All (λ i. i < length web.pieces)) (sym (grouped.row n (omega (arith, h, grouped.size))))
+        (positions_below (is_piece_of_node table n) 0 (length web.pieces) web.pieces (omega arith)))
+
+module _ (shapes : Shapes) (names : List (List ℕ)) (bodies : List NodeBody) (uses : Graph)
+    (are : AreBodiesOf shapes names bodies) (used : AreUsesOf (map body_uses bodies) uses) where
+  pub uses_count : length uses ≡ length names + 1
+  uses_count = used.size ∙ length-map bodies body_uses ∙ are.size
+
+  -- each name that the body of a node has is a use of the node
+  pub use_up : (n id : ℕ) (body : NodeBody) → n ≤ length names → slice_get bodies n ≡ Some body
+      → Contains (body_uses body) id → HasUse uses n (suc id)
+  use_up n id body low at c =
+      ((used.once n (omega (arith, low, used.size, uses_count))).same (suc id)).1
+      (into_map suc (row_at (map body_uses bodies) n) id
+      (subst (λ r. Contains r id) (sym (part_read body_uses bodies n body at)) c))
+
+  pub sound : (n m : ℕ) → HasUse uses n m → Uses shapes (title_at names n) (title_at names m)
+  sound n m u =
+      let inside : n < length uses = node_in uses n m u in
+      let body = are.each n (omega (arith, inside, uses_count)) in
+      let found = out_of_map suc (row_at (map body_uses bodies) n) m
+      (((used.once n (omega (arith, inside, used.size))).same m).0 u) in
+      let c = subst (λ r. Contains r found.0) (part_read body_uses bodies n body.0 body.1) found.1 in
+      let within = All-contains (λ id. id < length names) (body_uses body.0) found.0 body.2.inside c in
+      subst (Uses shapes (title_at names n))
+      (sym (title_inside names found.0 within) ∙ ap (title_at names) found.2)
+      (used_name shapes names n body.0 body.2 found.0 c)
+
+  pub complete : (n : ℕ) (t : Title) → n < length uses → Uses shapes (title_at names n) t
+      → (m : ℕ) × HasUse uses n m × (m < length uses) × (title_at names m ≡ t)
+  complete n title.Program h u = absurd u
+  complete n (Named name) h u =
+      let low : n ≤ length names = omega (arith, h, uses_count) in
+      let body = are.each n low in
+      let found = name_used shapes names n body.0 body.2 name u in (
+        suc found.0,
+        use_up n found.0 body.0 low body.1 found.1,
+        omega (arith, found.2, uses_count),
+        title_inside names found.0 found.2 ∙ ap Named found.3,
+      )

@@ -7,24 +7,23 @@ use Rattle.std.specs.Str.{bytes_eq}
 use Rattle.std.proofs.lemmas.Bool.Decides.{Decides-eqb, nat_tests}
 use Rattle.std.proofs.lemmas.Slice.Eq.{bytes_eq-Decides}
 use Rattle.std.proofs.lemmas.List.Elements.{Contains-append_left, Contains-append_right, Contains-append_cases}
-use Rattle.std.proofs.lemmas.List.Elements.{All-append, All-cons, All-contains, All-nil}
+use Rattle.std.proofs.lemmas.List.Elements.{All-append, All-cons, All-nil}
 use Rattle.tangle_scan.specs.declared.items.Item.{Item}
 use Rattle.tangle_scan.specs.declared.items.Item.TheVariants as item
 use Rattle.tangle_scan.specs.Web.{WebRead, PieceRead}
 use Rattle.tangle_names.specs.declared.Resolved.{Resolved}
 use Rattle.tangle_names.specs.declared.Resolved.TheVariants as resolved
 use Rattle.tangle_names.specs.NameTable.{TableRead}
-use Rattle.tangle_names.proofs.ContainsLemmas.{cons_cases, here, no_item, into_map, out_of_map}
-use Rattle.tangle_plans.specs.ItemTags.{uses_in, uses_resolved, pieces_uses, shape_of}
+use Rattle.tangle_names.proofs.ContainsLemmas.{cons_cases, here, no_item}
+use Rattle.tangle_plans.specs.ItemTags.{uses_in, uses_resolved, pieces_uses}
 use Rattle.tangle_plans.specs.Nodes.{title_at}
 use Rattle.tangle_plans.specs.Shapes.{Shape, ShapeItem, Use, Named, title_eq}
-use Rattle.tangle_plans.specs.Shapes.{UsesInPiece, UsesInShape, Uses, IsUseOf}
+use Rattle.tangle_plans.specs.Shapes.{UsesInPiece, UsesInShape, IsUseOf}
 use Rattle.tangle_plans.specs.Shapes as title
 use Rattle.tangle_plans.specs.Tags.{item_names, shape_names}
 use Rattle.tangle_plans.specs.WebShapes.{resolved_at, node_of, node_of_occurrence, is_node, IsNameBelow}
-use Rattle.tangle_plans.specs.WebShapes.{ResolvesInside, pieces_of, shapes}
-use Rattle.tangle_plans.proofs.HeldLemmas.{names_held}
-use Rattle.tangle_graph.specs.Grouping.{resolved_number, node_of_piece, has_number_in, is_piece_of_node, used_numbers}
+use Rattle.tangle_plans.specs.WebShapes.{ResolvesInside, pieces_of}
+use Rattle.tangle_graph.specs.Grouping.{resolved_number, node_of_piece, has_number_in, is_piece_of_node}
 use Rattle.tangle_graph.proofs.NodeLemmas.{title_inside, once_named}
 
 same_test : (a b : Bool) (P : Type 0)
@@ -96,24 +95,10 @@ items_use [] name = (no_item name, λ u. absurd u)
 items_use (x ∷ items) name = either (item_names x) (flat_map item_names items) name
     (IsUseOf x name) (UsesInPiece items name) (item_uses x name) (items_use items name)
 
-shape_uses : (shape : Shape) (name : List ℕ) → Contains (shape_names shape) name ↔ UsesInShape shape name
+pub shape_uses : (shape : Shape) (name : List ℕ) → Contains (shape_names shape) name ↔ UsesInShape shape name
 shape_uses [] name = (no_item name, λ u. absurd u)
 shape_uses (items ∷ shape) name = either (flat_map item_names items) (shape_names shape) name
     (UsesInPiece items name) (UsesInShape shape name) (items_use items name) (shape_uses shape name)
-
--- each name that pieces use by number their shape also uses, and each name that it uses they do
-module _ (texts : List (List ℕ)) (table : TableRead) (pieces : List PieceRead) where
-  pub pieces_use : (id : ℕ)
-      → Contains (pieces_uses table pieces) id → UsesInShape (shape_of texts table pieces) (get_or table.names id [])
-  pieces_use id c = (shape_uses (shape_of texts table pieces) (get_or table.names id [])).0
-      (subst (λ l. Contains l (get_or table.names id [])) (names_held texts table pieces)
-      (into_map (λ k. get_or table.names k []) (pieces_uses table pieces) id c))
-
-  pub pieces_used : (name : List ℕ) → UsesInShape (shape_of texts table pieces) name
-      → (id : ℕ) × Contains (pieces_uses table pieces) id × (get_or table.names id [] ≡ name)
-  pieces_used name u = out_of_map (λ k. get_or table.names k []) (pieces_uses table pieces) name
-      (subst (λ l. Contains l name) (sym (names_held texts table pieces))
-      ((shape_uses (shape_of texts table pieces) name).1 u))
 
 -- only names of the table are used
 pub all_flat : {X : Type 0} (P : ℕ → Type 0) (f : X → List ℕ)
@@ -137,29 +122,3 @@ pub pieces_below : (table : TableRead) → ResolvesInside table → (pieces : Li
 pieces_below table inside = all_flat (λ id. id < length table.names)
     (λ (p : PieceRead). flat_map (uses_in table) p.items)
     (λ p. all_flat (λ id. id < length table.names) (uses_in table) (item_below table inside) p.items)
-
-module _ (web : WebRead) (table : TableRead)
-    (distinct : IsDistinct bytes_eq table.names) (inside : ResolvesInside table) where
-  by_title : (n : ℕ) → n ≤ length table.names
-      → used_numbers table web.pieces n ≡ pieces_uses table (pieces_of web table (title_at table.names n))
-  by_title n hn = ap (pieces_uses table) (pieces_by_number table distinct inside web n hn)
-
-  -- each name that a node uses by number it also uses by title
-  pub number_uses : (n id : ℕ) → n ≤ length table.names → Contains (used_numbers table web.pieces n) id
-      → Uses (shapes web table) (title_at table.names n) (get_or table.names id [])
-  number_uses n id hn c = pieces_use web.texts table (pieces_of web table (title_at table.names n)) id
-      (subst (λ l. Contains l id) (by_title n hn) c)
-
-  pub title_uses : (n : ℕ) (name : List ℕ)
-      → n ≤ length table.names → Uses (shapes web table) (title_at table.names n) name
-      → (id : ℕ) × Contains (used_numbers table web.pieces n) id
-      × (id < length table.names) × (get_or table.names id [] ≡ name)
-  title_uses n name hn u =
-      let pieces = pieces_of web table (title_at table.names n) in
-      let is = pieces_used web.texts table pieces name u in (
-        is.0,
-        subst (λ l. Contains l is.0) (sym (by_title n hn)) is.1,
-        All-contains (λ id. id < length table.names) (pieces_uses table pieces)
-            is.0 (pieces_below table inside pieces) is.1,
-        is.2,
-      )

@@ -8,18 +8,16 @@ mod StepLemmas
 mod FirstLemmas
 mod GraphLemmas
 pub mod StoreLemmas
-mod LimitLemmas
 mod BodyLemmas
 mod ShapeLemmas
+mod PlanLemmas
 mod StoredBodies
 mod PushLemmas
-mod ReachLemmas
 pub mod ExpandLemmas
 mod StoreIs
 pub mod OutputLemmas
 mod OrderingLemmas
 pub mod FaultLemmas
 pub mod WeightLemmas
-pub mod UsesLemmas
 mod NameGraphLemmas
 pub mod StoredLemmas

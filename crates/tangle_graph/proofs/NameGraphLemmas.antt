@@ -1,9 +1,8 @@
--- The graph of names that is made from a web's bodies describes the web.
+-- The rows of the names that bodies use, each once.
 use Rattle.std.proofs.Common.{◌≡◌, ◌∙◌, ◌<◌, ◌+◌, ◌++◌, ◌∷◌, ℕ, suc, false, not, List, [], length, take, map, get_or}
 use Rattle.std.proofs.Common.{ap, sym, subst, arith, All, Contains, length-append}
 use Rattle.std.specs.Global.{Global}
 use Rattle.std.specs.declared.rc.Rc.{Rc}
-use Rattle.std.specs.List.{IsDistinct}
 use Rattle.std.specs.List.Sorted.{IsStrictlyIncreasing}
 use Rattle.std.specs.Str.{bytes_eq}
 use Rattle.std.proofs.Math.Decide.{dec_lt}
@@ -12,49 +11,27 @@ use Rattle.std.proofs.lemmas.Slice.Eq.{bytes_eq-Decides}
 use Rattle.std.proofs.lemmas.Option.{get_or_from_slice_get}
 use Rattle.std.proofs.lemmas.List.Elements.{All-contains, All-map, All-from_get_or, Contains-get_or}
 use Rattle.std.proofs.lemmas.Bool.{not-false}
-use Rattle.tangle_scan.specs.Web.{WebRead}
-use Rattle.tangle_names.specs.NameTable.{TableRead}
 use Rattle.tangle_names.proofs.ContainsLemmas.{into_map, out_of_map}
 use Rattle.tangle_plans.specs.NodeBodies.{body_uses}
-use Rattle.tangle_plans.specs.WebShapes.{ResolvesInside}
+use Rattle.tangle_plans.specs.Shapes.{Shapes}
 use Rattle.tangle_plans.specs.declared.nodes.NodeBody.{NodeBody}
 use Rattle.digraph.specs.Graph.{Graph, InRange, row_at}
-use Rattle.digraph.specs.Rows.{IsOnceEach, IsRowsOf}
-use Rattle.tangle_graph.specs.Grouping.{positions_of}
-use Rattle.tangle_graph.specs.Groups.{IsGraphOf}
-use Rattle.tangle_graph.specs.Plans.{AreBodies, node_bodies}
-use Rattle.tangle_graph.specs.NameGraphs.{AreUsesOf, IsNameGraphOf}
-use Rattle.tangle_graph.specs.declared.name_graph.NameGraph.{NameGraph}
-use Rattle.tangle_graph.proofs.BodyLemmas.{names_inside, uses_of_read}
-use Rattle.tangle_graph.proofs.GraphLemmas.{graph_of}
-use Rattle.tangle_graph.proofs.UsesLemmas.{uses_collected}
+use Rattle.digraph.specs.Rows.{IsOnceEach}
+use Rattle.tangle_graph.specs.Bodies.{AreBodiesOf, node_bodies}
+use Rattle.tangle_graph.specs.NameGraphs.{AreUsesOf}
+use Rattle.tangle_graph.proofs.BodyLemmas.{uses_of_read}
 
--- the uses of the graph of names are those of the web
-pub graph_over : (web : WebRead) (table : TableRead)
-    (pieces : List (List ℕ)) (bodies : List NodeBody) (name_graph : NameGraph)
-    → IsDistinct bytes_eq table.names → ResolvesInside table
-    → IsRowsOf (length table.names + 1) (positions_of table web.pieces) pieces
-    → AreBodies web table pieces bodies → IsNameGraphOf (map body_uses bodies) name_graph
-    → IsGraphOf web table pieces name_graph.uses
-graph_over web table pieces bodies name_graph distinct inside grouped are is =
-    graph_of web table pieces (map body_uses bodies) name_graph.uses distinct inside grouped
-    (uses_collected web table pieces bodies grouped are) is.uses is.range
-
--- the nodes of the names that are used are there, if there is a node for each name and the program
-pub nodes_inside : (count size : ℕ) (ids : List (List ℕ))
-    → size ≡ count + 1 → All (All (λ id. id < count)) ids → All (All (λ id. suc id < size)) ids
-nodes_inside count size ids e all k row h j id low = (let below = all k row h j id low in omega (arith, below, e))
-
--- the bodies of a web use names of the table
-pub uses_inside : (web : WebRead) (table : TableRead) (pieces : List (List ℕ)) (bodies : List NodeBody)
-    → ResolvesInside table → AreBodies web table pieces bodies
-    → All (All (λ id. id < length table.names)) (map body_uses bodies)
-uses_inside web table pieces bodies inside are =
-    All-map (All (λ id. id < length table.names)) body_uses bodies
+-- the nodes of the names that bodies use have bodies
+pub uses_inside : (shapes : Shapes) (names : List (List ℕ)) (bodies : List (Rc NodeBody Global))
+    → AreBodiesOf shapes names (node_bodies bodies)
+    → All (All (λ id. suc id < length bodies)) (map body_uses (node_bodies bodies))
+uses_inside shapes names bodies are =
+    All-map (All (λ id. suc id < length bodies)) body_uses (node_bodies bodies)
     (λ k d h. (let found = are.each k (omega (arith, h, are.size)) in
-    subst (λ (body : NodeBody). All (λ id. id < length table.names) (body_uses body))
-    (sym (get_or_from_slice_get bodies k found.0 d found.1))
-    (names_inside web table pieces k found.0 inside found.2)))
+    subst (λ (body : NodeBody). All (λ id. suc id < length bodies) (body_uses body))
+    (sym (get_or_from_slice_get (node_bodies bodies) k found.0 d found.1))
+    (λ i e low. (let inside = found.2.inside i e low in
+    omega (arith, inside, are.size, length-map bodies (λ (t : Rc NodeBody Global). t.value))))))
 
 module _ (ids : List (List ℕ)) (rows : Graph) (are : AreUsesOf ids rows) where
   pub each_increasing : All IsStrictlyIncreasing rows

@@ -1,6 +1,6 @@
 -- What holds of each output file of a web.
 use Rattle.std.proofs.Common.{◌≡◌, ◌<◌, ◌==◌, suc, ◌||◌, ℕ, Bool, true, false, List, [], ◌∷◌, length, map, filter}
-use Rattle.std.proofs.Common.{flat_map, refl, ◌∙◌, sym, subst, inl, inr, arith}
+use Rattle.std.proofs.Common.{flat_map, refl, sym, subst, inl, inr, arith}
 use Rattle.std.specs.Prelude.{not, if◌then◌else◌, Contains, All, option_to_list}
 use Rattle.std.specs.Str.{bytes_eq}
 use Rattle.std.proofs.lemmas.Bool.{and_parts}
@@ -63,14 +63,19 @@ module _ (web : WebRead) (table : TableRead) (resolves : ResolvesInside table) w
       (λ occurrence. below_one (resolved_at table occurrence) (resolves occurrence)) (file_occurrences web table))
 
   module _ (out : List ℕ) where
-    main_fits : (b e : Bool) → b ≡ shape_has_piece (shapes web table title.Program)
-        → e ≡ is_expandable (shapes web table) title.Program → (not b || e) ≡ true
-        → IsFit (shapes web table) table.names
-        (record { name = out; node = program; has_macros = not web.has_all_macros; has_piece = b })
-    main_fits b e is_b is_e h = record {
+    main_fits : (not (shape_has_piece (shapes web table title.Program))
+        || is_expandable (shapes web table) title.Program) ≡ true
+        → IsFit (shapes web table) table.names (record {
+          name = out;
+          node = program;
+          has_macros = not web.has_all_macros;
+          has_piece = shape_has_piece (shapes web table title.Program);
+        })
+    main_fits h = record {
       inside = omega arith;
-      there = λ t. (expandable_is (shapes web table) title.Program).0 (sym is_e ∙ second b e t h);
-      none = λ f. no_pieces (shapes web table title.Program) (sym is_b ∙ f);
+      there = λ t. (expandable_is (shapes web table) title.Program).0
+          (second (shape_has_piece (shapes web table title.Program)) (is_expandable (shapes web table) title.Program) t h);
+      none = no_pieces (shapes web table title.Program);
     }
       where
         second : (b e : Bool) → b ≡ true → (not b || e) ≡ true → e ≡ true
@@ -101,8 +106,7 @@ module _ (web : WebRead) (table : TableRead) (resolves : ResolvesInside table) w
                 has_piece = shape_has_piece (shapes web table title.Program);
               }) output main in
               subst (IsFit (shapes web table) table.names) found.1
-              (main_fits (shape_has_piece (shapes web table title.Program))
-              (is_expandable (shapes web table) title.Program) refl refl found.0))
+              (main_fits found.0))
           | inr named ↦ (let found =
               out_of_map (named_file table) (filter (is_written web table out) (file_names web table)) output named in
               let passes = out_of_filter (is_written web table out) (file_names web table) found.0 found.1 in

@@ -6,7 +6,9 @@ use Rattle.std.specs.declared.rc.Rc.{Rc}
 use Rattle.std.specs.Prelude.{slice_get, IfSome, None, Option, Some}
 use Rattle.std.proofs.lemmas.List.{length-map, map-append}
 use Rattle.tangle_plans.specs.declared.nodes.NodeBody.{NodeBody}
-use Rattle.tangle_graph.specs.Plans.{AreNewBodies, IsBodyAt, IsNewBody, node_bodies}
+use Rattle.tangle_graph.specs.Bodies.{IsBodyOf, node_bodies}
+use Rattle.tangle_graph.specs.Plans.{AreNewBodies, IsNewBody}
+use Rattle.tangle_plans.specs.WebShapes.{shapes}
 use Rattle.tangle_graph.specs.declared.bodies.GroupedWeb.{GroupedWeb}
 use Rattle.tangle_graph.specs.Stores.{StoreRead}
 use Rattle.std.specs.Borrow.{Bor}
@@ -14,7 +16,7 @@ use Rattle.std.specs.Borrow.{Bor}
 -- the node has this body, and its shape is flagged if it is not that of the old store
 abbrev pub IsBodyMade : GroupedWeb → Option (Bor StoreRead) → ℕ → Bool → NodeBody → Type 0
 IsBodyMade grouped old node flag body =
-    IsBodyAt grouped.web.now grouped.table.now grouped.pieces.now node body
+    IsBodyOf (shapes grouped.web.now grouped.table.now) grouped.names.now node body
     × IfSome old (λ store. IsNewBody store.now grouped.names.now node flag body)
 
 -- the relation holds of each position with the item there, if the position is flagged

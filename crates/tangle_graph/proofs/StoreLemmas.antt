@@ -1,13 +1,13 @@
 -- What a row of pieces, a weight and a depth say of a node.
 use Rattle.std.proofs.Common.{◌≡◌, ◌≢◌, ◌∙◌, ◌<◌, ◌≤◌, ◌+◌, ◌↔◌, ◌&&◌, ℕ, min, Bool, true, false, List, [], ◌∷◌, length}
-use Rattle.std.proofs.Common.{eqb, filter, get_or, not, refl, ap, sym, subst, arith}
+use Rattle.std.proofs.Common.{filter, get_or, refl, ap, sym, subst, arith}
 use Rattle.std.specs.Prelude.{Option, Some, None, nat_lt, nat_le}
 use Rattle.std.proofs.Math.Decide.{dec_lt}
 use Rattle.std.proofs.lemmas.Bool.Decides.{nat_tests}
 use Rattle.std.proofs.lemmas.Slice.Eq.{bytes_eq-Decides}
 use Rattle.std.proofs.lemmas.Bool.{and_parts}
 use Rattle.tangle_plans.specs.Shapes.{Title, Named, Shape, Shapes}
-use Rattle.tangle_plans.specs.Flat.{weight, depth}
+use Rattle.tangle_plans.specs.Flat.{weight, depth, pieces_depth}
 use Rattle.tangle_expansion.specs.Limits.{levels, heaviest, weight_cap, weight_of, depth_of, IsExpandableNode}
 use Rattle.tangle_scan.specs.Web.{PieceRead}
 use Rattle.tangle_names.specs.declared.Resolved.{Resolved}
@@ -17,6 +17,8 @@ use Rattle.tangle_plans.specs.WebShapes.{resolved_at, node_of, node_of_occurrenc
 use Rattle.tangle_plans.specs.WebShapes.{ResolvesInside, shapes}
 use Rattle.tangle_graph.specs.Outputs.{shape_has_piece, is_expandable}
 use Rattle.tangle_plans.specs.Nodes.{row_has_piece}
+use Rattle.tangle_graph.specs.Measures.{measure_of}
+use Rattle.tangle_graph.specs.declared.measures.Measure.{Measure}
 use Rattle.tangle_graph.proofs.MeasureLemmas.{weight-settles}
 
 -- Whether a node is expandable, by its capped weight and depth.
@@ -71,27 +73,35 @@ expandable_is shapes node = (
       (let h = x.shallow in grind (arith, nat_tests)) (let h = x.light in grind (arith, nat_tests)),
 )
 
-pub row_not_empty : (row : List ℕ) → not (eqb (length row) 0) ≡ row_has_piece row
-row_not_empty [] = refl
-row_not_empty (n ∷ row) = (let apart : eqb (length (n ∷ row)) 0 ≡ false = grind (arith, nat_tests) in ap not apart)
-
 -- a shape is empty if the row of pieces is
 pub piece_of_row : (row : List ℕ) (s : Shape) → length s ≡ length row → (row_has_piece row ≡ true) ↔ (s ≢ [])
 piece_of_row row s e = subst (λ b. (b ≡ true) ↔ (s ≢ [])) (sym (piece_in_both row s e)) (piece_of_shape s)
 
--- the test of a node's pieces, capped weight and capped depth gives whether the node is expandable
-pub expandable_by_limits : (shapes : Shapes) (node : Title) (row : List ℕ) (w d : ℕ)
-    → length (shapes node) ≡ length row → w ≡ weight_of shapes node → d ≡ depth_of shapes node
-    → (row_has_piece row && (nat_lt d levels && nat_le w heaviest)) ≡ is_expandable shapes node
-expandable_by_limits shapes node row w d size weighed measured =
-    (λ i. piece_in_both row (shapes node) size i && (nat_lt (measured i) levels && nat_le (weighed i) heaviest))
-    ∙ ap (λ b. shape_has_piece (shapes node) && b) (elim (dec_lt (depth levels shapes node) levels) [
+-- the test of a capped weight and depth gives whether the node is expandable
+pub expandable_by_limits : (shapes : Shapes) (node : Title) (w d : ℕ)
+    → shape_has_piece (shapes node) ≡ true → w ≡ weight_of shapes node → d ≡ depth_of shapes node
+    → (nat_lt d levels && nat_le w heaviest) ≡ is_expandable shapes node
+expandable_by_limits shapes node w d has weighed measured =
+    (λ i. nat_lt (measured i) levels && nat_le (weighed i) heaviest)
+    ∙ elim (dec_lt (depth levels shapes node) levels) [
       | yes low ↦ ap (λ b. nat_lt (depth levels shapes node) levels && b)
           (light_of weight_cap heaviest (weight levels shapes node)
           (weight weight_cap shapes node) one_more (weight_same shapes node low))
       | no deep ↦ (let none : nat_lt (depth levels shapes node) levels ≡ false = grind (arith, nat_tests) in
           rw none refl)
-    ])
+    ]
+    ∙ (λ i. sym has i && (nat_lt (depth levels shapes node) levels && nat_le (weight levels shapes node) heaviest))
+
+-- the depth that is recorded of a node says whether it has a piece
+pub piece_by_measure : (shapes : Shapes) (node : Title) (m : Measure) → m ≡ measure_of shapes node
+    → nat_lt 0 m.depth ≡ shape_has_piece (shapes node)
+unfolding levels
+piece_by_measure shapes node m e = ap (λ (n : Measure). nat_lt 0 n.depth) e ∙ by (shapes node)
+  where
+    by : (s : Shape)
+        → nat_lt 0 (pieces_depth (λ name. depth 1000 shapes (Named name)) s) ≡ shape_has_piece s
+    by [] = refl
+    by (x ∷ s) = grind (arith, nat_tests)
 
 -- a name with a piece is in the table
 module _ (table : TableRead) (inside : ResolvesInside table) (name : List ℕ) where

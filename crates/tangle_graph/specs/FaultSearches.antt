@@ -2,16 +2,17 @@
 use Rattle.std.specs.Prelude.{◌≡◌, ◌<◌, ◌≤◌, ◌↔◌, ℕ, true, List, flat_map, length}
 use Rattle.std.specs.Prelude.{slice_index_or, Option}
 use Rattle.digraph.specs.Nodes.{Node}
+use Rattle.digraph.specs.Reach.{ContainsItself, ReachesCycle}
 use Rattle.tangle_faults.specs.Faults.{FaultRead}
 use Rattle.tangle_faults.specs.declared.faults.FaultKind.{FaultKind}
-use Rattle.tangle_names.specs.declared.first_numbers.Counted.TheVariants.{Uses}
+use Rattle.tangle_names.specs.declared.first_numbers.Counted.TheVariants as counted
 use Rattle.tangle_names.specs.Numbers.{first_by_number}
 use Rattle.tangle_names.specs.Resolving.{resolve}
-use Rattle.tangle_plans.specs.Shapes.{ContainsItself}
 use Rattle.tangle_plans.specs.WebShapes.{shapes}
 use Rattle.tangle_graph.specs.Faults.{has_piece_of_node, fault_of, fault_occurrence}
-use Rattle.tangle_graph.specs.Faults.{faults_of_names, ReachesCycle}
+use Rattle.tangle_graph.specs.Faults.{faults_of_names}
 use Rattle.tangle_plans.specs.Nodes.{title_at}
+use Rattle.tangle_plans.specs.Shapes.{Uses}
 use Rattle.tangle_graph.specs.Outputs.{is_expandable}
 use Rattle.tangle_graph.specs.Stores.{contains_itself_at, flag_at, has_piece_at}
 use Rattle.tangle_graph.specs.Stores.{is_expandable_at}
@@ -25,18 +26,19 @@ module _ (search : FaultSearch) where
         → has_piece_at search.store.now n ≡ has_piece_of_node search.web.now search.table.now n
     pub containing : (n : Node) → n ≤ length search.table.now.names
         → (contains_itself_at search.store.now n ≡ true)
-        ↔ ContainsItself (shapes search.web.now search.table.now)
+        ↔ ContainsItself (Uses (shapes search.web.now search.table.now))
         (title_at search.table.now.names n)
     pub reaching : (n : Node) → n ≤ length search.table.now.names
         → (flag_at search.store.now.reaching_cycles n ≡ true)
-        ↔ ReachesCycle (shapes search.web.now search.table.now) (title_at search.table.now.names n)
+        ↔ ReachesCycle (Uses (shapes search.web.now search.table.now)) (title_at search.table.now.names n)
     pub expandable : (n : Node) → n ≤ length search.table.now.names
         → is_expandable_at search.store.now n
         ≡ is_expandable (shapes search.web.now search.table.now) (title_at search.table.now.names n)
     pub uses_size : length search.first_uses.items ≡ length search.table.now.names
     pub first_uses : (id : ℕ) → id < length search.table.now.names
         → slice_index_or search.first_uses.items id 0
-        ≡ first_by_number (resolve search.web.now.occurrences) Uses search.web.now.occurrences id
+        ≡ first_by_number (resolve search.web.now.occurrences) counted.Uses
+        search.web.now.occurrences id
 
   -- the occurrence at which the name has a fault of this kind, if it has one
   abbrev pub fault_number : FaultKind → ℕ → Option ℕ

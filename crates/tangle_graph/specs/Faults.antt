@@ -7,6 +7,7 @@ use Rattle.std.specs.Prelude.{option_to_list, is_some, position, if◌then◌els
 use Rattle.std.specs.List.{range_with_len}
 use Rattle.std.specs.Str.{bytes_eq}
 use Rattle.digraph.specs.Nodes.{Node, program}
+use Rattle.digraph.specs.Reach.{ContainsItself, ReachesCycle}
 use Rattle.tangle_faults.specs.declared.faults.FaultKind.{FaultKind}
 use Rattle.tangle_faults.specs.declared.faults.FaultKind.TheVariants as kind
 use Rattle.tangle_faults.specs.Faults.{FaultRead, fault_about, fault_unplaced}
@@ -15,15 +16,10 @@ use Rattle.tangle_names.specs.Faults.{named_place_of}
 use Rattle.tangle_names.specs.NameTable.{TableRead}
 use Rattle.tangle_names.specs.Numbers.{is_number, is_use}
 use Rattle.tangle_names.specs.Resolving.{resolve}
-use Rattle.tangle_plans.specs.Shapes.{Title, Shapes, Reaches, ContainsItself}
+use Rattle.tangle_plans.specs.Shapes.{Uses}
 use Rattle.tangle_plans.specs.WebShapes.{shapes}
 use Rattle.tangle_plans.specs.Nodes.{title_at}
 use Rattle.tangle_graph.specs.Outputs.{shape_has_piece, is_expandable, name_with_number}
-
--- the node with this title is a name that contains itself, or reaches one
-abbrev pub ReachesCycle : Shapes → Title → Type 0
-ReachesCycle shapes title =
-    (other : Title) × Reaches shapes title other × ContainsItself shapes other
 
 -- a fault about a name, at the occurrence with this number, or none where there is no number
 module _ (web : WebRead) (table : TableRead) where
@@ -118,7 +114,7 @@ pub record AreGraphFaults (web : WebRead) (table : TableRead)
   pub contains_itself : Node → Bool
   pub reaches_cycle : Node → Bool
   pub self_containing : (n : Node) → n ≤ length table.names
-      → (contains_itself n ≡ true) ↔ ContainsItself (shapes web table) (title_at table.names n)
+      → (contains_itself n ≡ true) ↔ ContainsItself (Uses (shapes web table)) (title_at table.names n)
   pub reaching_cycles : (n : Node) → n ≤ length table.names
-      → (reaches_cycle n ≡ true) ↔ ReachesCycle (shapes web table) (title_at table.names n)
+      → (reaches_cycle n ≡ true) ↔ ReachesCycle (Uses (shapes web table)) (title_at table.names n)
   pub list : faults ≡ graph_faults web table out contains_itself reaches_cycle

@@ -1,14 +1,12 @@
--- The pieces of each node, and the names that it uses.
-use Rattle.std.specs.Prelude.{ℕ, suc, Bool, false, ◌==◌, List, filter, Option}
-use Rattle.std.specs.Prelude.{None, Some, slice_index_or, take}
+-- The pieces of each node.
+use Rattle.std.specs.Prelude.{ℕ, suc, Bool, false, ◌==◌, List, Option}
+use Rattle.std.specs.Prelude.{None, Some}
 use Rattle.tangle_scan.specs.Web.{PieceRead}
 use Rattle.tangle_names.specs.declared.Resolved.{Resolved}
 use Rattle.tangle_names.specs.declared.Resolved.TheVariants.{Name, NoFullName, Ambiguous}
 use Rattle.tangle_names.specs.NameTable.{TableRead}
 use Rattle.tangle_plans.specs.WebShapes.{resolved_at}
-use Rattle.tangle_plans.specs.ItemTags.{pieces_uses}
 use Rattle.std.specs.Option.{option_map}
-use Rattle.digraph.specs.Graph.{row_at}
 use Rattle.digraph.specs.Nodes.{Node, program}
 use Rattle.digraph.specs.Users.{positions}
 
@@ -17,6 +15,10 @@ abbrev pub resolved_number : Resolved → Option ℕ
 resolved_number (Name id) = Some id
 resolved_number NoFullName = None
 resolved_number Ambiguous = None
+
+abbrev pub has_number_in : ℕ → Option ℕ → Bool
+has_number_in n None = false
+has_number_in n (Some m) = m == n
 
 module _ (table : TableRead) where
   -- The node that a piece belongs to, by the occurrence that defines it. A piece without an
@@ -27,23 +29,10 @@ module _ (table : TableRead) where
   node_of_piece (Some occurrence) =
       option_map suc (resolved_number (resolved_at table occurrence))
 
-abbrev pub has_number_in : ℕ → Option ℕ → Bool
-has_number_in n None = false
-has_number_in n (Some m) = m == n
-
--- the first numbers of row `n`: their count is entry `n` of `passed`
-abbrev pub passed_of : List (List ℕ) → List ℕ → ℕ → List ℕ
-passed_of rows passed n = take (slice_index_or passed n 0) (row_at rows n)
-
-module _ (table : TableRead) where
   -- the piece is one of the node
   abbrev pub is_piece_of_node : Node → PieceRead → Bool
-  is_piece_of_node n piece = has_number_in n (node_of_piece table piece.occurrence)
+  is_piece_of_node n piece = has_number_in n (node_of_piece piece.occurrence)
 
   -- the positions of the node's pieces
   abbrev pub positions_of : List PieceRead → Node → List ℕ
   positions_of pieces n = positions (is_piece_of_node n) 0 pieces
-
-  -- the names that the pieces of the node use, each as often as it is used
-  abbrev pub used_numbers : List PieceRead → Node → List ℕ
-  used_numbers pieces n = pieces_uses table (filter (is_piece_of_node n) pieces)

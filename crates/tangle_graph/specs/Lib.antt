@@ -1,6 +1,6 @@
 pub mod Nodes
 pub mod Grouping
-pub mod Groups
+pub mod Bodies
 pub mod Measures
 pub mod Outputs
 pub mod Stores

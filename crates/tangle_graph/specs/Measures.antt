@@ -1,32 +1,48 @@
--- The weights and the depths of the nodes of a graph.
-use Rattle.std.specs.Prelude.{◌≡◌, ◌<◌, ℕ, List, length, slice_index, Contains}
-use Rattle.digraph.specs.Graph.{Graph}
+-- The weights and the depths of nodes, and which nodes are expandable.
+use Rattle.std.specs.Prelude.{◌≡◌, ◌<◌, ℕ, suc, max, false, List, [], ◌∷◌, length, slice_index_or}
+use Rattle.std.specs.Prelude.{Contains}
 use Rattle.digraph.specs.Nodes.{Node}
-use Rattle.tangle_scan.specs.Web.{WebRead}
-use Rattle.tangle_names.specs.NameTable.{TableRead}
 use Rattle.tangle_plans.specs.Nodes.{title_at}
-use Rattle.tangle_plans.specs.WebShapes.{ResolvesInside, shapes}
-use Rattle.tangle_plans.specs.declared.nodes.NodeBody.{NodeBody}
+use Rattle.tangle_plans.specs.Shapes.{Shapes, Title, Named}
 use Rattle.tangle_expansion.specs.Limits.{weight_of, depth_of}
-use Rattle.tangle_graph.specs.Groups.{IsGraphOf}
-use Rattle.tangle_graph.specs.Plans.{AreBodies}
+use Rattle.tangle_graph.specs.Nodes.{IsNodeOf}
+use Rattle.tangle_graph.specs.Outputs.{is_expandable}
+use Rattle.tangle_graph.specs.declared.measures.Measure.{Measure}
 
--- each node of the list has its own value, and each other node has the value `other`
-pub record AreMeasured (value : ℕ → ℕ) (other : ℕ) (values nodes : List ℕ) : Type 0 where
-  pub listed : (n : ℕ) → Contains nodes n → slice_index values n ≡ value n
-  pub unlisted : (n : ℕ) → n < length values → ¬ (Contains nodes n) → slice_index values n ≡ other
+-- what holds of a node without a piece
+abbrev pub no_piece_measure : Measure
+no_piece_measure = record { weight = 0; depth = 0; is_expandable = false }
 
--- these are the weights of the nodes of each web whose nodes have these uses and bodies
-abbrev pub AreWeights : Graph → List NodeBody → List ℕ → Type 0
-AreWeights uses bodies weights =
-    (web : WebRead) (table : TableRead) (rows : List (List ℕ))
-    → IsGraphOf web table rows uses → AreBodies web table rows bodies → ResolvesInside table
-    → (n : Node) → n < length uses
-    → slice_index weights n ≡ weight_of (shapes web table) (title_at table.names n)
+-- what is recorded of a node; where nothing is, the node counts as one without a piece
+abbrev pub measure_at : List Measure → Node → Measure
+measure_at measures node = slice_index_or measures node no_piece_measure
 
--- these are the depths of the nodes of each web whose nodes have these pieces and uses
-abbrev pub AreDepths : List (List ℕ) → Graph → List ℕ → Type 0
-AreDepths rows uses depths =
-    (web : WebRead) (table : TableRead) → IsGraphOf web table rows uses
-    → (n : Node) → n < length uses
-    → slice_index depths n ≡ depth_of (shapes web table) (title_at table.names n)
+-- the greatest of the values of these items, or 0 if there is none
+abbrev pub greatest_by : {X : Type 0} → (X → ℕ) → List X → ℕ
+greatest_by f [] = 0
+greatest_by f (x ∷ xs) = max (f x) (greatest_by f xs)
+
+-- what holds of the node with this title
+abbrev pub measure_of : Shapes → Title → Measure
+measure_of shapes title = record {
+  weight = weight_of shapes title;
+  depth = depth_of shapes title;
+  is_expandable = is_expandable shapes title;
+}
+
+-- what is recorded of each node holds of it
+abbrev pub AreMeasures : Shapes → List (List ℕ) → List Measure → Type 0
+AreMeasures shapes names measures = (node : Node) → IsNodeOf names node
+    → measure_at measures node ≡ measure_of shapes (title_at names node)
+
+-- what is recorded of the names with these numbers holds of them
+abbrev pub AreUsesMeasured : Shapes → List (List ℕ) → List Measure → List ℕ → Type 0
+AreUsesMeasured shapes names measures uses = (id : ℕ) → Contains uses id
+    → measure_at measures (suc id) ≡ measure_of shapes (Named (slice_index_or names id []))
+
+-- each node of the list has its own measure, and each other node has the measure `other`
+pub record AreMeasured (measure : Node → Measure) (other : Measure)
+    (measures : List Measure) (nodes : List Node) : Type 0 where
+  pub listed : (n : Node) → Contains nodes n → measure_at measures n ≡ measure n
+  pub unlisted : (n : Node)
+      → n < length measures → ¬ (Contains nodes n) → measure_at measures n ≡ other

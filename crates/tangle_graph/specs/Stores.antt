@@ -1,23 +1,26 @@
 -- What a store records of a web: for each node its pieces, its uses and users, its weight and
 -- depth, and whether it contains itself or reaches a name that does.
 use Rattle.std.specs.Prelude.{◌≡◌, ◌≢◌, ◌<◌, ◌↔◌, ◌+◌, ℕ, Bool, true, false}
-use Rattle.std.specs.Prelude.{◌&&◌, nat_lt, nat_le, if◌then◌else◌}
-use Rattle.std.specs.Prelude.{slice_get, slice_index, slice_index_or, List, [], length, map}
-use Rattle.std.specs.Prelude.{AllPairs, Contains, Option, Some}
-use Rattle.tangle_plans.specs.Shapes.{Title, Named, Shape, Shapes, Uses, ContainsItself}
+use Rattle.std.specs.Prelude.{nat_lt, nat_le, if◌then◌else◌}
+use Rattle.std.specs.Prelude.{slice_get, slice_index_or, List, [], length, map}
+use Rattle.std.specs.Prelude.{AllPairs, Contains, Option}
+use Rattle.tangle_plans.specs.Shapes.{Title, Named, Shape, Shapes, Uses}
 use Rattle.tangle_plans.specs.Flat.{Symbol}
 use Rattle.tangle_expansion.specs.Kept.{used_symbols}
 use Rattle.tangle_plans.specs.Meaning.{body_flat}
-use Rattle.tangle_plans.specs.NodeBodies.{HoldsShape, body_uses}
-use Rattle.tangle_expansion.specs.Limits.{levels, heaviest, flat_of, weight_of, depth_of}
-use Rattle.tangle_expansion.specs.Limits.{IsExpandableNode}
+use Rattle.tangle_plans.specs.NodeBodies.{body_uses}
+use Rattle.tangle_expansion.specs.Limits.{flat_of}
 use Rattle.tangle_expansion.specs.Outputs.{OutputRead}
 use Rattle.tangle_plans.specs.declared.nodes.NodeBody.{NodeBody}
 use Rattle.tangle_expansion.specs.declared.kept.Kept.{Kept}
 use Rattle.digraph.specs.Graph.{Graph, row_at}
 use Rattle.digraph.specs.Nodes.{Node}
-use Rattle.tangle_plans.specs.Nodes.{row_has_piece, title_at}
-use Rattle.tangle_graph.specs.Nodes.{IsNodeOf, UsesTitle}
+use Rattle.digraph.specs.Reach.{ContainsItself}
+use Rattle.tangle_plans.specs.Nodes.{title_at}
+use Rattle.tangle_graph.specs.Bodies.{AreBodiesOf}
+use Rattle.tangle_graph.specs.Measures.{AreMeasures, measure_at}
+use Rattle.tangle_graph.specs.Nodes.{IsNodeOf}
+use Rattle.tangle_graph.specs.declared.measures.Measure.{Measure}
 
 -- the bytes of the names, and lists with an entry for each node
 pub record StoreRead : Type 0 where
@@ -29,9 +32,8 @@ pub record StoreRead : Type 0 where
   pub self_containing : List Bool
   -- the node reaches a name that contains itself
   pub reaching_cycles : List Bool
-  pub weights : List ℕ
-  pub depths : List ℕ
-  pub expandable : List Bool
+  -- the node's weight and depth, and whether it is expandable
+  pub measures : List Measure
   pub outputs : List OutputRead
   -- the node's body
   pub bodies : List NodeBody
@@ -41,9 +43,6 @@ abbrev pub flag_at : List Bool → Node → Bool
 flag_at flags node = slice_index_or flags node false
 
 module _ (store : StoreRead) where
-  abbrev pub has_piece_at : Node → Bool
-  has_piece_at node = row_has_piece (row_at store.pieces node)
-
   abbrev pub uses_at : Node → List Node
   uses_at node = row_at store.uses node
 
@@ -54,13 +53,17 @@ module _ (store : StoreRead) where
   contains_itself_at node = flag_at store.self_containing node
 
   abbrev pub weight_at : Node → ℕ
-  weight_at node = slice_index_or store.weights node 0
+  weight_at node = (measure_at store.measures node).weight
 
   abbrev pub depth_at : Node → ℕ
-  depth_at node = slice_index_or store.depths node 0
+  depth_at node = (measure_at store.measures node).depth
+
+  -- only a node without a piece has the depth 0
+  abbrev pub has_piece_at : Node → Bool
+  has_piece_at node = nat_lt 0 (depth_at node)
 
   abbrev pub is_expandable_at : Node → Bool
-  is_expandable_at node = flag_at store.expandable node
+  is_expandable_at node = (measure_at store.measures node).is_expandable
 
   abbrev pub body_at : Node → Option NodeBody
   body_at node = slice_get store.bodies node
@@ -85,7 +88,7 @@ module _ (store : StoreRead) where
 -- the node uses the name with this number
 pub record UsesNumber (shapes : Shapes) (store : StoreRead) (node : Node) (id : ℕ) : Type 0 where
   pub inside : id < length store.names
-  pub uses : Uses shapes (title_in_store store node) (slice_index_or store.names id [])
+  pub uses : Uses shapes (title_in_store store node) (Named (slice_index_or store.names id []))
 
 -- for each name that the node uses, the symbols that are kept are the name's own; a name without a
 -- piece has none
@@ -98,48 +101,24 @@ KeepsUsed shapes store kept node =
 -- node that it does not have it gives what holds for a node without a piece.
 pub record IsStoreOf (shapes : Shapes) (store : StoreRead) : Type 0 where
   -- there is one entry for each node
-  pub pieces_size : length store.pieces ≡ length store.names + 1
-  pub expandable_size : length store.expandable ≡ length store.names + 1
-  pub bodies_size : length store.bodies ≡ length store.names + 1
-  -- each title is that of one node, and each name that has a piece or is used has a node
+  pub measures_size : length store.measures ≡ length store.names + 1
+  pub measures : AreMeasures shapes store.names store.measures
+  pub bodies : AreBodiesOf shapes store.names store.bodies
+  -- each title is that of one node, and each name that has a piece has a node
   pub once : (a b : Node) → IsNodeIn store a → IsNodeIn store b
       → title_in_store store a ≡ title_in_store store b → a ≡ b
   pub known : (name : List ℕ) → shapes (Named name) ≢ []
       → (a : Node) × IsNodeIn store a × (title_in_store store a ≡ Named name)
-  pub used : (a : Node) (name : List ℕ)
-      → IsNodeIn store a → Uses shapes (title_in_store store a) name
-      → (b : Node) × IsNodeIn store b × (title_in_store store b ≡ Named name)
-  pub has_piece : (a : Node)
-      → IsNodeIn store a → ((has_piece_at store a ≡ true) ↔ (shapes (title_in_store store a) ≢ []))
   pub uses : (a b : Node) → IsNodeIn store a
       → (Contains (uses_at store a) b
-      ↔ (IsNodeIn store b × UsesTitle shapes (title_in_store store a) (title_in_store store b)))
+      ↔ (IsNodeIn store b × Uses shapes (title_in_store store a) (title_in_store store b)))
   pub users : (a b : Node) → IsNodeIn store a
       → (Contains (users_at store a) b
-      ↔ (IsNodeIn store b × UsesTitle shapes (title_in_store store b) (title_in_store store a)))
+      ↔ (IsNodeIn store b × Uses shapes (title_in_store store b) (title_in_store store a)))
   pub uses_once : (a : Node) → IsNodeIn store a → AllPairs (λ b c. b ≢ c) (uses_at store a)
   pub users_once : (a : Node) → IsNodeIn store a → AllPairs (λ b c. b ≢ c) (users_at store a)
   pub contains_itself : (a : Node) → IsNodeIn store a
-      → ((contains_itself_at store a ≡ true) ↔ ContainsItself shapes (title_in_store store a))
-  pub weights : (a : Node)
-      → IsNodeIn store a → weight_at store a ≡ weight_of shapes (title_in_store store a)
-  pub depths : (a : Node)
-      → IsNodeIn store a → depth_at store a ≡ depth_of shapes (title_in_store store a)
-  pub expandable : (a : Node) → IsNodeIn store a
-      → ((is_expandable_at store a ≡ true) ↔ IsExpandableNode shapes (title_in_store store a))
-  -- the body of a node determines its shape
-  pub shape_held : (a : Node) → IsNodeIn store a
-      → (body : NodeBody) × (body_at store a ≡ Some body)
-      × HoldsShape store.names (shapes (title_in_store store a)) body
-
--- a flag for each node: whether it has a piece, and its weight and depth are within the limits
-pub record AreWithin (pieces : List (List ℕ))
-    (weights depths : List ℕ) (flags : List Bool) : Type 0 where
-  pub size : length flags ≡ length pieces
-  pub flag : (n : Node) → n < length pieces
-      → slice_index_or flags n false
-      ≡ (row_has_piece (row_at pieces n)
-      && (nat_lt (slice_index depths n) levels && nat_le (slice_index weights n) heaviest))
+      → ((contains_itself_at store a ≡ true) ↔ ContainsItself (Uses shapes) (title_in_store store a))
 
 -- exactly those nodes of the new store are flagged whose shape is not that of the old store
 abbrev pub AreNewShapes : StoreRead → StoreRead → List Bool → Type 0

@@ -3,9 +3,10 @@ use Rattle.std.specs.Prelude.{◌≡◌, ◌≤◌, ◌↔◌, ℕ, true, false,
 use Rattle.tangle_scan.specs.Web.{WebRead}
 use Rattle.tangle_names.specs.NameTable.{TableRead}
 use Rattle.digraph.specs.Nodes.{Node}
+use Rattle.digraph.specs.Reach.{ReachesCycle}
 use Rattle.tangle_plans.specs.Nodes.{IsGroupedBy, title_at}
 use Rattle.tangle_plans.specs.WebShapes.{shapes}
-use Rattle.tangle_graph.specs.Faults.{ReachesCycle}
+use Rattle.tangle_plans.specs.Shapes.{Uses}
 use Rattle.tangle_graph.specs.Outputs.{outputs}
 use Rattle.tangle_graph.specs.Stores.{StoreRead, IsStoreOf}
 
@@ -19,6 +20,6 @@ pub record IsStoreOfWeb (web : WebRead) (table : TableRead)
   pub names : made.names ≡ table.names
   pub reaching_cycles : (n : Node) → n ≤ length table.names
       → (slice_index_or made.reaching_cycles n false ≡ true)
-      ↔ ReachesCycle (shapes web table) (title_at table.names n)
+      ↔ ReachesCycle (Uses (shapes web table)) (title_at table.names n)
   pub outputs : made.outputs ≡ outputs web table out
   pub grouped : IsGroupedBy web table made.pieces

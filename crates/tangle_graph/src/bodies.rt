@@ -4,12 +4,13 @@ ghost use Rattle.std.specs.Prelude.{true, MatchOption, None};
 ghost use Rattle.digraph.specs.Nodes.{Node};
 ghost use Rattle.tangle_plans.specs.Meaning.{title_of};
 ghost use Rattle.tangle_plans.specs.NodeBodies.{HoldsShape, body_items, body_title, body_uses};
-ghost use Rattle.tangle_plans.specs.Nodes.{title_at};
+ghost use Rattle.tangle_plans.specs.Nodes.{row_has_piece, title_at};
 ghost use Rattle.tangle_plans.specs.Shapes.{Shapes};
+ghost use Rattle.tangle_plans.specs.WebShapes.{shapes};
+ghost use Rattle.tangle_graph.specs.Bodies.{AreBodiesOf, IsBodyOf, node_bodies};
 ghost use Rattle.tangle_graph.specs.Nodes.{IsNodeOf};
-ghost use Rattle.tangle_graph.specs.Plans.{AreBodies, AreNewBodies, IsBodyAt, IsGrouped};
-ghost use Rattle.tangle_graph.specs.Plans.{IsNewBody, node_bodies};
-ghost use Rattle.tangle_graph.specs.Stores.{IsNodeIn, IsStoreOf, title_in_store};
+ghost use Rattle.tangle_graph.specs.Plans.{AreNewBodies, IsGrouped, IsNewBody};
+ghost use Rattle.tangle_graph.specs.Stores.{IsStoreOf};
 
 use crate::nodes::node_before;
 use crate::store::Store;
@@ -114,6 +115,13 @@ fn new_body(
     Ok(Rc::new(alloc, builder.body(alloc, name)?)?)
 }
 
+/// Whether the node with this row of pieces has a piece.
+fn has_piece(row: &[usize]) -> bool
+    ensures { result ≡ row_has_piece row.now }
+{
+    !row.is_empty()
+}
+
 /// The body of the node: the old one, if its items are those of the node's pieces, else a new one.
 fn body_after(
     alloc: Global,
@@ -128,8 +136,8 @@ fn body_after(
     requires same_names { same_names ≡ true
         → IfSome old (λ store. store.now.names ≡ grouped.names.now) }
     ensures body { IfOk result
-        (λ made. IsBodyAt grouped.entry.web.now grouped.entry.table.now
-        grouped.entry.pieces.now node made.body.value) }
+        (λ made. IsBodyOf (shapes grouped.entry.web.now grouped.entry.table.now)
+        grouped.entry.names.now node made.body.value) }
     ensures new_shape { IfOk result (λ made. IfSome old.entry
         (λ store. IsNewBody store.now grouped.entry.names.now node made.has_new_shape
         made.body.value)) }
@@ -144,7 +152,7 @@ fn body_after(
     builder.make(web, table, row)?;
     let Some(before) = body_before(old, names, same_names, node) else {
         let body = new_body(alloc, builder, table, node)?;
-        let has_new_shape = !row.is_empty();
+        let has_new_shape = has_piece(row);
         return Ok(BodyAfter {
             body,
             has_new_shape,
@@ -183,8 +191,8 @@ pub(crate) fn bodies_by_node(
     requires same_names { same_names ≡ true
         → IfSome old (λ store. store.now.names ≡ grouped.names.now) }
     ensures bodies { IfOk result
-        (λ made. AreBodies grouped.entry.web.now grouped.entry.table.now
-        grouped.entry.pieces.now (node_bodies made.bodies.items)) }
+        (λ made. AreBodiesOf (shapes grouped.entry.web.now grouped.entry.table.now)
+        grouped.entry.names.now (node_bodies made.bodies.items)) }
     ensures new_shapes { IfOk result (λ made. IfSome old.entry
         (λ store. AreNewBodies store.now grouped.entry.names.now (node_bodies made.bodies.items)
         made.new_shapes.items)) }

@@ -193,15 +193,10 @@ impl<'f, 's, 'a> FaultSearch<'f, 's, 'a> {
         let is_large = self.is_too_large(Node::program());
         let has_piece = self.has_piece(Node::program());
         let mut faults = Vec::new(alloc);
-        let kinds = [
-            FaultKind::Undefined,
-            FaultKind::Unused,
-            FaultKind::SelfContaining,
-            FaultKind::TooLarge,
-        ];
-        for kind in &kinds {
-            self.add_faults(alloc, *kind, &names, &mut faults)?;
-        }
+        self.add_faults(alloc, FaultKind::Undefined, &names, &mut faults)?;
+        self.add_faults(alloc, FaultKind::Unused, &names, &mut faults)?;
+        self.add_faults(alloc, FaultKind::SelfContaining, &names, &mut faults)?;
+        self.add_faults(alloc, FaultKind::TooLarge, &names, &mut faults)?;
         add_unplaced(alloc, FaultKind::TooLarge, is_large, &mut faults)?;
         self.add_faults(alloc, FaultKind::FileClash, &names, &mut faults)?;
         add_unplaced(alloc, FaultKind::NoProgram, !has_piece, &mut faults)?;

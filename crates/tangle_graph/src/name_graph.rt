@@ -5,7 +5,7 @@ ghost use Rattle.std.specs.List.Sorted.{IsStrictlyIncreasing};
 ghost use Rattle.digraph.specs.Graph.{InRange};
 ghost use Rattle.tangle_plans.specs.NodeBodies.{body_uses};
 ghost use Rattle.tangle_graph.specs.NameGraphs.{AreUsesOf, IsNameGraphOf};
-ghost use Rattle.tangle_graph.specs.Plans.{node_bodies};
+ghost use Rattle.tangle_graph.specs.Bodies.{node_bodies};
 
 use digraph::{Node, Rows, once_each, order, reaching_cycles, self_containing, users};
 use std::alloc::{AllocError, Global};
@@ -37,8 +37,7 @@ impl NameGraph {
         names: Names,
         bodies: &[Rc<NodeBody>],
     ) -> Result<Rc<NameGraph>, NoMemory>
-        requires size { length bodies.now ≡ length names + 1 }
-        requires inside { All (All (λ id. id < length names))
+        requires { All (All (λ id. suc id < length bodies.now))
             (map body_uses (node_bodies bodies.now)) }
         ensures names { IfOk result (λ name_graph. name_graph.value.names ≡ names) }
         ensures name_graph { IfOk result

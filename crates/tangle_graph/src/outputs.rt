@@ -1,17 +1,17 @@
 //! The output files.
-ghost use Rattle.std.specs.Prelude.{◌≡◌, ℕ, [], ◌∷◌, ◌++◌, IfOk, OnOk, length, All, flat_map};
+ghost use Rattle.std.specs.Prelude.{◌≡◌, [], ◌∷◌, ◌++◌, IfOk, OnOk, length, All, flat_map};
 ghost use Rattle.std.specs.Prelude.{option_to_list, if◌then◌else◌, not, ◌&&◌, ◌||◌, ◌<◌, ◌+◌};
-ghost use Rattle.std.specs.Prelude.{slice_index_or, true, false};
+ghost use Rattle.std.specs.Prelude.{true, false};
 ghost use Rattle.std.specs.Str.{bytes_eq};
 ghost use Rattle.digraph.specs.Users.{positions};
-ghost use Rattle.tangle_plans.specs.Shapes.{Program};
 ghost use Rattle.digraph.specs.Nodes.{program};
 ghost use Rattle.tangle_plans.specs.WebShapes.{ResolvesInside, resolved_at, shapes};
 ghost use Rattle.tangle_graph.specs.Grouping.{resolved_number};
-ghost use Rattle.tangle_plans.specs.Nodes.{title_at};
-ghost use Rattle.tangle_graph.specs.Outputs.{firsts, file_names, shape_has_piece, is_expandable};
-ghost use Rattle.tangle_graph.specs.Outputs.{outputs};
+ghost use Rattle.tangle_graph.specs.Measures.{AreMeasures};
+ghost use Rattle.tangle_graph.specs.Outputs.{firsts, file_names, outputs};
 
+use crate::measures::{Measure, NO_PIECE};
+use crate::nodes::entry;
 use crate::pieces::resolved_number;
 use digraph::Node;
 use std::alloc::{AllocError, Global};
@@ -148,31 +148,28 @@ fn add_named_file(
     Ok(())
 }
 
-/// The output files of a web, the main file first. The flags say which nodes are expandable.
+/// The output files of a web, the main file first.
 pub(crate) fn outputs(
     alloc: Global,
     web: &Web,
     table: &NameTable,
     out: &[u8],
-    has_piece: bool,
-    expandable: &[bool],
+    measures: &[Measure],
 ) -> Result<Vec<Output>, AllocError>
     requires inside { ResolvesInside table.now }
     requires ours { length table.now.resolved ≡ length web.now.occurrences }
-    requires size { length expandable.now ≡ length table.now.names + 1 }
-    requires program { has_piece ≡ shape_has_piece (shapes web.now table.now Program) }
-    requires flags { (n : ℕ) → n < length expandable.now → slice_index_or expandable.now n false
-        ≡ is_expandable (shapes web.now table.now) (title_at table.now.names n) }
+    requires size { length measures.now ≡ length table.now.names + 1 }
+    requires measures { AreMeasures (shapes web.now table.now) table.now.names measures.now }
     ensures { IfOk result (λ files. files.items ≡ outputs web.now table.now out.now) }
 {
     let names = file_names(alloc, web, table)?;
-    let is_expandable = expandable[Node::program().number()];
-    let mut files = main_file(alloc, web, out, has_piece, is_expandable)?;
+    let program = entry(measures, Node::program(), NO_PIECE);
+    let mut files = main_file(alloc, web, out, program.depth > 0, program.is_expandable)?;
     for id in &names {
         let node = Node::name(*id);
         let name = table.text(*id);
-        let is_expandable = expandable[node.number()];
-        add_named_file(alloc, name, node, out, is_expandable, &mut files)?;
+        let measure = entry(measures, node, NO_PIECE);
+        add_named_file(alloc, name, node, out, measure.is_expandable, &mut files)?;
     }
     Ok(files)
 }

@@ -1,12 +1,11 @@
 //! The pieces of each node.
 ghost use Rattle.std.specs.Prelude.{◌≡◌, ◌<◌, ◌+◌, ◌^◌, ◌∷◌, [], IfOk, IfSome};
-ghost use Rattle.std.specs.Prelude.{◌++◌, ℕ, length, if◌then◌else◌, take, true};
-ghost use Rattle.digraph.specs.Graph.{row_at};
+ghost use Rattle.std.specs.Prelude.{◌++◌, ℕ, length, if◌then◌else◌, take};
 ghost use Rattle.digraph.specs.Rows.{IsRowsOf};
 ghost use Rattle.tangle_names.specs.NameTable.{table_of};
 ghost use Rattle.tangle_plans.specs.WebShapes.{ResolvesInside};
 ghost use Rattle.tangle_graph.specs.Grouping.{resolved_number, node_of_piece, has_number_in};
-ghost use Rattle.tangle_graph.specs.Grouping.{passed_of, positions_of};
+ghost use Rattle.tangle_graph.specs.Grouping.{positions_of};
 
 use digraph::{GrowingRows, Node, Rows};
 use std::alloc::{AllocError, Global};
@@ -83,64 +82,4 @@ pub(crate) fn pieces_by_node(
         }
     }
     rows.finish(alloc)
-}
-
-/// Whether this piece is the next one in the row of the node. If so, it is counted in `passed`,
-/// which has for each row the number of pieces found so far. A piece of no node always passes.
-fn pass_next(rows: &Rows<usize>, passed: &mut Vec<usize>, node: Option<Node>, piece: usize) -> bool
-    requires node { IfSome node (λ n. n < length rows.now) }
-    requires size { length passed.old.items ≡ length rows.now }
-    ensures size { length passed.new.items ≡ length rows.now }
-    ensures rows { result ≡ true → (n : ℕ) → n < length rows.now
-        → passed_of rows.now passed.new.items n
-        ≡ passed_of rows.now passed.old.items n
-        ++ (if has_number_in n node then piece ∷ [] else []) }
-{
-    let Some(node) = node else {
-        return true;
-    };
-    let n = node.number();
-    let at = passed[n];
-    if rows.row(n).get(at) != Some(&piece) {
-        return false;
-    }
-    passed[n] = at + 1;
-    true
-}
-
-fn are_passed(rows: &Rows<usize>, passed: &[usize]) -> bool
-    requires { length passed.now ≡ length rows.now }
-    ensures { result ≡ true → (n : ℕ) → n < length rows.now
-        → passed_of rows.now passed.now n ≡ row_at rows.now n }
-{
-    for n in 0..rows.len() {
-        if passed[n] != rows.row(n).len() {
-            return false;
-        }
-    }
-    true
-}
-
-/// Whether these rows are those of the web's pieces. Few edits change them, so new rows are seldom
-/// made.
-pub(crate) fn are_rows_of(
-    alloc: Global,
-    rows: &Rows<usize>,
-    web: &Web,
-    table: &NameTable,
-) -> Result<bool, AllocError>
-    requires { table.now ≡ table_of web.now }
-    ensures { IfOk result (λ are. are ≡ true → IsRowsOf (length table.now.names + 1)
-        (positions_of table.now web.now.pieces) rows.now) }
-{
-    if rows.len() != node_count(table)? {
-        return Ok(false);
-    }
-    let mut passed = vec![in alloc; 0; rows.len()]?;
-    for i in 0..web.pieces().len() {
-        if !pass_next(rows, &mut passed, node_at(web, table, i), i) {
-            return Ok(false);
-        }
-    }
-    Ok(are_passed(rows, &passed))
 }

@@ -1,17 +1,16 @@
 //! The store of a web's graph of names.
-ghost use Rattle.std.specs.Prelude.{◌≡◌, ◌++◌, ◌∷◌, [], IfOk, OnOk, OnErr};
+ghost use Rattle.std.specs.Prelude.{◌≡◌, ◌++◌, ◌∷◌, [], IfOk, OnOk, OnErr, suc};
 ghost use Rattle.std.specs.Prelude.{All, true, ◌<◌, ◌+◌, length, map, IfSome, Some};
-ghost use Rattle.digraph.specs.Rows.{IsRowsOf};
 ghost use Rattle.tangle_names.specs.NameTable.{table_of};
 ghost use Rattle.tangle_expansion.specs.Kept.{used_symbols};
 ghost use Rattle.tangle_expansion.specs.Limits.{flat_of};
 ghost use Rattle.tangle_plans.specs.NodeBodies.{body_title, body_uses};
 ghost use Rattle.tangle_plans.specs.Shapes.{Shapes};
+ghost use Rattle.tangle_plans.specs.WebShapes.{shapes};
+ghost use Rattle.tangle_graph.specs.Bodies.{node_bodies};
 ghost use Rattle.tangle_graph.specs.Faults.{AreGraphFaults};
-ghost use Rattle.tangle_graph.specs.Grouping.{positions_of};
 ghost use Rattle.tangle_graph.specs.NameGraphs.{IsNameGraphOf};
 ghost use Rattle.tangle_graph.specs.Ordering.{IsOrderIn};
-ghost use Rattle.tangle_graph.specs.Plans.{AreBodies, node_bodies};
 ghost use Rattle.tangle_graph.specs.Stores.{AreNewShapes, IsNodeIn, IsStoreOf, KeepsUsed};
 ghost use Rattle.tangle_graph.specs.Stores.{body_at, flag_at, symbols_at, title_in_store};
 ghost use Rattle.tangle_graph.specs.Stores.{contains_itself_at, is_expandable_at};
@@ -20,11 +19,11 @@ ghost use Rattle.tangle_graph.specs.WebStores.{IsStoreOfWeb};
 
 use crate::bodies::{GroupedWeb, bodies_by_node};
 use crate::faults::FaultSearch;
-use crate::measures::Measures;
+use crate::measures::{Measure, NO_PIECE, measures_of_nodes};
 use crate::name_graph::{NameGraph, are_same_names, have_same_uses};
 use crate::nodes::entry;
 use crate::outputs::outputs;
-use crate::pieces::{are_rows_of, pieces_by_node};
+use crate::pieces::pieces_by_node;
 use digraph::{Node, Rows};
 use std::alloc::Global;
 use std::marker::Model;
@@ -44,9 +43,7 @@ use tangle_scan::Web;
 pub struct Store {
     name_graph: Rc<NameGraph>,
     pieces: Rc<Rows<usize>>,
-    weights: Vec<u32>,
-    depths: Vec<u16>,
-    expandable: Vec<bool>,
+    measures: Vec<Measure>,
     outputs: Vec<Output>,
     bodies: Vec<Rc<NodeBody>>,
 }
@@ -60,14 +57,6 @@ impl Model for Store {
     ghost view = { store_read };
 
     ghost invariant = { λ s. StoreInvariant s };
-}
-
-/// The nodes of a web: the numbers of their pieces, their bodies, and the graph of their names.
-#[derive(Drop)]
-struct Nodes {
-    pieces: Rc<Rows<usize>>,
-    bodies: Vec<Rc<NodeBody>>,
-    name_graph: Rc<NameGraph>,
 }
 
 /// A store, with a flag for each of its nodes: whether the shape of the node is new.
@@ -100,7 +89,7 @@ impl Store {
         ensures new_shapes { IfOk result (λ made. IfSome old.entry
             (λ before. AreNewShapes before.now made.store made.new_shapes.items)) }
     {
-        let pieces = pieces_after(alloc, web, table, old)?;
+        let pieces = Rc::new(alloc, pieces_by_node(alloc, web, table)?)?;
         let names = table.names()?;
         let rows: &Rows<usize> = &pieces;
         let grouped = GroupedWeb {
@@ -114,12 +103,17 @@ impl Store {
         let new_shapes = made.new_shapes;
         let bodies = made.bodies;
         let name_graph = name_graph_after(alloc, names, same_names, &bodies, old)?;
-        let nodes = Nodes {
-            pieces,
-            bodies,
+        let shared: &NameGraph = &name_graph;
+        // Measures are made anew, in one short pass.
+        let measures = measures_of_nodes(alloc, &shared.uses, &shared.order, &bodies)?;
+        let outputs = outputs(alloc, web, table, out, &measures)?;
+        let store = Store {
             name_graph,
+            pieces,
+            measures,
+            outputs,
+            bodies,
         };
-        let store = Store::over(alloc, web, table, out, nodes)?;
         Ok(Built { store, new_shapes })
     }
 
@@ -141,58 +135,17 @@ impl Store {
     }
 
     /// For each node a row with the numbers of its pieces.
-    pub fn pieces(&self) -> &Rows<usize>
-        ensures { result.now ≡ self.now.pieces }
+    pub fn pieces(&self) -> &Rc<Rows<usize>>
+        ensures { result.now.value ≡ self.now.pieces }
     {
         &self.pieces
-    }
-
-    /// Makes a store from the nodes of a web.
-    fn over(
-        alloc: Global,
-        web: &Web,
-        table: &NameTable,
-        out: &[u8],
-        nodes: Nodes,
-    ) -> Result<Store, NoMemory>
-        requires table { table.now ≡ table_of web.now }
-        requires grouped { IsRowsOf (length table.now.names + 1)
-            (positions_of table.now web.now.pieces) nodes.pieces.value }
-        requires bodies { AreBodies web.now table.now nodes.pieces.value
-            (node_bodies nodes.bodies.items) }
-        requires names { nodes.name_graph.value.names ≡ table.now.names }
-        requires name_graph { IsNameGraphOf (map body_uses (node_bodies nodes.bodies.items))
-            nodes.name_graph.value }
-        ensures store { IfOk result (IsStoreOfWeb web.now table.now out.now) }
-        ensures bodies { IfOk result (λ store. store.bodies ≡ node_bodies nodes.bodies.items) }
-    {
-        let Nodes {
-            pieces,
-            bodies,
-            name_graph,
-        } = nodes;
-        let shared: &NameGraph = &name_graph;
-        let rows: &Rows<usize> = &pieces;
-        // Measures are made anew, in one short pass.
-        let measures = Measures::build(alloc, rows, &shared.uses, &shared.order, &bodies)?;
-        let has_program = !rows.row(Node::program().number()).is_empty();
-        let outputs = outputs(alloc, web, table, out, has_program, &measures.expandable)?;
-        Ok(Store {
-            name_graph,
-            pieces,
-            weights: measures.weights,
-            depths: measures.depths,
-            expandable: measures.expandable,
-            outputs,
-            bodies,
-        })
     }
 
     /// Whether the node has a piece.
     pub fn has_piece(&self, node: Node) -> bool
         ensures { result ≡ has_piece_at self.now node }
     {
-        !self.pieces.row(node.number()).is_empty()
+        self.depth(node) > 0
     }
 
     /// Whether the node contains itself: it reaches itself by one use or more.
@@ -214,7 +167,7 @@ impl Store {
     pub fn expandable(&self, node: Node) -> bool
         ensures { result ≡ is_expandable_at self.now node }
     {
-        entry(&self.expandable, node, false)
+        entry(&self.measures, node, NO_PIECE).is_expandable
     }
 
     /// The weight of the node: each byte of an item counts 1, and so do an opening, a closing, a
@@ -224,7 +177,7 @@ impl Store {
     pub fn weight(&self, node: Node) -> u32
         ensures { result ≡ weight_at self.now node }
     {
-        entry(&self.weights, node, 0)
+        entry(&self.measures, node, NO_PIECE).weight
     }
 
     /// The depth of the node: 0 without a piece, else one more than the greatest depth among the
@@ -233,7 +186,7 @@ impl Store {
     pub fn depth(&self, node: Node) -> u16
         ensures { result ≡ depth_at self.now node }
     {
-        entry(&self.depths, node, 0)
+        entry(&self.measures, node, NO_PIECE).depth
     }
 
     /// The names that the node uses, each once.
@@ -323,25 +276,6 @@ impl Store {
     }
 }
 
-/// The pieces of each node of a web: the rows of the old store, if they are the same.
-fn pieces_after(
-    alloc: Global,
-    web: &Web,
-    table: &NameTable,
-    old: Option<&Store>,
-) -> Result<Rc<Rows<usize>>, NoMemory>
-    requires { table.now ≡ table_of web.now }
-    ensures { IfOk result (λ rows. IsRowsOf (length table.now.names + 1)
-        (positions_of table.now web.now.pieces) rows.value) }
-{
-    if let Some(old) = old
-        && are_rows_of(alloc, old.pieces(), web, table)?
-    {
-        return Ok(old.pieces.clone()?);
-    }
-    Ok(Rc::new(alloc, pieces_by_node(alloc, web, table)?)?)
-}
-
 /// Whether there is an old store, and it has these names.
 fn has_names(old: Option<&Store>, names: &Names) -> bool
     ensures { result ≡ true → IfSome old.entry (λ store. store.now.names ≡ names.now) }
@@ -361,8 +295,7 @@ fn name_graph_after(
     old: Option<&Store>,
 ) -> Result<Rc<NameGraph>, NoMemory>
     requires same_names { same_names ≡ true → IfSome old (λ store. store.now.names ≡ names) }
-    requires size { length bodies.now ≡ length names + 1 }
-    requires inside { All (All (λ id. id < length names))
+    requires inside { All (All (λ id. suc id < length bodies.now))
         (map body_uses (node_bodies bodies.now)) }
     ensures names { IfOk result (λ name_graph. name_graph.value.names ≡ names) }
     ensures name_graph { IfOk result

@@ -59,17 +59,8 @@ abbrev pub UsesInShape : Shape → List ℕ → Type 0
 UsesInShape [] name = ⊥
 UsesInShape (piece ∷ pieces) name = UsesInPiece piece name ⊎ UsesInShape pieces name
 
--- the node uses the name
-abbrev pub Uses : Shapes → Title → List ℕ → Type 0
-Uses shapes node name = UsesInShape (shapes node) name
-
--- the first node reaches the second in any number of steps: each node reaches itself in none
-pub data Reaches (shapes : Shapes) : Title → Title → Type 0 where
-  here : {node : Title} → Reaches shapes node node
-  on : {node other : Title} {name : List ℕ}
-      → Uses shapes node name → Reaches shapes (Named name) other → Reaches shapes node other
-
--- the node reaches itself in one step or more
-abbrev pub ContainsItself : Shapes → Title → Type 0
-ContainsItself shapes node =
-    (name : List ℕ) × (Uses shapes node name) × Reaches shapes (Named name) node
+-- One node uses another: it has a use of the other's name. Nothing uses the program. What a node
+-- reaches along these uses, and whether it contains itself, is as in `digraph`.
+abbrev pub Uses : Shapes → Title → Title → Type 0
+Uses shapes user Program = ⊥
+Uses shapes user (Named name) = UsesInShape (shapes user) name

@@ -1,14 +1,14 @@
 -- The analysis of a web is made from its files and roles.
-use Rattle.std.proofs.Common.{◌≡◌, ◌∙◌, ◌++◌, ℕ, List, ap, refl, sym, subst, append_assoc}
+use Rattle.std.proofs.Common.{◌≡◌, ◌∙◌, ◌++◌, List, ap, refl, sym, subst, append_assoc}
 use Rattle.tangle_faults.specs.Faults.{FaultRead}
 use Rattle.tangle_files.specs.Lines.{FileTable}
-use Rattle.tangle_lines.specs.Reading.{SourceRead, source_of}
+use Rattle.tangle_lines.specs.Reading.{source_of}
 use Rattle.tangle_files.specs.Roles.{RolesRead}
 use Rattle.tangle_files.specs.declared.marks.MarkMode.{MarkMode}
-use Rattle.tangle_scan.specs.Web.{WebRead, web_of}
+use Rattle.tangle_scan.specs.Web.{web_of}
 use Rattle.tangle_names.specs.NameTable.{table_over}
-use Rattle.tangle_session.specs.Files.{source_at, web_at}
-use Rattle.tangle_session.specs.Sessions.{IsAnalysis, IsAnalysisOf, IsAnalysisAt}
+use Rattle.tangle_session.specs.Headline.{source_at, web_at}
+use Rattle.tangle_session.specs.States.{IsAnalysis, IsAnalysisAt}
 use Rattle.tangle_session.specs.declared.analysis.Analysis.{Analysis}
 
 pub faults_joined : (s w t g a b c : List FaultRead) → a ≡ s ++ w → b ≡ a ++ t → c ≡ b ++ g → c ≡ s ++ (w ++ (t ++ g))
@@ -24,19 +24,6 @@ pub scanned_at : (files : FileTable) (roles : RolesRead)
     → web_at files roles ≡ web_of (source_at files roles)
 unfolding web_at
 scanned_at files roles = refl
-
--- neither the source nor the web depends on how line marks are written
-pub analyses : (files : FileTable) (roles : RolesRead) (source : SourceRead) (web : WebRead)
-    (out : List ℕ) (marks : MarkMode) (analysis : Analysis)
-    → source ≡ source_of files roles → web ≡ web_of source → out ≡ roles.out
-    → IsAnalysisOf source web out marks analysis → IsAnalysisAt files (record roles { marks = marks }) analysis
-analyses files roles source web out marks analysis source_is web_is out_is made =
-    let to : RolesRead = record roles { marks = marks } in
-    let read : source ≡ source_at files to = source_is ∙ sym (read_at files to) in
-    subst (λ s. IsAnalysisOf s (web_at files to) roles.out marks analysis) read
-    (subst (λ w. IsAnalysisOf source w roles.out marks analysis)
-    (web_is ∙ ap web_of read ∙ sym (scanned_at files to))
-    (subst (λ o. IsAnalysisOf source web o marks analysis) out_is made))
 
 -- an analysis whose line marks are written as the roles say is that of the roles
 pub analysis_of : (files : FileTable) (roles : RolesRead) (marks : MarkMode) (analysis : Analysis) → marks ≡ roles.marks

@@ -9,7 +9,6 @@ use Rattle.std.proofs.lemmas.List.Folds.{find_at}
 use Rattle.std.proofs.lemmas.List.FromFn.{length-range_with_len, get_or-range_with_len}
 use Rattle.tangle_faults.specs.Faults.{FaultRead, fault_about}
 use Rattle.tangle_files.specs.Lines.{FileTable}
-use Rattle.tangle_lines.specs.Reading.{SourceRead}
 use Rattle.tangle_files.specs.Roles.{RolesRead}
 use Rattle.tangle_faults.specs.declared.faults.FaultKind.TheVariants as kind
 use Rattle.tangle_lexer.specs.Occurrences.{OccurrenceRead}
@@ -20,7 +19,9 @@ use Rattle.tangle_names.specs.Resolving.{first_number, first_occurrence, names_i
 use Rattle.tangle_expansion.specs.Limits.{levels, heaviest}
 use Rattle.tangle_expansion.specs.Outputs.{OutputRead}
 use Rattle.tangle_plans.specs.WebShapes.{shapes, shape_item}
-use Rattle.tangle_plans.specs.Shapes.{Title, Named, Shape, Shapes, UsesInShape, Reaches, here, on, ContainsItself}
+use Rattle.tangle_plans.specs.Shapes.{Title, Named, Shapes, UsesInShape, Uses}
+use Rattle.tangle_plans.specs.Shapes as title
+use Rattle.digraph.specs.Reach.{Reaches, here, on, ContainsItself}
 use Rattle.tangle_graph.specs.Faults.{AreGraphFaults, fault_of, fault_occurrence, faults_of_names}
 use Rattle.tangle_graph.specs.Faults as of_graph
 use Rattle.tangle_plans.specs.Nodes.{title_at}
@@ -28,50 +29,53 @@ use Rattle.tangle_graph.specs.Outputs.{name_with_number}
 use Rattle.tangle_graph.proofs.FaultLemmas.{one_list}
 use Rattle.tangle_graph.proofs.NodeLemmas.{title_inside}
 use Rattle.tangle_graph.proofs.StoreLemmas.{there}
-use Rattle.tangle_graph.proofs.OutputLemmas.{IsFit}
+use Rattle.tangle_graph.proofs.OutputLemmas.{IsFit, outputs_fit}
 use Rattle.tangle_names.proofs.LawLemmas.{occur}
 use Rattle.tangle_plans.proofs.InsideLemmas.{table_inside}
 use Rattle.tangle_expansion.proofs.Unaffected as unaffected
-use Rattle.tangle_session.specs.Faults.{AreFaults}
-use Rattle.tangle_session.specs.Files.{shapes_of, source_at, web_at}
-use Rattle.tangle_session.specs.Laws.{IsReportedSelfContaining}
-use Rattle.tangle_session.specs.Tangle.{Tangling, IsTanglingOf}
+use Rattle.tangle_session.specs.Headline.{EachCycleIsReported, IsPlainTangling, NoOutputReachesACycle}
+use Rattle.tangle_session.specs.Headline.{source_at, web_at}
+use Rattle.tangle_session.specs.Sessions.{shapes_of}
 use Rattle.tangle_names.proofs.FirstLemmas.{some_of}
 
-one_faults : (source : SourceRead) (web : WebRead) (out : List ℕ) (a b : List FaultRead)
-    → AreFaults source web out a → AreFaults source web out b → a ≡ b
-one_faults source web out a b x y =
-    x.list
-    ∙ ap (λ l. source.faults ++ (web.faults ++ (name_faults web ++ l)))
-    (one_list web (table_of web) out x.of_graph y.of_graph x.are_of_graph y.are_of_graph)
-    ∙ sym y.list
-
-pub one_tangling : (files : FileTable) (roles : RolesRead) (a b : Tangling)
-    → IsTanglingOf files roles a → IsTanglingOf files roles b → a ≡ b
-one_tangling files roles a b x y =
-    let faults : a.faults ≡ b.faults =
-    one_faults (source_at files roles) (web_at files roles) roles.out a.faults b.faults x.faults y.faults in
-    let outputs : a.outputs ≡ b.outputs = x.outputs ∙ sym y.outputs in
-    λ i. record { faults = faults i; outputs = outputs i }
+pub one_tangling : (files : FileTable) (roles : RolesRead)
+    (one other : List (List ℕ × List ℕ)) (faults others : List FaultRead)
+    → IsPlainTangling files roles one faults → IsPlainTangling files roles other others
+    → (one ≡ other) × (faults ≡ others)
+one_tangling files roles one other faults others x y =
+    let web = web_at files roles in (
+      x.writing ∙ sym y.writing,
+      x.reporting
+          ∙ ap (λ l. (source_at files roles).faults ++ (web.faults ++ (name_faults web ++ l)))
+          (one_list web (table_of web) roles.out x.of_graph y.of_graph x.are_of_graph y.are_of_graph)
+          ∙ sym y.reporting,
+    )
 
 -- no cycle below an output
 
-no_use : (shape : Shape) (name : List ℕ) → shape ≡ [] → UsesInShape shape name → ⊥
-no_use [] name e u = u
-no_use (x ∷ shape) name e u = absurd (let no : x ∷ shape ≡ [] = e in cc)
+no_use : (shapes : Shapes) (node used : Title) → shapes node ≡ [] → Uses shapes node used → ⊥
+no_use _ node title.Program e u = u
+no_use _ node (Named name) e u = subst (λ shape. UsesInShape shape name) e u
 
 none_reached : (shapes : Shapes) (node other : Title)
-    → shapes node ≡ [] → Reaches shapes node other → ContainsItself shapes other → ⊥
-none_reached shapes node other e here c = no_use (shapes node) c.0 e c.1
-none_reached shapes node other e (on {name = name} u r) c = no_use (shapes node) name e u
+    → shapes node ≡ [] → Reaches (Uses shapes) node other → ContainsItself (Uses shapes) other → ⊥
+none_reached shapes node other e here c = no_use shapes node c.0 e c.1
+none_reached shapes node other e (on {b = used} u r) c = no_use shapes node used e u
 
-pub no_cycle : (shapes : Shapes) (names : List (List ℕ)) (output : OutputRead) (other : Title) → IsFit shapes names output
-    → Reaches shapes (title_at names output.node) other → ContainsItself shapes other → ⊥
-no_cycle shapes names output other fit r c = by output.has_piece refl
+no_cycle_below : (shapes : Shapes) (names : List (List ℕ)) (output : OutputRead) (other : Title)
+    → IsFit shapes names output → Reaches (Uses shapes) (title_at names output.node) other
+    → ContainsItself (Uses shapes) other → ⊥
+no_cycle_below shapes names output other fit r c = by output.has_piece refl
   where
     by : (b : Bool) → output.has_piece ≡ b → ⊥
     by true e = unaffected.no_cycle levels heaviest shapes (title_at names output.node) (fit.there e) (other, r, c)
     by false e = none_reached shapes (title_at names output.node) other (fit.none e) r c
+
+pub no_cycle : (files : FileTable) (roles : RolesRead) → NoOutputReachesACycle files roles
+no_cycle files roles output other listed =
+    let web = web_at files roles in
+    no_cycle_below (shapes_of web) (table_of web).names output other
+    (outputs_fit web (table_of web) (table_inside web) roles.out output listed)
 
 -- each cycle is reported
 
@@ -86,17 +90,17 @@ in_mapped g (n ∷ ns) k x (zero, h, e) d =
 in_mapped g (n ∷ ns) k x (suc i, h, e) d =
     Contains-append_right (g n) (flat_map g ns) x (in_mapped g ns k x (i, omega (arith, h), e) d)
 
-a_piece : (shapes : Shapes) (name : List ℕ) → ContainsItself shapes (Named name) → shapes (Named name) ≢ []
-a_piece shapes name c e = no_use (shapes (Named name)) c.0 e c.1
+a_piece : (shapes : Shapes) (name : List ℕ) → ContainsItself (Uses shapes) (Named name) → shapes (Named name) ≢ []
+a_piece shapes name c e = no_use shapes (Named name) c.0 e c.1
 
 module _ (web : WebRead) (out : List ℕ) (faults : List FaultRead)
     (are : AreGraphFaults web (table_of web) out faults) (id : ℕ) (name : List ℕ) (o : OccurrenceRead)
     (low : id < length (table_of web).names) (text : get_or (table_of web).names id [] ≡ name)
-    (contains : ContainsItself (shapes_of web) (Named name))
+    (contains : ContainsItself (Uses (shapes_of web)) (Named name))
     (first : first_occurrence web.occurrences name ≡ Some o) where
   flagged : are.contains_itself (suc id) ≡ true
   flagged = (are.self_containing (suc id) (omega (arith, low))).1
-      (subst (ContainsItself (shapes_of web)) (sym (title_inside (table_of web).names id low ∙ ap Named text)) contains)
+      (subst (ContainsItself (Uses (shapes_of web))) (sym (title_inside (table_of web).names id low ∙ ap Named text)) contains)
 
   number : get_or (table_of web).first_occurrences id 0 ≡ first_number web.occurrences name
   number =
@@ -144,10 +148,10 @@ module _ (web : WebRead) (out : List ℕ) (faults : List FaultRead)
       (faults_of_names web (table_of web) out are.contains_itself are.reaches_cycle
       kind.SelfContaining) _ fault among)))
 
-pub reported_in : (source : SourceRead) (web : WebRead) (out : List ℕ) (faults : List FaultRead) (name : List ℕ)
-    → AreFaults source web out faults → ContainsItself (shapes_of web) (Named name)
-    → IsReportedSelfContaining web name faults
-reported_in source web out faults name are c =
+pub reported_in : (files : FileTable) (roles : RolesRead) (made : List (List ℕ × List ℕ)) (faults : List FaultRead)
+    → IsPlainTangling files roles made faults → EachCycleIsReported files roles faults
+reported_in files roles made faults are name c =
+    let web = web_at files roles in
     let found = there (table_of web) (table_inside web) name web.pieces (λ none. a_piece (shapes_of web) name
     c (ap (map (λ (p : PieceRead). map (shape_item web.texts (table_of web)) p.items)) none)) in
     let listed : Contains (names_in_order web.occurrences) name =
@@ -158,8 +162,8 @@ reported_in source web out faults name are c =
       is_first = o.1;
       reported =
           subst (λ l. Contains l (fault_about kind.SelfContaining (named_place_of web.file_names o.0.origin) name))
-          (sym are.list)
-          (Contains-append_right source.faults _ _
+          (sym are.reporting)
+          (Contains-append_right (source_at files roles).faults _ _
           (Contains-append_right web.faults _ _ (Contains-append_right (name_faults web) _ _
-          (reported web out are.of_graph are.are_of_graph found.0 name o.0 found.1 found.2 c o.1))));
+          (reported web roles.out are.of_graph are.are_of_graph found.0 name o.0 found.1 found.2 c o.1))));
     }

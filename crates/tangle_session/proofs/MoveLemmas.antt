@@ -16,9 +16,8 @@ use Rattle.tangle_names.specs.Resolving.{names_in_order, names_of, resolve, reso
 use Rattle.tangle_plans.specs.WebShapes.{is_node, is_piece_of, node_of_occurrence, resolved_at, shape_item, use_of}
 use Rattle.tangle_plans.specs.Shapes.{Shape, ShapeItem, Title}
 use Rattle.digraph.specs.Nodes.{Node}
-use Rattle.tangle_session.specs.Files.{shapes_of}
 use Rattle.tangle_session.specs.Moves.{HaveSameShapes, IsMoved, item_form, occurrence_form, piece_form}
-use Rattle.tangle_session.specs.Sessions.{ListsAffectedOfWebs}
+use Rattle.tangle_session.specs.Sessions.{ListsAffectedOfWebs, shapes_of}
 
 pub nothing_affected : (old new : WebRead) (nodes : List Node)
     → HaveSameShapes old new → ListsAffectedOfWebs old new nodes → nodes ≡ []

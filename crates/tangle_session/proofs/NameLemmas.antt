@@ -14,7 +14,6 @@ use Rattle.std.proofs.lemmas.Map.Views.{lookup-from_Contains}
 use Rattle.std.proofs.lemmas.Slice.Eq.{bytes_eq-Decides}
 use Rattle.tangle_files.specs.Lines.{FileTable}
 use Rattle.tangle_files.specs.Roles.{RolesRead}
-use Rattle.tangle_files.specs.declared.marks.MarkMode.{MarkMode}
 use Rattle.tangle_scan.specs.Web.{WebRead}
 use Rattle.tangle_names.specs.NameTable.{TableRead, table_of}
 use Rattle.tangle_expansion.specs.Outputs.{OutputRead}
@@ -27,8 +26,7 @@ use Rattle.tangle_names.proofs.LawLemmas.{once}
 use Rattle.tangle_plans.proofs.InsideLemmas.{table_inside}
 use Rattle.tangle_graph.proofs.NodeLemmas.{once_named}
 use Rattle.tangle_graph.proofs.OutputLemmas.{names_below}
-use Rattle.tangle_session.specs.Files.{output_files, web_at}
-use Rattle.tangle_session.specs.Tangle.{output_at, outputs_of}
+use Rattle.tangle_session.specs.Headline.{output_at, output_bytes, output_files, table_at, web_at}
 use Rattle.tangle_session.proofs.OutputLemmas.{names_written}
 
 other_number : (n m : ℕ) → not (m == n) ≡ true → n ≢ m
@@ -113,16 +111,14 @@ module _ (web : WebRead) (out : List ℕ) where
       by true = AllPairs-cons (λ a b. a ≢ b) out (map name_of (map (named_file table) ids)) main_apart named_once
       by false = named_once
 
-pub names_distinct : (web : WebRead) (marks : MarkMode) (out : List ℕ)
-    → IsDistinct bytes_eq (map (λ o. o.0) (output_files web marks out))
-names_distinct web marks out =
-    subst (IsDistinct bytes_eq) (names_written web marks (outputs web (table_of web) out))
-    (IsDistinct-from_AllPairs bytes_eq-Decides (map (λ o. o.name) (outputs web (table_of web) out))
-    (names_once web out))
+pub names_distinct : (files : FileTable) (roles : RolesRead)
+    → IsDistinct bytes_eq (map (λ f. f.0) (output_files files roles))
+names_distinct files roles =
+    subst (IsDistinct bytes_eq)
+    (names_written (output_bytes files roles) (outputs (web_at files roles) (table_at files roles) roles.out))
+    (IsDistinct-from_AllPairs bytes_eq-Decides _ (names_once (web_at files roles) roles.out))
 
 pub found_by_name : (files : FileTable) (roles : RolesRead) (name bytes : List ℕ)
-    → Contains (outputs_of files roles) (name, bytes)
-    → output_at files roles name ≡ Some bytes
+    → Contains (output_files files roles) (name, bytes) → output_at files roles name ≡ Some bytes
 found_by_name files roles name bytes c =
-    lookup-from_Contains nat_list_eq_equiv name bytes (outputs_of files roles)
-    (names_distinct (web_at files roles) roles.marks roles.out) c
+    lookup-from_Contains nat_list_eq_equiv name bytes (output_files files roles) (names_distinct files roles) c

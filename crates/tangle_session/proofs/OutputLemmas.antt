@@ -9,11 +9,13 @@ use Rattle.std.specs.Str.{bytes_eq}
 use Rattle.std.proofs.lemmas.Map.Keys.{IsDistinct-head, IsDistinct-tail}
 use Rattle.std.proofs.lemmas.Slice.Eq.{bytes_eq-Decides}
 use Rattle.std.proofs.lemmas.Grind.{common_steps}
-use Rattle.tangle_files.specs.declared.marks.MarkMode.{MarkMode}
+use Rattle.tangle_files.specs.Lines.{FileTable}
+use Rattle.tangle_files.specs.Roles.{RolesRead}
 use Rattle.tangle_scan.specs.Web.{WebRead}
 use Rattle.tangle_names.specs.NameTable.{table_of}
 use Rattle.tangle_expansion.specs.Kept.{kept_at}
 use Rattle.tangle_expansion.specs.Limits.{flat_of}
+use Rattle.tangle_plans.specs.Flat.{Symbol}
 use Rattle.tangle_expansion.specs.Numbers.{numbers_of}
 use Rattle.tangle_expansion.specs.Outputs.{OutputRead, output_file_bytes, node_symbols, kept_output_bytes}
 use Rattle.tangle_expansion.specs.declared.kept.Kept.{Kept}
@@ -22,43 +24,43 @@ use Rattle.tangle_graph.specs.Stores.{StoreRead, IsStoreOf}
 use Rattle.tangle_graph.proofs.OutputLemmas.{IsFit}
 use Rattle.tangle_affected.proofs.OutputLemmas.{kept_there}
 use Rattle.tangle_affected.specs.Keeping.{KeepsJust}
-use Rattle.tangle_session.specs.Files.{shapes_of, output_bytes, named_bytes}
+use Rattle.tangle_session.specs.Headline.{output_bytes, table_at, web_at}
+use Rattle.tangle_session.specs.Sessions.{shapes_of}
 
 -- the bytes of an output file are those of its node's expansion
-module _ (web : WebRead) (store : StoreRead) (kept : Kept)
-    (is : IsStoreOf (shapes_of web) store) (names_are : store.names ≡ (table_of web).names)
-    (keeps : KeepsJust (shapes_of web) store kept) (marks : MarkMode)
-    (output : OutputRead) (fit : IsFit (shapes_of web) store.names output) where
+module _ (files : FileTable) (roles : RolesRead) (store : StoreRead) (kept : Kept)
+    (is : IsStoreOf (shapes_of (web_at files roles)) store) (names_are : store.names ≡ (table_at files roles).names)
+    (keeps : KeepsJust (shapes_of (web_at files roles)) store kept)
+    (output : OutputRead) (fit : IsFit (shapes_of (web_at files roles)) store.names output) where
+  abbrev web : WebRead
+  web = web_at files roles
+
+  abbrev bytes_with : Bool → List Symbol → List ℕ
+  bytes_with = output_file_bytes (numbers_of web (table_of web) roles.marks) output.has_macros
+
   kept_named : output.has_piece ≡ true
       → kept_at kept output.node ≡ Some (flat_of (shapes_of web) (title_at (table_of web).names output.node))
   kept_named t =
       kept_there (shapes_of web) store kept is keeps output fit t
       ∙ ap (λ names. Some (flat_of (shapes_of web) (title_at names output.node))) names_are
 
-  pub same_bytes : kept_output_bytes (numbers_of web (table_of web) marks) kept output ≡ output_bytes web marks output
+  pub same_bytes : kept_output_bytes (numbers_of web (table_of web) roles.marks) kept output
+      ≡ output_bytes files roles output
   same_bytes = by output.has_piece refl
     where
       by : (b : Bool) → output.has_piece ≡ b
-          → output_file_bytes (numbers_of web (table_of web) marks)
-          output.has_macros output.has_piece (node_symbols kept output.node)
-          ≡ output_bytes web marks output
-      by true e = ap
-          (λ o. output_file_bytes (numbers_of web (table_of web) marks)
-          output.has_macros output.has_piece (unwrap_or o [])) (kept_named e)
+          → bytes_with output.has_piece (node_symbols kept output.node) ≡ output_bytes files roles output
+      by true e = ap (λ o. bytes_with output.has_piece (unwrap_or o [])) (kept_named e)
       by false e =
-          ap
-          (λ p.
-          output_file_bytes (numbers_of web (table_of web) marks) output.has_macros p (node_symbols kept output.node)) e
-          ∙ ap
-          (λ p. output_file_bytes (numbers_of web (table_of web) marks) output.has_macros p
-          (flat_of (shapes_of web) (title_at (table_of web).names output.node))) (sym e)
+          ap (λ p. bytes_with p (node_symbols kept output.node)) e
+          ∙ ap (λ p. bytes_with p (flat_of (shapes_of web) (title_at (table_of web).names output.node))) (sym e)
 
 -- looking up a name among the output files gives the bytes of the output with that name
-pub look_up : (web : WebRead) (marks : MarkMode) (name : List ℕ) (os : List OutputRead)
-    → lookup (bytes_eq name) (map (named_bytes web marks) os)
-    ≡ option_map (output_bytes web marks) (find (λ o. bytes_eq name o.name) os)
-look_up web marks name [] = refl
-look_up web marks name (o ∷ os) = grind (arith, common_steps, look_up web marks name os)
+pub look_up : (bytes_of : OutputRead → List ℕ) (name : List ℕ) (os : List OutputRead)
+    → lookup (bytes_eq name) (map (λ o. (o.name, bytes_of o)) os)
+    ≡ option_map bytes_of (find (λ o. bytes_eq name o.name) os)
+look_up bytes_of name [] = refl
+look_up bytes_of name (o ∷ os) = grind (arith, common_steps, look_up bytes_of name os)
 
 -- an item that is found in a list is an item of the list
 pub found_in : {X : Type 0} (p : X → Bool) (xs : List X) (x : X) → find p xs ≡ Some x → Contains xs x
@@ -72,10 +74,10 @@ found_in p (y ∷ xs) x e = by (p y) e (found_in p xs x)
         (suc rest.0, (let h = rest.1 in omega (arith, h)), rest.2)
 
 -- the names of the outputs are the names of the output files
-pub names_written : (web : WebRead) (marks : MarkMode) (os : List OutputRead)
-    → map (λ o. o.name) os ≡ map (λ o. o.0) (map (named_bytes web marks) os)
-names_written web marks [] = refl
-names_written web marks (o ∷ os) = ap (λ l. o.name ∷ l) (names_written web marks os)
+pub names_written : (bytes_of : OutputRead → List ℕ) (os : List OutputRead)
+    → map (λ o. o.name) os ≡ map (λ (f : List ℕ × List ℕ). f.0) (map (λ o. (o.name, bytes_of o)) os)
+names_written bytes_of [] = refl
+names_written bytes_of (o ∷ os) = ap (λ l. o.name ∷ l) (names_written bytes_of os)
 
 -- what holds of all output names holds of the one at an index
 name_at_index : (P : List ℕ → Type 0) (os : List OutputRead) (i : ℕ) (o : OutputRead)

@@ -20,7 +20,7 @@ use Rattle.tangle_names.specs.NameTable.{table_of}
 use Rattle.tangle_expansion.specs.Affected.{IsAffected}
 use Rattle.tangle_expansion.specs.Limits.{levels, heaviest, flat_of, IsExpandableNode}
 use Rattle.tangle_expansion.specs.Numbers.{numbers_of, expansion_bytes}
-use Rattle.tangle_expansion.specs.Outputs.{OutputRead, IsReady, kept_output_bytes}
+use Rattle.tangle_expansion.specs.Outputs.{OutputRead, IsReady, kept_output_bytes, output_file_bytes}
 use Rattle.digraph.specs.Nodes.{Node}
 use Rattle.tangle_plans.specs.Nodes.{title_at}
 use Rattle.tangle_graph.specs.Nodes.{IsNodeOf}
@@ -29,14 +29,15 @@ use Rattle.tangle_graph.specs.Stores.{StoreRead, IsStoreOf}
 use Rattle.tangle_expansion.proofs.LineTruth.{true_to_lines}
 use Rattle.tangle_expansion.proofs.Weights.{expandable_light}
 use Rattle.tangle_plans.proofs.InsideLemmas.{table_inside}
+use Rattle.tangle_graph.proofs.ExpandLemmas.{expandable_at}
 use Rattle.tangle_graph.proofs.OutputLemmas.{IsFit, outputs_fit}
 use Rattle.tangle_affected.proofs.OutputLemmas.{ready}
-use Rattle.tangle_session.specs.Files.{shapes_of, output_bytes, source_at, web_at}
+use Rattle.tangle_session.specs.Headline.{output_at, output_bytes, source_at, web_at}
 use Rattle.tangle_affected.specs.Affected as affected
 use Rattle.tangle_affected.specs.Keeping as keeping
-use Rattle.tangle_session.specs.Sessions.{AgreesWithFiles, ListsAffectedOfWebs, ListsExpandableOfWeb, SessionRead}
-use Rattle.tangle_session.specs.Sessions.{start_refusal}
-use Rattle.tangle_session.specs.Tangle.{output_at}
+use Rattle.tangle_session.specs.Sessions.{ListsAffectedOfWebs, ListsExpandableOfWeb, SessionRead}
+use Rattle.tangle_session.specs.Sessions.{shapes_of, start_refusal}
+use Rattle.tangle_session.specs.States.{AgreesWithFiles}
 use Rattle.tangle_session.specs.Writes.{IsTrueFile, WritesOut, WritesOutput}
 use Rattle.tangle_session.specs.declared.tangling.SessionState.{SessionState}
 use Rattle.tangle_session.proofs.NameLemmas.{names_distinct}
@@ -51,8 +52,8 @@ lists_nodes web store nodes is names_are lists = record {
       (λ names. (node : Node) → Contains nodes node
       ↔ (IsNodeOf names node × IsExpandableNode (shapes_of web) (title_at names node))) names_are
       (λ node. (
-        λ c. (let both = (lists.just node).0 c in (both.0, (is.expandable node both.0).0 both.1)),
-        λ both. (lists.just node).1 (both.0, (is.expandable node both.0).1 both.1),
+        λ c. (let both = (lists.just node).0 c in (both.0, (expandable_at (shapes_of web) store is node both.0).0 both.1)),
+        λ both. (lists.just node).1 (both.0, (expandable_at (shapes_of web) store is node both.0).1 both.1),
       ));
 }
 
@@ -116,23 +117,25 @@ module _ (state : SessionState) (roles : RolesRead) (session : SessionRead) (vie
   abbrev web : WebRead
   web = web_at state.files roles
 
+  abbrev bytes_of : OutputRead → List ℕ
+  bytes_of = output_bytes state.files roles
+
   -- no two outputs of the store have the same name
   pub names_apart : IsDistinct bytes_eq (map (λ (o : OutputRead). o.name) state.analysis.store.outputs)
   names_apart =
       subst (λ os. IsDistinct bytes_eq (map (λ (o : OutputRead). o.name) os)) (sym hold.analysis.outputs_are)
-      (subst (IsDistinct bytes_eq)
-      (sym (names_written web roles.marks (outputs web (table_of web) roles.out)))
-      (names_distinct web roles.marks roles.out))
+      (subst (IsDistinct bytes_eq) (sym (names_written bytes_of (outputs web (table_of web) roles.out)))
+      (names_distinct state.files roles))
 
   looked_up : output_at session.files session.roles name
-      ≡ option_map (output_bytes web roles.marks) (find named state.analysis.store.outputs)
+      ≡ option_map bytes_of (find named state.analysis.store.outputs)
   looked_up =
       ap (λ (s : SessionRead). output_at s.files s.roles name) (sym view)
-      ∙ look_up web roles.marks name (outputs web (table_of web) roles.out)
-      ∙ ap (λ os. option_map (output_bytes web roles.marks) (find named os)) (sym hold.analysis.outputs_are)
+      ∙ look_up bytes_of name (outputs web (table_of web) roles.out)
+      ∙ ap (λ os. option_map bytes_of (find named os)) (sym hold.analysis.outputs_are)
 
   none_at : find named state.analysis.store.outputs ≡ None → output_at session.files session.roles name ≡ None
-  none_at e = looked_up ∙ ap (option_map (output_bytes web roles.marks)) e
+  none_at e = looked_up ∙ ap (option_map bytes_of) e
 
   pub no_size : find named state.analysis.store.outputs ≡ None
       → None ≡ option_map length (output_at session.files session.roles name)
@@ -144,8 +147,8 @@ module _ (state : SessionState) (roles : RolesRead) (session : SessionRead) (vie
       subst (λ x. WritesOutput x old new (Err refusal.NoOutput)) (sym (none_at e)) (refl, same)
 
   module _ (output : OutputRead) (found : find named state.analysis.store.outputs ≡ Some output) where
-    some_at : output_at session.files session.roles name ≡ Some (output_bytes web roles.marks output)
-    some_at = looked_up ∙ ap (option_map (output_bytes web roles.marks)) found
+    some_at : output_at session.files session.roles name ≡ Some (bytes_of output)
+    some_at = looked_up ∙ ap (option_map bytes_of) found
 
     found_there : find named (outputs web (table_of web) roles.out) ≡ Some output
     found_there = ap (find named) (sym hold.analysis.outputs_are) ∙ found
@@ -164,8 +167,8 @@ module _ (state : SessionState) (roles : RolesRead) (session : SessionRead) (vie
 
     is_its : output_at session.files session.roles name ≡ Some bytes
     is_its = some_at ∙ ap Some (sym (ap (λ n. kept_output_bytes n state.kept output) hold.analysis.numbers
-        ∙ same_bytes web state.analysis.store state.kept
-        hold.analysis.store hold.analysis.store_names hold.kept roles.marks output fit))
+        ∙ same_bytes state.files roles state.analysis.store state.kept
+        hold.analysis.store hold.analysis.store_names hold.kept output fit))
 
     pub its_size : Some (length bytes) ≡ option_map length (output_at session.files session.roles name)
     its_size = ap (option_map length) (sym is_its)
@@ -179,13 +182,13 @@ module _ (state : SessionState) (roles : RolesRead) (session : SessionRead) (vie
         view (λ full. record {
           output = output;
           named = found_there;
-          bytes = output_bytes web Full output;
-          are_its = ap (λ (s : SessionRead). output_at s.files s.roles name) view
-              ∙ some_at ∙ ap (λ m. Some (output_bytes web m output)) full;
+          bytes = bytes_of output;
+          are_its = ap (λ (s : SessionRead). output_at s.files s.roles name) view ∙ some_at;
           true_to_lines = record {
             of_node = expansion_bytes (numbers_of web (table_of web) Full)
                 (flat_of (shapes_of web) (title_at (table_of web).names output.node));
-            made = refl;
+            made = ap (λ m. output_file_bytes (numbers_of web (table_of web) m) output.has_macros output.has_piece
+                (flat_of (shapes_of web) (title_at (table_of web).names output.node))) full;
             true_to_lines = true_to_lines (source_at state.files roles) web
                 (title_at (table_of web).names output.node) hold.analysis.line_truth;
           };

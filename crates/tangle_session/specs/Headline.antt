@@ -7,28 +7,28 @@
 -- file reaches a name that contains itself, and each such name has its fault.
 --
 -- Below are plain tangling (1), a history of edits (2), and what is shown at its end (3). The calls
--- that promise it:
--- - `start_and_edit` starts a session and passes any edits to it. These edits and their answers are
---   a `History`, which ends with the returned session.
--- - `ask_all` asks a session for everything. At the end of any `History` the session
---   `ShowsPlainTangling` of the files and roles of the start with the accepted edits made, and it
---   `ShowsLastWork`.
--- - `run_retangle` of `ctangle_cli` answers a script. The edits of a script and their answers are a
--- `History`, by `the_answers_of_a_script_are_a_history`. The files and the faults that it shows are
--- those of plain tangling, by `scripts_show_plain_tangling`. Text that only moves affects no node:
--- `moved_text_expands_nothing`, over `Moves.antt`.
-use Rattle.std.specs.Prelude.{◌≡◌, ◌⊎◌, ◌++◌, ◌∷◌, [], ℕ, List, length, map, Contains}
-use Rattle.std.specs.Prelude.{None, Some, option_map}
-use Rattle.std.specs.Prelude.{Result, Ok, Err, OnOk, unwrap_or}
+-- that promise it, in the words of this page:
+-- - `Session::start` starts a session (`IsStarted`), and `apply` and `apply_all` make edits
+--   (`IsAnswered`). So whatever calls are made, they and their answers are a `History`.
+-- - `Session::faults` has the faults of `IsPlainTangling`, for the session's files and roles.
+--   `output_names`, `output_size` and `write_output` have the names, the sizes and the bytes of the
+--   same output files. Each byte is at its line, where line marks are written in full
+--   (`IsTrueFile`). `last_work` counts the nodes that were expanded last.
+-- - `run_ctangle` of `ctangle_cli` writes the output files and the faults of `IsPlainTangling`.
+-- - `run_retangle` of `ctangle_cli` answers a script: edits by `IsAnswered`, `show` and `faults` by
+--   `IsPlainTangling`. Its answers are a `History`, by `the_answers_of_a_script_are_a_history`.
+--
+-- (3) holds of each history by the law `histories_end_in_plain_tangling`. Text that only moves
+-- affects no node: `moved_text_expands_nothing`, over `Moves.antt`.
+use Rattle.std.specs.Prelude.{◌≡◌, ◌⊎◌, ◌++◌, ◌∷◌, [], ℕ, List, map, Contains}
+use Rattle.std.specs.Prelude.{Option, None, Some, Result, Ok, Err, unwrap_or}
 use Rattle.std.specs.Map.{lookup}
 use Rattle.std.specs.Str.{bytes_eq}
-use Rattle.tangle_streams.specs.Streams.{Stream}
 use Rattle.tangle_files.specs.Edited.{edited_all, joined, roles_after}
 use Rattle.tangle_files.specs.Lines.{FileTable}
 use Rattle.tangle_files.specs.Roles.{RolesRead}
 use Rattle.tangle_files.specs.declared.edits.Edit.{Edit}
-use Rattle.tangle_files.specs.declared.marks.MarkMode.{MarkMode}
-use Rattle.tangle_files.specs.declared.marks.MarkMode.TheVariants.{Full}
+use Rattle.tangle_files.specs.declared.refusal.Refusal.{Refusal}
 use Rattle.tangle_files.specs.declared.refusal.Refusal.TheVariants.{NoMemory}
 use Rattle.tangle_faults.specs.Faults.{FaultRead}
 use Rattle.tangle_lines.specs.Reading.{SourceRead, source_of}
@@ -39,80 +39,120 @@ use Rattle.tangle_expansion.specs.Limits.{flat_of}
 use Rattle.tangle_expansion.specs.Numbers.{numbers_of}
 use Rattle.tangle_expansion.specs.Outputs.{OutputRead, output_file_bytes}
 use Rattle.tangle_plans.specs.WebShapes.{shapes}
-use Rattle.tangle_plans.specs.Shapes.{Title, Named, Reaches, ContainsItself}
+use Rattle.tangle_plans.specs.Shapes.{Title, Named, Uses}
 use Rattle.digraph.specs.Nodes.{Node}
+use Rattle.digraph.specs.Reach.{Reaches, ContainsItself}
 use Rattle.tangle_graph.specs.Faults.{AreGraphFaults}
 use Rattle.tangle_plans.specs.Nodes.{title_at}
 use Rattle.tangle_graph.specs.Outputs.{outputs}
-use Rattle.tangle_session.specs.Edits.{list_memory, list_refusal, of_first, session_refusal}
-use Rattle.tangle_session.specs.Files.{web_at}
+use Rattle.tangle_session.specs.Edits.{list_memory, list_refusal, session_refusal}
 use Rattle.tangle_session.specs.Laws.{IsReportedSelfContaining}
-use Rattle.tangle_session.specs.Sessions.{AreMade, ListsAffectedOfWebs, ListsExpandableOfWeb}
+use Rattle.tangle_session.specs.Sessions.{ListsAffectedOfWebs, ListsExpandableOfWeb}
 use Rattle.tangle_session.specs.Sessions.{SessionRead, start_refusal}
-use Rattle.tangle_session.specs.Writes.{IsTrueFile, WritesOutput}
-use Rattle.tangle_session.specs.declared.headline.Edits.{Edits}
-use Rattle.tangle_session.specs.declared.headline.Edits.TheVariants as variant
-use Rattle.tangle_session.specs.declared.headline.Shown.{Shown}
 use Rattle.tangle_session.specs.declared.refusing.ListRefusal.{ListRefusal}
 
 -- 1. Plain tangling of files. The roles are the names of the web, of the change file, if there is
--- one, and of the main output file, and the setting for line marks.
-
--- the bytes of an output file: all macros, if they begin it, and then the expansion of its node,
--- with section numbers and line marks
-abbrev pub output_of_web : WebRead → TableRead → MarkMode → OutputRead → List ℕ
-output_of_web web table marks output =
-    output_file_bytes (numbers_of web table marks) output.has_macros output.has_piece
-    (flat_of (shapes web table) (title_at table.names output.node))
-
--- Each step is a function of the results of earlier steps, and of the roles; of nothing else.
-pub record IsPlainTangling (files : FileTable) (roles : RolesRead)
-    (output_files : List (List ℕ × List ℕ)) (faults : List FaultRead) : Type 0 where
+-- one, and of the main output file, and the setting for line marks. Each step is a function of the
+-- results of earlier steps, and of the roles; of nothing else.
+module _ (files : FileTable) (roles : RolesRead) where
   -- files to source: the lines of the web, with files included and the change file's changes made
-  pub source : SourceRead
-  pub reading : source ≡ source_of files roles
+  unfoldable pub source_at : SourceRead
+  source_at = source_of files roles
+
   -- source to web: its sections, with the pieces of C and the macros in them, and all occurrences
   -- of names
-  pub web : WebRead
-  pub scanning : web ≡ web_of source
+  unfoldable pub web_at : WebRead
+  web_at = web_of source_at
+
   -- web to names: the full names, and which of them each occurrence means
-  pub table : TableRead
-  pub naming : table ≡ table_of web
-  -- names to outputs: the main file, and then the files of `@(`, each with its name and its bytes
-  pub writing : output_files ≡
-      map (λ output. (output.name, output_of_web web table roles.marks output))
-      (outputs web table roles.out)
-  -- and to faults: those of reading, of scanning, of names, and of the graph of names, in this
-  -- order
-  pub of_graph : List FaultRead
-  pub are_of_graph : AreGraphFaults web table roles.out of_graph
-  pub reporting : faults ≡ source.faults ++ (web.faults ++ (name_faults web ++ of_graph))
+  abbrev pub table_at : TableRead
+  table_at = table_of web_at
+
+  -- the bytes of an output file: all macros, if they begin it, and then the expansion of its node,
+  -- with section numbers and line marks
+  abbrev pub output_bytes : OutputRead → List ℕ
+  output_bytes output =
+      output_file_bytes (numbers_of web_at table_at roles.marks) output.has_macros output.has_piece
+      (flat_of (shapes web_at table_at) (title_at table_at.names output.node))
+
+  -- names to output files: the main file, and then the files of `@(`, each with its name and its
+  -- bytes
+  abbrev pub output_files : List (List ℕ × List ℕ)
+  output_files =
+      map (λ output. (output.name, output_bytes output)) (outputs web_at table_at roles.out)
+
+  -- the bytes of the output file of this name, if there is one
+  abbrev pub output_at : List ℕ → Option (List ℕ)
+  output_at name = lookup (bytes_eq name) output_files
+
+  -- Plain tangling gives these output files, and these faults: those of reading, of scanning, of
+  -- names, and of the graph of names, in this order.
+  pub record IsPlainTangling (made_files : List (List ℕ × List ℕ))
+      (faults : List FaultRead) : Type 0 where
+    pub writing : made_files ≡ output_files
+    pub of_graph : List FaultRead
+    pub are_of_graph : AreGraphFaults web_at table_at roles.out of_graph
+    pub reporting : faults
+        ≡ source_at.faults ++ (web_at.faults ++ (name_faults web_at ++ of_graph))
 
 -- 2. A history: edits from a start on, each with its answer.
 
--- what one call passes: one edit, or a list of edits of which all are made or none
-pub data EditsRead : Type 0 where
-  Single : (edit : Edit) → EditsRead
-  Several : (edits : List Edit) → EditsRead
+-- The session was started with these files and roles. This expanded each expandable node.
+pub record IsStarted (files : FileTable) (roles : RolesRead)
+    (session : SessionRead) : Type 0 where
+  pub unrefused : start_refusal files roles ≡ None
+  pub files_are : session.files ≡ files
+  pub roles_are : session.roles ≡ roles
+  pub work : ListsExpandableOfWeb (web_at files roles) session.work
 
-abbrev pub edits_read : Edits → EditsRead
-edits_read (variant.Single edit) = Single edit
-edits_read (variant.Several edits) = Several edits.items
+-- A list of edits was made, each in the files that the earlier ones left, from one state of a
+-- session to the other. Exactly the nodes that the whole list affects were expanded.
+pub record AreMade (before : SessionRead) (edits : List Edit) (after : SessionRead) : Type 0 where
+  pub files : after.files ≡ edited_all before.files edits
+  pub roles : after.roles ≡ roles_after before.roles edits
+  pub work : ListsAffectedOfWebs (web_at before.files before.roles)
+      (web_at after.files after.roles) after.work
 
--- the edits of one call, and their answer: they are accepted (`Ok`), or refused (`Err`) for a
--- reason, with the number of the first refused edit
-abbrev pub Call : Type 0
-Call = EditsRead × Result (Unit {0}) ListRefusal
+-- one edit, or a list of edits of which all are made or none, and the answer: they are accepted
+-- (`Ok`), or refused (`Err`) for a reason, in a list with the number of the first refused edit
+pub data Call : Type 0 where
+  Apply : (edit : Edit) (answer : Result (Unit {0}) Refusal) → Call
+  ApplyAll : (edits : List Edit) (answer : Result (Unit {0}) ListRefusal) → Call
 
-abbrev pub edits_of : EditsRead → List Edit
-edits_of (Single edit) = edit ∷ []
-edits_of (Several edits) = edits
+-- The call is answered so in the state `before`, and `after` is the state then. It is accepted only
+-- where no refusal applies. A single edit is refused for the first refusal that applies or, where
+-- none does, because memory ran out; for a list, memory may run out before the first refused edit
+-- is found. A refused call changes nothing.
+abbrev pub IsAnswered : SessionRead → Call → SessionRead → Type 0
+IsAnswered before (Apply edit (Ok done)) after =
+    (session_refusal before.files before.roles edit ≡ None) × AreMade before (edit ∷ []) after
+IsAnswered before (Apply edit (Err refusal)) after =
+    (refusal ≡ unwrap_or (session_refusal before.files before.roles edit) NoMemory)
+    × (after ≡ before)
+IsAnswered before (ApplyAll edits (Ok done)) after =
+    (list_refusal before.files before.roles edits ≡ None) × AreMade before edits after
+IsAnswered before (ApplyAll edits (Err refused)) after =
+    ((list_refusal before.files before.roles edits ≡ Some refused) ⊎ (refused ≡ list_memory))
+    × (after ≡ before)
+
+-- The session was started; then the calls were made and answered, in this order.
+pub data History (files : FileTable) (roles : RolesRead) : List Call → SessionRead → Type 0 where
+  Started : {session : SessionRead} → IsStarted files roles session
+      → History files roles [] session
+  Answered : {calls : List Call} {after : SessionRead} (before : SessionRead) (call : Call)
+      → History files roles calls before → IsAnswered before call after
+      → History files roles (calls ++ call ∷ []) after
+
+-- 3. What is shown at the end of a history: plain tangling of the session's files and roles, which
+-- are those of the start with the accepted edits made. Nothing else of the history counts.
 
 -- the edits of each call that was accepted, in order
 abbrev pub accepted : List Call → List (List Edit)
 accepted [] = []
-accepted ((edits, Ok done) ∷ calls) = edits_of edits ∷ accepted calls
-accepted ((edits, Err refused) ∷ calls) = accepted calls
+accepted (Apply edit (Ok done) ∷ calls) = (edit ∷ []) ∷ accepted calls
+accepted (ApplyAll edits (Ok done) ∷ calls) = edits ∷ accepted calls
+accepted (Apply edit (Err refusal) ∷ calls) = accepted calls
+accepted (ApplyAll edits (Err refused) ∷ calls) = accepted calls
 
 -- the files and the roles with these edits made, one after another
 abbrev pub files_after : FileTable → List (List Edit) → FileTable
@@ -120,75 +160,6 @@ files_after files lists = edited_all files (joined lists)
 
 abbrev pub roles_with : RolesRead → List (List Edit) → RolesRead
 roles_with roles lists = roles_after roles (joined lists)
-
--- One edit, or a list of edits, is passed to a session in the state `before`, and answered; `after`
--- is the state then. The call is accepted only where no refusal applies. A single edit is refused
--- for the first refusal that applies or, where none does, because memory ran out; for a list,
--- memory may run out before the first refused edit is found. A refused call changes nothing.
-abbrev pub IsAnswered : SessionRead → EditsRead → Result (Unit {0}) ListRefusal → SessionRead
-    → Type 0
-IsAnswered before (Single edit) (Ok done) after =
-    (session_refusal before.files before.roles edit ≡ None) × AreMade before (edit ∷ []) after
-IsAnswered before (Single edit) (Err refused) after =
-    (refused ≡ of_first (unwrap_or (session_refusal before.files before.roles edit) NoMemory))
-    × (after ≡ before)
-IsAnswered before (Several edits) (Ok done) after =
-    (list_refusal before.files before.roles edits ≡ None) × AreMade before edits after
-IsAnswered before (Several edits) (Err refused) after =
-    ((list_refusal before.files before.roles edits ≡ Some refused) ⊎ (refused ≡ list_memory))
-    × (after ≡ before)
-
--- The session was started with these files and roles, which expanded each expandable node; then the
--- calls were made and answered, in this order.
-pub data History (files : FileTable) (roles : RolesRead) : List Call → SessionRead → Type 0 where
-  Started : {session : SessionRead} → start_refusal files roles ≡ None
-      → session.files ≡ files → session.roles ≡ roles
-      → ListsExpandableOfWeb (web_at files roles) session.work
-      → History files roles [] session
-  Edited : {calls : List Call} {after : SessionRead}
-      (before : SessionRead) (edits : EditsRead) (answer : Result (Unit {0}) ListRefusal)
-      → History files roles calls before → IsAnswered before edits answer after
-      → History files roles (calls ++ (edits, answer) ∷ []) after
-
--- 3. What is shown at the end of a history. Below, `files` and `roles` are those of the start with
--- the accepted edits made. Nothing else of the history counts.
-
--- no output file reaches a name that contains itself; the main file reaches what the unnamed
--- program reaches
-abbrev pub NoOutputReachesACycle : WebRead → TableRead → List ℕ → Type 0
-NoOutputReachesACycle web table out =
-    (output : OutputRead) (other : Title) → Contains (outputs web table out) output
-    → Reaches (shapes web table) (title_at table.names output.node) other
-    → ¬ (ContainsItself (shapes web table) other)
-
--- each name that contains itself has its fault, at its first occurrence
-abbrev pub EachCycleIsReported : WebRead → TableRead → List FaultRead → Type 0
-EachCycleIsReported web table faults =
-    (name : List ℕ) → ContainsItself (shapes web table) (Named name)
-    → IsReportedSelfContaining web name faults
-
--- What a session shows when it is asked for everything, and writes the output file of this name,
--- which may be any name. `old` and `new` are the states of the writer before and after.
-pub record ShowsPlainTangling (files : FileTable) (roles : RolesRead) (name : List ℕ)
-    (old new : Stream) (shown : Shown) : Type 0 where
-  pub files_are : shown.files.now ≡ files
-  pub roles_are : shown.roles.now ≡ roles
-  -- the faults are those of plain tangling, and so are the output files:
-  pub output_files : List (List ℕ × List ℕ)
-  pub plain : IsPlainTangling files roles output_files shown.faults.now
-  -- the names of the output files, in order
-  pub names : shown.names ≡ map (λ file. file.0) output_files
-  -- the length of the file of this name, if there is one
-  pub size : shown.size ≡ option_map length (lookup (bytes_eq name) output_files)
-  -- the bytes of this file were written, or a prefix of them and then the writer failed; where
-  -- there is no such file, nothing was written, and the call is refused
-  pub written : WritesOutput (lookup (bytes_eq name) output_files) old new shown.written
-  -- where all bytes are written, with line marks in full, the compiler counts the line of the
-  -- source at each byte of a word, a sign, a quoted or verbatim text or an ASCII constant, except
-  -- in macros and in stretches (`docs/scanning.md`)
-  pub line_truth : roles.marks ≡ Full → OnOk shown.written (IsTrueFile files roles name)
-  pub no_cycle : NoOutputReachesACycle plain.web plain.table roles.out
-  pub cycles : EachCycleIsReported plain.web plain.table shown.faults.now
 
 -- the web of the files with these edits made
 abbrev pub web_after : FileTable → RolesRead → List (List Edit) → WebRead
@@ -203,10 +174,27 @@ pub data ListsLastExpanded (files : FileTable) (roles : RolesRead) (nodes : List
       (web_after files roles (earlier ++ last ∷ [])) nodes
       → ListsLastExpanded files roles nodes (earlier ++ last ∷ [])
 
--- The count that is shown is the number of these nodes. Here the files and the roles are those of
--- the start, and the edits are those of the accepted calls.
-pub record ShowsLastWork (files : FileTable) (roles : RolesRead) (lists : List (List Edit))
-    (shown : Shown) : Type 0 where
-  pub nodes : List Node
-  pub expanded : ListsLastExpanded files roles nodes lists
-  pub counted : shown.work ≡ length nodes
+-- The session was started with these files and roles, and has made these lists of edits. Its work
+-- is that of the last of them.
+pub record HasMade (files : FileTable) (roles : RolesRead) (lists : List (List Edit))
+    (session : SessionRead) : Type 0 where
+  pub files_are : session.files ≡ files_after files lists
+  pub roles_are : session.roles ≡ roles_with roles lists
+  pub work : ListsLastExpanded files roles session.work lists
+
+-- no output file reaches a name that contains itself; the main file reaches what the unnamed
+-- program reaches
+abbrev pub NoOutputReachesACycle : FileTable → RolesRead → Type 0
+NoOutputReachesACycle files roles =
+    (output : OutputRead) (other : Title)
+    → Contains (outputs (web_at files roles) (table_at files roles) roles.out) output
+    → Reaches (Uses (shapes (web_at files roles) (table_at files roles)))
+    (title_at (table_at files roles).names output.node) other
+    → ¬ (ContainsItself (Uses (shapes (web_at files roles) (table_at files roles))) other)
+
+-- each name that contains itself has its fault, at its first occurrence
+abbrev pub EachCycleIsReported : FileTable → RolesRead → List FaultRead → Type 0
+EachCycleIsReported files roles faults =
+    (name : List ℕ)
+    → ContainsItself (Uses (shapes (web_at files roles) (table_at files roles))) (Named name)
+    → IsReportedSelfContaining (web_at files roles) name faults

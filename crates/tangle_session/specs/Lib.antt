@@ -1,9 +1,7 @@
-pub mod Tangle
-pub mod Faults
-pub mod Files
 pub mod Edits
 pub mod Sessions
-pub mod Writes
 pub mod Laws
 pub mod Headline
+pub mod Writes
+pub mod States
 pub mod Moves

@@ -7,7 +7,7 @@ use Rattle.tangle_scan.specs.declared.items.Item.TheVariants.{UseOf}
 use Rattle.tangle_names.specs.NameTable.{TableRead}
 use Rattle.tangle_plans.specs.WebShapes.{shape_item}
 use Rattle.tangle_plans.specs.Shapes.{ShapeItem, Title}
-use Rattle.tangle_session.specs.Files.{shapes_of}
+use Rattle.tangle_session.specs.Sessions.{shapes_of}
 
 -- each node keeps its shape
 abbrev pub HaveSameShapes : WebRead → WebRead → Type 0

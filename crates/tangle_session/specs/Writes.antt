@@ -16,8 +16,7 @@ use Rattle.tangle_expansion.specs.Numbers.{numbers_of}
 use Rattle.tangle_expansion.specs.Outputs.{OutputRead, front_bytes, IsTrueToLines}
 use Rattle.tangle_plans.specs.Nodes.{title_at}
 use Rattle.tangle_graph.specs.Outputs.{outputs}
-use Rattle.tangle_session.specs.Files.{source_at, web_at}
-use Rattle.tangle_session.specs.Tangle.{output_at}
+use Rattle.tangle_session.specs.Headline.{output_at, source_at, table_at, web_at}
 
 -- An output of these bytes was written. At `Ok` the writer has all of them; at `WriteFault n` it
 -- has the first `n`. There is no other refusal.
@@ -49,8 +48,7 @@ pub record IsTrueOutput (source : SourceRead) (web : WebRead)
 pub record IsTrueFile (files : FileTable) (roles : RolesRead) (name : List ℕ) : Type 0 where
   pub output : OutputRead
   pub named : find (λ o. bytes_eq name o.name)
-      (outputs (web_at files roles) (table_of (web_at files roles)) roles.out)
-      ≡ Some output
+      (outputs (web_at files roles) (table_at files roles) roles.out) ≡ Some output
   pub bytes : List ℕ
   pub are_its : output_at files roles name ≡ Some bytes
   pub true_to_lines : IsTrueOutput (source_at files roles) (web_at files roles) output bytes

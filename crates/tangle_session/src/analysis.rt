@@ -4,7 +4,7 @@ ghost use Rattle.tangle_files.specs.Roles.{fits};
 ghost use Rattle.tangle_names.specs.NameTable.{table_of};
 ghost use Rattle.tangle_graph.specs.Stores.{AreNewShapes};
 ghost use Rattle.tangle_graph.specs.WebStores.{IsStoreOfWeb};
-ghost use Rattle.tangle_session.specs.Sessions.{IsAnalysis, IsAnalysisAt};
+ghost use Rattle.tangle_session.specs.States.{IsAnalysis, IsAnalysisAt};
 
 use std::alloc::Global;
 use tangle_expansion::Numbers;

@@ -7,18 +7,15 @@
 #![tactic(auto)]
 
 mod analysis;
-mod headline;
 mod laws;
 mod outputs;
 mod refusing;
 mod session;
 mod tangling;
 
-pub use headline::{Edits, Shown, ask_all, start_and_edit};
 pub use laws::{
-    histories_make_the_accepted_edits, moved_text_expands_nothing, no_output_reaches_a_cycle,
-    one_edit_is_a_list, outputs_are_found_by_their_names, self_containing_names_are_reported,
-    tangling_is_one, tangling_is_plain, what_leaves_the_web_expands_nothing,
+    histories_end_in_plain_tangling, moved_text_expands_nothing, one_edit_is_a_list,
+    outputs_are_found_by_their_names, tangling_is_one, what_leaves_the_web_expands_nothing,
 };
 pub use outputs::OutputNames;
 pub use refusing::ListRefusal;

@@ -1,15 +1,12 @@
 //! A session: a project in memory, which is tangled again after each accepted edit.
-ghost use Rattle.std.specs.Prelude.{◌≡◌, ◌⊎◌, length, map, IfOk, OnOk, OnErr, IfSome, IfNone};
+ghost use Rattle.std.specs.Prelude.{◌≡◌, length, map, IfOk, OnOk, IfSome, IfNone};
 ghost use Rattle.std.specs.Prelude.{IsOkUnless, Err};
 ghost use Rattle.std.specs.Option.{option_map};
 ghost use Rattle.tangle_files.specs.declared.refusal.Refusal.TheVariants.{NoMemory as no_memory};
 ghost use Rattle.tangle_files.specs.declared.marks.MarkMode.TheVariants.{Full};
-ghost use Rattle.tangle_session.specs.Files.{web_at};
-ghost use Rattle.tangle_files.specs.Edited.{edited, edited_all, edited_roles, roles_after};
-ghost use Rattle.tangle_session.specs.Edits.{list_memory, list_refusal, session_refusal};
-ghost use Rattle.tangle_session.specs.Sessions.{ListsAffectedOfWebs, ListsExpandableOfWeb};
+ghost use Rattle.tangle_session.specs.Headline.{Apply, ApplyAll, IsAnswered, IsPlainTangling};
+ghost use Rattle.tangle_session.specs.Headline.{IsStarted, output_at, output_files};
 ghost use Rattle.tangle_session.specs.Sessions.{start_refusal};
-ghost use Rattle.tangle_session.specs.Tangle.{AreFaultsOf, output_at, outputs_of};
 ghost use Rattle.tangle_session.specs.Writes.{IsTrueFile, WritesOutput};
 
 use crate::analysis::Analysis;
@@ -32,7 +29,8 @@ pub struct Session {
 }
 
 impl Model for Session {
-    ghost use Rattle.tangle_session.specs.Sessions.{SessionRead, AgreesWithFiles};
+    ghost use Rattle.tangle_session.specs.Sessions.{SessionRead};
+    ghost use Rattle.tangle_session.specs.States.{AgreesWithFiles};
 
     ghost Value = { SessionRead };
 
@@ -69,10 +67,7 @@ impl Session {
         files: Files,
         roles: Roles,
     ) -> Result<Session, (Files, Roles, Refusal)>
-        ensures files { IfOk result (λ session. session.files ≡ files) }
-        ensures roles { IfOk result (λ session. session.roles ≡ roles) }
-        ensures work { IfOk result
-            (λ session. ListsExpandableOfWeb (web_at files roles) session.work) }
+        ensures started { IfOk result (IsStarted files roles) }
         ensures refused { IfSome (start_refusal files roles)
             (λ refusal. result ≡ Err (files, roles, refusal)) }
         ensures only { IfNone (start_refusal files roles)
@@ -112,15 +107,7 @@ impl Session {
     /// change file is to be discarded, else `NoMemory` where an allocation failed. On an error
     /// nothing changes.
     pub fn apply(&mut self, edit: &Edit) -> Result<(), Refusal>
-        ensures files { OnOk result (self.new.files ≡ edited self.old.files edit.now) }
-        ensures roles { OnOk result (self.new.roles ≡ edited_roles self.old.roles edit.now) }
-        ensures work { OnOk result (ListsAffectedOfWebs (web_at self.old.files self.old.roles)
-            (web_at self.new.files self.new.roles) self.new.work) }
-        ensures refused { IfSome (session_refusal self.old.files self.old.roles edit.now)
-            (λ refusal. result ≡ Err refusal) }
-        ensures only { IfNone (session_refusal self.old.files self.old.roles edit.now)
-            (IsOkUnless result no_memory) }
-        ensures err { OnErr result (self.new ≡ self.old) }
+        ensures { IsAnswered self.old (Apply edit.now result) self.new }
     {
         if let Some(refusal) = refusal_to_apply(&self.state.files, &self.roles, edit) {
             return Err(refusal);
@@ -141,15 +128,7 @@ impl Session {
     /// where an allocation failed, which may happen before a refused edit is found. On an error
     /// nothing changes.
     pub fn apply_all(&mut self, edits: &[Edit]) -> Result<(), ListRefusal>
-        ensures files { OnOk result (self.new.files ≡ edited_all self.old.files edits.now) }
-        ensures roles { OnOk result (self.new.roles ≡ roles_after self.old.roles edits.now) }
-        ensures work { OnOk result (ListsAffectedOfWebs (web_at self.old.files self.old.roles)
-            (web_at self.new.files self.new.roles) self.new.work) }
-        ensures refused { IfSome (list_refusal self.old.files self.old.roles edits.now) (λ refused.
-            (result ≡ Err refused) ⊎ (result ≡ Err list_memory)) }
-        ensures only { IfNone (list_refusal self.old.files self.old.roles edits.now)
-            (IsOkUnless result list_memory) }
-        ensures err { OnErr result (self.new ≡ self.old) }
+        ensures { IsAnswered self.old (ApplyAll edits.now result) self.new }
     {
         // The setting of line marks, on which neither the web nor a refusal depends, is changed
         // last: this cannot fail, and by then the new state is whole.
@@ -164,7 +143,7 @@ impl Session {
     /// first, if the program has no piece or is expandable, and then the named files in the order
     /// of their first occurrences with `@(`.
     pub fn output_names(&self) -> OutputNames<'_>
-        ensures { result ≡ map (λ output. output.0) (outputs_of self.now.files self.now.roles) }
+        ensures { result ≡ map (λ file. file.0) (output_files self.now.files self.now.roles) }
     {
         OutputNames::new(self.state.analysis.store.outputs())
     }
@@ -229,7 +208,8 @@ impl Session {
     /// The faults: those of reading the web and the change file, then those of scanning, of names,
     /// and of the graph of names, each kind in its own order.
     pub fn faults(&self) -> &[Fault]
-        ensures { AreFaultsOf self.now.files self.now.roles result.now }
+        ensures { IsPlainTangling self.now.files self.now.roles
+            (output_files self.now.files self.now.roles) result.now }
     {
         self.state.analysis.faults.as_slice()
     }

@@ -6,8 +6,9 @@ ghost use Rattle.std.specs.Str.{bytes_eq};
 ghost use Rattle.tangle_files.specs.Edited.{edited, edited_all, roles_after};
 ghost use Rattle.tangle_files.specs.declared.refusal.Refusal.TheVariants.{NoMemory as no_memory};
 ghost use Rattle.tangle_session.specs.Edits.{list_memory, list_refusal, session_refusal};
-ghost use Rattle.tangle_session.specs.Files.{web_at};
-ghost use Rattle.tangle_session.specs.Sessions.{AgreesWithFiles, ListsAffectedOfWebs};
+ghost use Rattle.tangle_session.specs.Headline.{web_at};
+ghost use Rattle.tangle_session.specs.Sessions.{ListsAffectedOfWebs};
+ghost use Rattle.tangle_session.specs.States.{AgreesWithFiles};
 
 use crate::analysis::Analysis;
 use crate::refusing::{ListRefusal, refusal_of_role};

@@ -6,7 +6,7 @@ use std::process::Abort;
 use std::test::Fail;
 use tangle_lines::{Edit, Files, Refusal, Roles};
 use tangle_memory_folder::MemorySink;
-use tangle_session::{Edits, ListRefusal, Session, ask_all, start_and_edit};
+use tangle_session::Session;
 
 // This is a function of its own, so that the clauses of a start are used once.
 fn refused_start(alloc: Global, files: Files, roles: Roles) -> Option<(Files, Roles, Refusal)> {
@@ -103,67 +103,45 @@ const BROKEN_CYCLE: &[u8] =
     b"/*1:*/\n#line 2 \"a.w\"\n\n /*2:*/\n#line 4 \"a.w\"\n\n /*3:*/\n#line 6 \"a.w\"\n\nb;\n\
       /*:3*/\n#line 5 \"a.w\"\n\n/*:2*/\n#line 3 \"a.w\"\n\n/*:1*/\n";
 
-// An edit of a line that isn't there, and a list that breaks the cycle.
-fn calls(alloc: Global) -> Result<Vec<Edits>, AllocError> {
+// A list that breaks the cycle.
+fn breaking(alloc: Global) -> Result<Vec<Edit>, AllocError> {
     let file = Vec::from_slice(alloc, b"a.w")?;
-    let mut breaking = Vec::new(alloc);
-    breaking.push(insertion(alloc, b"a.w", 7, b"b;")?)?;
-    breaking.push(Edit::Remove { file, at: 8 })?;
-    let mut calls = Vec::new(alloc);
-    calls.push(Edits::Single(insertion(alloc, b"a.w", 99, b"x")?))?;
-    calls.push(Edits::Several(breaking))?;
-    Ok(calls)
+    let mut edits = Vec::new(alloc);
+    edits.push(insertion(alloc, b"a.w", 7, b"b;")?)?;
+    edits.push(Edit::Remove { file, at: 8 })?;
+    Ok(edits)
 }
-
-type Answers = Vec<Result<(), ListRefusal>>;
 
 // The cycle is broken: three nodes were expanded, and there are the main file, `h.h` and no fault.
 fn check_broken(rt: &impl Abort, alloc: Global, session: &Session) -> Result<(), Fail> {
     let mut sink = MemorySink::new(alloc, AMPLE);
-    let shown = ask_all(session, b"a.c", &mut sink);
+    let size = BROKEN_CYCLE.len() as u128;
+    assert_eq!(rt; session.output_size(b"a.c"), Some(size));
+    assert_eq!(rt; session.write_output(b"a.c", &mut sink), Ok(size));
     assert!(rt; sink.bytes() == BROKEN_CYCLE);
-    assert_eq!(rt; shown.size, Some(BROKEN_CYCLE.len() as u128));
-    assert_eq!(rt; shown.written, Ok(BROKEN_CYCLE.len() as u128));
-    assert_eq!(rt; (shown.faults.len(), shown.work), (0, 3));
-    let lines = shown.files.lines(shown.roles.web()).ok_or("the web")?;
+    assert_eq!(rt; (session.faults().len(), session.last_work()), (0, 3));
+    let lines = session
+        .files()
+        .lines(session.roles().web())
+        .ok_or("the web")?;
     assert_eq!(rt; lines.len(), 9);
     assert!(rt; lines.get(6).ok_or("the line")?.bytes() == b"b;".as_slice());
-    let mut names = shown.names;
+    let mut names = session.output_names();
     assert!(rt; names.next() == Some(b"a.c") && names.next() == Some(b"h.h"));
     assert!(rt; names.next().is_none());
     Ok(())
 }
 
-// This is a function of its own, so that the clauses of a start are used once.
-fn edited(
-    alloc: Global,
-    files: Files,
-    roles: Roles,
-    calls: &[Edits],
-) -> Option<(Session, Answers)> {
-    start_and_edit(alloc, files, roles, calls).ok()
-}
-
-fn check_history(
-    rt: &impl Abort,
-    alloc: Global,
-    session: &Session,
-    answers: &[Result<(), ListRefusal>],
-) -> Result<(), Fail> {
-    let refused = ListRefusal {
-        at: 0,
-        refusal: Refusal::NoSuchLine,
-    };
-    assert!(rt; answers == [Err(refused), Ok(())].as_slice());
+// An edit of a line that isn't there is refused, and the list is made.
+fn check_history(rt: &impl Abort, alloc: Global, session: &mut Session) -> Result<(), Fail> {
+    let refused = insertion(alloc, b"a.w", 99, b"x")?;
+    assert_eq!(rt; session.apply(&refused), Err(Refusal::NoSuchLine));
+    assert_eq!(rt; session.apply_all(&breaking(alloc)?), Ok(()));
     check_broken(rt, alloc, session)
 }
 
-// The edit is refused, and the list is made.
 #[test]
 fn a_history(rt: HostRuntime) -> Result<(), Fail> {
-    let files = files_with(rt.alloc(), &[(b"a.w", CYCLE)])?;
-    let roles = Roles::new(rt.alloc(), b"a.w", None, b"a.c")?;
-    let calls = calls(rt.alloc())?;
-    let (session, answers) = edited(rt.alloc(), files, roles, &calls).ok_or("not started")?;
-    check_history(&rt, rt.alloc(), &session, &answers)
+    let mut session = start(rt.alloc(), CYCLE)?;
+    check_history(&rt, rt.alloc(), &mut session)
 }

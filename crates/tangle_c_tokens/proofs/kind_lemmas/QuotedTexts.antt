@@ -26,13 +26,13 @@ use Rattle.tangle_scan.specs.Rules.{without_faults}
 use Rattle.tangle_scan.specs.ReadAsMeant.{token_bytes}
 use Rattle.c_tokens.specs.Bytes.{line_feed}
 use Rattle.c_tokens.specs.Borders.{has_bytes}
-use Rattle.tangle_c_tokens.specs.Edges.{ends_in}
+use Rattle.tangle_c_tokens.specs.Edges.{last_byte_passes}
 use Rattle.tangle_c_tokens.specs.Kinds.{is_range, range_bytes}
 use Rattle.tangle_c_tokens.proofs.kind_lemmas.Lines.{IsInLine, AreInLines, Continues, after-byte, byte-within, range}
 use Rattle.tangle_c_tokens.proofs.kind_lemmas.Lines.{range-none, range-byte, range-some}
 
 -- the last byte of a text is that of the text with one more byte before it
-last-more : (test : ℕ → Bool) (b : ℕ) (q : List ℕ) → ends_in test q ≡ true → ends_in test (b ∷ q) ≡ true
+last-more : (test : ℕ → Bool) (b : ℕ) (q : List ℕ) → last_byte_passes test q ≡ true → last_byte_passes test (b ∷ q) ≡ true
 last-more test b [] h = absurd (false≢true h)
 last-more test b (c ∷ q) h = h
 
@@ -68,7 +68,7 @@ module _ (texts : List (List ℕ)) (r : Region) (close last_line : ℕ) (cut : I
     pub bytes : range_bytes texts (without_faults ts) ≡ before ++ ahead
     pub first : slice_get ahead 0 ≡ front
     pub closes : Closes ends ahead
-    pub last : ends ≡ true → ends_in is_closing ahead ≡ true
+    pub last : ends ≡ true → last_byte_passes is_closing ahead ≡ true
     pub ranges : list_all is_range (without_faults ts) ≡ true
     pub full : list_all is_full (without_faults ts) ≡ true
 
@@ -350,7 +350,7 @@ module _ (texts : List (List ℕ)) (r : Region) (close last_line : ℕ) (cut : I
     pub ahead : List ℕ
     pub bytes : range_bytes texts (without_faults ts) ≡ opening ∷ ahead
     pub closes : Closes ends ahead
-    pub last : ends ≡ true → ends_in is_closing ahead ≡ true
+    pub last : ends ≡ true → last_byte_passes is_closing ahead ≡ true
     pub ranges : list_all is_range (without_faults ts) ≡ true
     pub full : list_all is_full (without_faults ts) ≡ true
 

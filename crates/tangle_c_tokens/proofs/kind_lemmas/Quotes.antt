@@ -20,7 +20,7 @@ use Rattle.c_tokens.specs.Touching.TextKind.{Plain}
 use Rattle.c_tokens.specs.Bytes.{is_word_byte, is_quote}
 use Rattle.c_tokens.specs.Borders.{is_plain_byte, last_byte, has_bytes}
 use Rattle.c_tokens.proofs.TouchingLemmas.{spliced-first}
-use Rattle.tangle_c_tokens.specs.Edges.{begins_in, ends_in}
+use Rattle.tangle_c_tokens.specs.Edges.{first_byte_passes, last_byte_passes}
 use Rattle.tangle_c_tokens.specs.Kinds.{ends_header_name, is_header_name, IsTextOfKind, IsOpen, IsQuoted, range_bytes}
 use Rattle.tangle_c_tokens.specs.Kinds.{IsQuotedText}
 use Rattle.tangle_c_tokens.proofs.kind_lemmas.Lines.{AreInLines}
@@ -30,25 +30,25 @@ use Rattle.tangle_c_tokens.proofs.kind_lemmas.QuoteBytes.{quote-others, quote-br
 use Rattle.tangle_c_tokens.proofs.kind_lemmas.QuoteBytes.{header-signs, header-others, header-broken}
 
 -- the last byte of a text after a quote is that quote
-ends-quote : (quote : ℕ) (q : List ℕ) → is_quote quote ≡ true → ends_in (λ b. b == quote) q ≡ true
-    → ends_in is_plain_byte (quote ∷ q) ≡ true
+ends-quote : (quote : ℕ) (q : List ℕ) → is_quote quote ≡ true → last_byte_passes (λ b. b == quote) q ≡ true
+    → last_byte_passes is_plain_byte (quote ∷ q) ≡ true
 ends-quote quote [] is h = absurd (false≢true h)
 ends-quote quote (c ∷ q) is h =
     let last : ℕ = last_byte c q in
     or_right (is_word_byte last) (is_quote last) (ap is_quote (eqb-true last quote h) ∙ is)
 
 -- a text between two quotes, which are its first and its last byte
-in-quotes : (quote : ℕ) (q bytes : List ℕ) → is_quote quote ≡ true → ends_in (λ b. b == quote) q ≡ true
+in-quotes : (quote : ℕ) (q bytes : List ℕ) → is_quote quote ≡ true → last_byte_passes (λ b. b == quote) q ≡ true
     → bytes ≡ quote ∷ q → is_plain (spliced bytes) ≡ true → IsTextOfKind Plain bytes
 in-quotes quote q bytes is last same plain = record {
   is = plain;
   bytes = ap has_bytes same;
-  begins = ap (begins_in is_plain_byte) same ∙ or_right (is_word_byte quote) (is_quote quote) is;
-  ends = ap (ends_in is_plain_byte) same ∙ ends-quote quote q is last;
+  begins = ap (first_byte_passes is_plain_byte) same ∙ or_right (is_word_byte quote) (is_quote quote) is;
+  ends = ap (last_byte_passes is_plain_byte) same ∙ ends-quote quote q is last;
 }
 
 string-quoted : (ends : Bool) (q bytes : List ℕ) → Gives ends (ends_quoted double_quote) (spliced q)
-    → (ends ≡ true → ends_in (λ b. b == double_quote) q ≡ true) → bytes ≡ double_quote ∷ q → IsQuoted bytes
+    → (ends ≡ true → last_byte_passes (λ b. b == double_quote) q ≡ true) → bytes ≡ double_quote ∷ q → IsQuoted bytes
 string-quoted true q bytes h last is =
     let text : List ℕ = double_quote ∷ spliced q in
     inl (in-quotes double_quote q bytes refl (last refl) is
@@ -59,7 +59,7 @@ string-quoted false q bytes h last is =
     inr (inr (inr (inl (subst (IsOpen double_quote (ends_quoted double_quote)) (sym same) (refl, h)))))
 
 character-quoted : (ends : Bool) (q bytes : List ℕ) → Gives ends (ends_quoted apostrophe) (spliced q)
-    → (ends ≡ true → ends_in (λ b. b == apostrophe) q ≡ true) → bytes ≡ apostrophe ∷ q → IsQuoted bytes
+    → (ends ≡ true → last_byte_passes (λ b. b == apostrophe) q ≡ true) → bytes ≡ apostrophe ∷ q → IsQuoted bytes
 character-quoted false q bytes h last is =
     let same = ap spliced is ∙ spliced-first apostrophe q refl in
     inr (inr (inr (inr (inl (subst (IsOpen apostrophe (ends_quoted apostrophe)) (sym same) (refl, h))))))

@@ -15,7 +15,7 @@ use Rattle.tangle_lexer.specs.declared.tokens.Token.TheVariants as token
 use Rattle.tangle_lexer.proofs.laws.RegionUnits.{units-by}
 use Rattle.tangle_lexer.specs.SpanBytes.{first_byte}
 use Rattle.c_tokens.specs.Touching.TextKind.{Plain, Other}
-use Rattle.tangle_c_tokens.specs.Kinds.{sign_kind, IsTextOfKind, HasItsKind}
+use Rattle.tangle_c_tokens.specs.Kinds.{text_kind_of_sign, IsTextOfKind, HasItsKind}
 use Rattle.tangle_c_tokens.proofs.kind_lemmas.Lines.{IsInLine, bytes_by, line_bytes, span-bytes, first-byte}
 use Rattle.tangle_c_tokens.proofs.kind_lemmas.WordKinds.{word-text, sign-text}
 
@@ -54,8 +54,8 @@ module _ (texts : List (List ℕ)) where
   pub sign-span : (c : Cell) (cs : List Cell) (b : ℕ) → c.byte ≡ Some b → IsInLine texts c cs
       → HasItsKind texts (token.Span span_kind.Sign (span_at 1 (c ∷ cs)))
   sign-span c cs b e is =
-      subst (λ k. IsTextOfKind (sign_kind k) (span_text texts (span_at 1 (c ∷ cs)))) (sym (first-is 1 c cs b e is))
-      (subst (IsTextOfKind (sign_kind b)) (sym (at-byte 1 c cs b e is)) (sign-text b))
+      subst (λ k. IsTextOfKind (text_kind_of_sign k) (span_text texts (span_at 1 (c ∷ cs)))) (sym (first-is 1 c cs b e is))
+      (subst (IsTextOfKind (text_kind_of_sign b)) (sym (at-byte 1 c cs b e is)) (sign-text b))
 
   pub word-span : (c : Cell) (cs : List Cell) (b : ℕ) → c.byte ≡ Some b → is_word_byte b ≡ true → IsInLine texts c cs
       → HasItsKind texts (token.Span span_kind.Word (span_at (1 + count_before region.Word cs) (c ∷ cs)))

@@ -9,7 +9,7 @@ use Rattle.tangle_scan.specs.Rules.{touch_kind, may_touch}
 use Rattle.tangle_lexer.specs.SpanBytes.{first_byte}
 use Rattle.c_tokens.specs.Touching.{TextKind, kinds_may_touch, is_separator, is_operator}
 use Rattle.c_tokens.specs.Touching.TextKind.{Separator, Operator, Plain, Other}
-use Rattle.tangle_c_tokens.specs.Kinds.{sign_kind, item_kind}
+use Rattle.tangle_c_tokens.specs.Kinds.{text_kind_of_sign, item_kind}
 
 -- Both tables of what may touch are one: an item of each kind of the first table stands for that kind of the second.
 
@@ -22,10 +22,10 @@ sample Operator = token.Span span_kind.Sign (record { line = 0; start = 1; end =
 sample Plain = token.Span span_kind.Quoted (record { line = 0; start = 0; end = 1 })
 sample Other = token.White
 
-sample-sign : (b : ℕ) → rules.sign_kind b ≡ touch_kind samples (sample (sign_kind b))
+sample-sign : (b : ℕ) → rules.sign_kind b ≡ touch_kind samples (sample (text_kind_of_sign b))
 sample-sign b = by (is_separator b) refl (is_operator b) refl
   where
-    by : (s : Bool) → is_separator b ≡ s → (o : Bool) → is_operator b ≡ o → rules.sign_kind b ≡ touch_kind samples (sample (sign_kind b))
+    by : (s : Bool) → is_separator b ≡ s → (o : Bool) → is_operator b ≡ o → rules.sign_kind b ≡ touch_kind samples (sample (text_kind_of_sign b))
     by true s o of_o = rw s refl
     by false s true o = rw (s, o) refl
     by false s false o = rw (s, o) refl

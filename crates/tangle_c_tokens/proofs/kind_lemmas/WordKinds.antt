@@ -12,7 +12,7 @@ use Rattle.c_tokens.specs.Touching.{is_separator, is_operator, is_plain_word, is
 use Rattle.c_tokens.proofs.LongerLemmas.{comment-first, comment-second}
 use Rattle.c_tokens.proofs.TouchingLemmas.{single-element, one-element, spliced-first}
 use Rattle.c_tokens.specs.Touching.TextKind.{Separator, Operator, Plain, Other}
-use Rattle.tangle_c_tokens.specs.Kinds.{sign_kind, IsTextOfKind}
+use Rattle.tangle_c_tokens.specs.Kinds.{text_kind_of_sign, IsTextOfKind}
 
 abbrev is_open : List ℕ → Bool
 is_open element = is_comment (element ++ space ∷ [])
@@ -94,7 +94,7 @@ one-closed b =
     closed false h = absurd (false≢true h)
 
 -- a sign is of the kind of its byte
-pub sign-text : (b : ℕ) → IsTextOfKind (sign_kind b) (b ∷ [])
+pub sign-text : (b : ℕ) → IsTextOfKind (text_kind_of_sign b) (b ∷ [])
 sign-text b = by (is_separator b) refl (is_operator b) refl
   where
     by : (separator : Bool) → is_separator b ≡ separator → (operator : Bool) → is_operator b ≡ operator

@@ -1,6 +1,6 @@
-use Rattle.std.proofs.Common.{sym, codes, refl}
+use Rattle.std.proofs.Common.{sym, codes, refl, subst}
+use Rattle.tangle_session.specs.Headline.{ApplyAll, IsAnswered}
 use Rattle.ctangle_cli.specs.Conversation.{list_line}
-use Rattle.ctangle_cli.proofs.AnswerLemmas.{list_answered}
 use Rattle.ctangle_cli.proofs.conversation.commit.Goals as goal
 
 pub returns-in-None : goal.returns-in-None
@@ -9,11 +9,13 @@ returns-in-None g c =
 
 pub returns-in-Some : goal.returns-in-Some
 returns-in-Some g c =
-    let done = rw c.deref.ensures.value at c.apply_all-done.ensures in (
-      list_line c.apply_all-done.result,
+    let answer = c.apply_all-done.result in (
+      list_line answer,
       rw (c.in-Some.ensures.after, sym c.in-Some.ensures.value) (
-        list_answered c.args.session.now c.apply_all-done.new.self c.in-Some.held.items
-            c.apply_all-done.result done.files done.roles done.work done.refused done.only done.err,
+        answer,
+        subst (λ edits. IsAnswered c.args.session.now (ApplyAll edits answer) c.apply_all-done.new.self)
+            c.deref.ensures.value c.apply_all-done.ensures,
+        refl,
         refl,
       ),
       c.write_list_answer.ensures,

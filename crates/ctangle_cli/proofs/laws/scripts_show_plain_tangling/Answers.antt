@@ -1,9 +1,17 @@
-use Rattle.tangle_session.proofs.HeadlineLemmas.{reached}
-use Rattle.ctangle_cli.proofs.HistoryLemmas.{goes_on}
-use Rattle.ctangle_cli.proofs.PlainLemmas.{shows_plain}
+use Rattle.std.proofs.Common.{◌∙◌, subst}
+use Rattle.tangle_files.specs.Lines.{FileTable}
+use Rattle.tangle_files.specs.Roles.{RolesRead}
+use Rattle.tangle_session.specs.Headline.{output_at}
+use Rattle.tangle_session.proofs.HeadlineLemmas.{ends}
+use Rattle.ctangle_cli.specs.Conversation.{ListsFaults, shown}
 use Rattle.ctangle_cli.proofs.laws.scripts_show_plain_tangling.Goals as goal
 
-pub returns : goal.returns
-returns c = λ files roles calls old new commands output history dialogue.
-    let gone = goes_on files roles calls old new commands output history dialogue in
-    let at = reached gone.2 in (gone.0, gone.1, shows_plain _ _ new at.files_are at.roles_are)
+pub returns-clause-show : goal.returns-clause-show
+returns-clause-show c = λ files roles calls s t name output history answered.
+    let at = ends files roles calls s.session history in
+    answered.0 ∙ (λ i. shown name (output_at (at.files_are i) (at.roles_are i) name))
+
+pub returns-clause-faults : goal.returns-clause-faults
+returns-clause-faults c = λ files roles calls s t output history answered.
+    let at = ends files roles calls s.session history in
+    subst (λ (x : FileTable × RolesRead). ListsFaults x.0 x.1 output) (λ i. (at.files_are i, at.roles_are i)) answered.0

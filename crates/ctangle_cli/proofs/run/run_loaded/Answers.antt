@@ -10,4 +10,5 @@ returns-in-Err g c = λ begun loads.
 
 pub returns : goal.returns
 returns g c = λ begun loads.
-    IsTangled c.args.files _ loads (rw (c.in-Ok.ensures.files, c.in-Ok.ensures.roles) at c.run_session-status.ensures)
+    let started = c.in-Ok.ensures.started in
+    IsTangled c.args.files _ loads (rw (started.files_are, started.roles_are) at c.run_session-status.ensures)

@@ -5,12 +5,12 @@ use Rattle.tangle_expansion.proofs.writing.write_symbols.Goals as goal
 
 pub returns-in-PieceStart : goal.returns-in-PieceStart
 returns-in-PieceStart g c =
-    rw (c.in-PieceStart.is, append-nil, ← c.requires.ours, ← c.section_at.ensures, ← c.mark_origin_at.ensures)
+    rw (c.in-PieceStart.is, append-nil, ← c.requires.ours, ← c.section.ensures, ← c.mark_origin.ensures)
     c.write_opening.ensures
 
 pub returns-in-Mark : goal.returns-in-Mark
 returns-in-Mark g c =
-    rw (c.in-Mark.is, append-nil, ← c.requires.ours, ← c.mark_origin_at-in-Mark.ensures) c.write_mark.ensures
+    rw (c.in-Mark.is, append-nil, ← c.requires.ours, ← c.mark_origin-in-Mark.ensures) c.write_mark.ensures
 
 pub returns-in-AllMacros : goal.returns-in-AllMacros
 returns-in-AllMacros g c =
@@ -22,8 +22,8 @@ returns-in-PieceEnd g c =
     rw (
       c.in-PieceEnd.is,
       ← c.requires.ours,
-      ← c.section_at-in-PieceEnd.ensures,
-      append-nil (decimal c.section_at-in-PieceEnd.result ++ codes "*/"),
+      ← c.section-in-PieceEnd.ensures,
+      append-nil (decimal c.section-in-PieceEnd.result ++ codes "*/"),
     )
     c.write_between.ensures
 

@@ -7,7 +7,7 @@ use Rattle.tangle_expansion.proofs.writing.write_to_use.Goals as goal
 pub loop-end-init : goal.loop-end-init
 loop-end-init g c = record {
   low = c.after_bytes-end.ensures.start;
-  wrote = wrote_to_more _ _ _ _ _ _ _ _ _ _ (wrote_to_first _ _ _ _ refl)
+  wrote = wrote_to_more _ _ _ _ _ _ _ _ _ _ (wrote_to_first _ _ _)
       (c.after_bytes-end.ensures.text c.args.text.now.numbers.now) refl;
 }
 
@@ -40,12 +40,12 @@ loop-end-preserved g c =
     (between_next text.numbers.now text.body.now end next t (omega arith) c.index-tag.ensures c.cursor_after-next.ensures
     start c.loop-end.invariant.low ∙ sym written) in
     let symbols =
-    wrote_to_more _ _ _ _ _ _ _ _ _ _ (wrote_to_write _ _ _ _ _ _ _ _ _ _ bytes c.write_after-so_far.ensures refl)
+    wrote_to_more _ _ _ _ _ _ _ _ _ _ (wrote_to_write _ _ _ _ _ _ _ _ _ bytes c.write_after-so_far.ensures)
     (λ used. refl) refl in
     record {
       low = c.after_bytes-end-in-loop-end.ensures.start;
       wrote = wrote_to_more _ _ _ _ _ _ _ _ _ _
-          (wrote_to_write _ _ _ _ _ _ _ _ _ _ symbols c.write_symbols-so_far.ensures refl)
+          (wrote_to_write _ _ _ _ _ _ _ _ _ symbols c.write_symbols-so_far.ensures)
           (c.after_bytes-end-in-loop-end.ensures.text text.numbers.now) refl;
     }
 

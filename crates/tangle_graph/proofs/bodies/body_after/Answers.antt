@@ -1,29 +1,34 @@
-use Rattle.std.proofs.Common.{◌≡◌, ◌∙◌, ◌↔◌, true, not, ap, refl, subst, sym}
+use Rattle.std.proofs.Common.{◌≡◌, ◌∙◌, ◌↔◌, ap, length, refl, subst, sym, true}
+use Rattle.std.proofs.lemmas.List.{length-map}
 use Rattle.std.proofs.lemmas.Option.{IfSome_then}
 use Rattle.digraph.specs.Graph.{row_at}
+use Rattle.tangle_names.specs.NameTable.{TableRead}
+use Rattle.tangle_names.specs.Resolving.{resolve}
 use Rattle.tangle_plans.specs.NodeBodies.{HaveOneShape, body_items, names_at}
-use Rattle.tangle_plans.specs.Nodes.{pieces_at, row_has_piece, title_at}
-use Rattle.tangle_graph.proofs.BodyLemmas.{body_made, body_of_items, new_if_pieces, new_unless_same}
-use Rattle.tangle_graph.proofs.GroupLemmas.{pieces_below}
-use Rattle.tangle_graph.proofs.StoreLemmas.{row_not_empty}
+use Rattle.tangle_plans.specs.Nodes.{title_at}
+use Rattle.tangle_graph.proofs.BodyLemmas.{new_unless_same}
+use Rattle.tangle_graph.proofs.PlanLemmas.{body_made, body_of_items, new_if_pieces, numbers, uses_below}
 use Rattle.tangle_graph.proofs.bodies.body_after.Goals as goal
+
+pub make-requires : goal.make-requires
+make-requires c = record {
+  numbers = numbers c.args.grouped c.requires.grouped c.args.node c.requires.node c.row-row.result.now
+      (c.row-row.ensures ∙ ap (row_at c.args.grouped.pieces.now) c.number.ensures);
+  ours = ap (λ (t : TableRead). length t.resolved) c.requires.grouped.table
+      ∙ length-map c.args.grouped.web.now.occurrences (resolve c.args.grouped.web.now.occurrences);
+}
 
 pub has_shape_of-has_new_shape-requires-clause-inside : goal.has_shape_of-has_new_shape-requires-clause-inside
 has_shape_of-has_new_shape-requires-clause-inside c =
-    let table = c.args.grouped.table.now in
-    rw (c.requires.grouped.names, c.in_ok-make.ensures.uses)
-    (pieces_below table c.requires.grouped.resolved (pieces_at c.args.grouped.web.now.pieces c.row-row.result.now))
+    uses_below c.args.grouped c.requires.grouped c.args.node c.requires.node c.row-row.result.now
+    (c.row-row.ensures ∙ ap (row_at c.args.grouped.pieces.now) c.number.ensures) c.make.new.self c.in_ok-make.ensures
 
 pub returns-then-has_uses_of-clause-body : goal.returns-then-has_uses_of-clause-body
-returns-then-has_uses_of-clause-body c =
-    let rows = c.args.grouped.pieces.now in
-    let row : c.row-row.result.now ≡ row_at rows c.args.node = c.row-row.ensures ∙ ap (row_at rows) c.number.ensures in
-    rw c.in_ok-body-2.ensures.cases (body_of_items c.args.grouped.web.now c.args.grouped.table.now rows c.args.node
-    c.in-Some.before.body.now.value c.make.new.self
-    (rw c.requires.grouped.names at c.in-Some.ensures.title)
-    (rw row at c.in_ok-make.ensures)
-    (rw c.deref.ensures at (c.has_shape_of-has_new_shape.ensures.0
-    c.if-not-has_new_shape.true))
+returns-then-has_uses_of-clause-body c = rw c.in_ok-body-2.ensures.cases
+    (body_of_items c.args.grouped c.requires.grouped c.args.node c.requires.node c.row-row.result.now
+    (c.row-row.ensures ∙ ap (row_at c.args.grouped.pieces.now) c.number.ensures) c.make.new.self c.in_ok-make.ensures
+    c.in-Some.before.body.now.value c.in-Some.ensures.title
+    (rw c.deref.ensures at (c.has_shape_of-has_new_shape.ensures.0 c.if-not-has_new_shape.true))
     (rw c.deref-then-not-has_new_shape.ensures at (c.has_uses_of.ensures.0 c.if-has_uses_of.true)))
 
 pub returns-then-has_uses_of-clause-new_shape : goal.returns-then-has_uses_of-clause-new_shape
@@ -43,10 +48,9 @@ returns-then-has_uses_of-clause-new_shape c =
 
 pub returns-clause-body : goal.returns-clause-body
 returns-clause-body c =
-    let rows = c.args.grouped.pieces.now in
-    let row : c.row-row.result.now ≡ row_at rows c.args.node = c.row-row.ensures ∙ ap (row_at rows) c.number.ensures in
-    body_made c.args.grouped.web.now c.args.grouped.table.now rows c.args.node c.in_ok-body-3.body.value c.make.new.self
-    c.in_ok-body-3.ensures.title (rw row at c.in_ok-make.ensures) c.in_ok-body-3.ensures.items
+    body_made c.args.grouped c.requires.grouped c.args.node c.requires.node c.row-row.result.now
+    (c.row-row.ensures ∙ ap (row_at c.args.grouped.pieces.now) c.number.ensures) c.make.new.self c.in_ok-make.ensures
+    c.in_ok-body-3.body.value c.in_ok-body-3.ensures.title c.in_ok-body-3.ensures.items
 
 pub returns-clause-new_shape : goal.returns-clause-new_shape
 returns-clause-new_shape c =
@@ -62,19 +66,14 @@ returns-clause-new_shape c =
 
 pub returns-in_default-clause-body : goal.returns-in_default-clause-body
 returns-in_default-clause-body c =
-    let rows = c.args.grouped.pieces.now in
-    let row : c.row-row.result.now ≡ row_at rows c.args.node = c.row-row.ensures ∙ ap (row_at rows) c.number.ensures in
-    body_made c.args.grouped.web.now c.args.grouped.table.now rows c.args.node c.in_ok-body.body.value c.make.new.self
-    c.in_ok-body.ensures.title (rw row at c.in_ok-make.ensures) c.in_ok-body.ensures.items
+    body_made c.args.grouped c.requires.grouped c.args.node c.requires.node c.row-row.result.now
+    (c.row-row.ensures ∙ ap (row_at c.args.grouped.pieces.now) c.number.ensures) c.make.new.self c.in_ok-make.ensures
+    c.in_ok-body.body.value c.in_ok-body.ensures.title c.in_ok-body.ensures.items
 
 pub returns-in_default-clause-new_shape : goal.returns-in_default-clause-new_shape
 returns-in_default-clause-new_shape c =
-    let names = c.args.grouped.names.now in
-    let rows = c.args.grouped.pieces.now in
-    let row : c.row-row.result.now ≡ row_at rows c.args.node = c.row-row.ensures ∙ ap (row_at rows) c.number.ensures in
-    let flag : not c.is_empty-has_new_shape.result ≡ row_has_piece (row_at rows c.args.node) =
-    ap not c.is_empty-has_new_shape.ensures ∙ row_not_empty c.row-row.result.now ∙ ap row_has_piece row in
-    IfSome_then c.args.old c.in_default.ensures.shape (λ store none before shape is holds. rw flag
-    (new_if_pieces c.args.grouped.web.now c.args.grouped.table.now rows c.args.node c.in_ok-body.body.value shape
-    (before (title_at names c.args.node)) (returns-in_default-clause-body c)
-    (rw c.requires.grouped.names at holds) (none before is)))
+    IfSome_then c.args.old c.in_default.ensures.shape (λ store none before shape is holds.
+    rw c.has_piece-has_new_shape.ensures
+    (new_if_pieces c.args.grouped c.requires.grouped c.args.node c.requires.node c.row-row.result.now
+    (c.row-row.ensures ∙ ap (row_at c.args.grouped.pieces.now) c.number.ensures) c.in_ok-body.body.value shape
+    (before (title_at c.args.grouped.names.now c.args.node)) (returns-in_default-clause-body c) holds (none before is)))

@@ -7,7 +7,7 @@ use Rattle.digraph.specs.Rows.{IsOnceEach}
 use Rattle.tangle_plans.specs.NodeBodies.{body_uses}
 use Rattle.tangle_plans.specs.declared.nodes.NodeBody.{NodeBody}
 use Rattle.tangle_graph.specs.NameGraphs.{AreUsesOf}
-use Rattle.tangle_graph.specs.Plans.{node_bodies}
+use Rattle.tangle_graph.specs.Bodies.{node_bodies}
 use Rattle.tangle_graph.proofs.NameGraphLemmas.{each_in_range, each_increasing, once_all, once_more}
 use Rattle.tangle_graph.proofs.NameGraphLemmas.{uses_more, uses_push}
 use Rattle.tangle_graph.proofs.name_graph.uses_of_bodies.Goals as goal

@@ -1,13 +1,12 @@
-use Rattle.std.proofs.Common.{◌<◌, length, sym, subst, ap, arith}
+use Rattle.std.proofs.Common.{◌<◌, length, ap, arith}
 use Rattle.std.proofs.lemmas.List.{length-map}
 use Rattle.tangle_scan.specs.Entries.{piece_read}
-use Rattle.tangle_plans.specs.WebShapes.{ResolvesInside}
-use Rattle.tangle_plans.proofs.InsideLemmas.{table_inside}
+use Rattle.tangle_graph.proofs.GraphLemmas.{resolves_inside}
 use Rattle.tangle_graph.proofs.StoredLemmas.{defined_inside, next_position}
 use Rattle.tangle_graph.proofs.pieces.node_at.Goals as goal
 
 pub node_of_piece-requires-clause-inside : goal.node_of_piece-requires-clause-inside
-node_of_piece-requires-clause-inside c = subst ResolvesInside (sym c.requires.table) (table_inside c.args.web.now)
+node_of_piece-requires-clause-inside c = resolves_inside c.args.web.now c.args.table.now c.requires.table
 
 pub node_of_piece-requires-clause-occurrence : goal.node_of_piece-requires-clause-occurrence
 node_of_piece-requires-clause-occurrence c =

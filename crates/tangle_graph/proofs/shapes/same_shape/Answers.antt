@@ -1,8 +1,8 @@
-use Rattle.std.proofs.Common.{not, refl, subst, sym}
+use Rattle.std.proofs.Common.{◌∙◌, subst, sym}
 use Rattle.tangle_plans.specs.NodeBodies.{HoldsShape}
 use Rattle.tangle_plans.proofs.ShapeLemmas.{bodies_decide}
 use Rattle.tangle_graph.specs.Stores.{shape_in_store}
-use Rattle.tangle_graph.proofs.ShapeLemmas.{no_piece}
+use Rattle.tangle_graph.proofs.ShapeLemmas.{has_piece_in, without_piece}
 use Rattle.tangle_graph.proofs.shapes.same_shape.Goals as goal
 
 pub returns-in-Some-body_in : goal.returns-in-Some-body_in
@@ -19,13 +19,10 @@ returns-in-Some-body_in c = λ old_shapes new_shapes old_is new_is.
 
 pub returns-in-None-body_in : goal.returns-in-None-body_in
 returns-in-None-body_in c = λ old_shapes new_shapes old_is new_is.
-    (no_piece old_shapes c.args.old.now old_is c.args.old_node
-    (shape_in_store c.args.new.now new_shapes c.args.new_node) c.has_piece.result (not c.has_piece.result)
-    (c.in-None-body_in.ensures.shape new_shapes new_is) c.has_piece.ensures refl).0
+    (without_piece _ _ c.has_piece.result (c.in-None-body_in.ensures.shape new_shapes new_is)
+    (c.has_piece.ensures ∙ has_piece_in old_shapes c.args.old.now old_is c.args.old_node)).0
 
 pub returns-in-None : goal.returns-in-None
 returns-in-None c = λ old_shapes new_shapes old_is new_is.
-    (no_piece new_shapes c.args.new.now new_is c.args.new_node
-    (shape_in_store c.args.old.now old_shapes c.args.old_node)
-    c.has_piece-in-None.result (not c.has_piece-in-None.result)
-    (c.in-None.ensures.shape old_shapes old_is) c.has_piece-in-None.ensures refl).1
+    (without_piece _ _ c.has_piece-in-None.result (c.in-None.ensures.shape old_shapes old_is)
+    (c.has_piece-in-None.ensures ∙ has_piece_in new_shapes c.args.new.now new_is c.args.new_node)).1

@@ -1,7 +1,7 @@
 use Rattle.std.proofs.Common.{◌∙◌, Bor, ap, subst, sym}
 use Rattle.std.specs.Prelude.{IfSome}
 use Rattle.tangle_names.specs.NameTable.{table_over}
-use Rattle.tangle_session.specs.Sessions.{IsAnalysis}
+use Rattle.tangle_session.specs.States.{IsAnalysis}
 use Rattle.tangle_session.specs.declared.analysis.Analysis.{Analysis}
 use Rattle.tangle_session.proofs.AnalysisLemmas.{table_before}
 use Rattle.tangle_session.proofs.analysis.name_table.Goals as goal

@@ -1,7 +1,8 @@
 use Rattle.std.proofs.Common.{inr}
 use Rattle.std.proofs.lemmas.Result.{err_from_is_err_and}
 use Rattle.tangle_files.specs.Roles.{RolesRead}
-use Rattle.tangle_session.specs.Files.{shapes_of, web_at}
+use Rattle.tangle_session.specs.Headline.{web_at}
+use Rattle.tangle_session.specs.Sessions.{shapes_of}
 use Rattle.tangle_session.proofs.EditLemmas.{fits_made}
 use Rattle.tangle_session.proofs.TangleLemmas.{lists_titles}
 use Rattle.tangle_session.proofs.tangling.tangle_again.Goals as goal

@@ -1,6 +1,6 @@
 use Rattle.std.proofs.Common.{◌++◌, ℕ, ap, codes, inl, refl}
 use Rattle.std.specs.Prelude.{decimal}
-use Rattle.tangle_session.specs.Tangle.{output_at}
+use Rattle.tangle_session.specs.Headline.{output_at}
 use Rattle.ctangle_cli.specs.Conversation.{listed_faults, shown}
 use Rattle.ctangle_cli.proofs.conversation.SessionProjectProject.answer.Goals as goal
 

@@ -1,5 +1,5 @@
 use Rattle.std.proofs.Common.{arith}
-use Rattle.tangle_graph.proofs.StoredBodies.{low, had, titled, named}
+use Rattle.tangle_graph.proofs.StoredBodies.{low, had, given}
 use Rattle.tangle_graph.proofs.store.Store.body.Goals as goal
 
 pub index-requires : goal.index-requires
@@ -8,14 +8,13 @@ index-requires c =
     c.number.ensures c.requires in
     omega (arith, below, c.self.inside.bodies.ok)
 
-pub returns-clause-body : goal.returns-clause-body
-returns-clause-body c = had c.self.inside c.args.self.now c.args.node c.number.result c.self.view_is c.self.invariant
-    c.number.ensures c.requires c.index.result.now c.index.ensures
-
-pub returns-clause-title : goal.returns-clause-title
-returns-clause-title c = titled c.self.inside c.args.self.now c.args.node c.number.result c.self.view_is c.self.invariant
-    c.number.ensures c.requires c.index.result.now c.index.ensures
-
-pub returns-clause-uses : goal.returns-clause-uses
-returns-clause-uses c = named c.self.inside c.args.self.now c.args.node c.number.result c.self.view_is c.self.invariant
-    c.number.ensures c.requires c.index.result.now c.index.ensures
+pub returns : goal.returns
+returns c =
+    let is = given c.self.inside c.args.self.now c.args.node c.number.result c.self.view_is c.self.invariant
+    c.number.ensures c.requires c.index.result.now c.index.ensures in
+    record {
+      body = had c.self.inside c.args.self.now c.args.node c.number.result c.self.view_is c.self.invariant
+          c.number.ensures c.requires c.index.result.now c.index.ensures;
+      title = is.title;
+      uses = is.inside;
+    }

@@ -1,33 +1,128 @@
-use Rattle.std.proofs.Common.{◌∙◌, ap, length, sym, subst}
+use Rattle.std.proofs.Common.{◌≡◌, ◌∙◌, ◌≤◌, ◌↔◌, ap, length, map, refl, subst, sym, true, ℕ}
+use Rattle.std.specs.Global.{Global}
+use Rattle.std.specs.List.{IsDistinct}
+use Rattle.std.specs.Str.{bytes_eq}
+use Rattle.std.specs.declared.rc.Rc.{Rc}
 use Rattle.std.proofs.lemmas.List.{length-map}
 use Rattle.std.proofs.lemmas.Option.{IfSome_then}
 use Rattle.tangle_names.specs.NameTable.{TableRead}
 use Rattle.tangle_names.specs.Resolving.{resolve}
-use Rattle.tangle_plans.specs.WebShapes.{ResolvesInside}
-use Rattle.tangle_plans.proofs.InsideLemmas.{table_inside}
-use Rattle.tangle_graph.specs.Plans.{node_bodies}
+use Rattle.tangle_plans.specs.NodeBodies.{body_uses}
+use Rattle.tangle_plans.specs.Nodes.{title_at}
+use Rattle.tangle_plans.specs.WebShapes.{shapes}
+use Rattle.tangle_plans.specs.declared.nodes.NodeBody.{NodeBody}
+use Rattle.tangle_plans.specs.Shapes.{Uses}
+use Rattle.tangle_graph.specs.Bodies.{AreBodiesOf, node_bodies}
+use Rattle.tangle_graph.specs.Measures.{AreMeasures}
+use Rattle.tangle_graph.specs.NameGraphs.{IsNameGraphOf}
+use Rattle.tangle_graph.specs.Stores.{flag_at}
+use Rattle.tangle_graph.specs.declared.name_graph.NameGraph.{NameGraph}
+use Rattle.tangle_graph.proofs.GraphLemmas.{distinct_names, resolves_inside, sound, uses_count}
 use Rattle.tangle_graph.proofs.NameGraphLemmas.{uses_inside}
 use Rattle.tangle_graph.proofs.NameLemmas.{new_shapes_of}
-use Rattle.tangle_graph.proofs.UsesLemmas.{pieces_inside}
+use Rattle.tangle_graph.proofs.OrderingLemmas.{grouped_by, order_is}
+use Rattle.tangle_graph.proofs.StoreIs.{known_name, reaching_is, store_is}
 use Rattle.tangle_graph.proofs.store.Store.build.Goals as goal
+use Rattle.digraph.specs.Reach.{ReachesCycle}
 
 pub bodies_by_node-requires-clause-grouped : goal.bodies_by_node-requires-clause-grouped
 bodies_by_node-requires-clause-grouped c = record {
-  size = rw c.deref-rows.ensures c.in_ok-pieces.ensures.size;
-  inside = rw c.deref-rows.ensures
-      (pieces_inside c.args.table.now c.args.web.now.pieces c.in_ok-pieces.pieces.value c.in_ok-pieces.ensures);
-  ours = ap (λ (t : TableRead). length t.resolved) c.requires
-      ∙ length-map c.args.web.now.occurrences (resolve c.args.web.now.occurrences);
-  resolved = subst ResolvesInside (sym c.requires) (table_inside c.args.web.now);
+  table = c.requires;
   names = c.in_ok-names.ensures;
+  pieces = rw (c.deref-rows.ensures, c.in_ok-pieces.ensures.ok) c.in_ok-pieces_by_node.ensures;
 }
 
 pub name_graph_after-requires-clause-inside : goal.name_graph_after-requires-clause-inside
-name_graph_after-requires-clause-inside c = rw (c.in_ok-names.ensures, c.deref.ensures.value)
-    (uses_inside c.args.web.now c.args.table.now c.deref-rows.result.now (node_bodies c.in_ok-made.made.bodies.items)
-    (subst ResolvesInside (sym c.requires) (table_inside c.args.web.now)) c.in_ok-made.ensures.bodies)
+name_graph_after-requires-clause-inside c = rw c.deref.ensures.value
+    (uses_inside (shapes c.args.web.now c.args.table.now) _ c.in_ok-made.made.bodies.items c.in_ok-made.ensures.bodies)
+
+pub measures_of_nodes-requires : goal.measures_of_nodes-requires
+measures_of_nodes-requires c =
+    let items = c.in_ok-made.made.bodies.items in
+    let graph : IsNameGraphOf (map body_uses (node_bodies items)) c.in_ok-name_graph.name_graph.value =
+    rw c.deref.ensures.value at c.in_ok-name_graph.ensures.name_graph in
+    record {
+      size = rw (c.deref-3.ensures.value, c.deref-shared.ensures)
+          (sym (length-map items (λ (t : Rc NodeBody Global). t.value))
+          ∙ sym (length-map (node_bodies items) body_uses) ∙ sym graph.uses.size);
+      uses = rw (c.deref-3.ensures.value, c.deref-shared.ensures) graph.uses;
+      range = rw c.deref-shared.ensures graph.range;
+      order = rw (c.deref-2.ensures.value, c.deref-shared.ensures) graph.order;
+    }
+
+pub outputs-requires : goal.outputs-requires
+outputs-requires c =
+    let web = c.args.web.now in
+    let table = c.args.table.now in
+    let all = shapes web table in
+    let items = c.in_ok-made.made.bodies.items in
+    let graph : IsNameGraphOf (map body_uses (node_bodies items)) c.in_ok-name_graph.name_graph.value =
+    rw c.deref.ensures.value at c.in_ok-name_graph.ensures.name_graph in
+    let bodies : AreBodiesOf all table.names (node_bodies items) =
+    subst (λ ns. AreBodiesOf all ns (node_bodies items)) c.in_ok-names.ensures c.in_ok-made.ensures.bodies in
+    record {
+      inside = resolves_inside web table c.requires;
+      ours = ap (λ (t : TableRead). length t.resolved) c.requires
+          ∙ length-map web.occurrences (resolve web.occurrences);
+      size = ap length c.deref-4.ensures.value ∙ c.in_ok-measures.ensures.size
+          ∙ rw c.deref-shared.ensures (uses_count all table.names (node_bodies items)
+          c.in_ok-name_graph.name_graph.value.uses bodies graph.uses);
+      measures = rw c.deref-4.ensures.value
+          (c.in_ok-measures.ensures.measures all table.names (rw c.deref-3.ensures.value bodies));
+    }
+
+pub returns-clause-store : goal.returns-clause-store
+returns-clause-store c =
+    let web = c.args.web.now in
+    let table = c.args.table.now in
+    let all = shapes web table in
+    let name_graph = c.in_ok-name_graph.name_graph.value in
+    let stored = node_bodies c.in_ok-made.made.bodies.items in
+    let graph : IsNameGraphOf (map body_uses stored) name_graph =
+    rw c.deref.ensures.value at c.in_ok-name_graph.ensures.name_graph in
+    let named = c.in_ok-name_graph.ensures.names ∙ c.in_ok-names.ensures in
+    let bodies : AreBodiesOf all name_graph.names stored =
+    rw c.in_ok-name_graph.ensures.names c.in_ok-made.ensures.bodies in
+    let distinct : IsDistinct bytes_eq name_graph.names = rw named (distinct_names web table c.requires) in
+    let measured : AreMeasures all name_graph.names c.in_ok-measures.measures.items =
+    c.in_ok-measures.ensures.measures all name_graph.names (rw c.deref-3.ensures.value bodies) in
+    let sized = c.in_ok-measures.ensures.size ∙ ap (λ (g : NameGraph). length g.uses) c.deref-shared.ensures in
+    record {
+      store = store_is all name_graph.names stored name_graph distinct bodies graph _ _ _ sized measured
+          (rw named (known_name web table (resolves_inside web table c.requires)));
+      names = named;
+      reaching_cycles = subst (λ ns. (n : ℕ) → n ≤ length ns
+          → (flag_at name_graph.reaching_cycles.items n ≡ true) ↔ ReachesCycle (Uses all) (title_at ns n)) named
+          (reaching_is all name_graph.names stored name_graph distinct bodies graph);
+      outputs = c.in_ok-outputs.ensures;
+      grouped = grouped_by web table c.in_ok-pieces.pieces.value c.requires
+          (rw c.in_ok-pieces.ensures.ok c.in_ok-pieces_by_node.ensures);
+    }
+
+pub invariant_of-store : goal.invariant_of-store
+invariant_of-store c =
+    let web = c.args.web.now in
+    let table = c.args.table.now in
+    let all = shapes web table in
+    let name_graph = c.in_ok-name_graph.name_graph.value in
+    let items = c.in_ok-made.made.bodies.items in
+    let graph : IsNameGraphOf (map body_uses (node_bodies items)) name_graph =
+    rw c.deref.ensures.value at c.in_ok-name_graph.ensures.name_graph in
+    let bodies : AreBodiesOf all name_graph.names (node_bodies items) =
+    rw c.in_ok-name_graph.ensures.names c.in_ok-made.ensures.bodies in
+    let count = uses_count all name_graph.names (node_bodies items) name_graph.uses bodies graph.uses in
+    let measured : AreMeasures all name_graph.names c.in_ok-measures.measures.items =
+    c.in_ok-measures.ensures.measures all name_graph.names (rw c.deref-3.ensures.value bodies) in
+    let sized = c.in_ok-measures.ensures.size ∙ ap (λ (g : NameGraph). length g.uses) c.deref-shared.ensures in
+    record {
+      shapes = all;
+      bodies = bodies;
+      measures_size = sized ∙ count ∙ sym bodies.size ∙ length-map items (λ (t : Rc NodeBody Global). t.value);
+      name_graph = graph;
+      order = order_is all _ name_graph.order.items graph.order graph.range count
+          (sound all name_graph.names (node_bodies items) name_graph.uses bodies graph.uses) measured;
+    }
 
 pub returns-clause-new_shapes : goal.returns-clause-new_shapes
 returns-clause-new_shapes c = IfSome_then c.args.old c.in_ok-made.ensures.new_shapes (λ store are.
-    new_shapes_of store.now c.in_ok-store.store _ _ c.in_ok-made.made.new_shapes.items
-    (c.in_ok-store.ensures.store.names ∙ sym c.in_ok-names.ensures) c.in_ok-store.ensures.bodies are)
+    new_shapes_of store.now _ _ _ c.in_ok-made.made.new_shapes.items c.in_ok-name_graph.ensures.names refl are)

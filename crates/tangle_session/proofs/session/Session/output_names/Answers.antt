@@ -2,15 +2,16 @@ use Rattle.std.proofs.Common.{◌∙◌, ap, map}
 use Rattle.tangle_names.specs.NameTable.{table_of}
 use Rattle.tangle_expansion.specs.Outputs.{OutputRead}
 use Rattle.tangle_graph.specs.Outputs.{outputs}
-use Rattle.tangle_session.specs.Files.{web_at}
+use Rattle.tangle_session.specs.Headline.{output_bytes, output_files, web_at}
 use Rattle.tangle_session.specs.Sessions.{SessionRead}
-use Rattle.tangle_session.specs.Tangle.{outputs_of}
 use Rattle.tangle_session.proofs.OutputLemmas.{names_written}
 use Rattle.tangle_session.proofs.session.Session.output_names.Goals as goal
 
 pub returns : goal.returns
 returns c =
-    let web = web_at c.self.inside.state.files c.self.inside.roles in
+    let files = c.self.inside.state.files in
+    let roles = c.self.inside.roles in
+    let web = web_at files roles in
     c.new.ensures ∙ ap (map (λ (o : OutputRead). o.name)) (c.outputs.ensures ∙ c.self.invariant.analysis.outputs_are)
-    ∙ names_written web c.self.inside.roles.marks (outputs web (table_of web) c.self.inside.roles.out)
-    ∙ ap (λ (s : SessionRead). map (λ o. o.0) (outputs_of s.files s.roles)) c.self.view_is
+    ∙ names_written (output_bytes files roles) (outputs web (table_of web) roles.out)
+    ∙ ap (λ (s : SessionRead). map (λ f. f.0) (output_files s.files s.roles)) c.self.view_is

@@ -1,0 +1,43 @@
+-- How the state of a session agrees with its files.
+use Rattle.std.specs.Prelude.{◌≡◌, true}
+use Rattle.tangle_files.specs.Lines.{FileTable}
+use Rattle.tangle_files.specs.Roles.{RolesRead, fits}
+use Rattle.tangle_scan.specs.LineTruth.{PiecesAreAtTheirLines}
+use Rattle.tangle_expansion.specs.Numbers.{numbers_of}
+use Rattle.tangle_graph.specs.Outputs.{outputs}
+use Rattle.tangle_graph.specs.Stores.{IsStoreOf}
+use Rattle.tangle_affected.specs.Keeping.{KeepsJust}
+use Rattle.tangle_session.specs.Headline.{IsPlainTangling, output_files}
+use Rattle.tangle_session.specs.Headline.{source_at, table_at, web_at}
+use Rattle.tangle_session.specs.Sessions.{shapes_of}
+use Rattle.tangle_session.specs.declared.analysis.Analysis.{Analysis}
+use Rattle.tangle_session.specs.declared.tangling.SessionState.{SessionState}
+
+-- the analysis is made from these files and roles: the occurrences of their web, its names, its
+-- store and its numbers, and the faults
+pub record IsAnalysisAt (files : FileTable) (roles : RolesRead)
+    (analysis : Analysis) : Type 0 where
+  pub occurrences : analysis.occurrences.items ≡ (web_at files roles).occurrences
+  pub table : analysis.table ≡ table_at files roles
+  pub store : IsStoreOf (shapes_of (web_at files roles)) analysis.store
+  pub store_names : analysis.store.names ≡ (table_at files roles).names
+  pub outputs_are : analysis.store.outputs
+      ≡ outputs (web_at files roles) (table_at files roles) roles.out
+  pub numbers : analysis.numbers
+      ≡ numbers_of (web_at files roles) (table_at files roles) roles.marks
+  pub plain : IsPlainTangling files roles (output_files files roles) analysis.faults.items
+  pub line_truth : PiecesAreAtTheirLines (source_at files roles) (web_at files roles)
+
+-- the analysis is made from some files and roles
+pub record IsAnalysis (analysis : Analysis) : Type 0 where
+  pub files : FileTable
+  pub roles : RolesRead
+  pub made : IsAnalysisAt files roles analysis
+
+-- The state is made from the files, which have the web and the change file, and keeps the expansion
+-- of each expandable node.
+pub record AgreesWithFiles (files : FileTable)
+    (roles : RolesRead) (state : SessionState) : Type 0 where
+  pub files_fit : fits files roles ≡ true
+  pub analysis : IsAnalysisAt files roles state.analysis
+  pub kept : KeepsJust (shapes_of (web_at files roles)) state.analysis.store state.kept
