@@ -1,5 +1,5 @@
-"""Tries the wrong bodies in tests/wrong-bodies, which the gate leaves out for their time: the prover
-has to refuse each.
+"""Tries the wrong bodies in tests/wrong-bodies, which the gate leaves out for their time: the
+prover has to refuse each.
 
 usage: tests/wrong_bodies.py [--twins] [CRATE..]
 
@@ -29,8 +29,8 @@ IMPL = re.compile(r'impl\b(?:<[^{]*?>)? (?:[^{]* for )?(\w+)')
 IN_SOURCE = re.compile(r'(?:so far: )?(?:note: )?(?:\./)?(src/[\w/]+\.rt):(\d+):\d+: ')
 IN_PROOF = re.compile(r'(?:so far: )?(?:\./)?proofs/([\w/+-]+)/\w+\.antt:\d+:\d+: error')
 
-# A function of a file, with its first and its last line, counted from 0. `folder` is where its proof
-# files are, below proofs/.
+# A function of a file, with its first and its last line, counted from 0. `folder` is where its
+# proof files are, below proofs/.
 Function = namedtuple('Function', 'file name folder first last')
 # Lines that an edit takes out of a file, and the lines that it puts in their place.
 Change = namedtuple('Change', 'file first last lines')
@@ -47,7 +47,8 @@ def functions_of(file, text):
         if not start:
             continue
         indent, name = start.groups()
-        last = next(at for at in range(number + 1, len(lines)) if re.match(indent + r'(}|\{\})', lines[at]))
+        last = next(at for at in range(number + 1, len(lines))
+                    if re.match(indent + r'(}|\{\})', lines[at]))
         parts = [file[len('src/'):-len('.rt')]] + ([owner] if indent and owner else []) + [name]
         found.append(Function(file, name, '/'.join(parts), number, last))
     return found
@@ -92,7 +93,8 @@ def read_edit(path, crate):
 
 
 def rounds_of(edits):
-    """The edits in lists, none of which has two edits of one function; an edit of no function is alone."""
+    """The edits in lists, none of which has two edits of one function. An edit of no function is
+    alone."""
     alone = [[edit] for edit in edits if None in edit.functions]
     left, rounds = [edit for edit in edits if None not in edit.functions], []
     while left:
@@ -156,7 +158,8 @@ def refusals(output, functions, edit):
 
 
 def verdicts(crate, edits):
-    """For each of these edits the line that refuses it; '' where it is proved, None where no check tried it."""
+    """For each of these edits the line that refuses it: '' where it is proved, and None where no
+    check tried it."""
     output, functions = try_edits(crate, edits)
     if 'logic=proved' in output:
         return [(edit, '') for edit in edits]
@@ -170,7 +173,8 @@ def verdicts(crate, edits):
         return [(edits[0], (lines or ['not at the function that is edited'])[0])]
     found = [(edit, (refusals(output, functions, edit) or [''])[0]) for edit in edits]
     unseen = [edit for edit, line in found if not line]
-    return [pair for pair in found if pair[1]] + [it for edit in unseen for it in verdicts(crate, [edit])]
+    seen = [pair for pair in found if pair[1]]
+    return seen + [it for edit in unseen for it in verdicts(crate, [edit])]
 
 
 def try_crate(top, bodies, name):
@@ -186,14 +190,16 @@ def try_crate(top, bodies, name):
         return
     for now in rounds_of([edit for edit in edits if edit.changes]):
         for edit, line in verdicts(crate, now):
-            print('%s/%s: %s' % (name, edit.name, line or ('proved' if line == '' else 'not tried')), flush=True)
+            said = 'proved' if line == '' else line or 'it did not reach the prover'
+            print('%s/%s: %s' % (name, edit.name, said), flush=True)
             holds = line == '' if bodies == 'right-bodies' else bool(line)
-            check(holds, name + '/' + edit.name, 'proved' if line == '' else line or 'it did not reach the prover')
+            check(holds, name + '/' + edit.name, said)
 
 
 def main(arguments):
     bodies = 'right-bodies' if arguments[:1] == ['--twins'] else 'wrong-bodies'
-    names = [it for it in arguments if it != '--twins'] or sorted(os.listdir(os.path.join(TOP, 'tests', bodies)))
+    names = [it for it in arguments if it != '--twins']
+    names = names or sorted(os.listdir(os.path.join(TOP, 'tests', bodies)))
     with tempfile.TemporaryDirectory() as top:
         shutil.copytree(os.path.join(TOP, 'crates'), os.path.join(top, 'crates'),
                         ignore=shutil.ignore_patterns('must-fail', 'out'))
