@@ -49,8 +49,12 @@ def functions_of(file, text):
         indent, name = start.groups()
         last = next(at for at in range(number + 1, len(lines))
                     if re.match(indent + r'(}|\{\})', lines[at]))
+        # A note about a function stands at the first of its attributes.
+        first = number
+        while lines[first - 1].lstrip().startswith(('#[', '//')):
+            first -= 1
         parts = [file[len('src/'):-len('.rt')]] + ([owner] if indent and owner else []) + [name]
-        found.append(Function(file, name, '/'.join(parts), number, last))
+        found.append(Function(file, name, '/'.join(parts), first, last))
     return found
 
 
