@@ -28,6 +28,8 @@ FUNCTION = re.compile(r'( *)(?:pub(?:\([a-z]+\))? )?fn (\w+)')
 IMPL = re.compile(r'impl\b(?:<[^{]*?>)? (?:[^{]* for )?(\w+)')
 IN_SOURCE = re.compile(r'(?:so far: )?(?:note: )?(?:\./)?(src/[\w/]+\.rt):(\d+):\d+: ')
 IN_PROOF = re.compile(r'(?:so far: )?(?:\./)?proofs/([\w/+-]+)/\w+\.antt:\d+:\d+: error')
+# The prover makes no goals of such a function, so its refusal says nothing of what the body does.
+WITHOUT_GOALS = re.compile(r'fn \S+: no proof: (?!it calls)')
 
 # A function of a file, with its first and its last line, counted from 0. `folder` is where its
 # proof files are, below proofs/.
@@ -174,6 +176,8 @@ def verdicts(crate, edits):
         return verdicts(crate, edits[:middle]) + verdicts(crate, edits[middle:])
     if len(edits) == 1:
         lines = refusals(output, functions, edits[0])
+        if not lines and WITHOUT_GOALS.search(output):
+            return [(edits[0], None)]
         return [(edits[0], (lines or ['not at the function that is edited'])[0])]
     found = [(edit, (refusals(output, functions, edit) or [''])[0]) for edit in edits]
     unseen = [edit for edit, line in found if not line]

@@ -6,45 +6,30 @@ use Rattle.std.specs.List.{list_any, list_all, concat, flat_map}
 use Rattle.std.proofs.lemmas.Bool.{and_parts, and_from, or_cases, or_left, or_right, or_parts, both_ways, false≢true}
 use Rattle.std.proofs.lemmas.Bool.{cases_Bool, not-true, not_from_false, false_from_ne_true, eqb-true}
 use Rattle.std.proofs.lemmas.List.Elements.{filter-append}
-use Rattle.c_tokens.specs.Bytes.{space, slash, asterisk, backslash, full_stop}
-use Rattle.c_tokens.specs.Bytes.{is_digit, is_hexadecimal, is_word_byte, is_quote, is_sign, is_exponent, is_white}
+use Rattle.c_tokens.specs.Bytes.{space, slash, backslash}
+use Rattle.c_tokens.specs.Bytes.{is_hexadecimal, is_word_byte, is_quote, is_sign, is_exponent, is_white}
 use Rattle.c_tokens.specs.Grammar.{begins_hexadecimal, begins_universal_name, has_universal_names, is_identifier_byte}
 use Rattle.c_tokens.specs.Grammar.{begins_number, is_number_byte, signs_follow_exponents, is_number, is_quoted, ends_quoted}
 use Rattle.c_tokens.specs.Grammar.{has_prefix, is_punctuator, is_token, is_comment, is_element}
-use Rattle.c_tokens.specs.Grammar.{is_identifier, is_character_constant, is_string_literal, is_white_character, is_other_character, is_character, is_string}
+use Rattle.c_tokens.specs.Grammar.{is_white_character, is_other_character}
 use Rattle.c_tokens.specs.Reading.{spliced, longest, elements_from, elements, tokens}
-use Rattle.c_tokens.specs.Touching.{is_one, is_separator, is_operator, is_plain_word, is_plain}
+use Rattle.c_tokens.specs.Touching.{is_separator, is_operator, is_plain}
 use Rattle.c_tokens.specs.Borders.{is_unfinished, is_whole, last_element, last_byte, is_plain_byte, are_never_in_one}
 use Rattle.c_tokens.specs.Borders.{is_at_operator, number_goes_on, is_border_of_bytes, is_border, have_border, keep_lines, are_apart, has_bytes, are_all_apart}
 use Rattle.c_tokens.proofs.ReadingLemmas.{NoLonger, elements-front, elements-append}
-use Rattle.c_tokens.proofs.GrammarLemmas.{listed as in_list, identifier-bytes, number-bytes, punctuator-is, is_prefix_byte}
+use Rattle.c_tokens.proofs.GrammarLemmas.{identifier-bytes, number-bytes, punctuator-is}
 use Rattle.c_tokens.proofs.GrammarLemmas.{begins_prefix, IsLiteral, literal-word, ends-once}
-use Rattle.c_tokens.proofs.LongerLemmas.{element-cases, all-last, separator-not, operator-not, punctuator-bytes, comment-first}
-use Rattle.c_tokens.proofs.LongerLemmas.{comment-second, comment-open, two-white, two-other, quote-not}
+use Rattle.c_tokens.proofs.LongerLemmas.{element-cases, all-last, separator-not, operator-not, punctuator-bytes}
+use Rattle.c_tokens.proofs.LongerLemmas.{comment-open, two-white, two-other, quote-not}
 use Rattle.c_tokens.proofs.TouchingLemmas.{single-element, comment-element, token-element, one-element, plain-element}
 use Rattle.c_tokens.proofs.TouchingLemmas.{spliced-both}
+use Rattle.std.proofs.lemmas.Bool.Decides.{nat_tests}
 
 -- classes of bytes
 
 white-not : (test : ℕ → Bool) → list_all (λ b. not (test b)) (32 ∷ 9 ∷ 10 ∷ 11 ∷ 12 ∷ []) ≡ true → (b : ℕ) → is_white b ≡ true →
     test b ≡ false
-white-not test none b h =
-    elim (or_cases (b == 32 || b == 9 || b == 10 || b == 11) (b == 12) h) [
-      | inr same ↦ ap test (eqb-true b 12 same) ∙ not-true (test 12) (listed 12 refl)
-      | inl four ↦ elim (or_cases (b == 32 || b == 9 || b == 10) (b == 11) four) [
-        | inr same ↦ ap test (eqb-true b 11 same) ∙ not-true (test 11) (listed 11 refl)
-        | inl three ↦ elim (or_cases (b == 32 || b == 9) (b == 10) three) [
-          | inr same ↦ ap test (eqb-true b 10 same) ∙ not-true (test 10) (listed 10 refl)
-          | inl two ↦ elim (or_cases (b == 32) (b == 9) two) [
-            | inr same ↦ ap test (eqb-true b 9 same) ∙ not-true (test 9) (listed 9 refl)
-            | inl same ↦ ap test (eqb-true b 32 same) ∙ not-true (test 32) (listed 32 refl)
-          ]
-        ]
-      ]
-    ]
-  where
-    listed : (c : ℕ) → list_any (λ d. c == d) (32 ∷ 9 ∷ 10 ∷ 11 ∷ 12 ∷ []) ≡ true → not (test c) ≡ true
-    listed c any = in_list (λ d. not (test d)) (32 ∷ 9 ∷ 10 ∷ 11 ∷ 12 ∷ []) none c any
+white-not test none b h = grind (arith, nat_tests)
 
 -- which of the two bytes at a border fails a test
 abbrev OneFails : (ℕ → Bool) → ℕ → ℕ → Type 0
@@ -59,17 +44,7 @@ record FailsAtBorders (test : ℕ → Bool) : Type 0 where
 gap-fails : (test : ℕ → Bool) → list_all (λ b. not (test b)) (32 ∷ 9 ∷ 10 ∷ 11 ∷ 12 ∷ []) ≡ true →
     list_all (λ b. not (test b)) (codes "()[]{};,~") ≡ true → (d c : ℕ) →
     (is_white d || is_white c || is_separator d || is_separator c) ≡ true → OneFails test d c
-gap-fails test white separators d c h =
-    elim (or_cases (is_white d || is_white c || is_separator d) (is_separator c) h) [
-      | inr is ↦ inr (separator-not test separators c is)
-      | inl three ↦ elim (or_cases (is_white d || is_white c) (is_separator d) three) [
-        | inr is ↦ inl (separator-not test separators d is)
-        | inl two ↦ elim (or_cases (is_white d) (is_white c) two) [
-          | inl is ↦ inl (white-not test white d is)
-          | inr is ↦ inr (white-not test white c is)
-        ]
-      ]
-    ]
+gap-fails test white separators d c h = grind (arith, nat_tests, separator-not, separators, white-not, white)
 
 never-fails : (test : ℕ → Bool) → FailsAtBorders test → (d c : ℕ) → are_never_in_one d c ≡ true → OneFails test d c
 never-fails test f d c h =
@@ -88,9 +63,7 @@ operator-fails test none d c h =
 
 all-front : (test : ℕ → Bool) (a q : List ℕ) → list_all test (a ++ q) ≡ true → list_all test a ≡ true
 all-front test [] q h = refl
-all-front test (b ∷ a) q h =
-    let parts = and_parts (test b) (list_all test (a ++ q)) h in
-    and_from (test b) (list_all test a) parts.0 (all-front test a q parts.1)
+all-front test (b ∷ a) q h = grind (arith, nat_tests, all-front test a q)
 
 all-last-byte : (test : ℕ → Bool) (x : ℕ) (a : List ℕ) → list_all test (x ∷ a) ≡ true → test (last_byte x a) ≡ true
 all-last-byte test x [] h = (and_parts (test x) true h).0
@@ -125,36 +98,18 @@ stops-rest b (d ∷ a) c is stops = stops
 hexadecimal-front : (n : ℕ) (a : List ℕ) (c : ℕ) (q : List ℕ) → Stops a c → begins_hexadecimal n (a ++ c ∷ q) ≡ true →
     begins_hexadecimal n a ≡ true
 hexadecimal-front zero a c q stops h = refl
-hexadecimal-front (suc n) [] c q stops h =
-    absurd (both_ways (is_identifier_byte c) stops (hexadecimal-byte c (and_parts (is_hexadecimal c) (begins_hexadecimal n q) h).0))
+hexadecimal-front (suc n) [] c q stops h = grind (arith, nat_tests)
 hexadecimal-front (suc n) (b ∷ a) c q stops h =
-    let parts = and_parts (is_hexadecimal b) (begins_hexadecimal n (a ++ c ∷ q)) h in
-    and_from (is_hexadecimal b) (begins_hexadecimal n a) parts.0
-    (hexadecimal-front n a c q (stops-rest b a c (hexadecimal-byte b parts.0) stops) parts.1)
-
-universal-byte : (b : ℕ) (f g : Bool) → (b == 117 && f || b == 85 && g) ≡ true → is_identifier_byte b ≡ true
-universal-byte b f g h =
-    elim (or_cases (b == 117 && f) (b == 85 && g) h) [
-      | inl small ↦ ap is_identifier_byte (eqb-true b 117 (and_parts (b == 117) f small).0)
-      | inr capital ↦ ap is_identifier_byte (eqb-true b 85 (and_parts (b == 85) g capital).0)
-    ]
+    grind (arith, nat_tests, hexadecimal-front n a c q, stops-rest b a c, hexadecimal-byte b)
 
 universal-front : (a : List ℕ) (c : ℕ) (q : List ℕ) → Stops a c → begins_universal_name (a ++ c ∷ q) ≡ true →
     begins_universal_name a ≡ true
-universal-front [] c q stops h =
-    absurd (both_ways (is_identifier_byte c) stops (universal-byte c (begins_hexadecimal 4 q) (begins_hexadecimal 8 q) h))
+universal-front [] c q stops h = grind (arith, nat_tests)
 universal-front (b ∷ a) c q stops h =
-    let rest : Stops a c =
-    stops-rest b a c (universal-byte b (begins_hexadecimal 4 (a ++ c ∷ q)) (begins_hexadecimal 8 (a ++ c ∷ q)) h) stops in
+    let rest : Stops a c = grind (arith, nat_tests) in
     elim (or_cases (b == 117 && begins_hexadecimal 4 (a ++ c ∷ q)) (b == 85 && begins_hexadecimal 8 (a ++ c ∷ q)) h) [
-      | inl small ↦
-          let parts = and_parts (b == 117) (begins_hexadecimal 4 (a ++ c ∷ q)) small in
-          or_left (b == 117 && begins_hexadecimal 4 a) (b == 85 && begins_hexadecimal 8 a)
-          (and_from (b == 117) (begins_hexadecimal 4 a) parts.0 (hexadecimal-front 4 a c q rest parts.1))
-      | inr capital ↦
-          let parts = and_parts (b == 85) (begins_hexadecimal 8 (a ++ c ∷ q)) capital in
-          or_right (b == 117 && begins_hexadecimal 4 a) (b == 85 && begins_hexadecimal 8 a)
-          (and_from (b == 85) (begins_hexadecimal 8 a) parts.0 (hexadecimal-front 8 a c q rest parts.1))
+      | inl small ↦ grind (arith, nat_tests, hexadecimal-front 4 a c q rest, rest)
+      | inr capital ↦ grind (arith, nat_tests, hexadecimal-front 8 a c q rest, rest)
     ]
 
 name-front : (x : ℕ) (a : List ℕ) (c : ℕ) (q : List ℕ) → Stops (x ∷ a) c →
@@ -171,9 +126,7 @@ name-front x a c q stops h =
 
 names-front : (x : ℕ) (a : List ℕ) (c : ℕ) (q : List ℕ) → Stops (x ∷ a) c → has_universal_names (x ∷ a ++ c ∷ q) ≡ true →
     has_universal_names (x ∷ a) ≡ true
-names-front x [] c q stops h =
-    let parts = and_parts (not (x == backslash) || begins_universal_name (c ∷ q)) (has_universal_names (c ∷ q)) h in
-    and_from (not (x == backslash) || begins_universal_name []) true (name-front x [] c q stops parts.0) refl
+names-front x [] c q stops h = grind (arith, nat_tests)
 names-front x (y ∷ a) c q stops h =
     let parts = and_parts (not (x == backslash) || begins_universal_name (y ∷ a ++ c ∷ q)) (has_universal_names (y ∷ a ++ c ∷ q)) h in
     and_from (not (x == backslash) || begins_universal_name (y ∷ a)) (has_universal_names (y ∷ a))
@@ -182,21 +135,12 @@ names-front x (y ∷ a) c q stops h =
 signs-front : (a q : List ℕ) → signs_follow_exponents (a ++ q) ≡ true → signs_follow_exponents a ≡ true
 signs-front [] q h = refl
 signs-front (b ∷ []) q h = refl
-signs-front (b ∷ c ∷ a) q h =
-    let parts = and_parts (is_exponent b || not (is_sign c)) (signs_follow_exponents (c ∷ a ++ q)) h in
-    and_from (is_exponent b || not (is_sign c)) (signs_follow_exponents (c ∷ a)) parts.0 (signs-front (c ∷ a) q parts.1)
+signs-front (b ∷ c ∷ a) q h = grind (arith, nat_tests, signs-front (c ∷ a) q)
 
 begins-front : (x : ℕ) (a : List ℕ) (c : ℕ) (q : List ℕ) → is_at_operator (last_byte x a) c ≡ true →
     begins_number (x ∷ a ++ c ∷ q) ≡ true → begins_number (x ∷ a) ≡ true
 begins-front x (y ∷ a) c q at h = h
-begins-front x [] c q at h =
-    elim (or_cases (is_digit x) (x == full_stop && is_digit c) h) [
-      | inl digit ↦ digit
-      | inr stop ↦
-          let same : x ≡ full_stop = eqb-true x full_stop (and_parts (x == full_stop) (is_digit c) stop).0 in
-          let none : is_at_operator full_stop c ≡ true = subst (λ k. is_at_operator k c ≡ true) same at in
-          absurd (false≢true none)
-    ]
+begins-front x [] c q at h = grind (arith, nat_tests)
 
 number-front : (x : ℕ) (a : List ℕ) (c : ℕ) (q : List ℕ) → is_at_operator (last_byte x a) c ≡ true →
     is_number (x ∷ a ++ c ∷ q) ≡ true → is_number (x ∷ a) ≡ true
@@ -221,19 +165,10 @@ signs-at x (y ∷ a) c q h =
     signs-at y a c q (and_parts (is_exponent x || not (is_sign y)) (signs_follow_exponents (y ∷ a ++ c ∷ q)) h).1
 
 operator-sign : (o : ℕ) → is_operator o ≡ true → is_number_byte o ≡ true → is_sign o ≡ true
-operator-sign o operator number =
-    elim (or_cases (is_identifier_byte o || o == full_stop) (is_sign o) number) [
-      | inl other ↦ absurd (both_ways (is_identifier_byte o || o == full_stop)
-          (operator-not (λ b. is_identifier_byte b || b == full_stop) refl o operator) other)
-      | inr sign ↦ sign
-    ]
+operator-sign o operator number = grind (arith, nat_tests)
 
 plain-word : (c : ℕ) → is_plain_byte c ≡ true → is_number_byte c ≡ true → is_word_byte c ≡ true
-plain-word c plain number =
-    elim (or_cases (is_word_byte c) (is_quote c) plain) [
-      | inl word ↦ word
-      | inr quote ↦ absurd (both_ways (is_number_byte c) (quote-not is_number_byte refl refl c quote) number)
-    ]
+plain-word c plain number = grind (arith, nat_tests)
 
 number-goes-on : (x : ℕ) (a : List ℕ) (c : ℕ) (q : List ℕ) → is_at_operator (last_byte x a) c ≡ true →
     is_number (x ∷ a ++ c ∷ q) ≡ true → number_goes_on (last_byte x a) c ≡ true
@@ -287,9 +222,8 @@ punctuator-border x a c q h border =
     elim (or_cases (are_never_in_one d c) (is_at_operator d c) border) [
       | inl never ↦ elim (or_cases (is_white d || is_white c || is_separator d || is_separator c) (c == slash && not (d == slash)) never) [
         | inl gap ↦ none-fails is_in_punctuator x a c q (punctuator-inside x a c q h) (gap-fails is_in_punctuator refl refl d c gap)
-        | inr slashes ↦ both_ways (not (c == slash))
-            (ap (λ k. not (k == slash)) (eqb-true c slash (and_parts (c == slash) (not (d == slash)) slashes).0))
-            (all-last (λ d. not (d == slash)) a c q (punctuator-is has_no_later_slash refl (x ∷ a ++ c ∷ q) h))
+        | inr slashes ↦
+            grind (arith, nat_tests, slash, all-last, punctuator-is has_no_later_slash refl (x ∷ a ++ c ∷ q) h)
       ]
       | inr at ↦ elim (or_cases (is_operator d && is_plain_byte c) (is_plain_byte d && is_operator c) at) [
         | inl first ↦ both_ways (is_plain_byte c) (not-true (is_plain_byte c) (all-last (λ b. not (is_plain_byte b)) (x ∷ a) c q none))
@@ -322,29 +256,14 @@ literal-parts : (a : List ℕ) (c : ℕ) (q : List ℕ) → IsLiteral (a ++ c �
 literal-parts a c q l =
     elim (go l.prefix a l.word l.has) [
       | inr inside ↦ inr inside
-      | inl opened ↦ inl (record {
-        prefix = l.prefix;
-        quote = l.quote;
-        rest = opened.0;
-        word = l.word;
-        begins = l.begins;
-        quotes = l.quotes;
-        same = opened.1;
-        ends = opened.2;
-      })
+      | inl opened ↦ grind (arith, nat_tests)
     ]
   where
     go : (prefix a : List ℕ) → list_all is_word_byte prefix ≡ true → has_prefix prefix (is_quoted l.quote) (a ++ c ∷ q) ≡ true →
         ((rest : List ℕ) × (a ≡ prefix ++ l.quote ∷ rest) × (ends_quoted l.quote (rest ++ c ∷ q) ≡ true)) ⊎ IsInPrefix a c
-    go [] [] word has =
-        let same : c ≡ l.quote = eqb-true c l.quote (and_parts (c == l.quote) (ends_quoted l.quote q) has).0 in
-        inr (refl, or_right (is_word_byte c) (is_quote c) (ap is_quote same ∙ l.quotes))
-    go [] (x ∷ a) word has =
-        let parts = and_parts (x == l.quote) (ends_quoted l.quote (a ++ c ∷ q)) has in
-        inl (a, ap (λ k. k ∷ a) (eqb-true x l.quote parts.0), parts.1)
-    go (p ∷ ps) [] word has =
-        let same : c ≡ p = eqb-true c p (and_parts (c == p) (has_prefix ps (is_quoted l.quote) q) has).0 in
-        inr (refl, or_left (is_word_byte c) (is_quote c) (ap is_word_byte same ∙ (and_parts (is_word_byte p) (list_all is_word_byte ps) word).0))
+    go [] [] word has = grind (arith, nat_tests)
+    go [] (x ∷ a) word has = grind (arith, nat_tests)
+    go (p ∷ ps) [] word has = grind (arith, nat_tests)
     go (p ∷ ps) (x ∷ a) word has =
         let parts = and_parts (x == p) (has_prefix ps (is_quoted l.quote) (a ++ c ∷ q)) has in
         let words = and_parts (is_word_byte p) (list_all is_word_byte ps) word in
@@ -359,11 +278,8 @@ quote-byte Q h = quote-not is_word_byte refl refl Q h
 
 opened-first : (prefix : List ℕ) (Q : ℕ) (z : List ℕ) → list_all is_word_byte prefix ≡ true → is_quote Q ≡ true →
     is_comment (prefix ++ Q ∷ z) ≡ true → ⊥
-opened-first [] Q z word quote comment =
-    both_ways (Q == slash) (quote-not (λ b. b == slash) refl refl Q quote) (comment-first Q z comment)
-opened-first (p ∷ ps) Q z word quote comment =
-    both_ways (is_word_byte p) (ap is_word_byte (eqb-true p slash (comment-first p (ps ++ Q ∷ z) comment)))
-    (and_parts (is_word_byte p) (list_all is_word_byte ps) word).0
+opened-first [] Q z word quote comment = grind (arith, nat_tests)
+opened-first (p ∷ ps) Q z word quote comment = grind (arith, nat_tests)
 
 -- a prefix, a quote and bytes that do not end with the closing quote
 opened-longer : (prefix : List ℕ) (Q : ℕ) (z : List ℕ) → list_all is_word_byte prefix ≡ true → is_quote Q ≡ true →
@@ -392,16 +308,6 @@ unended Q rest c q quote ends z w same = false_from_ne_true (ends_quoted Q z) λ
     go [] ended = ends-once Q z c q (quote-not (λ b. b == backslash) refl refl Q quote) ended
     go (d ∷ w) ended = ends-once Q z d (w ++ c ∷ q) (quote-not (λ b. b == backslash) refl refl Q quote) ended
 
-prefix-digit : (b : ℕ) → is_prefix_byte b ≡ true → is_digit b ≡ false
-prefix-digit b h =
-    elim (or_cases (b == 76 || b == 85) (b == 117) h) [
-      | inr same ↦ ap is_digit (eqb-true b 117 same)
-      | inl two ↦ elim (or_cases (b == 76) (b == 85) two) [
-        | inl same ↦ ap is_digit (eqb-true b 76 same)
-        | inr same ↦ ap is_digit (eqb-true b 85 same)
-      ]
-    ]
-
 quote-unfinished : (Q : ℕ) (rest : List ℕ) (c : ℕ) (q : List ℕ) → is_quote Q ≡ true → ends_quoted Q (rest ++ c ∷ q) ≡ true →
     list_any is_unfinished (elements_from 0 (Q ∷ rest)) ≡ true
 quote-unfinished Q rest c q quote ends =
@@ -415,10 +321,7 @@ opened-unfinished : (prefix : List ℕ) (Q : ℕ) (rest : List ℕ) (c : ℕ) (q
     list_any is_unfinished (elements_from 0 (prefix ++ Q ∷ rest)) ≡ true
 opened-unfinished [] Q rest c q word begins quote ends = quote-unfinished Q rest c q quote ends
 opened-unfinished (p ∷ ps) Q rest c q word begins quote ends =
-    let plain : is_plain (p ∷ ps) ≡ true =
-    or_left (is_plain_word (p ∷ ps) || is_character (p ∷ ps)) (is_string (p ∷ ps))
-    (or_left (is_plain_word (p ∷ ps)) (is_character (p ∷ ps))
-    (and_from (not (is_digit p)) (list_all is_word_byte (p ∷ ps)) (not_from_false (is_digit p) (prefix-digit p begins)) word)) in
+    let plain : is_plain (p ∷ ps) ≡ true = grind (arith, nat_tests) in
     ap (list_any is_unfinished) (elements-front p ps (Q ∷ rest) (plain-element (p ∷ ps) plain) none)
     ∙ or_right (is_unfinished (p ∷ ps)) (list_any is_unfinished (elements_from 0 (Q ∷ rest))) (quote-unfinished Q rest c q quote ends)
   where
@@ -431,9 +334,7 @@ opened-unfinished (p ∷ ps) Q rest c q word begins quote ends =
 
 number-token : (t : List ℕ) → is_number t ≡ true → is_token t ≡ true
 unfolding is_token
-number-token t h =
-    or_left _ (is_other_character t) (or_left _ (is_punctuator t) (or_left _ (is_string_literal t)
-    (or_left _ (is_character_constant t) (or_right (is_identifier t) (is_number t) h))))
+number-token t h = grind (arith, nat_tests)
 
 -- the bytes at a border or at an operator are not both of words and quotes
 both-plain : (d c : ℕ) → is_word_byte d ≡ true → is_plain_byte c ≡ true →
@@ -445,11 +346,7 @@ both-plain d c word plain met =
     ]
   where
     plain-fails : OneFails is_plain_byte d c → ⊥
-    plain-fails fails =
-        elim fails [
-          | inl last ↦ both_ways (is_plain_byte d) last (or_left (is_word_byte d) (is_quote d) word)
-          | inr next ↦ both_ways (is_plain_byte c) next plain
-        ]
+    plain-fails fails = grind (arith, nat_tests)
 
 identifier-fails : (d c : ℕ) → (are_never_in_one d c || is_at_operator d c) ≡ true → OneFails is_identifier_byte d c
 identifier-fails d c met =
@@ -470,23 +367,11 @@ border-met after_number d c h =
 comment-ended : (x y : ℕ) (a : List ℕ) (c : ℕ) (q : List ℕ) → list_any is_unfinished (elements_from 0 (x ∷ y ∷ a)) ≡ false →
     is_comment (x ∷ y ∷ a ++ c ∷ q) ≡ true → ⊥
 comment-ended x y a c q whole comment =
-    let goes_on = comment-open x y a c q comment in
-    both_ways (list_any is_unfinished (elements_from 0 (x ∷ y ∷ a))) whole
-    (ap (list_any is_unfinished) (one-element x (y ∷ a) (comment-element (x ∷ y ∷ a) goes_on.0))
-    ∙ or_left (is_unfinished (x ∷ y ∷ a)) false (or_left (is_comment (x ∷ y ∷ a ++ space ∷ [])) (is_one is_quote (x ∷ y ∷ a)) goes_on.1))
+    grind (arith, nat_tests, comment-open x y a c q comment, whole, one-element x (y ∷ a), comment-element (x ∷ y ∷ a))
 
 comment-border : (x : ℕ) (a : List ℕ) (c : ℕ) (q : List ℕ) → list_any is_unfinished (elements_from 0 (x ∷ a)) ≡ false →
     (are_never_in_one (last_byte x a) c || is_at_operator (last_byte x a) c) ≡ true → is_comment (x ∷ a ++ c ∷ q) ≡ true → ⊥
-comment-border x [] c q whole border comment =
-    elim (or_cases (c == asterisk) (c == slash) (comment-second x c q comment)) [
-      | inl star ↦ none asterisk (eqb-true c asterisk star) (λ h. h)
-      | inr line ↦ none slash (eqb-true c slash line) (λ h. h)
-    ]
-  where
-    none : (k : ℕ) → c ≡ k → ((are_never_in_one slash k || is_at_operator slash k) ≡ true → false ≡ true) → ⊥
-    none k same computed =
-        false≢true (computed (subst (λ d. (are_never_in_one d k || is_at_operator d k) ≡ true) (eqb-true x slash (comment-first x (c ∷ q) comment))
-        (subst (λ e. (are_never_in_one x e || is_at_operator x e) ≡ true) same border)))
+comment-border x [] c q whole border comment = grind (arith, nat_tests)
 comment-border x (y ∷ a) c q whole border comment = comment-ended x y a c q whole comment
 
 -- a quoted text goes on after a whole text only within its prefix
@@ -494,9 +379,8 @@ literal-border : (x : ℕ) (a : List ℕ) (c : ℕ) (q : List ℕ) → list_any 
     (is_word_byte (last_byte x a) ≡ true → is_plain_byte c ≡ true → ⊥) → IsLiteral (x ∷ a ++ c ∷ q) → ⊥
 literal-border x a c q whole apart literal =
     elim (literal-parts (x ∷ a) c q literal) [
-      | inl o ↦ both_ways (list_any is_unfinished (elements_from 0 (x ∷ a))) whole
-          (ap (λ t. list_any is_unfinished (elements_from 0 t)) o.same
-          ∙ opened-unfinished o.prefix o.quote o.rest c q o.word o.begins o.quotes o.ends)
+      | inl o ↦
+          grind (arith, nat_tests, whole, opened-unfinished o.prefix o.quote o.rest c q o.word o.begins o.quotes o.ends)
       | inr inside ↦ apart (all-last-byte is_word_byte x a inside.0) inside.1
     ]
 
@@ -536,8 +420,7 @@ bytes-longer before x a c q whole border =
 -- after a comment
 
 slash-alone : (before : List ℕ) (x : ℕ) → is_comment (last_element before (elements_from 0 (x ∷ []))) ≡ true → ⊥
-slash-alone before x comment =
-    false≢true (ap (λ es. is_comment (last_element before es)) (sym (one-element x [] (single-element x))) ∙ comment)
+slash-alone before x comment = grind (arith, nat_tests)
 
 comment-longer : (before : List ℕ) (x : ℕ) (a : List ℕ) (c : ℕ) (q : List ℕ) →
     list_any is_unfinished (elements_from 0 (x ∷ a)) ≡ false →

@@ -1,10 +1,11 @@
 -- What the bytes of a token are, by its kind.
+use Rattle.std.proofs.Common.{arith}
 use Rattle.std.proofs.Common.{◌≡◌, ℕ, Bool, true, false, List, [], ◌∷◌, ◌++◌, codes}
 use Rattle.std.proofs.Common.{inl, inr, refl, ap, ◌∙◌}
 use Rattle.std.specs.Prelude.{◌&&◌, ◌||◌, not, ◌==◌, if◌then◌else◌}
 use Rattle.std.specs.List.{list_any, list_all}
 use Rattle.std.specs.Str.{bytes_eq}
-use Rattle.std.proofs.lemmas.Bool.{and_parts, and_from, or_cases, or_left, or_right, and_right, both_ways, false≢true}
+use Rattle.std.proofs.lemmas.Bool.{and_parts, or_cases, and_right, false≢true}
 use Rattle.std.proofs.lemmas.Bool.{eqb-true}
 use Rattle.std.proofs.lemmas.Slice.Eq.{bytes_eq-Decides}
 use Rattle.c_tokens.specs.Bytes.{line_feed, backslash, full_stop, double_quote, apostrophe, is_digit, is_word_byte, is_quote}
@@ -12,6 +13,7 @@ use Rattle.c_tokens.specs.Grammar.{is_identifier_byte, is_identifier, begins_num
 use Rattle.c_tokens.specs.Grammar.{signs_follow_exponents, has_universal_names, ends_quoted, is_quoted, is_character}
 use Rattle.c_tokens.specs.Grammar.{is_string, has_prefix, is_character_constant, is_string_literal, punctuators}
 use Rattle.c_tokens.specs.Grammar.{is_punctuator}
+use Rattle.std.proofs.lemmas.Bool.Decides.{nat_tests}
 
 second : (x y z : Bool) → (x && y && z) ≡ true → y ≡ true
 second x y z h = (and_parts x y (and_parts (x && y) z h).0).1
@@ -20,11 +22,7 @@ second x y z h = (and_parts x y (and_parts (x && y) z h).0).1
 pub listed : (test : ℕ → Bool) (bs : List ℕ) → list_all test bs ≡ true → (b : ℕ) → list_any (λ c. b == c) bs ≡ true →
     test b ≡ true
 listed test [] all b any = absurd (false≢true any)
-listed test (c ∷ bs) all b any =
-    elim (or_cases (b == c) (list_any (λ c. b == c) bs) any) [
-      | inl same ↦ ap test (eqb-true b c same) ∙ (and_parts (test c) (list_all test bs) all).0
-      | inr later ↦ listed test bs (and_parts (test c) (list_all test bs) all).1 b later
-    ]
+listed test (c ∷ bs) all b any = grind (arith, nat_tests, listed test bs)
 
 -- identifiers and numbers
 
@@ -41,17 +39,8 @@ number-start t h =
 pub number-bytes : (t : List ℕ) → is_number t ≡ true → list_all is_number_byte t ≡ true
 number-bytes t h = (and_parts (begins_number t) (list_all is_number_byte t) (number-start t h)).1
 
-begins-first : (b : ℕ) (bs : List ℕ) → begins_number (b ∷ bs) ≡ true → (is_digit b || b == full_stop) ≡ true
-begins-first b [] h = or_left (is_digit b) (b == full_stop) h
-begins-first b (c ∷ bs) h =
-    elim (or_cases (is_digit b) (b == full_stop && is_digit c) h) [
-      | inl digit ↦ or_left (is_digit b) (b == full_stop) digit
-      | inr stop ↦ or_right (is_digit b) (b == full_stop) (and_parts (b == full_stop) (is_digit c) stop).0
-    ]
-
 pub number-first : (b : ℕ) (bs : List ℕ) → is_number (b ∷ bs) ≡ true → (is_digit b || b == full_stop) ≡ true
-number-first b bs h = begins-first b bs
-    (and_parts (begins_number (b ∷ bs)) (list_all is_number_byte (b ∷ bs)) (number-start (b ∷ bs) h)).0
+number-first b bs h = grind (arith, nat_tests)
 
 -- punctuators
 
@@ -59,10 +48,7 @@ one-of : (test : List ℕ → Bool) (t : List ℕ) (ps : List (List ℕ)) → li
     list_any (bytes_eq t) ps ≡ true → test t ≡ true
 one-of test t [] all any = absurd (false≢true any)
 one-of test t (p ∷ ps) all any =
-    elim (or_cases (bytes_eq t p) (list_any (bytes_eq t) ps) any) [
-      | inl same ↦ ap test ((bytes_eq-Decides t p).0 same) ∙ (and_parts (test p) (list_all test ps) all).0
-      | inr later ↦ one-of test t ps (and_parts (test p) (list_all test ps) all).1 later
-    ]
+    grind (arith, nat_tests, bytes_eq-Decides t p, one-of test t ps (and_parts (test p) (list_all test ps) all).1)
 
 pub punctuator-is : (test : List ℕ → Bool) → list_all test punctuators ≡ true → (t : List ℕ) → is_punctuator t ≡ true →
     test t ≡ true
@@ -93,8 +79,7 @@ has_prefix-weaker : (f g : List ℕ → Bool) → ((t : List ℕ) → f t ≡ tr
 has_prefix-weaker f g weaker [] t h = weaker t h
 has_prefix-weaker f g weaker (p ∷ ps) [] h = h
 has_prefix-weaker f g weaker (p ∷ ps) (b ∷ bs) h =
-    and_from (b == p) (has_prefix ps g bs) (and_parts (b == p) (has_prefix ps f bs) h).0
-    (has_prefix-weaker f g weaker ps bs (and_parts (b == p) (has_prefix ps f bs) h).1)
+    grind (arith, nat_tests, has_prefix-weaker f g weaker ps bs (and_parts (b == p) (has_prefix ps f bs) h).1)
 
 character-quoted : (t : List ℕ) → is_character t ≡ true → is_quoted apostrophe t ≡ true
 character-quoted t h = (and_parts (is_quoted apostrophe t) (not (bytes_eq t (codes "''"))) h).0
@@ -127,24 +112,8 @@ pub literal-from_string : (t : List ℕ) → is_string_literal t ≡ true → Is
 literal-from_string t h =
     literal double_quote is_string refl (λ t h. h) ([] ∷ codes "u8" ∷ codes "u" ∷ codes "U" ∷ codes "L" ∷ []) refl t h
 
-quote-other : (b : ℕ) → is_quote b ≡ true → is_word_byte b ≡ false
-quote-other b h =
-    elim (or_cases (b == double_quote) (b == apostrophe) h) [
-      | inl same ↦ ap is_word_byte (eqb-true b double_quote same)
-      | inr same ↦ ap is_word_byte (eqb-true b apostrophe same)
-    ]
-
 pub literal-first : (b : ℕ) (bs : List ℕ) → IsLiteral (b ∷ bs) → (is_quote b || is_prefix_byte b) ≡ true
-literal-first b bs l = go l.prefix l.begins l.has
-  where
-    go : (prefix : List ℕ) → begins_prefix prefix ≡ true → has_prefix prefix (is_quoted l.quote) (b ∷ bs) ≡ true →
-        (is_quote b || is_prefix_byte b) ≡ true
-    go [] begins has =
-        let same : b ≡ l.quote = eqb-true b l.quote (and_parts (b == l.quote) (ends_quoted l.quote bs) has).0 in
-        or_left (is_quote b) (is_prefix_byte b) (ap is_quote same ∙ l.quotes)
-    go (p ∷ ps) begins has =
-        let same : b ≡ p = eqb-true b p (and_parts (b == p) (has_prefix ps (is_quoted l.quote) bs) has).0 in
-        or_right (is_quote b) (is_prefix_byte b) (ap is_prefix_byte same ∙ begins)
+literal-first b bs l = grind (arith, nat_tests)
 
 -- the last byte is the closing quote
 
@@ -155,9 +124,7 @@ branch false escaped f other g h of_f of_g = of_g (and_parts other g h).1
 
 ends-last : (quote : ℕ) (a : List ℕ) (s : ℕ) → ends_quoted quote (a ++ s ∷ []) ≡ true → s ≡ quote
 ends-last quote [] s h = eqb-true s quote h
-ends-last quote (b ∷ []) s h =
-    branch (b == backslash) (not (s == line_feed)) false (not (b == quote || b == line_feed)) (s == quote) h
-    (λ none. absurd (false≢true none)) (eqb-true s quote)
+ends-last quote (b ∷ []) s h = grind (arith, nat_tests)
 ends-last quote (b ∷ c ∷ a) s h =
     branch (b == backslash) (not (c == line_feed)) (ends_quoted quote (a ++ s ∷ []))
     (not (b == quote || b == line_feed)) (ends_quoted quote (c ∷ a ++ s ∷ [])) h
@@ -185,14 +152,8 @@ literal-word a b bs word other l = go l.prefix a l.word word l.has
         let parts = and_parts (b == l.quote) (ends_quoted l.quote bs) has in
         let same : b ≡ l.quote = eqb-true b l.quote parts.0 in
         (ap is_quote same ∙ l.quotes, ap (λ k. ends_quoted k bs) same ∙ parts.1)
-    go [] (x ∷ a) words word has =
-        let same : x ≡ l.quote = eqb-true x l.quote (and_parts (x == l.quote) (ends_quoted l.quote (a ++ b ∷ bs)) has).0 in
-        absurd (both_ways (is_word_byte x) (ap is_word_byte same ∙ quote-other l.quote l.quotes)
-        (and_parts (is_word_byte x) (list_all is_word_byte a) word).0)
-    go (p ∷ ps) [] words word has =
-        let same : b ≡ p = eqb-true b p (and_parts (b == p) (has_prefix ps (is_quoted l.quote) bs) has).0 in
-        absurd (both_ways (is_word_byte b) other
-        (ap is_word_byte same ∙ (and_parts (is_word_byte p) (list_all is_word_byte ps) words).0))
+    go [] (x ∷ a) words word has = grind (arith, nat_tests)
+    go (p ∷ ps) [] words word has = grind (arith, nat_tests)
     go (p ∷ ps) (x ∷ a) words word has =
         go ps a (and_parts (is_word_byte p) (list_all is_word_byte ps) words).1
         (and_parts (is_word_byte x) (list_all is_word_byte a) word).1
@@ -207,9 +168,7 @@ same-branch false escaped f f' other g g' h of_f of_g = and_right other g' (of_g
 pub ends-once : (quote : ℕ) (a : List ℕ) (c : ℕ) (q : List ℕ) → (quote == backslash) ≡ false → ends_quoted quote a ≡ true →
     ends_quoted quote (a ++ c ∷ q) ≡ false
 ends-once quote [] c q other h = absurd (false≢true h)
-ends-once quote (b ∷ []) c q other h =
-    let same : b ≡ quote = eqb-true b quote h in
-    rw (ap (λ x. x == backslash) same ∙ other, h) refl
+ends-once quote (b ∷ []) c q other h = grind (arith, nat_tests)
 ends-once quote (b ∷ d ∷ a) c q other h =
     same-branch (b == backslash) (not (d == line_feed)) (ends_quoted quote a) (ends_quoted quote (a ++ c ∷ q))
     (not (b == quote || b == line_feed)) (ends_quoted quote (d ∷ a)) (ends_quoted quote (d ∷ a ++ c ∷ q)) h

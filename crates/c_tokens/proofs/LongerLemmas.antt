@@ -1,9 +1,10 @@
 -- Texts that are no element: a text that may touch what follows, and more after it.
+use Rattle.std.proofs.Common.{arith}
 use Rattle.std.proofs.Common.{◌≡◌, ℕ, Bool, true, false, List, [], ◌∷◌, ◌++◌, codes}
 use Rattle.std.proofs.Common.{◌⊎◌, inl, inr, refl, ap, ◌∙◌}
 use Rattle.std.specs.Prelude.{◌&&◌, ◌||◌, not, ◌==◌}
 use Rattle.std.specs.List.{list_all}
-use Rattle.std.proofs.lemmas.Bool.{and_parts, and_from, or_cases, or_left, or_right, both_ways, false≢true}
+use Rattle.std.proofs.lemmas.Bool.{and_parts, or_cases, or_left, or_right, both_ways, false≢true}
 use Rattle.std.proofs.lemmas.Bool.{eqb-true, not-true, false_from_ne_true}
 use Rattle.c_tokens.specs.Bytes.{space, slash, asterisk, backslash, full_stop, double_quote, apostrophe, line_feed, is_digit, is_word_byte, is_quote}
 use Rattle.c_tokens.specs.Grammar.{is_identifier_byte, is_identifier, is_number_byte, is_number, is_quoted, ends_quoted}
@@ -14,6 +15,7 @@ use Rattle.c_tokens.specs.Touching.{is_separator, is_operator, is_plain_word}
 use Rattle.c_tokens.proofs.GrammarLemmas.{listed, identifier-bytes, number-bytes, number-first, punctuator-is}
 use Rattle.c_tokens.proofs.GrammarLemmas.{is_prefix_byte, IsLiteral, literal-from_character, literal-from_string}
 use Rattle.c_tokens.proofs.GrammarLemmas.{begins_prefix, literal-first, literal-last, literal-word, ends-once}
+use Rattle.std.proofs.lemmas.Bool.Decides.{nat_tests}
 
 -- what an element of two bytes or more is
 pub element-cases : {P : Type 0} (t : List ℕ) → is_white_character t ≡ false → is_other_character t ≡ false →
@@ -22,10 +24,7 @@ pub element-cases : {P : Type 0} (t : List ℕ) → is_white_character t ≡ fal
 unfolding is_element is_token
 element-cases t white other h comment identifier number literal punctuator =
     elim (or_cases (is_white_character t || is_comment t) (is_token t) h) [
-      | inl gap ↦ elim (or_cases (is_white_character t) (is_comment t) gap) [
-        | inl is ↦ absurd (both_ways (is_white_character t) white is)
-        | inr is ↦ comment is
-      ]
+      | inl gap ↦ grind (arith, nat_tests)
       | inr token ↦ elim (or_cases (is_identifier t || is_number t || is_character_constant t || is_string_literal t || is_punctuator t)
           (is_other_character t) token) [
             | inr is ↦ absurd (both_ways (is_other_character t) other is)
@@ -45,9 +44,6 @@ element-cases t white other h comment identifier number literal punctuator =
 pub all-last : (test : ℕ → Bool) (a : List ℕ) (b : ℕ) (q : List ℕ) → list_all test (a ++ b ∷ q) ≡ true → test b ≡ true
 all-last test [] b q h = (and_parts (test b) (list_all test q) h).0
 all-last test (x ∷ a) b q h = all-last test a b q (and_parts (test x) (list_all test (a ++ b ∷ q)) h).1
-
-pub separator-is : (test : ℕ → Bool) → list_all test (codes "()[]{};,~") ≡ true → (s : ℕ) → is_separator s ≡ true → test s ≡ true
-separator-is test all s h = listed test (codes "()[]{};,~") all s h
 
 pub separator-not : (test : ℕ → Bool) → list_all (λ b. not (test b)) (codes "()[]{};,~") ≡ true → (s : ℕ) →
     is_separator s ≡ true → test s ≡ false
@@ -73,16 +69,10 @@ punctuator-bytes t h = punctuator-is (list_all (λ b. not (is_plain_byte b))) re
 
 pub comment-first : (b : ℕ) (bs : List ℕ) → is_comment (b ∷ bs) ≡ true → (b == slash) ≡ true
 comment-first b [] h = absurd (false≢true h)
-comment-first b (c ∷ bs) h =
-    (and_parts (b == slash) (c == asterisk && ends_once bs || c == slash && list_all (λ d. not (d == line_feed)) bs) h).0
+comment-first b (c ∷ bs) h = grind (arith, nat_tests)
 
 pub comment-second : (b c : ℕ) (bs : List ℕ) → is_comment (b ∷ c ∷ bs) ≡ true → (c == asterisk || c == slash) ≡ true
-comment-second b c bs h =
-    elim (or_cases (c == asterisk && ends_once bs) (c == slash && list_all (λ d. not (d == line_feed)) bs)
-    (and_parts (b == slash) (c == asterisk && ends_once bs || c == slash && list_all (λ d. not (d == line_feed)) bs) h).1) [
-      | inl star ↦ or_left (c == asterisk) (c == slash) (and_parts (c == asterisk) (ends_once bs) star).0
-      | inr line ↦ or_right (c == asterisk) (c == slash) (and_parts (c == slash) (list_all (λ d. not (d == line_feed)) bs) line).0
-    ]
+comment-second b c bs h = grind (arith, nat_tests)
 
 pub two-white : (x : ℕ) (a : List ℕ) (b : ℕ) (q : List ℕ) → is_white_character (x ∷ a ++ b ∷ q) ≡ false
 two-white x [] b q = refl
@@ -110,8 +100,7 @@ separator-longer s c q h = false_from_ne_true (is_element (s ∷ c ∷ q)) λ is
 
 long-punctuator-last : (x : ℕ) (a : List ℕ) (s : ℕ) → is_punctuator (x ∷ a ++ s ∷ []) ≡ true → not (is_separator s) ≡ true
 long-punctuator-last x [] s h = all-last (λ d. not (is_separator d)) (x ∷ []) s [] (long-punctuator x s [] h)
-long-punctuator-last x (y ∷ a) s h =
-    all-last (λ d. not (is_separator d)) (x ∷ y ∷ a) s [] (long-punctuator x y (a ++ s ∷ []) h)
+long-punctuator-last x (y ∷ a) s h = grind (arith, nat_tests, all-last, long-punctuator x y (a ++ s ∷ []) h)
 
 pub separator-last : (x : ℕ) (a : List ℕ) (s : ℕ) → is_separator s ≡ true → is_element (x ∷ a ++ s ∷ []) ≡ true →
     is_comment (x ∷ a ++ s ∷ []) ≡ true
@@ -129,64 +118,34 @@ ends_once-front : (a q : List ℕ) → ends_once (a ++ q) ≡ true → ends_once
 ends_once-front [] q h = refl
 ends_once-front (b ∷ []) q h = refl
 ends_once-front (b ∷ c ∷ []) q h = refl
-ends_once-front (b ∷ c ∷ d ∷ a) q h =
-    let parts = and_parts (not (b == asterisk && c == slash)) (ends_once (c ∷ d ∷ a ++ q)) h in
-    and_from (not (b == asterisk && c == slash)) (ends_once (c ∷ d ∷ a)) parts.0 (ends_once-front (c ∷ d ∷ a) q parts.1)
+ends_once-front (b ∷ c ∷ d ∷ a) q h = grind (arith, nat_tests, ends_once-front (c ∷ d ∷ a) q)
 
 ends_once-other : (a : List ℕ) (s : ℕ) (q : List ℕ) (t : ℕ) → ends_once (a ++ s ∷ q) ≡ true → ends_once (a ++ t ∷ []) ≡ true
 ends_once-other [] s q t h = refl
 ends_once-other (b ∷ []) s q t h = refl
-ends_once-other (b ∷ c ∷ []) s q t h =
-    and_from (not (b == asterisk && c == slash)) true (and_parts (not (b == asterisk && c == slash)) (ends_once (c ∷ s ∷ q)) h).0 refl
-ends_once-other (b ∷ c ∷ d ∷ a) s q t h =
-    let parts = and_parts (not (b == asterisk && c == slash)) (ends_once (c ∷ d ∷ a ++ s ∷ q)) h in
-    and_from (not (b == asterisk && c == slash)) (ends_once (c ∷ d ∷ a ++ t ∷ [])) parts.0
-    (ends_once-other (c ∷ d ∷ a) s q t parts.1)
+ends_once-other (b ∷ c ∷ []) s q t h = grind (arith, nat_tests)
+ends_once-other (b ∷ c ∷ d ∷ a) s q t h = grind (arith, nat_tests, ends_once-other (c ∷ d ∷ a) s q t)
 
 abbrev is_in_line : List ℕ → Bool
 is_in_line = list_all (λ d. not (d == line_feed))
 
 line-front : (a q : List ℕ) → is_in_line (a ++ q) ≡ true → is_in_line a ≡ true
 line-front [] q h = refl
-line-front (b ∷ a) q h =
-    let parts = and_parts (not (b == line_feed)) (is_in_line (a ++ q)) h in
-    and_from (not (b == line_feed)) (is_in_line a) parts.0 (line-front a q parts.1)
+line-front (b ∷ a) q h = grind (arith, nat_tests, line-front a q)
 
 line-space : (a : List ℕ) → is_in_line a ≡ true → is_in_line (a ++ space ∷ []) ≡ true
 line-space [] h = refl
-line-space (b ∷ a) h =
-    let parts = and_parts (not (b == line_feed)) (is_in_line a) h in
-    and_from (not (b == line_feed)) (is_in_line (a ++ space ∷ [])) parts.0 (line-space a parts.1)
+line-space (b ∷ a) h = grind (arith, nat_tests, line-space a)
 
 comment-from : (x y : ℕ) (a : List ℕ) → (x == slash) ≡ true →
     ((y == asterisk && ends_once a) ≡ true) ⊎ ((y == slash && is_in_line a) ≡ true) → is_comment (x ∷ y ∷ a) ≡ true
-comment-from x y a first rest =
-    and_from (x == slash) (y == asterisk && ends_once a || y == slash && is_in_line a) first
-    (elim rest [
-      | inl star ↦ or_left (y == asterisk && ends_once a) (y == slash && is_in_line a) star
-      | inr line ↦ or_right (y == asterisk && ends_once a) (y == slash && is_in_line a) line
-    ])
+comment-from x y a first rest = grind (arith, nat_tests)
 
 -- a comment that goes on after two bytes or more is a comment without that, and would take a space too
 pub comment-open : (x y : ℕ) (a : List ℕ) (c : ℕ) (q : List ℕ) → is_comment (x ∷ y ∷ a ++ c ∷ q) ≡ true →
     (is_comment (x ∷ y ∷ a) ≡ true) × (is_comment (x ∷ y ∷ a ++ space ∷ []) ≡ true)
 comment-open x y a c q is =
-    let parts = and_parts (x == slash) (y == asterisk && ends_once (a ++ c ∷ q) || y == slash && is_in_line (a ++ c ∷ q)) is in
-    elim (or_cases (y == asterisk && ends_once (a ++ c ∷ q)) (y == slash && is_in_line (a ++ c ∷ q)) parts.1) [
-      | inl star ↦
-          let block = and_parts (y == asterisk) (ends_once (a ++ c ∷ q)) star in (
-            comment-from x y a parts.0 (inl (and_from (y == asterisk) (ends_once a) block.0 (ends_once-front a (c ∷ q) block.1))),
-            comment-from x y (a ++ space ∷ []) parts.0
-                (inl (and_from (y == asterisk) (ends_once (a ++ space ∷ [])) block.0 (ends_once-other a c q space block.1))),
-          )
-      | inr slashes ↦
-          let line = and_parts (y == slash) (is_in_line (a ++ c ∷ q)) slashes in
-          let front = line-front a (c ∷ q) line.1 in (
-            comment-from x y a parts.0 (inr (and_from (y == slash) (is_in_line a) line.0 front)),
-            comment-from x y (a ++ space ∷ []) parts.0
-                (inr (and_from (y == slash) (is_in_line (a ++ space ∷ [])) line.0 (line-space a front))),
-          )
-    ]
+    grind (arith, nat_tests, comment-from, ends_once-front, ends_once-other, line-front, line-space)
 
 -- a word, and an operator after it
 pub word-longer : (x : ℕ) (a : List ℕ) (o : ℕ) (q : List ℕ) → is_plain_word (x ∷ a) ≡ true → is_operator o ≡ true →
@@ -211,11 +170,7 @@ word-longer x a o q word h = false_from_ne_true (is_element (x ∷ a ++ o ∷ q)
 -- a quoted text, and anything after it
 
 pub quote-not : (test : ℕ → Bool) → test double_quote ≡ false → test apostrophe ≡ false → (b : ℕ) → is_quote b ≡ true → test b ≡ false
-quote-not test double single b h =
-    elim (or_cases (b == double_quote) (b == apostrophe) h) [
-      | inl same ↦ ap test (eqb-true b double_quote same) ∙ double
-      | inr same ↦ ap test (eqb-true b apostrophe same) ∙ single
-    ]
+quote-not test double single b h = grind (arith, nat_tests)
 
 quoted-literal : (x : ℕ) (a : List ℕ) (c : ℕ) (q : List ℕ) → is_quote x ≡ true → ends_quoted x a ≡ true →
     IsLiteral (x ∷ a ++ c ∷ q) → ⊥
@@ -226,9 +181,7 @@ quoted-literal x a c q quote ends l = go l.prefix l.begins l.has
         let parts = and_parts (x == l.quote) (ends_quoted l.quote (a ++ c ∷ q)) has in
         both_ways (ends_quoted x (a ++ c ∷ q)) (ends-once x a c q (quote-not (λ b. b == backslash) refl refl x quote) ends)
         (ap (λ k. ends_quoted k (a ++ c ∷ q)) (eqb-true x l.quote parts.0) ∙ parts.1)
-    go (p ∷ ps) begins has =
-        let same : x ≡ p = eqb-true x p (and_parts (x == p) (has_prefix ps (is_quoted l.quote) (a ++ c ∷ q)) has).0 in
-        both_ways (is_prefix_byte x) (quote-not is_prefix_byte refl refl x quote) (ap is_prefix_byte same ∙ begins)
+    go (p ∷ ps) begins has = grind (arith, nat_tests)
 
 pub quoted-longer : (x : ℕ) (a : List ℕ) (c : ℕ) (q : List ℕ) → is_quote x ≡ true → ends_quoted x a ≡ true →
     is_element (x ∷ a ++ c ∷ q) ≡ false

@@ -1,21 +1,18 @@
 -- The longest front is the longest, and the elements are the whole text.
-use Rattle.std.proofs.Common.{◌≡◌, ℕ, ◌-◌, ◌<◌, ◌≤◌, zero, suc, Bool, true, false, List, [], ◌∷◌, ◌++◌, length, take, drop}
-use Rattle.std.proofs.Common.{refl, ap, ◌∙◌, arith}
-use Rattle.std.specs.Prelude.{if◌then◌else◌}
+use Rattle.std.proofs.Common.{◌≡◌, ℕ, ◌-◌, ◌<◌, ◌≤◌, zero, suc, Bool, true, List, [], ◌∷◌, ◌++◌, length, take, drop}
+use Rattle.std.proofs.Common.{refl, arith}
 use Rattle.std.specs.List.{concat}
 use Rattle.std.proofs.lemmas.List.{take-append-drop}
 use Rattle.c_tokens.specs.Grammar.{is_element}
 use Rattle.c_tokens.specs.Reading.{longest, elements_from}
 use Rattle.c_tokens.proofs.ReadingLemmas.{counted, longer}
 use Rattle.c_tokens.proofs.TouchingLemmas.{single-element}
+use Rattle.std.proofs.lemmas.Bool.Decides.{nat_tests}
 
 pub longest-most : (test : List ℕ → Bool) (b : List ℕ) (n : ℕ) → n ≤ length b → test (take n b) ≡ true → n ≤ longest test b
 longest-most test b zero within h = omega arith
 longest-most test [] (suc n) within h = absurd (omega (arith, within))
-longest-most test (x ∷ b) (suc zero) within h = one (longest (λ t. test (x ∷ t)) b)
-  where
-    one : (more : ℕ) → 1 ≤ counted test x more
-    one more = rw h (grind arith)
+longest-most test (x ∷ b) (suc zero) within h = grind (arith, nat_tests)
 longest-most test (x ∷ b) (suc (suc n)) within h =
     more (longest (λ t. test (x ∷ t)) b) (longest-most (λ t. test (x ∷ t)) b (suc n) (omega (arith, within)) h)
   where
@@ -28,11 +25,7 @@ longest-passes test (x ∷ b) h = go (longest (λ t. test (x ∷ t)) b) h (longe
   where
     go : (more : ℕ) → 0 < counted test x more → (0 < more → test (x ∷ take more b) ≡ true) →
         test (take (counted test x more) (x ∷ b)) ≡ true
-    go zero h rest = alone (test (x ∷ [])) refl h
-      where
-        alone : (t : Bool) → test (x ∷ []) ≡ t → 0 < (if t then 1 else 0) → test (take (if t then 1 else 0) (x ∷ b)) ≡ true
-        alone true is h = is
-        alone false is h = absurd (omega (arith, h))
+    go zero h rest = grind (arith, nat_tests)
     go (suc more) h rest = rw (longer test x (suc more) (omega arith)) (rest (omega arith))
 
 longest-one : (b : ℕ) (rest : List ℕ) → 1 ≤ longest is_element (b ∷ rest)
@@ -51,6 +44,4 @@ elements-all zero (x ∷ a) =
     go : (k : ℕ) → 1 ≤ k → concat (elements_from (k - 1) a) ≡ drop (k - 1) a →
         take k (x ∷ a) ++ concat (elements_from (k - 1) a) ≡ x ∷ a
     go zero h rest = absurd (omega (arith, h))
-    go (suc k) h rest =
-        let one : suc k - 1 ≡ k = omega arith in
-        ap (λ t. x ∷ (take k a ++ t)) (rest ∙ ap (λ m. drop m a) one) ∙ ap (λ t. x ∷ t) (take-append-drop k a)
+    go (suc k) h rest = grind (arith, nat_tests, take-append-drop k a)

@@ -1,11 +1,12 @@
 -- The longest front that passes a test, and the elements of two texts that are written together.
-use Rattle.std.proofs.Common.{◌≡◌, ℕ, ◌+◌, ◌-◌, ◌<◌, ◌≤◌, zero, suc, Bool, true, false, List, [], ◌∷◌, ◌++◌, length, take, drop}
+use Rattle.std.proofs.Common.{◌≡◌, ℕ, ◌+◌, ◌-◌, ◌<◌, ◌≤◌, zero, suc, Bool, true, false, List, [], ◌∷◌, ◌++◌, length, take}
 use Rattle.std.proofs.Common.{refl, ap, subst, ◌∙◌, get_or, arith}
 use Rattle.std.specs.Prelude.{nat_lt, if◌then◌else◌}
 use Rattle.std.proofs.lemmas.Bool.{lt-ltb}
 use Rattle.std.proofs.lemmas.List.{take_at, take-append-le}
 use Rattle.c_tokens.specs.Grammar.{is_element}
 use Rattle.c_tokens.specs.Reading.{longest, elements_from}
+use Rattle.std.proofs.lemmas.Bool.Decides.{nat_tests}
 
 -- no text passes that is the first one and then a front of the second
 abbrev pub NoLonger : (List ℕ → Bool) → List ℕ → List ℕ → Type 0
@@ -39,8 +40,7 @@ longest-front test x (y ∷ a) b h none =
 -- bytes with which no text passes change nothing
 longest-append : (test : List ℕ → Bool) (a : List ℕ) (c : ℕ) (r : List ℕ) →
     ((q rest : List ℕ) → r ≡ q ++ rest → test (a ++ c ∷ q) ≡ false) → longest test (a ++ c ∷ r) ≡ longest test a
-longest-append test [] c r none = longest-none test (c ∷ r) λ d q rest same.
-    subst (λ k. test (k ∷ q) ≡ false) (ap (λ l. get_or l 0 0) same) (none q rest (ap (drop 1) same))
+longest-append test [] c r none = grind (arith, nat_tests, longest-none test (c ∷ r))
 longest-append test (x ∷ a) c r none = ap (counted test x) (longest-append (λ t. test (x ∷ t)) a c r none)
 
 counted-within : (test : List ℕ → Bool) (x n m : ℕ) → n ≤ m → counted test x n ≤ suc m
@@ -63,11 +63,7 @@ cut text rest n = take n text ∷ elements_from (n - 1) rest
 pub elements-front : (x : ℕ) (a b : List ℕ) → is_element (x ∷ a) ≡ true → NoLonger is_element (x ∷ a) b →
     elements_from 0 (x ∷ a ++ b) ≡ (x ∷ a) ∷ elements_from 0 b
 elements-front x a b h none =
-    let one : suc (length a) - 1 ≡ length a = omega arith in
-    ap (cut (x ∷ a ++ b) (a ++ b)) (longest-front is_element x a b h none)
-    ∙ ap (λ k. take (length (x ∷ a)) (x ∷ a ++ b) ∷ elements_from k (a ++ b)) one
-    ∙ ap (λ t. (x ∷ t) ∷ elements_from (length a) (a ++ b)) (take_at a b (length a) refl)
-    ∙ ap (λ es. (x ∷ a) ∷ es) (elements-passed a b)
+    grind (arith, nat_tests, longest-front is_element x a b h none, take_at a b (length a) refl, elements-passed a b)
 
 -- The elements of a text and of what follows, if no element has a front of what follows in it.
 -- `Good n a` says so, and stays true from each element to the next.

@@ -1,16 +1,16 @@
 -- The elements of two texts that may touch.
 use Rattle.std.proofs.Common.{◌≡◌, ℕ, ◌-◌, Bool, true, false, List, [], ◌∷◌, ◌++◌, codes, refl, ap, sym, ◌∙◌}
-use Rattle.std.proofs.Common.{inl, inr, append-nil, arith, length, take}
-use Rattle.std.specs.Prelude.{◌&&◌, ◌||◌, not, ◌==◌, if◌then◌else◌, filter}
+use Rattle.std.proofs.Common.{inl, inr, append-nil, arith, length}
+use Rattle.std.specs.Prelude.{◌&&◌, ◌||◌, not, ◌==◌, filter}
 use Rattle.std.specs.List.{list_any, list_all}
 use Rattle.std.specs.Str.{bytes_eq}
-use Rattle.std.proofs.lemmas.Bool.{and_parts, and_from, or_cases, or_left, or_right, or_parts, and_right, both_ways, false≢true}
+use Rattle.std.proofs.lemmas.Bool.{and_parts, or_cases, or_left, or_right, and_right, false≢true}
 use Rattle.std.proofs.lemmas.Bool.{not_from_false, not-true, false_from_ne_true, eqb-true}
 use Rattle.std.proofs.lemmas.List.Elements.{filter-append}
-use Rattle.c_tokens.specs.Bytes.{space, asterisk, slash, backslash, line_feed, double_quote, apostrophe, is_digit, is_word_byte, is_quote, is_white}
-use Rattle.c_tokens.specs.Grammar.{is_identifier_byte, is_identifier, has_universal_names, begins_universal_name, is_number}
+use Rattle.c_tokens.specs.Bytes.{space, backslash, line_feed, double_quote, apostrophe, is_word_byte, is_quote}
+use Rattle.c_tokens.specs.Grammar.{is_identifier_byte, is_identifier, has_universal_names, is_number}
 use Rattle.c_tokens.specs.Grammar.{is_quoted, ends_quoted, is_character, is_string, is_character_constant}
-use Rattle.c_tokens.specs.Grammar.{is_string_literal, is_punctuator, is_other_character, is_token, is_comment}
+use Rattle.c_tokens.specs.Grammar.{is_string_literal, is_punctuator, is_token, is_comment}
 use Rattle.c_tokens.specs.Grammar.{is_white_character, is_element}
 use Rattle.c_tokens.specs.Reading.{spliced, longest, elements_from, elements, tokens, ends_in_comment}
 use Rattle.c_tokens.specs.Touching.{TextKind, is_separator, is_operator, is_one, is_plain_word, is_plain, IsOfKind}
@@ -18,20 +18,16 @@ use Rattle.c_tokens.specs.Borders.{is_plain_byte, last_byte, keep_lines}
 use Rattle.c_tokens.specs.Touching.{kinds_may_touch}
 use Rattle.c_tokens.specs.Touching.TextKind.{Separator, Operator, Plain, Other}
 use Rattle.c_tokens.proofs.ReadingLemmas.{no-longer-nothing, no-longer, elements-front, elements-append}
-use Rattle.c_tokens.proofs.LongerLemmas.{separator-not, operator-not, comment-first, comment-second}
+use Rattle.c_tokens.proofs.LongerLemmas.{separator-not, operator-not}
 use Rattle.c_tokens.proofs.LongerLemmas.{separator-longer, separator-last, comment-open, word-longer, quoted-longer}
 use Rattle.c_tokens.proofs.LongerLemmas.{operator-longer}
+use Rattle.std.proofs.lemmas.Bool.Decides.{nat_tests}
 
 -- what is an element
 
 pub single-element : (b : ℕ) → is_element (b ∷ []) ≡ true
 unfolding is_element is_token
-single-element b = go (is_white b) _
-  where
-    go : (w t : Bool) → (w || false || (t || not w)) ≡ true
-    go true t = refl
-    go false true = refl
-    go false false = refl
+single-element b = grind (arith, nat_tests)
 
 pub comment-element : (t : List ℕ) → is_comment t ≡ true → is_element t ≡ true
 unfolding is_element
@@ -43,27 +39,15 @@ token-element t h = or_right (is_white_character t || is_comment t) (is_token t)
 
 word-identifier-bytes : (a : List ℕ) → list_all is_word_byte a ≡ true → list_all is_identifier_byte a ≡ true
 word-identifier-bytes [] h = refl
-word-identifier-bytes (b ∷ a) h =
-    let parts = and_parts (is_word_byte b) (list_all is_word_byte a) h in
-    and_from (is_identifier_byte b) (list_all is_identifier_byte a) (or_left (is_word_byte b) (b == backslash) parts.0)
-    (word-identifier-bytes a parts.1)
+word-identifier-bytes (b ∷ a) h = grind (arith, nat_tests, word-identifier-bytes a)
 
 word-names : (a : List ℕ) → list_all is_word_byte a ≡ true → has_universal_names a ≡ true
 word-names [] h = refl
-word-names (b ∷ a) h =
-    let parts = and_parts (is_word_byte b) (list_all is_word_byte a) h in
-    let other : (b == backslash) ≡ false =
-    false_from_ne_true (b == backslash) (λ same. both_ways (is_word_byte b) (ap is_word_byte (eqb-true b backslash same)) parts.0) in
-    and_from (not (b == backslash) || begins_universal_name a) (has_universal_names a)
-    (or_left (not (b == backslash)) (begins_universal_name a) (not_from_false (b == backslash) other)) (word-names a parts.1)
+word-names (b ∷ a) h = grind (arith, nat_tests, word-names a)
 
 word-identifier : (t : List ℕ) → is_plain_word t ≡ true → is_identifier t ≡ true
 word-identifier [] h = h
-word-identifier (b ∷ a) h =
-    let parts = and_parts (not (is_digit b)) (list_all is_word_byte (b ∷ a)) h in
-    and_from (not (is_digit b) && list_all is_identifier_byte (b ∷ a)) (has_universal_names (b ∷ a))
-    (and_from (not (is_digit b)) (list_all is_identifier_byte (b ∷ a)) parts.0 (word-identifier-bytes (b ∷ a) parts.1))
-    (word-names (b ∷ a) parts.1)
+word-identifier (b ∷ a) h = grind (arith, nat_tests, word-identifier-bytes (b ∷ a), word-names (b ∷ a))
 
 plain-token : (t : List ℕ) → is_plain t ≡ true → is_token t ≡ true
 unfolding is_token
@@ -74,13 +58,10 @@ plain-token t h =
     let four : Bool = three || is_string_literal t in
     let five : Bool = four || is_punctuator t in
     elim (or_cases (is_plain_word t || is_character t) (is_string t) h) [
-      | inr string ↦ or_left five (is_other_character t) (or_left four (is_punctuator t) (or_right three (is_string_literal t)
-          (or_left (is_string t) _ string)))
+      | inr string ↦ grind (arith, nat_tests)
       | inl first ↦ elim (or_cases (is_plain_word t) (is_character t) first) [
-        | inl word ↦ or_left five (is_other_character t) (or_left four (is_punctuator t) (or_left three (is_string_literal t)
-            (or_left two (is_character_constant t) (or_left one (is_number t) (word-identifier t word)))))
-        | inr character ↦ or_left five (is_other_character t) (or_left four (is_punctuator t) (or_left three (is_string_literal t)
-            (or_right two (is_character_constant t) (or_left (is_character t) _ character))))
+        | inl word ↦ grind (arith, nat_tests, word-identifier t word)
+        | inr character ↦ grind (arith, nat_tests)
       ]
     ]
 
@@ -109,10 +90,7 @@ plain-cases {P} b a h word quoted =
         quoted (ap is_quote same ∙ is) (ap (λ k. ends_quoted k a) same ∙ parts.1)
 
 plain-byte : (b : ℕ) (a : List ℕ) → is_plain (b ∷ a) ≡ true → is_plain_byte b ≡ true
-plain-byte b a h = plain-cases b a h
-    (λ word. or_left (is_word_byte b) (is_quote b)
-    (and_parts (is_word_byte b) (list_all is_word_byte a) (and_parts (not (is_digit b)) (list_all is_word_byte (b ∷ a)) word).1).0)
-    (λ quote ends. or_right (is_word_byte b) (is_quote b) quote)
+plain-byte b a h = grind (arith, nat_tests)
 
 plain-longer : (b : ℕ) (a : List ℕ) (o : ℕ) (q : List ℕ) → is_plain (b ∷ a) ≡ true → is_operator o ≡ true →
     is_element (b ∷ a ++ o ∷ q) ≡ false
@@ -139,22 +117,16 @@ elements-separator a s h closed =
   where
     next : (x : ℕ) (a : List ℕ) → list_any is_open (elements_from 0 (x ∷ a)) ≡ false →
         list_any is_open (elements_from (longest is_element (x ∷ a) - 1) a) ≡ false
-    next x a good = (or_parts (is_open (take (longest is_element (x ∷ a)) (x ∷ a)))
-        (list_any is_open (elements_from (longest is_element (x ∷ a) - 1) a)) good).1
+    next x a good = grind (arith, nat_tests)
 
     alone : (x : ℕ) (a : List ℕ) → list_any is_open (elements_from 0 (x ∷ a)) ≡ false → is_comment (x ∷ a ++ s ∷ []) ≡ true → ⊥
-    alone x [] closed comment =
-        both_ways (s == asterisk || s == slash) (separator-not (λ b. b == asterisk || b == slash) refl s h) (comment-second x s [] comment)
+    alone x [] closed comment = grind (arith, nat_tests)
     alone x (y ∷ a) closed comment =
-        let open_at_end = comment-open x y a s [] comment in
-        both_ways (list_any is_open (elements_from 0 (x ∷ y ∷ a))) closed
-        (ap (list_any is_open) (one-element x (y ∷ a) (comment-element (x ∷ y ∷ a) open_at_end.0))
-        ∙ or_left (is_open (x ∷ y ∷ a)) false open_at_end.1)
+        grind (arith, nat_tests, comment-open x y a s [] comment, one-element x (y ∷ a), comment-element (x ∷ y ∷ a))
 
     stays : (x : ℕ) (a : List ℕ) → list_any is_open (elements_from 0 (x ∷ a)) ≡ false → (q rest : List ℕ) → [] ≡ q ++ rest →
         is_element (x ∷ a ++ s ∷ q) ≡ false
-    stays x a closed [] rest same = false_from_ne_true (is_element (x ∷ a ++ s ∷ []))
-        (λ is. alone x a closed (separator-last x a s h is))
+    stays x a closed [] rest same = grind (arith, nat_tests, alone x a closed, separator-last x a s h)
     stays x a closed (d ∷ q) rest same = absurd (omega (arith, ap length same))
 
 operator-elements : (o : ℕ) (b : List ℕ) → is_operator o ≡ true → is_plain b ≡ true →
@@ -178,17 +150,11 @@ plain-closed (b ∷ a) h =
     ap (list_any is_open) (one-element b a (plain-element (b ∷ a) h))
     ∙ false_from_ne_true (is_open (b ∷ a) || false) (λ is. elim (or_cases (is_open (b ∷ a)) false is) [
       | inr none ↦ false≢true none
-      | inl comment ↦
-          both_ways (is_plain_byte b) (ap is_plain_byte (eqb-true b slash (comment-first b (a ++ space ∷ []) comment))) (plain-byte b a h)
+      | inl comment ↦ grind (arith, nat_tests)
     ])
 
 single-closed : (o : ℕ) → list_any is_open (elements_from 0 (o ∷ [])) ≡ false
-single-closed o =
-    ap (list_any is_open) (one-element o [] (single-element o))
-    ∙ false_from_ne_true (is_open (o ∷ []) || false) (λ is. elim (or_cases (is_open (o ∷ [])) false is) [
-      | inr none ↦ false≢true none
-      | inl comment ↦ false≢true (comment-second o space [] comment)
-    ])
+single-closed o = grind (arith, nat_tests)
 
 -- backslashes before line feeds
 
@@ -199,21 +165,9 @@ spliced-first b (c ∷ bs) other = rw other refl
 spliced-bytes : (x : ℕ) (a : List ℕ) (c : ℕ) (r : List ℕ) → not (last_byte x a == backslash && c == line_feed) ≡ true →
     spliced (x ∷ a ++ c ∷ r) ≡ spliced (x ∷ a) ++ spliced (c ∷ r)
 spliced-bytes x [] c r kept = rw (not-true (x == backslash && c == line_feed) kept) refl
-spliced-bytes x (d ∷ []) c r kept = one (x == backslash && d == line_feed) (spliced-bytes d [] c r kept)
-  where
-    one : (taken : Bool) → spliced (d ∷ c ∷ r) ≡ d ∷ spliced (c ∷ r) →
-        (if taken then spliced (c ∷ r) else x ∷ spliced (d ∷ c ∷ r)) ≡ (if taken then [] else x ∷ d ∷ []) ++ spliced (c ∷ r)
-    one true left = refl
-    one false left = ap (λ t. x ∷ t) left
+spliced-bytes x (d ∷ []) c r kept = grind (arith, nat_tests)
 spliced-bytes x (d ∷ e ∷ a) c r kept =
-    more (x == backslash && d == line_feed) (spliced-bytes e a c r kept) (spliced-bytes d (e ∷ a) c r kept)
-  where
-    more : (taken : Bool) → spliced (e ∷ a ++ c ∷ r) ≡ spliced (e ∷ a) ++ spliced (c ∷ r) →
-        spliced (d ∷ e ∷ a ++ c ∷ r) ≡ spliced (d ∷ e ∷ a) ++ spliced (c ∷ r) →
-        (if taken then spliced (e ∷ a ++ c ∷ r) else x ∷ spliced (d ∷ e ∷ a ++ c ∷ r))
-        ≡ (if taken then spliced (e ∷ a) else x ∷ spliced (d ∷ e ∷ a)) ++ spliced (c ∷ r)
-    more true taken left = taken
-    more false taken left = ap (λ t. x ∷ t) left
+    grind (arith, nat_tests, spliced-bytes e a c r kept, spliced-bytes d (e ∷ a) c r kept)
 
 pub spliced-both : (a b : List ℕ) → keep_lines a b ≡ true → spliced (a ++ b) ≡ spliced a ++ spliced b
 spliced-both [] b kept = refl
@@ -240,8 +194,7 @@ separator-second : (a b : List ℕ) → ends_in_comment a ≡ false → is_one i
 separator-second a [] closed h = absurd (false≢true h)
 separator-second a (s ∷ c ∷ b) closed h = absurd (false≢true h)
 separator-second a (s ∷ []) closed h =
-    ap (elements_from 0) (spliced-append a s [] (separator-not (λ c. c == line_feed) refl s h))
-    ∙ elements-separator (spliced a) s h closed
+    grind (arith, nat_tests, spliced-append a s [], separator-not, elements-separator (spliced a) s h closed)
 
 operator-plain : (a b : List ℕ) → is_one is_operator a ≡ true → is_plain (spliced b) ≡ true →
     elements (a ++ b) ≡ elements a ++ elements b
@@ -257,8 +210,7 @@ plain-operator : (a b : List ℕ) → is_plain (spliced a) ≡ true → is_one i
 plain-operator a [] plain h = absurd (false≢true h)
 plain-operator a (o ∷ c ∷ b) plain h = absurd (false≢true h)
 plain-operator a (o ∷ []) plain h =
-    ap (elements_from 0) (spliced-append a o [] (operator-not (λ c. c == line_feed) refl o h))
-    ∙ plain-elements (spliced a) o [] plain h
+    grind (arith, nat_tests, spliced-append a o [], operator-not, plain-elements (spliced a) o [] plain h)
 
 one-closed : (test : ℕ → Bool) (a : List ℕ) → is_one test a ≡ true → ends_in_comment a ≡ false
 one-closed test [] h = refl

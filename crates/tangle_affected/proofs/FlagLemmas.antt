@@ -1,8 +1,10 @@
 -- One more node of the order is flagged or not.
 use Rattle.std.proofs.Common.{◌≡◌, ◌≢◌, ◌∙◌, ◌+◌, ◌<◌, ◌↔◌, ℕ, ◌||◌, Bool, true, false, List, [], ◌∷◌, ◌++◌, length, take}
-use Rattle.std.proofs.Common.{◌⊎◌, get_or, set, refl, ap, sym, subst, inl, inr, arith, Contains, true≢false}
-use Rattle.std.proofs.Common.{get_or-set_same, get_or-set_other}
-use Rattle.std.proofs.lemmas.List.{get_or_default, take_more}
+use Rattle.std.proofs.Common.{◌⊎◌, get_or, set, ap, sym, subst, inl, inr, arith, Contains}
+use Rattle.std.proofs.Common.{get_or-set_same, get_or-set_other, length-take}
+use Rattle.std.proofs.lemmas.List.{get_or-take, get_or_default, take_more}
+use Rattle.std.specs.Bool.{Decides}
+use Rattle.std.proofs.lemmas.Bool.Decides.{Decides-at, Decides-like, Decides-or}
 use Rattle.std.proofs.lemmas.List.Folds.{Any-from_list_any, list_any-from_Any}
 use Rattle.std.proofs.lemmas.List.Elements.{Contains-push_cases}
 use Rattle.tangle_plans.specs.Shapes.{Title, Named, Shapes, Uses}
@@ -13,13 +15,29 @@ use Rattle.tangle_graph.specs.Ordering.{IsOrderIn}
 use Rattle.tangle_graph.specs.Stores.{StoreRead, IsStoreOf, IsNodeIn, flag_at, uses_at, title_in_store}
 use Rattle.tangle_graph.proofs.NameLemmas.{used_node}
 use Rattle.tangle_affected.specs.Flags.{ReachesNewShape, AreFlagged, uses_flagged}
-use Rattle.tangle_affected.proofs.FilterLemmas.{in_front}
+
+-- an item among the first `i` of a list is at a position before `i`
+pub in_front : {X : Type 0} (xs : List X) (i : ℕ) (x : X)
+    → Contains (take i xs) x → (k : ℕ) × (k < i) × (k < length xs) × (get_or xs k x ≡ x)
+in_front xs i x c =
+    let low : c.0 < i = omega (arith, c.1, length-take i xs) in
+    (c.0, low, omega (arith, c.1, length-take i xs), sym (get_or-take i xs c.0 x low) ∙ c.2)
 
 pub more_cases : (nodes : List Node) (i : ℕ) (node a : Node) → i < length nodes → node ≡ get_or nodes i node
     → Contains (take (i + 1) nodes) a → Contains (take i nodes) a ⊎ (node ≡ a)
 more_cases nodes i node a h is c =
     Contains-push_cases (take i nodes) node a
     (subst (λ l. Contains l a) (take_more nodes i node h ∙ ap (λ n. take i nodes ++ n ∷ []) (sym is)) c)
+
+-- a node that reaches a new shape has one, or uses a name that reaches one
+first_step : (old new : Shapes) (t : Title) → ReachesNewShape old new t
+    → (new t ≢ old t) ⊎ ((used : Title) × Uses new t used × ReachesNewShape old new used)
+first_step old new t r = by t r.0 r.1 r.2
+  where
+    by : (a c : Title) → Reaches (Uses new) a c → new c ≢ old c
+        → (new a ≢ old a) ⊎ ((used : Title) × Uses new a used × ReachesNewShape old new used)
+    by a c here differs = inl differs
+    by a c (on {b = used} u s) differs = inr (used, u, (c, s, differs))
 
 module _ (store : StoreRead) (order : List Node) (ordered : IsOrderIn store order)
     (i : ℕ) (inside : i < length order) (node : Node) (at : node ≡ get_or order i node) where
@@ -38,58 +56,47 @@ module _ (store : StoreRead) (order : List Node) (ordered : IsOrderIn store orde
 
   module _ (old new : Shapes) (is : IsStoreOf new store) (flags : List Bool)
       (are : AreFlagged old new store flags (take i order)) where
-    reached_by_use : uses_flagged store flags node ≡ true → ReachesNewShape old new (title_in_store store node)
-    reached_by_use some =
-        let found = Any-from_list_any (flag_at flags) (uses_at store node) some in
-        let m = found.1 in
-        let used : Contains (uses_at store node) m = (found.0, found.2, found.3) in
-        let r = (are m (after_used m used)).0 found.4 in
-        let u = (is.uses node m at_position).0 used in
-        (r.0, on {b = title_in_store store m} u.1 r.1, r.2)
-
-    -- a node that reaches a new shape has one, or uses a flagged node
-    cause : ReachesNewShape old new (title_in_store store node)
-        → (new (title_in_store store node) ≢ old (title_in_store store node)) ⊎ (uses_flagged store flags node ≡ true)
-    cause r = from (title_in_store store node) r.0 r.1 r.2 refl
+    -- a name that the node uses reaches a new shape exactly if the node uses a flagged node
+    uses_decide : Decides (uses_flagged store flags node)
+        ((used : Title) × Uses new (title_in_store store node) used × ReachesNewShape old new used)
+    uses_decide = (
+      λ some. (let found = Any-from_list_any (flag_at flags) (uses_at store node) some in
+          let used : Contains (uses_at store node) found.1 = (found.0, found.2, found.3) in (
+            title_in_store store found.1,
+            ((is.uses node found.1 at_position).0 used).1,
+            (are found.1 (after_used found.1 used)).0 found.4,
+          )),
+      λ some. by some.0 some.1 some.2,
+    )
       where
-        from : (a c : Title) → Reaches (Uses new) a c → new c ≢ old c → a ≡ title_in_store store node
-            → (new (title_in_store store node) ≢ old (title_in_store store node)) ⊎ (uses_flagged store flags node ≡ true)
-        from a c here differs e = inl (subst (λ t. new t ≢ old t) e differs)
-        from a c (on {b = title.Program} u s) differs e = absurd u
-        from a c (on {b = Named name} u s) differs e =
-            let this = title_in_store store node in
-            let uses : Uses new (title_in_store store node) (Named name) = subst (λ t. Uses new t (Named name)) e u in
-            let m = used_node new store node name is at_position uses in
-            let used = (is.uses node m.0 at_position).1 (m.1, subst (Uses new this) (sym m.2) uses) in
-            let is_flagged =
-            (are m.0 (after_used m.0 used)).1 (c, subst (λ t. Reaches (Uses new) t c) (sym m.2) s, differs) in
-            inr (list_any-from_Any (flag_at flags) (uses_at store node) (used.0, m.0, used.1, used.2, is_flagged))
+        by : (used : Title) → Uses new (title_in_store store node) used → ReachesNewShape old new used
+            → uses_flagged store flags node ≡ true
+        by title.Program u r = absurd u
+        by (Named name) u r =
+            let m = used_node new store node name is at_position u in
+            let used = (is.uses node m.0 at_position).1
+            (m.1, subst (Uses new (title_in_store store node)) (sym m.2) u) in
+            list_any-from_Any (flag_at flags) (uses_at store node) (
+              used.0,
+              m.0,
+              used.1,
+              used.2,
+              (are m.0 (after_used m.0 used)).1 (subst (ReachesNewShape old new) (sym m.2) r),
+            )
 
     pub flagged_next : (own : Bool) → length flags ≡ length store.names + 1
         → ((own ≡ true) ↔ (new (title_in_store store node) ≢ old (title_in_store store node)))
         → AreFlagged old new store (set flags node (own || uses_flagged store flags node)) (take (i + 1) order)
     flagged_next own size is_new a c =
         let b = own || uses_flagged store flags node in
-        let is_set = get_or-set_same flags node b false (omega (arith, at_position, size)) in
         elim (more_cases order i node a inside at c) [
-          | inl before ↦ (let stays = get_or-set_other flags node a b false (apart a before) in
-              ((λ f. (are a before).0 (sym stays ∙ f)), (λ r. stays ∙ (are a before).1 r)))
+          | inl before ↦ Decides-at _ _ (get_or-set_other flags node a b false (apart a before)) (are a before)
           | inr e ↦ subst
-              (λ m. (flag_at (set flags node b) m ≡ true) ↔ ReachesNewShape old new (title_in_store store m)) e (
-                (λ f. reached own refl (sym is_set ∙ f)),
-                (λ r. is_set ∙ marked own refl r),
-              )
-        ]
-      where
-        reached : (is_own : Bool) → own ≡ is_own → (is_own || uses_flagged store flags node) ≡ true
-            → ReachesNewShape old new (title_in_store store node)
-        reached true e is_marked = (title_in_store store node, here, is_new.0 e)
-        reached false e is_marked = reached_by_use is_marked
-
-        marked : (is_own : Bool) → own ≡ is_own → ReachesNewShape old new (title_in_store store node)
-            → (is_own || uses_flagged store flags node) ≡ true
-        marked true e r = refl
-        marked false e r = elim (cause r) [
-          | inl differs ↦ absurd (true≢false (sym (is_new.1 differs) ∙ e))
-          | inr some ↦ some
+              (λ m. (flag_at (set flags node b) m ≡ true) ↔ ReachesNewShape old new (title_in_store store m)) e
+              (Decides-at _ b (get_or-set_same flags node b false (omega (arith, at_position, size)))
+              (Decides-like b (λ some. elim some [
+                | inl differs ↦ (title_in_store store node, here, differs)
+                | inr used ↦ (used.2.0, on {b = used.0} used.1 used.2.1, used.2.2)
+              ]) (first_step old new (title_in_store store node))
+              (Decides-or own (uses_flagged store flags node) is_new uses_decide)))
         ]

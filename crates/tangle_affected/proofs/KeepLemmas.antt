@@ -27,11 +27,6 @@ pub record KeepsThese (shapes : Shapes) (store : StoreRead) (nodes : List Node) 
       → Contains nodes node → is_expandable_at store node ≡ true → IsKeptRight shapes store kept node
   pub others : (node : Node) → is_expandable_at store node ≡ false → kept_at kept node ≡ None
 
-pub kept_none : (shapes : Shapes) (store : StoreRead) (kept : Kept)
-    → ((node : Node) → kept_at kept node ≡ None) → KeepsThese shapes store [] kept
-kept_none shapes store kept none =
-    record { expandable = λ node c. absurd (omega (arith, c.1)); others = λ node e. none node }
-
 flat_empty : (all : Shapes) (node : Title) → all node ≡ [] → flat_of all node ≡ []
 unfolding levels
 flat_empty all node e = ap (λ (s : Shape). pieces_flat (λ name. flat 1000 all (Named name)) node 0 s) e

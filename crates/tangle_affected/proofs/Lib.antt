@@ -1,4 +1,3 @@
-mod FilterLemmas
 mod FlagLemmas
 mod ListLemmas
 mod KeepLemmas

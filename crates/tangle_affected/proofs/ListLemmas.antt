@@ -1,8 +1,10 @@
 -- The nodes that are listed along the order are the affected ones.
-use Rattle.std.proofs.Common.{◌≡◌, ◌≢◌, ◌<◌, ℕ, zero, Bool, true, List, [], ◌∷◌, length, take, get_or, refl, sym, subst}
-use Rattle.std.proofs.Common.{arith, Contains}
+use Rattle.std.proofs.Common.{◌≡◌, ◌≢◌, ◌∙◌, ◌<◌, ◌≤◌, ℕ, zero, Bool, true, List, [], ◌∷◌, length, take, get_or, refl}
+use Rattle.std.proofs.Common.{ap, sym, subst, arith, Contains, length-take}
 use Rattle.std.specs.List.{filter}
+use Rattle.std.proofs.Math.Decide.{dec_lt, ℕ_discrete}
 use Rattle.std.proofs.lemmas.Bool.{and_parts, and_from}
+use Rattle.std.proofs.lemmas.List.{get_or-take, get_or_default}
 use Rattle.std.proofs.lemmas.List.Elements.{Contains-get_or}
 use Rattle.std.proofs.lemmas.List.Kept.{AllPairs-filter}
 use Rattle.tangle_expansion.specs.Affected.{IsAffected}
@@ -12,11 +14,12 @@ use Rattle.digraph.specs.Nodes.{Node, program}
 use Rattle.digraph.specs.Reach.{Reaches}
 use Rattle.tangle_graph.specs.Ordering.{IsOrderIn}
 use Rattle.tangle_graph.specs.Stores.{StoreRead, IsStoreOf, IsNodeIn, flag_at, is_expandable_at, title_in_store}
+use Rattle.tangle_graph.specs.Stores.{uses_at}
 use Rattle.tangle_affected.specs.Affected.{ListsAffected}
 use Rattle.tangle_affected.specs.Keeping.{ListsExpandable}
 use Rattle.tangle_affected.specs.Flags.{AreFlagged, is_expandable_and_flagged}
 use Rattle.tangle_names.proofs.ContainsLemmas.{into_filter, out_of_filter}
-use Rattle.tangle_affected.proofs.FilterLemmas.{filter_position}
+use Rattle.tangle_affected.proofs.FlagLemmas.{in_front}
 use Rattle.tangle_graph.proofs.ExpandLemmas.{expandable_at}
 use Rattle.tangle_graph.proofs.NameLemmas.{node_with_piece}
 
@@ -32,23 +35,40 @@ lists_expandable store order ordered = record {
 
 module _ (shapes : Shapes) (store : StoreRead) (order : List Node)
     (is : IsStoreOf shapes store) (ordered : IsOrderIn store order) where
-  -- a node of a filter of the order comes after those of the filter that it uses
+  -- a node uses none that is not before it in the order
+  before_only : (i j : ℕ) (d : Node) → i ≤ j → j < length order
+      → Contains (uses_at store (get_or order i d)) (get_or order j d) → ⊥
+  before_only i j d le h u =
+      let b = get_or order j d in
+      let low : i < length order = omega (arith, le, h) in
+      let before = in_front order i b (ordered.after i b low
+      (subst (λ n. Contains (uses_at store n) b) (get_or_default order i d program low) u)) in
+      ordered.once before.0 j b (omega (arith, before.1, le)) h (before.3 ∙ get_or_default order j d b h)
+
+  -- so a node of a filter of the order comes after those of the filter that it uses
   filtered_after : (p : Node → Bool) (k : ℕ) (used : Node)
       → k < length (filter p order) → Contains (filter p order) used
       → Uses shapes (title_in_store store (get_or (filter p order) k program)) (title_in_store store used)
       → Contains (take k (filter p order)) used
   filtered_after p k used h c u =
-      let position = filter_position p order k program h in
-      let there = out_of_filter p order used c in
-      let user : Uses shapes (title_in_store store (get_or order position.at program))
-      (title_in_store store used) =
-      subst (λ a. Uses shapes (title_in_store store a) (title_in_store store used)) (sym position.same) u in
-      let uses =
-      (is.uses (get_or order position.at program) used
-      (ordered.inside (get_or order position.at program) (Contains-get_or order position.at program position.inside))).1
-      (ordered.inside used there.0, user) in
-      let before = ordered.after position.at used position.inside uses in
-      subst (λ l. Contains l used) (sym position.front) (into_filter p (take position.at order) used before there.1)
+      let listed = filter p order in
+      let node = get_or listed k program in
+      let there = (out_of_filter p order node (Contains-get_or listed k program h)).0 in
+      let uses : Contains (uses_at store node) used = (is.uses node used (ordered.inside node there)).1
+      (ordered.inside used (out_of_filter p order used c).0, u) in
+      elim (dec_lt c.0 k) [
+        | yes low ↦ (let room = c.1 in
+            (c.0, omega (arith, low, room, length-take k listed), get_or-take k listed c.0 used low ∙ c.2))
+        | no high ↦ elim (ℕ_discrete k c.0) [
+          | yes same ↦ (let one : used ≡ node =
+              sym c.2 ∙ get_or_default listed c.0 used program c.1 ∙ ap (λ n. get_or listed n program) (sym same) in
+              absurd (before_only there.0 there.0 node (omega arith) there.1
+              (rw there.2 (subst (Contains (uses_at store node)) one uses))))
+          | no other ↦ absurd (AllPairs-filter (λ a b. Contains (uses_at store a) b → ⊥) p order
+              (λ i j d less. before_only i j d (omega (arith, less))) k c.0 used (omega (arith, high, other)) c.1
+              (rw (c.2, get_or_default listed k used program h) uses))
+        ]
+      ]
 
   module _ (old : Shapes) (flags : List Bool) (are : AreFlagged old shapes store flags order) where
     pub is_affected : (a : Node) → Contains order a → is_expandable_at store a ≡ true → flag_at flags a ≡ true

@@ -5,18 +5,19 @@ use Rattle.c_tokens.specs.Bytes.{is_digit}
 use Rattle.std.proofs.Common.{◌≡◌, ℕ, Bool, true, false, List, []}
 use Rattle.std.proofs.Common.{◌∷◌, ◌++◌, refl, ap, sym, ◌∙◌, append_assoc, codes, arith}
 use Rattle.std.specs.Prelude.{◌&&◌, not, ◌==◌, filter, decimal}
-use Rattle.std.specs.List.{list_any, list_all}
+use Rattle.std.specs.List.{list_all}
 use Rattle.std.proofs.lemmas.Bool.{and_parts, and_from, or_right, not-true}
 use Rattle.c_tokens.specs.Bytes.{space, slash, asterisk, backslash}
 use Rattle.c_tokens.specs.Grammar.{is_token, is_punctuator, is_number, is_comment, ends_once}
 use Rattle.c_tokens.specs.Reading.{spliced, elements, elements_from, tokens}
-use Rattle.c_tokens.specs.Borders.{is_unfinished, is_whole, last_element, last_byte}
+use Rattle.c_tokens.specs.Borders.{is_whole, last_element, last_byte}
 use Rattle.c_tokens.specs.Borders.{is_border_of_bytes, have_border, keep_lines}
 use Rattle.c_tokens.proofs.TouchingLemmas.{one-element, comment-element}
 use Rattle.tangle_c_tokens.specs.Edges.{last_byte_passes}
 use Rattle.tangle_c_tokens.proofs.TextLemmas.{Follows, follows-same, apart-from}
 use Rattle.tangle_c_tokens.proofs.TextLemmas.{keep-other, spliced-other, slash-border}
 use Rattle.tangle_expansion.specs.Numbers.{opening_bytes, closing_bytes}
+use Rattle.std.proofs.lemmas.Bool.Decides.{nat_tests}
 
 -- the bytes in the comment
 abbrev is_inside : ℕ → Bool
@@ -32,9 +33,7 @@ digit-inside b digit = grind (arith, digit)
 
 digits-inside : (t : List ℕ) → list_all is_digit t ≡ true → list_all is_inside t ≡ true
 digits-inside [] all = refl
-digits-inside (b ∷ t) all =
-    let parts = and_parts (is_digit b) (list_all is_digit t) all in
-    and_from (is_inside b) (list_all is_inside t) (digit-inside b parts.0) (digits-inside t parts.1)
+digits-inside (b ∷ t) all = grind (arith, nat_tests, digit-inside b, digits-inside t)
 
 decimal-inside : (n : ℕ) → list_all is_inside (decimal n) ≡ true
 decimal-inside n = digits-inside (decimal n) (decimal-digits n)
@@ -42,9 +41,7 @@ decimal-inside n = digits-inside (decimal n) (decimal-digits n)
 all-append : (a b : List ℕ) → list_all is_inside a ≡ true → list_all is_inside b ≡ true
     → list_all is_inside (a ++ b) ≡ true
 all-append [] b of_a of_b = of_b
-all-append (x ∷ a) b of_a of_b =
-    let parts = and_parts (is_inside x) (list_all is_inside a) of_a in
-    and_from (is_inside x) (list_all is_inside (a ++ b)) parts.0 (all-append a b parts.1 of_b)
+all-append (x ∷ a) b of_a of_b = grind (arith, nat_tests, all-append a b)
 
 -- the comment as an element
 
@@ -84,10 +81,7 @@ spliced-inside : (inside more : List ℕ) → list_all is_inside inside ≡ true
     → spliced (inside ++ more) ≡ inside ++ spliced more
 spliced-inside [] more all = refl
 spliced-inside (b ∷ inside) more all =
-    let parts = and_parts (is_inside b) (list_all is_inside inside) all in
-    let other : (b == backslash) ≡ false = not-true (b == backslash)
-    (and_parts (not (b == asterisk)) (not (b == backslash)) parts.0).1 in
-    spliced-other b (inside ++ more) other ∙ ap (λ t. b ∷ t) (spliced-inside inside more parts.1)
+    grind (arith, nat_tests, spliced-other b (inside ++ more), spliced-inside inside more)
 
 spliced-comment : (inside : List ℕ) → list_all is_inside inside ≡ true
     → spliced (comment inside) ≡ comment inside
@@ -108,9 +102,7 @@ no-token inside = refl
 
 comment-whole : (inside : List ℕ) → list_all is_inside inside ≡ true
     → is_whole (comment inside) ≡ true
-comment-whole inside all =
-    ap (λ es. not (list_any is_unfinished es)) (one-comment inside all)
-    ∙ rw (comment-ended inside all) refl
+comment-whole inside all = grind (arith, nat_tests, one-comment inside all, comment-ended inside all)
 
 pub last-slash : (x : ℕ) (a : List ℕ) → last_byte x (a ++ asterisk ∷ slash ∷ []) ≡ slash
 last-slash x [] = refl

@@ -1,5 +1,5 @@
 -- A number in decimal has digits alone.
-use Rattle.std.proofs.Common.{◌≡◌, ℕ, ◌+◌, ◌<◌, ◌%◌, ◌/◌, zero, suc, Bool, true, false, List}
+use Rattle.std.proofs.Common.{◌≡◌, ℕ, ◌<◌, ◌%◌, ◌/◌, zero, suc, Bool, true, false, List}
 use Rattle.std.proofs.Common.{[], ◌∷◌}
 use Rattle.std.proofs.Common.{refl}
 use Rattle.std.proofs.Common.{◌==◌, if◌then◌else◌, arith}
@@ -7,14 +7,11 @@ use Rattle.std.specs.Prelude.{decimal}
 use Rattle.std.specs.Fmt.{digit_glyph, digits_onto, digits}
 use Rattle.std.specs.List.{list_all}
 use Rattle.std.proofs.lemmas.Bool.{and_from}
-use Rattle.std.proofs.lemmas.Bool.{lt-ltb}
 use Rattle.c_tokens.specs.Bytes.{is_digit}
+use Rattle.std.proofs.lemmas.Bool.Decides.{nat_tests}
 
 digit-glyph : (d : ℕ) → d < 10 → is_digit (digit_glyph false d) ≡ true
-digit-glyph d small = rw (lt-ltb d 10 small) (digit d small)
-  where
-    digit : (d : ℕ) → d < 10 → is_digit (48 + d) ≡ true
-    digit d small = grind arith
+digit-glyph d small = grind (arith, nat_tests)
 
 all-digits : (k n : ℕ) (more : List ℕ) → list_all is_digit more ≡ true
     → list_all is_digit (digits_onto k 10 false n more) ≡ true

@@ -1,10 +1,10 @@
 -- What a macro's groups begin and end with: words and signs are of their kinds.
+use Rattle.std.proofs.Common.{arith}
 use Rattle.std.proofs.Common.{◌≡◌, ℕ, Bool, true, false, ◌&&◌, ◌||◌, not, List, [], ◌∷◌, ◌++◌}
 use Rattle.std.proofs.Common.{Option, Some, None, inl, inr, refl, flat_map, ◌⊎◌}
 use Rattle.std.proofs.Common.{sym, subst, if◌then◌else◌}
 use Rattle.std.specs.List.{AllByRecursion, last_or, list_all}
 use Rattle.std.specs.Option.{IfSome}
-use Rattle.std.proofs.lemmas.Bool.{and_parts, and_from}
 use Rattle.c_tokens.specs.Bytes.{line_feed}
 use Rattle.c_tokens.specs.Borders.{is_whole, keep_lines}
 use Rattle.tangle_lexer.specs.declared.tokens.Token.{Token}
@@ -17,6 +17,7 @@ use Rattle.tangle_c_tokens.specs.Kinds.{item_kind, is_range, HasItsKind, IsAlone
 use Rattle.tangle_c_tokens.specs.Kinds.{AreTexts}
 use Rattle.tangle_c_tokens.specs.Groups.{Group, group_before, groups_after, group_text}
 use Rattle.tangle_c_tokens.specs.Macros.{text_of, stay_apart, IsReadAlone}
+use Rattle.std.proofs.lemmas.Bool.Decides.{nat_tests}
 
 module _ (texts : List (List ℕ)) where
   -- an item begins and ends as a text of its kind does, unless it is a range of a quoted text
@@ -30,14 +31,10 @@ module _ (texts : List (List ℕ)) where
   -- tokens that are texts have their edges
 
   of-kind : (e : Token) → HasItsKind texts e → HasItsEdges e
-  of-kind (token.Span span_kind.Word s) kind =
-      record { begins = λ no_range. kind.begins; ends = λ no_range. kind.ends }
-  of-kind (token.Span span_kind.Sign s) kind =
-      record { begins = λ no_range. kind.begins; ends = λ no_range. kind.ends }
-  of-kind (token.Span span_kind.Quoted s) kind =
-      record { begins = λ no_range. absurd cc; ends = λ no_range. absurd cc }
-  of-kind (token.Span span_kind.Verbatim s) kind =
-      record { begins = λ no_range. refl; ends = λ no_range. refl }
+  of-kind (token.Span span_kind.Word s) kind = grind (arith, nat_tests)
+  of-kind (token.Span span_kind.Sign s) kind = grind (arith, nat_tests)
+  of-kind (token.Span span_kind.Quoted s) kind = grind (arith, nat_tests)
+  of-kind (token.Span span_kind.Verbatim s) kind = grind (arith, nat_tests)
   of-kind _ kind = record { begins = λ no_range. refl; ends = λ no_range. refl }
 
   of-range : (e : Token) → is_range e ≡ true → HasItsEdges e
@@ -46,9 +43,7 @@ module _ (texts : List (List ℕ)) where
   of-ranges : (part : List Token) → list_all is_range part ≡ true → (es : List Token) → HaveEdges es
       → HaveEdges (part ++ es)
   of-ranges [] all es more = more
-  of-ranges (e ∷ part) all es more =
-      let parts = and_parts (is_range e) (list_all is_range part) all in
-      (of-range e parts.0, of-ranges part parts.1 es more)
+  of-ranges (e ∷ part) all es more = grind (arith, nat_tests, of-range e, of-ranges part)
 
   of-part : (part : List Token) → IsAlone texts part ⊎ IsQuotedText texts part → (es : List Token)
       → HaveEdges es → HaveEdges (part ++ es)
@@ -61,8 +56,7 @@ module _ (texts : List (List ℕ)) where
       → AllByRecursion (λ part. IsAlone texts part ⊎ IsQuotedText texts part) parts →
       HaveEdges (flat_map (λ part. part) parts)
   of-parts [] all = tt
-  of-parts (part ∷ parts) all =
-      of-part part all.0 (flat_map (λ part. part) parts) (of-parts parts all.1)
+  of-parts (part ∷ parts) all = grind (arith, nat_tests, of-part, of-parts parts all.1)
 
   of-texts : (es : List Token) → AreTexts texts es → HaveEdges es
   of-texts es are = subst HaveEdges (sym are.1) (of-parts are.0 are.2)
@@ -102,17 +96,7 @@ module _ (texts : List (List ℕ)) where
       (not touch || (not range_e || ends) && (not range_f || begins) && rest) ≡ true
       → (not touch || ends && begins && rest) ≡ true
   lifted false range_e range_f ends begins rest of_e of_f h = refl
-  lifted true range_e range_f ends begins rest of_e of_f h =
-      let outer = and_parts ((not range_e || ends) && (not range_f || begins)) rest h in
-      let inner = and_parts (not range_e || ends) (not range_f || begins) outer.0 in
-      and_from (ends && begins) rest
-      (and_from ends begins (one range_e ends of_e inner.0)
-      (one range_f begins of_f inner.1)) outer.1
-    where
-      one : (range edge : Bool) → (range ≡ false → edge ≡ true) → (not range || edge) ≡ true
-          → edge ≡ true
-      one true edge of_edge h = h
-      one false edge of_edge h = of_edge refl
+  lifted true range_e range_f ends begins rest of_e of_f h = grind (arith, nat_tests)
 
   apart-edges : (text : List ℕ) (e f : Option Token) → IfSome e HasItsEdges → IfSome f HasItsEdges →
       stay_apart texts text e f ≡ true → are_apart_at_edges text e f ≡ true
@@ -163,13 +147,7 @@ module _ (texts : List (List ℕ)) where
   groups-apart : (items es : List Token) → HaveEdges items → HaveEdges es →
       AllByRecursion (IsReadAlone texts) (groups_after items es)
       → AllByRecursion IsApart (groups_after items es)
-  groups-apart items [] of_items all alone = one items of_items alone
-    where
-      one : (items : List Token) → HaveEdges items
-          → AllByRecursion (IsReadAlone texts) (group_before [] items) →
-          AllByRecursion IsApart (group_before [] items)
-      one [] of_items alone = tt
-      one (e ∷ items) of_items alone = (group-apart (e ∷ items) [] of_items tt alone.0, tt)
+  groups-apart items [] of_items all alone = grind (arith, nat_tests)
   groups-apart items (token.White ∷ es) of_items all alone =
       before-apart items (token.White ∷ es) (groups_after [] es) of_items all
       (groups-apart [] es tt all.1) alone

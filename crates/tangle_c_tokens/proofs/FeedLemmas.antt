@@ -1,14 +1,16 @@
 -- Texts that take out no line feed after them.
+use Rattle.std.proofs.Common.{arith}
 use Rattle.tangle_c_tokens.proofs.TextLemmas.{IsWholeLine}
 use Rattle.std.proofs.Common.{◌≡◌, ℕ, true, false, List, [], ◌∷◌}
 use Rattle.std.proofs.Common.{◌++◌}
-use Rattle.std.proofs.Common.{refl, ap, codes, ◌==◌}
+use Rattle.std.proofs.Common.{ap, codes, ◌==◌}
 use Rattle.std.specs.Prelude.{decimal}
-use Rattle.c_tokens.specs.Bytes.{line_feed, backslash, slash}
-use Rattle.c_tokens.specs.Borders.{is_whole, keep_lines}
+use Rattle.c_tokens.specs.Bytes.{backslash, slash}
+use Rattle.c_tokens.specs.Borders.{is_whole}
 use Rattle.tangle_expansion.specs.Numbers.{closing_bytes}
 use Rattle.tangle_c_tokens.specs.Edges.{last_byte_passes}
 use Rattle.tangle_c_tokens.proofs.CommentLemmas.{last-slash}
+use Rattle.std.proofs.lemmas.Bool.Decides.{nat_tests}
 
 abbrev pub KeepsFeed : List ℕ → Type 0
 KeepsFeed t = last_byte_passes (λ b. b == backslash) t ≡ false
@@ -31,8 +33,4 @@ closing-keeps a section =
     (ap (λ b. b == backslash) (last-slash 42 (58 ∷ decimal section)))
 
 pub line-of : (t : List ℕ) → is_whole t ≡ true → KeepsFeed t → IsWholeLine t
-line-of t whole keeps = record { whole = whole; kept = kept t keeps }
-  where
-    kept : (t : List ℕ) → KeepsFeed t → keep_lines t (line_feed ∷ []) ≡ true
-    kept [] keeps = refl
-    kept (x ∷ t) keeps = rw keeps refl
+line-of t whole keeps = grind (arith, nat_tests)

@@ -1,4 +1,5 @@
 -- The tokens of the file of a node are those of its parts.
+use Rattle.std.proofs.Common.{arith}
 use Rattle.tangle_c_tokens.proofs.TextLemmas.{IsMarkText, IsWholeLine}
 use Rattle.std.proofs.Common.{drop}
 use Rattle.tangle_c_tokens.proofs.MarkLemmas.{mark-is_line, mark_end-at, name-at}
@@ -14,7 +15,7 @@ use Rattle.tangle_lines.specs.declared.origin.Origin.{Origin}
 use Rattle.tangle_lines.specs.Reading.{SourceRead}
 use Rattle.tangle_lexer.specs.Steps.{all_tokens}
 use Rattle.tangle_scan.specs.Rules.{texts_of}
-use Rattle.tangle_scan.specs.ReadAsMeant.{written_tokens, all_piece_tokens, all_macro_tokens}
+use Rattle.tangle_scan.specs.ReadAsMeant.{all_piece_tokens, all_macro_tokens}
 use Rattle.tangle_scan.specs.Web.{WebRead, web_of, blocks}
 use Rattle.tangle_names.specs.declared.Resolved.{Resolved}
 use Rattle.tangle_names.specs.declared.Resolved.TheVariants.{Name, NoFullName, Ambiguous}
@@ -30,9 +31,7 @@ use Rattle.tangle_expansion.specs.PieceBytes.{bytes_after_mark, resolved_bytes}
 use Rattle.tangle_expansion.specs.PieceBytes.{piece_bytes}
 use Rattle.tangle_expansion.proofs.SameShapes.{flat_by_uses}
 use Rattle.tangle_c_tokens.specs.Reading.{IsReadAsTexts}
-use Rattle.tangle_c_tokens.specs.Groups.{groups}
 use Rattle.tangle_c_tokens.specs.Kinds.{AreTexts}
-use Rattle.tangle_c_tokens.specs.Macros.{IsReadAlone}
 use Rattle.tangle_c_tokens.proofs.kind_lemmas.WebTexts.{macros-texts}
 use Rattle.tangle_c_tokens.specs.Pieces.{IsReadInParts}
 use Rattle.tangle_c_tokens.specs.Pieces.{Passage, OfPart, parts_in_row, passage_text}
@@ -44,6 +43,7 @@ use Rattle.tangle_c_tokens.proofs.RowLemmas.{without-text, nothing}
 use Rattle.tangle_c_tokens.proofs.FeedLemmas.{KeepsFeed, line-of}
 use Rattle.tangle_c_tokens.proofs.AllMacroLemmas.{both, macros-keep, IsAlone, macros-whole}
 use Rattle.tangle_c_tokens.proofs.NodeLemmas.{pieces-keep, node-read}
+use Rattle.std.proofs.lemmas.Bool.Decides.{nat_tests}
 
 -- texts before a row
 
@@ -60,11 +60,8 @@ texts-of mark (t ∷ texts) row = ap (λ us. t ∷ us) (texts-of mark texts row)
 after-texts : (mark : Origin → List ℕ) (texts ts : List (List ℕ)) (rest bytes : List ℕ)
     (read : IsReadInParts mark ts rest) →
     IsReadAsTexts (texts ++ map (passage_text mark) read.row) bytes → IsReadInParts mark (texts ++ ts) bytes
-after-texts mark texts ts rest bytes read all = record {
-  row = map OfPart texts ++ read.row;
-  in_row = with-texts texts read.row ∙ ap (λ us. texts ++ us) read.in_row;
-  read = subst (λ us. IsReadAsTexts us bytes) (sym (texts-of mark texts read.row)) all;
-}
+after-texts mark texts ts rest bytes read all =
+    grind (arith, nat_tests, with-texts texts read.row, texts-of mark texts read.row)
 
 -- what is written for names
 
@@ -99,10 +96,8 @@ module _ (written : AreWrittenByPieces) (source : SourceRead) (modes : MarkMode)
       (name-at names origin.file whole.names))
 
   macros-alone : AllByRecursion (IsAlone source.lines [] [] no-text) (all_macro_tokens source.lines)
-  macros-alone = both (AreTexts (texts_of source.lines))
-      (λ es. AllByRecursion (IsReadAlone (texts_of source.lines))
-      (groups (written_tokens (texts_of source.lines) es)))
-      (all_macro_tokens source.lines) (macros-texts source.lines whole.lines) whole.macros
+  macros-alone =
+      grind (arith, nat_tests, both (AreTexts (texts_of source.lines)), macros-texts source.lines whole.lines)
 
   macros-line : IsWholeLine numbers.macros
   macros-line =

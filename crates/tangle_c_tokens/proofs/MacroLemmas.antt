@@ -1,4 +1,5 @@
 -- The tokens of the bytes of a macro are those of its groups.
+use Rattle.std.proofs.Common.{arith}
 use Rattle.std.proofs.Common.{◌≡◌, ℕ, Bool, true, false, ◌&&◌, not, if◌then◌else◌, List, [], ◌∷◌}
 use Rattle.std.proofs.Common.{◌++◌, map, flat_map}
 use Rattle.std.proofs.Common.{append_assoc, append-nil, Option, Some, None, refl, ap, sym, ◌∙◌}
@@ -30,8 +31,9 @@ use Rattle.tangle_c_tokens.proofs.kind_lemmas.TableKinds.{same-table}
 use Rattle.tangle_c_tokens.proofs.GroupLemmas.{last-item, group-one}
 use Rattle.tangle_c_tokens.proofs.TextLemmas.{feed-between, feed-front, space-between}
 use Rattle.tangle_c_tokens.proofs.TextLemmas.{taken-between, kinds-border}
-use Rattle.tangle_c_tokens.proofs.TextLemmas.{spliced-other, ends-as, white-next}
+use Rattle.tangle_c_tokens.proofs.TextLemmas.{ends-as}
 use Rattle.tangle_c_tokens.proofs.TextLemmas.{with-text, with-nothing, no-text}
+use Rattle.std.proofs.lemmas.Bool.Decides.{nat_tests}
 
 -- `tail` is written after the macro, and read as the texts `ts`.
 module _ (texts : List (List ℕ)) (tail : List ℕ) (ts : List (List ℕ))
@@ -93,14 +95,10 @@ module _ (texts : List (List ℕ)) (tail : List ℕ) (ts : List (List ℕ))
 
   front-border : (a : List ℕ) (in_name white : Bool) (es : List Token) → Meets a (next_item es) →
       have_border a (spliced (bytes_from in_name None white es)) ≡ true
-  front-border a in_name white [] meets =
-      ap (have_border a) (spliced-other line_feed tail refl)
-      ∙ white-next a line_feed (spliced tail) refl
+  front-border a in_name white [] meets = grind (arith, nat_tests)
   front-border a in_name white (token.White ∷ es) meets = front-border a in_name true es meets
   front-border a in_name white (token.LineEnd line ∷ es) meets = front-border a false false es meets
-  front-border a in_name white (e ∷ es) meets =
-      ap (λ bs. have_border a (spliced bs)) (front-item in_name white e es refl)
-      ∙ meets (bytes_from (in_name && not white && is_name_part e) (Some e) false es)
+  front-border a in_name white (e ∷ es) meets = grind (arith, nat_tests, front-item in_name white e es refl)
 
   group-text : (items : List Token) (e : Token)
       → group_text texts (items ++ e ∷ []) ≡ group_text texts items ++ text_of texts e
@@ -178,9 +176,7 @@ module _ (texts : List (List ℕ)) (tail : List ℕ) (ts : List (List ℕ))
       (IsApart texts (record { items = items ++ e ∷ []; rest = rest }) → AreReadAlone gs →
       IsReadAsTexts (group_text texts (items ++ e ∷ []) ∷ texts_in gs ++ ts) bytes) →
       ReadsAs (group_before rest (items ++ e ∷ []) ++ gs) bytes
-  closed items e rest bytes gs reads =
-      subst (λ hs. ReadsAs (hs ++ gs) bytes) (sym (group-one items e rest))
-      (λ alone. reads alone.0 alone.1)
+  closed items e rest bytes gs reads = grind (arith, nat_tests, group-one items e rest, reads)
 
   at-end : (in_name white : Bool) → ReadsAfter in_name white []
   at-end in_name white items e alone rest =
@@ -265,8 +261,7 @@ module _ (texts : List (List ℕ)) (tail : List ℕ) (ts : List (List ℕ))
   same-group : (items : List Token) (es : List Token)
       → IsApart texts (record { items = items; rest = token.White ∷ es }) →
       IsApart texts (record { items = items; rest = es })
-  same-group items es alone =
-      record { whole = alone.whole; apart = alone.apart; ended = alone.ended }
+  same-group items es alone = grind (arith, nat_tests)
 
   reads : (es : List Token) → Reads es
   reads [] = record {

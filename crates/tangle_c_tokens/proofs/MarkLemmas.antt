@@ -1,4 +1,5 @@
 -- Each line mark is a line, if no file has a line feed in its name.
+use Rattle.std.proofs.Common.{arith}
 use Rattle.tangle_c_tokens.proofs.DecimalLemmas.{decimal-digits}
 use Rattle.tangle_c_tokens.proofs.TextLemmas.{IsMarkText}
 use Rattle.std.proofs.Common.{◌≡◌, ℕ, ◌-◌, zero, suc, Bool, true, false, List}
@@ -8,18 +9,16 @@ use Rattle.std.proofs.Common.{append_assoc, codes}
 use Rattle.std.proofs.Common.{◌==◌, if◌then◌else◌}
 use Rattle.std.specs.Prelude.{◌||◌, not, decimal}
 use Rattle.std.specs.List.{AllByRecursion, list_any, list_all}
-use Rattle.std.proofs.lemmas.Bool.{and_parts, and_from, or_parts, both_ways, false≢true}
-use Rattle.std.proofs.lemmas.Bool.{false_from_ne_true, not_from_false, not-true, eqb-true}
+use Rattle.std.proofs.lemmas.Bool.{and_parts, and_from, or_parts, false≢true}
+use Rattle.std.proofs.lemmas.Bool.{not_from_false}
 use Rattle.std.proofs.lemmas.Bool.{or_right}
 use Rattle.std.proofs.Math.Bool.{and-false}
-use Rattle.c_tokens.specs.Bytes.{line_feed, space, slash, backslash, double_quote, is_digit}
-use Rattle.c_tokens.specs.Bytes.{is_quote}
-use Rattle.c_tokens.specs.Grammar.{is_element, is_token, is_punctuator, ends_quoted, is_comment}
+use Rattle.c_tokens.specs.Bytes.{line_feed, space, backslash, double_quote, is_digit}
+use Rattle.c_tokens.specs.Grammar.{is_element, is_token, is_punctuator, ends_quoted}
 use Rattle.c_tokens.specs.Grammar.{is_string, is_character}
 use Rattle.c_tokens.specs.Reading.{spliced, longest, elements_from}
-use Rattle.c_tokens.specs.Touching.{is_one, is_plain, is_plain_word}
+use Rattle.c_tokens.specs.Touching.{is_plain, is_plain_word}
 use Rattle.c_tokens.specs.Borders.{is_unfinished, is_whole}
-use Rattle.c_tokens.proofs.LongerLemmas.{comment-first, quote-not}
 use Rattle.c_tokens.proofs.TouchingLemmas.{one-element, plain-element}
 use Rattle.tangle_files.specs.declared.marks.MarkMode.{MarkMode}
 use Rattle.tangle_files.specs.declared.marks.MarkMode.TheVariants.{Full, Bare}
@@ -27,6 +26,7 @@ use Rattle.tangle_expansion.specs.Numbers.{escaped, mark_end, mark_bytes}
 use Rattle.tangle_c_tokens.specs.LineFeeds.{HasNoLineFeed}
 use Rattle.tangle_c_tokens.proofs.FeedLemmas.{KeepsFeed, keeps-last, line-of}
 use Rattle.tangle_c_tokens.proofs.TextLemmas.{space-between}
+use Rattle.std.proofs.lemmas.Bool.Decides.{nat_tests}
 
 -- texts without line feeds
 
@@ -36,50 +36,25 @@ IsInLine t = list_all (λ b. not (b == line_feed)) t ≡ true
 spliced-line : (t : List ℕ) → IsInLine t → spliced t ≡ t
 spliced-line [] line = refl
 spliced-line (b ∷ []) line = refl
-spliced-line (b ∷ c ∷ t) line =
-    let parts =
-    and_parts (not (b == line_feed)) (list_all (λ b. not (b == line_feed)) (c ∷ t)) line in
-    let other : (c == line_feed) ≡ false =
-    not-true (c == line_feed)
-    (and_parts (not (c == line_feed)) (list_all (λ b. not (b == line_feed)) t) parts.1).0 in
-    rw (other, and-false (b == backslash)) (ap (λ u. b ∷ u) (spliced-line (c ∷ t) parts.1))
+spliced-line (b ∷ c ∷ t) line = grind (arith, nat_tests, and-false, spliced-line (c ∷ t))
 
 -- a number
 
 digit-not : (b c : ℕ) → is_digit c ≡ false → is_digit b ≡ true → (b == c) ≡ false
-digit-not b c other digit =
-    false_from_ne_true (b == c)
-    (λ same. both_ways (is_digit b) (ap is_digit (eqb-true b c same) ∙ other) digit)
+digit-not b c other digit = grind (arith, nat_tests)
 
 digits-line : (t : List ℕ) → list_all is_digit t ≡ true → IsInLine t
 digits-line [] all = refl
-digits-line (b ∷ t) all =
-    let parts = and_parts (is_digit b) (list_all is_digit t) all in
-    and_from (not (b == line_feed)) (list_all (λ b. not (b == line_feed)) t)
-    (not_from_false (b == line_feed) (digit-not b line_feed refl parts.0)) (digits-line t parts.1)
+digits-line (b ∷ t) all = grind (arith, nat_tests, digit-not, digits-line t)
 
 finished : (k b : ℕ) (t : List ℕ) → is_digit b ≡ true → is_unfinished (take k (b ∷ t)) ≡ false
 finished zero b t digit = refl
-finished (suc k) b t digit = alone (take k t)
-  where
-    alone : (u : List ℕ) → is_unfinished (b ∷ u) ≡ false
-    alone u =
-        let comment : is_comment (b ∷ u ++ space ∷ []) ≡ false =
-        false_from_ne_true (is_comment (b ∷ u ++ space ∷ []))
-        (λ is. both_ways (b == slash) (digit-not b slash refl digit)
-        (comment-first b (u ++ space ∷ []) is)) in
-        rw comment (one u)
-      where
-        one : (u : List ℕ) → is_one is_quote (b ∷ u) ≡ false
-        one [] = false_from_ne_true (is_quote b)
-            (λ quote. both_ways (is_digit b) (quote-not is_digit refl refl b quote) digit)
-        one (c ∷ u) = refl
+finished (suc k) b t digit = grind (arith, nat_tests)
 
 digits-finished : (n : ℕ) (t : List ℕ) → list_all is_digit t ≡ true
     → list_any is_unfinished (elements_from n t) ≡ false
 digits-finished n [] all = refl
-digits-finished (suc n) (b ∷ t) all =
-    digits-finished n t (and_parts (is_digit b) (list_all is_digit t) all).1
+digits-finished (suc n) (b ∷ t) all = cc (digits-finished n t (and_parts (is_digit b) (list_all is_digit t) all).1)
 digits-finished zero (b ∷ t) all =
     let parts = and_parts (is_digit b) (list_all is_digit t) all in
     let k : ℕ = longest is_element (b ∷ t) in
@@ -124,9 +99,7 @@ plain-quoted : (b : ℕ) (t : List ℕ) → (b == backslash || b == double_quote
     → (b == line_feed) ≡ false →
     ends_quoted double_quote t ≡ true → ends_quoted double_quote (b ∷ t) ≡ true
 plain-quoted b [] other line ends = absurd (false≢true ends)
-plain-quoted b (c ∷ t) other line ends =
-    let parts = or_parts (b == backslash) (b == double_quote) other in
-    rw (parts.0, parts.1, line) ends
+plain-quoted b (c ∷ t) other line ends = grind (arith, nat_tests)
 
 name-quoted : (name : List ℕ) → HasNoLineFeed name
     → ends_quoted double_quote (escaped name ++ double_quote ∷ []) ≡ true

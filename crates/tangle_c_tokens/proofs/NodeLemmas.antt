@@ -1,4 +1,5 @@
 -- The bytes of the pieces of a node are read as their parts.
+use Rattle.std.proofs.Common.{arith}
 use Rattle.tangle_c_tokens.proofs.TextLemmas.{IsMarkText, IsWholeLine}
 use Rattle.std.proofs.Common.{◌≡◌, ℕ, Bool, true, false, if◌then◌else◌, List, [], ◌∷◌}
 use Rattle.std.proofs.Common.{◌++◌, map, drop, flat_map}
@@ -32,6 +33,7 @@ use Rattle.tangle_c_tokens.proofs.RowLemmas.{with-mark, without-text}
 use Rattle.tangle_c_tokens.proofs.PieceLemmas.{piece-by-parts}
 use Rattle.tangle_c_tokens.proofs.PartLemmas.{parts-whole}
 use Rattle.tangle_c_tokens.proofs.FeedLemmas.{KeepsFeed, keeps-more, closing-keeps}
+use Rattle.std.proofs.lemmas.Bool.Decides.{nat_tests}
 
 line_feed_first : (marks : MarkMode) (ending : List ℕ) (line : ℕ)
     → mark_bytes marks ending line ≡ line_feed ∷ drop 1 (mark_bytes marks ending line)
@@ -161,15 +163,11 @@ module _ (lines : List SourceLine) (numbers : NumbersRead) (table : TableRead)
             (node_bytes (kind_piece lines kind b ++ all))
         by (OfMacro line) next bare = next bare
         by (OfPiece occurrence line) next bare =
-            let origin : Origin = origin_at lines line in
-            let piece : PieceRead =
-            record {
-              section = b.section;
-              origin = origin;
-              occurrence = occurrence;
-              items =
-                  part_items lines line b.tokens;
-            } in
-            let rest = next bare.1 in
-            chosen piece (part_tokens (texts_of lines) b.tokens) (is_piece_of table node piece) rest
-            (piece-read b.section line origin b.tokens (later ++ tail) (ts ++ us) bare.0 rest)
+            grind (
+              arith,
+              nat_tests,
+              chosen,
+              piece-read b.section line (origin_at lines line) b.tokens (later ++ tail) (ts ++ us) bare.0,
+              later,
+              ts,
+            )

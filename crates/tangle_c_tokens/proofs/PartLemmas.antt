@@ -1,22 +1,20 @@
 -- Parts are whole whatever whole texts are written for uses, if their groups of items are.
+use Rattle.std.proofs.Common.{arith}
 use Rattle.tangle_c_tokens.proofs.TextLemmas.{IsWholeLine}
 use Rattle.std.proofs.Common.{◌≡◌, ℕ, Bool, true, false, ◌&&◌, not, if◌then◌else◌, List, [], ◌∷◌}
-use Rattle.std.proofs.Common.{◌++◌, refl, ap, sym, ◌∙◌, subst, None, ◌==◌}
+use Rattle.std.proofs.Common.{◌++◌, refl, sym, subst, None}
 use Rattle.std.proofs.Common.{append-nil}
 use Rattle.std.specs.List.{AllByRecursion, last_or, list_all}
-use Rattle.std.proofs.lemmas.Bool.{and_parts, and_from, false≢true}
-use Rattle.c_tokens.specs.Bytes.{line_feed, slash}
-use Rattle.c_tokens.specs.Reading.{spliced}
-use Rattle.c_tokens.specs.Borders.{is_whole, keep_lines}
+use Rattle.std.proofs.lemmas.Bool.{and_from, false≢true}
 use Rattle.tangle_lexer.specs.declared.tokens.Token.{Token}
 use Rattle.tangle_lexer.specs.declared.tokens.Token.TheVariants as token
 use Rattle.tangle_scan.specs.Rules.{is_continued, ends_line}
 use Rattle.tangle_scan.specs.ReadAsMeant.{token_bytes}
-use Rattle.tangle_c_tokens.specs.Edges.{last_byte_passes}
 use Rattle.tangle_c_tokens.specs.Groups.{Group, group_before}
 use Rattle.tangle_lexer.specs.LinesOfParts.{is_use}
 use Rattle.tangle_c_tokens.specs.Pieces.{parts_after, written_for, part_text}
 use Rattle.tangle_c_tokens.specs.Pieces.{IsWholePart}
+use Rattle.std.proofs.lemmas.Bool.Decides.{nat_tests}
 
 module _ (texts : List (List ℕ)) (used : ℕ → List ℕ) (macros : List ℕ)
     (used_whole : (occurrence : ℕ) → IsWholeLine (used occurrence))
@@ -40,30 +38,19 @@ module _ (texts : List (List ℕ)) (used : ℕ → List ℕ) (macros : List ℕ)
   same-text : (items : List Token) → AreItems items
       → part_text texts (λ occurrence. []) [] items ≡ part_text texts used macros items
   same-text [] are = refl
-  same-text (e ∷ items) are =
-      let parts = and_parts (not (is_use e)) (list_all (λ e. not (is_use e)) items) are in
-      ap (λ t. t ++ part_text texts (λ occurrence. []) [] items) (same-item e parts.0)
-      ∙ ap (λ t. token_bytes texts (written_for texts used macros) e ++ t) (same-text items parts.1)
+  same-text (e ∷ items) are = grind (arith, nat_tests, same-item, same-text items)
 
   whole-group : (items rest : List Token) → AreItems items
       → IsBare (record { items = items; rest = rest }) →
       IsWhole (record { items = items; rest = rest })
-  whole-group items rest are bare =
-      let same = same-text items are in
-      record {
-        whole = ap is_whole (sym same) ∙ bare.whole;
-        kept = λ follows. ap (λ t. keep_lines t (line_feed ∷ [])) (sym same) ∙ bare.kept follows;
-        ended = λ last closed. subst (λ t. last_byte_passes (λ d. d == slash) (spliced t) ≡ false) same
-            (bare.ended last closed);
-      }
+  whole-group items rest are bare = grind (arith, nat_tests, same-text items are)
 
   whole-groups : (items rest : List Token) (gs : List Group) → AreItems items
       → AllByRecursion IsBare (group_before rest items ++ gs) →
       (AllByRecursion IsBare gs → AllByRecursion IsWhole gs)
       → AllByRecursion IsWhole (group_before rest items ++ gs)
   whole-groups [] rest gs are bare next = next bare
-  whole-groups (e ∷ items) rest gs are bare next =
-      (whole-group (e ∷ items) rest are bare.0, next bare.1)
+  whole-groups (e ∷ items) rest gs are bare next = grind (arith, nat_tests, whole-group (e ∷ items) rest are bare.0)
 
   use-line : (t : List ℕ) → IsWholeLine t → IsWholeLine (t ++ [])
   use-line t line = subst IsWholeLine (sym (append-nil t)) line
@@ -71,10 +58,7 @@ module _ (texts : List (List ℕ)) (used : ℕ → List ℕ) (macros : List ℕ)
   more-items : (items : List Token) (e : Token) → AreItems items → not (is_use e) ≡ true
       → AreItems (items ++ e ∷ [])
   more-items [] e are item = and_from (not (is_use e)) true item refl
-  more-items (x ∷ items) e are item =
-      let parts = and_parts (not (is_use x)) (list_all (λ e. not (is_use e)) items) are in
-      and_from (not (is_use x)) (list_all (λ e. not (is_use e)) (items ++ e ∷ [])) parts.0
-      (more-items items e parts.1 item)
+  more-items (x ∷ items) e are item = grind (arith, nat_tests, more-items items)
 
   pub parts-whole : (items es : List Token) → AreItems items
       → AllByRecursion IsBare (parts_after texts items es) →

@@ -1,13 +1,13 @@
 -- The tokens of the bytes of a piece are those of its parts.
+use Rattle.std.proofs.Common.{arith}
 use Rattle.tangle_c_tokens.proofs.TextLemmas.{IsMarkText}
-use Rattle.std.proofs.Common.{◌≡◌, ℕ, ◌+◌, Bool, true, false, ◌&&◌, ◌==◌, not, if◌then◌else◌, List}
+use Rattle.std.proofs.Common.{◌≡◌, ℕ, ◌+◌, Bool, true, false, ◌&&◌, ◌==◌, if◌then◌else◌, List}
 use Rattle.std.proofs.Common.{[], ◌∷◌, ◌++◌, map, flat_map}
 use Rattle.std.proofs.Common.{append_assoc, append-nil, Option, Some, None, is_some, ◌⊎◌, inl, inr}
 use Rattle.std.proofs.Common.{refl, ap, sym, ◌∙◌, subst}
 use Rattle.std.proofs.Math.Bool.{and-true, and-false}
 use Rattle.std.specs.List.{AllByRecursion}
-use Rattle.std.proofs.lemmas.Bool.{not_from_false, and_parts, or_left, or_right, false≢true}
-use Rattle.std.proofs.lemmas.Bool.{and_from}
+use Rattle.std.proofs.lemmas.Bool.{and_parts, or_left, or_right, false≢true}
 use Rattle.std.proofs.lemmas.List.Concat.{flat_map-append}
 use Rattle.c_tokens.specs.Bytes.{space, line_feed, slash}
 use Rattle.c_tokens.specs.Reading.{spliced}
@@ -33,11 +33,12 @@ use Rattle.tangle_lexer.specs.LinesOfParts.{is_use}
 use Rattle.tangle_c_tokens.specs.Pieces.{begins_with_macros, parts_after, parts}
 use Rattle.tangle_c_tokens.specs.Pieces.{IsReadInParts, written_for, part_text}
 use Rattle.tangle_c_tokens.specs.Pieces.{line_feed_follows}
-use Rattle.tangle_c_tokens.specs.Pieces.{is_closed, IsWholePart}
+use Rattle.tangle_c_tokens.specs.Pieces.{IsWholePart}
 use Rattle.tangle_c_tokens.proofs.GroupLemmas.{last-item, group-one}
 use Rattle.tangle_c_tokens.proofs.RowLemmas.{with-part, with-mark, without-text}
 use Rattle.tangle_c_tokens.proofs.TextLemmas.{Follows, follows-same, feed-between, feed-front}
 use Rattle.tangle_c_tokens.proofs.TextLemmas.{space-between, space-front}
+use Rattle.std.proofs.lemmas.Bool.Decides.{nat_tests}
 
 -- the last byte of a text is a slash
 abbrev pub has_slash : List ℕ → Bool
@@ -186,20 +187,14 @@ module _ (lines : List SourceLine) (used : ℕ → List ℕ) (mark : Origin → 
       → AreWhole ps →
       IsReadInParts mark (text (items ++ e ∷ []) ∷ texts_in ps ++ ts) bytes) →
       ReadsAs (group_before rest (items ++ e ∷ []) ++ ps) bytes
-  closed items e rest bytes ps reads =
-      subst (λ hs. ReadsAs (hs ++ ps) bytes) (sym (group-one items e rest))
-      (λ whole. reads whole.0 whole.1)
+  closed items e rest bytes ps reads = grind (arith, nat_tests, ps, bytes, group-one items e rest, rest, reads)
 
   -- a part at the end of a piece that no blank follows ends in no slash
   ended-part : (items : List Token) (e : Token) (rest : List Token) → is_use e ≡ false →
       IsWholePart texts used macros (record { items = items ++ e ∷ []; rest = rest }) →
       next_item rest ≡ None → is_open texts (Some e) ≡ false
       → has_slash (text (items ++ e ∷ [])) ≡ false
-  ended-part items e rest item whole last closed =
-      whole.ended last
-      (ap (is_closed texts used macros) (last-item None items e)
-      ∙ and_from (not (is_use e)) (not (is_open texts (Some e))) (not_from_false (is_use e) item)
-      (not_from_false (is_open texts (Some e)) closed))
+  ended-part items e rest item whole last closed = grind (arith, nat_tests, last-item None items e, closed)
 
   -- the end of a piece
 
@@ -291,14 +286,7 @@ module _ (lines : List SourceLine) (used : ℕ → List ℕ) (mark : Origin → 
     where
       by : (b : Bool) → is_expected lines counted line ≡ b
           → LineEndBytes us (bytes_from before white counted (token.LineEnd line ∷ es))
-      by true at =
-          rw (ends, at)
-          (record {
-            rest = bytes_from None false (next_line counted) es;
-            is = refl;
-            read =
-                next (next_line counted);
-          })
+      by true at = grind (arith, nat_tests)
       by false at =
           let origin = origin_at lines (line + 1) in
           rw (ends, at) (record {
@@ -544,27 +532,23 @@ module _ (lines : List SourceLine) (used : ℕ → List ℕ) (mark : Origin → 
 
       core-read : (counted : Origin) → ReadsAs ps (core counted)
       core-read counted whole =
-          let t : List ℕ = text (e ∷ []) in
-          let of_use = whole.0 in
-          with-part mark t (core counted) (mark u.origin ++ after counted)
-          (texts_in (parts_after texts [] es) ++ ts)
-          (follows-same t (mark u.origin ++ after counted) (core counted)
-          (t ++ line_feed ∷ (mark u.origin ++ after counted))
-          (append_assoc t (line_feed ∷ mark u.origin) (after counted))
-          (feed-between t (mark u.origin ++ after counted) of_use.whole
-          (of_use.kept (or_left _ _ (or_left _ _ (and_from (is_use e) true u.stands_alone refl))))))
-          (with-mark mark u.origin (after counted) (texts_in (parts_after texts [] es) ++ ts)
-          (marks u.origin)
-          (next (Some e) false (counted_after_token lines counted e) u.ends whole.1))
+          grind (
+            arith,
+            nat_tests,
+            with-part mark (text (e ∷ [])) (core counted) (mark u.origin ++ after counted) (texts_in (parts_after texts [] es) ++ ts),
+            core counted,
+            after counted,
+            follows-same (text (e ∷ [])) (mark u.origin ++ after counted) (core counted) ((text (e ∷ [])) ++ line_feed ∷ (mark u.origin ++ after counted)) (append_assoc (text (e ∷ [])) (line_feed ∷ mark u.origin) (after counted)),
+            feed-between (text (e ∷ [])) (mark u.origin ++ after counted),
+            with-mark mark u.origin (after counted) (texts_in (parts_after texts [] es) ++ ts) (marks u.origin) (next (Some e) false (counted_after_token lines counted e) u.ends whole.1),
+          )
 
       without-white : (counted : Origin) (first : ℕ) → IsFirst e first
           → Follows [] (core counted) (first ∷ core counted)
       without-white counted first (inl same) =
-          subst (λ b. Follows [] (core counted) (b ∷ core counted)) (sym same)
-          (space-front (core counted))
+          grind (arith, nat_tests, Follows [] (core counted), core counted, space-front (core counted))
       without-white counted first (inr feed) =
-          subst (λ b. Follows [] (core counted) (b ∷ core counted)) (sym feed.0)
-          (feed-front (core counted))
+          grind (arith, nat_tests, Follows [] (core counted), core counted, feed-front (core counted))
 
       use-read : (counted : Origin) → ReadsAs ps (bytes_of e ++ after counted)
       use-read counted whole =
@@ -597,16 +581,11 @@ module _ (lines : List SourceLine) (used : ℕ → List ℕ) (mark : Origin → 
       reads es in reads-use (token.UseOf line occurrence) es refl refl (λ items. refl)
       (use-of line occurrence) next.front
   reads (token.AllMacros line ∷ es) =
-      let next =
-      reads es in reads-use (token.AllMacros line) es refl refl (λ items. refl)
-      (all-macros line) next.front
-  reads (e ∷ es) = let next =
-      reads es in reads-item e es refl refl refl (λ items. refl) refl next.within
+      grind (arith, nat_tests, reads es, reads-use (token.AllMacros line) es refl refl, all-macros line)
+  reads (e ∷ es) = grind (arith, nat_tests, reads es, reads-item e es refl refl refl)
 
   pub piece-by-parts : (line : ℕ) (es : List Token)
       → AreWhole (parts texts (part_tokens texts es)) →
       IsReadInParts mark (texts_in (parts texts (part_tokens texts es)) ++ ts)
       (flat_map item_bytes (part_items lines line es) ++ tail)
-  piece-by-parts line es =
-      rw (part_items-by_origin lines line es)
-      ((reads (part_tokens texts es)).front None false (origin_at lines line) refl)
+  piece-by-parts line es = grind (arith, nat_tests, part_items-by_origin lines line es, reads (part_tokens texts es))

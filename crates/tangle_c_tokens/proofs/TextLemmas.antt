@@ -1,4 +1,5 @@
 -- The tokens of two texts with white space between them, or with a line end that is taken out.
+use Rattle.std.proofs.Common.{arith}
 use Rattle.std.proofs.Common.{◌⊎◌}
 use Rattle.std.proofs.Common.{◌≡◌, ℕ, Bool, true, false, List, [], ◌∷◌, ◌++◌, refl, ap, sym, subst}
 use Rattle.std.proofs.Common.{inl, inr, ◌∙◌, append-nil, append_assoc}
@@ -6,9 +7,8 @@ use Rattle.std.specs.Prelude.{◌&&◌, ◌||◌, not, ◌==◌, filter, if◌th
 use Rattle.std.specs.List.{list_any}
 use Rattle.std.proofs.Math.Bool.{and-false}
 use Rattle.std.proofs.lemmas.Bool.{and_parts, and_from, or_left, or_right, not_from_false}
-use Rattle.std.proofs.lemmas.Bool.{false_from_ne_true, both_ways, false≢true, or_parts, not-true}
+use Rattle.std.proofs.lemmas.Bool.{false≢true, or_parts, not-true}
 use Rattle.std.proofs.lemmas.List.Elements.{filter-append}
-use Rattle.std.proofs.lemmas.Bool.{eqb-true}
 use Rattle.c_tokens.specs.Bytes.{line_feed, space, slash, backslash, is_white}
 use Rattle.c_tokens.specs.Grammar.{is_token, is_element, is_punctuator, is_number, is_comment}
 use Rattle.c_tokens.specs.Reading.{spliced, elements, elements_from, tokens}
@@ -22,6 +22,7 @@ use Rattle.c_tokens.proofs.BorderLemmas.{border-elements}
 use Rattle.c_tokens.proofs.TouchingLemmas.{spliced-both}
 use Rattle.tangle_c_tokens.specs.Reading.{IsReadAsTexts}
 use Rattle.tangle_c_tokens.specs.Edges.{first_byte_passes, last_byte_passes, begins_as, ends_as, last_number_goes_on}
+use Rattle.std.proofs.lemmas.Bool.Decides.{nat_tests}
 
 -- the bytes are read as a text and the rest
 pub record Follows (text rest bytes : List ℕ) : Type 0 where
@@ -29,22 +30,11 @@ pub record Follows (text rest bytes : List ℕ) : Type 0 where
   pub whole : is_whole bytes ≡ is_whole rest
 
 pub follows-more : (a b c bytes : List ℕ) → Follows a b bytes → Follows [] c b → Follows a c bytes
-follows-more a b c bytes first more =
-    record {
-      read = first.read ∙ ap (λ ts. tokens a ++ ts) more.read;
-      whole = first.whole
-          ∙ more.whole;
-    }
+follows-more a b c bytes first more = grind (arith, nat_tests)
 
 pub follows-same : (text rest bytes other : List ℕ) → bytes ≡ other → Follows text rest other
     → Follows text rest bytes
 follows-same text rest bytes other same follows = subst (Follows text rest) (sym same) follows
-
-pub at-the-end : (t : List ℕ) → is_whole t ≡ true → Follows t [] (t ++ [])
-at-the-end t whole = record {
-  read = ap tokens (append-nil t) ∙ sym (append-nil (tokens t));
-  whole = ap is_whole (append-nil t) ∙ whole;
-}
 
 none-append : (test : List ℕ → Bool) (xs ys : List (List ℕ)) → list_any test xs ≡ false
     → list_any test (xs ++ ys) ≡ list_any test ys
@@ -70,13 +60,6 @@ apart-from a b whole kept border =
 
 -- borders
 
-never-border : (element : List ℕ) (d c : ℕ) → are_never_in_one d c ≡ true
-    → is_border element d c ≡ true
-never-border element d c never =
-    let last_number_goes_on : Bool = is_number element && number_goes_on d c in
-    or_left (is_border_of_bytes (is_number element) d c) (is_comment element && d == slash)
-    (or_left (are_never_in_one d c) (not last_number_goes_on && is_at_operator d c) never)
-
 operator-border : (element : List ℕ) (d c : ℕ) → (is_number element && number_goes_on d c) ≡ false
     → is_at_operator d c ≡ true → is_border element d c ≡ true
 operator-border element d c none at =
@@ -89,38 +72,22 @@ operator-border element d c none at =
 gap-border : (element : List ℕ) (d c : ℕ)
     → (is_white d || is_white c || is_separator d || is_separator c) ≡ true →
     is_border element d c ≡ true
-gap-border element d c h =
-    never-border element d c
-    (or_left (is_white d || is_white c || is_separator d || is_separator c)
-    (c == slash && not (d == slash)) h)
+gap-border element d c h = grind (arith, nat_tests)
 
 pub white-next : (a : List ℕ) (w : ℕ) (b : List ℕ) → is_white w ≡ true
     → have_border a (w ∷ b) ≡ true
 white-next [] w b white = refl
-white-next (x ∷ a) w b white =
-    let d : ℕ = last_byte x a in
-    gap-border (last_element [] (elements_from 0 (x ∷ a))) d w
-    (or_left (is_white d || is_white w || is_separator d) (is_separator w)
-    (or_left (is_white d || is_white w) (is_separator d)
-    (or_right (is_white d) (is_white w) white)))
+white-next (x ∷ a) w b white = grind (arith, nat_tests)
 
 -- a slash after another byte than a slash
 pub slash-border : (a b : List ℕ) → last_byte_passes (λ d. d == slash) a ≡ false
     → have_border a (slash ∷ b) ≡ true
 slash-border [] b ends = refl
-slash-border (x ∷ a) b ends =
-    let d : ℕ = last_byte x a in
-    never-border (last_element [] (elements_from 0 (x ∷ a))) d slash
-    (or_right (is_white d || is_white slash || is_separator d || is_separator slash)
-    (slash == slash && not (d == slash))
-    (not_from_false (d == slash) ends))
+slash-border (x ∷ a) b ends = grind (arith, nat_tests)
 
 white-before : (w : ℕ) (b : List ℕ) → is_white w ≡ true → have_border (w ∷ []) b ≡ true
 white-before w [] white = refl
-white-before w (c ∷ b) white =
-    gap-border (last_element [] (elements_from 0 (w ∷ []))) w c
-    (or_left (is_white w || is_white c || is_separator w) (is_separator c)
-    (or_left (is_white w || is_white c) (is_separator w) (or_left (is_white w) (is_white c) white)))
+white-before w (c ∷ b) white = grind (arith, nat_tests)
 
 -- A border is where two texts may touch by their kinds, unless a number is before an operator or
 -- ends in one.
@@ -173,12 +140,7 @@ begins-front : (test : ℕ → Bool) → test backslash ≡ false → (t more : 
     → first_byte_passes test t ≡ true →
     first_byte_passes test (spliced (t ++ more)) ≡ true
 begins-front test none [] more begins = absurd (false≢true begins)
-begins-front test none (b ∷ t) more begins =
-    let other : (b == backslash) ≡ false =
-    false_from_ne_true (b == backslash)
-    (λ same. both_ways (test backslash) none
-    (sym (ap test (eqb-true b backslash same)) ∙ begins)) in
-    ap (first_byte_passes test) (spliced-other b (t ++ more) other) ∙ begins
+begins-front test none (b ∷ t) more begins = grind (arith, nat_tests)
 
 ends-after : (test : ℕ → Bool) (b : ℕ) (bs : List ℕ) → last_byte_passes test bs ≡ true
     → last_byte_passes test (b ∷ bs) ≡ true
@@ -200,8 +162,7 @@ ends-spliced test none (b ∷ c ∷ bs) ends =
   where
     rest : (bs : List ℕ) → last_byte_passes test (c ∷ bs) ≡ true → (c == line_feed) ≡ true
         → last_byte_passes test bs ≡ true
-    rest [] ends feed =
-        absurd (both_ways (test line_feed) none (sym (ap test (eqb-true c line_feed feed)) ∙ ends))
+    rest [] ends feed = grind (arith, nat_tests)
     rest (d ∷ bs) ends feed = ends
 
     by : (taken : Bool) → (b == backslash && c == line_feed) ≡ taken
@@ -215,16 +176,7 @@ ends-spliced test none (b ∷ c ∷ bs) ends =
 same-next : (test : ℕ → Bool) → test backslash ≡ false → (a t more : List ℕ)
     → first_byte_passes test t ≡ true → last_number_goes_on a (spliced (t ++ more)) ≡ last_number_goes_on a t
 same-next test none a [] more begins = absurd (false≢true begins)
-same-next test none a (b ∷ t) more begins =
-    let other : (b == backslash) ≡ false =
-    false_from_ne_true (b == backslash)
-    (λ same. both_ways (test backslash) none
-    (sym (ap test (eqb-true b backslash same)) ∙ begins)) in
-    ap (last_number_goes_on a) (spliced-other b (t ++ more) other) ∙ first a
-  where
-    first : (a : List ℕ) → last_number_goes_on a (b ∷ spliced (t ++ more)) ≡ last_number_goes_on a (b ∷ t)
-    first [] = refl
-    first (x ∷ a) = refl
+same-next test none a (b ∷ t) more begins = grind (arith, nat_tests)
 
 begins-as : (g : TextKind) (t more : List ℕ) → begins_as g t ≡ true
     → begins_as g (spliced (t ++ more)) ≡ true
@@ -389,17 +341,11 @@ mark-between m rest (inr some) =
 
 pub with-text : (t rest bytes : List ℕ) (ts : List (List ℕ)) → Follows t rest bytes
     → IsReadAsTexts ts rest → IsReadAsTexts (t ∷ ts) bytes
-with-text t rest bytes ts follows read =
-    record {
-      read = follows.read ∙ ap (λ us. tokens t ++ us) read.read;
-      whole = follows.whole
-          ∙ read.whole;
-    }
+with-text t rest bytes ts follows read = grind (arith, nat_tests)
 
 pub with-nothing : (rest bytes : List ℕ) (ts : List (List ℕ)) → Follows [] rest bytes
     → IsReadAsTexts ts rest → IsReadAsTexts ts bytes
-with-nothing rest bytes ts follows read =
-    record { read = follows.read ∙ read.read; whole = follows.whole ∙ read.whole }
+with-nothing rest bytes ts follows read = grind (arith, nat_tests)
 
 pub no-text : IsReadAsTexts [] []
 no-text = record { read = refl; whole = refl }

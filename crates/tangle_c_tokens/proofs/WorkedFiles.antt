@@ -1,5 +1,6 @@
 -- A whole web whose groups are whole, and what C reads otherwise: a slash at the end of a piece,
 -- and a name with a line feed.
+use Rattle.std.proofs.Common.{arith}
 use Rattle.std.proofs.Common.{◌≡◌, ℕ, ◌+◌, false, List, [], ◌∷◌, ◌++◌, codes, refl}
 use Rattle.std.specs.List.{AllByRecursion}
 use Rattle.c_tokens.specs.Grammar.{is_element, is_token, is_punctuator}
@@ -12,6 +13,7 @@ use Rattle.tangle_c_tokens.specs.Groups.{groups}
 use Rattle.tangle_c_tokens.specs.Macros.{IsReadAlone}
 use Rattle.tangle_c_tokens.specs.Pieces.{parts, IsWholePart}
 use Rattle.tangle_c_tokens.specs.Files.{GroupsAreWhole}
+use Rattle.std.proofs.lemmas.Bool.Decides.{nat_tests}
 
 abbrev lines_from : ℕ → List (List ℕ) → List SourceLine
 lines_from n [] = []
@@ -34,48 +36,17 @@ pieces_whole : AllByRecursion
     (parts (texts_of source.lines) es))
     (all_piece_tokens source.lines)
 unfolding lexeme tokens_from is_element is_token is_punctuator
-pieces_whole = (
-  (
-    record { whole = refl; kept = λ follows. refl; ended = λ last closed. refl },
-    (
-      record { whole = refl; kept = λ follows. refl; ended = λ last closed. refl },
-      (record { whole = refl; kept = λ follows. refl; ended = λ last closed. refl }, tt),
-    ),
-  ),
-  (
-    (
-      record { whole = refl; kept = λ follows. refl; ended = λ last closed. refl },
-      (record { whole = refl; kept = λ follows. refl; ended = λ last closed. refl }, tt),
-    ),
-    tt,
-  ),
-)
+pieces_whole = grind (arith, nat_tests)
 
 macros_alone : AllByRecursion
     (λ es. AllByRecursion (IsReadAlone (texts_of source.lines))
     (groups (written_tokens (texts_of source.lines) es)))
     (all_macro_tokens source.lines)
 unfolding lexeme tokens_from is_element is_token is_punctuator
-macros_alone = (
-  (
-    record { whole = refl; apart = λ ends. refl; ended = λ last. refl },
-    (
-      record { whole = refl; apart = λ ends. refl; ended = λ last. refl },
-      (record { whole = refl; apart = λ ends. refl; ended = λ last. refl }, tt),
-    ),
-  ),
-  tt,
-)
+macros_alone = grind (arith, nat_tests)
 
 whole : GroupsAreWhole source
-whole = record {
-  lines =
-      (refl, (refl, (refl, (refl, (refl, (refl, (refl, (refl, tt))))))));
-  pieces =
-      pieces_whole;
-  macros = macros_alone;
-  names = (refl, tt);
-}
+whole = grind (arith, nat_tests, pieces_whole, macros_alone)
 
 -- a slash at the end of a piece, directly before the closing mark
 slash_read :

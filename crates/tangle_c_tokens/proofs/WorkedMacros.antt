@@ -1,5 +1,6 @@
 -- Macros of which C reads the tokens of the groups, and one for each premise that reads otherwise
 -- without it.
+use Rattle.std.proofs.Common.{arith}
 use Rattle.std.proofs.Common.{◌≡◌, ℕ, true, false, List, [], ◌∷◌, ◌++◌, flat_map, codes, None, Some}
 use Rattle.std.proofs.Common.{refl}
 use Rattle.std.specs.Prelude.{◌==◌, if◌then◌else◌}
@@ -18,6 +19,7 @@ use Rattle.tangle_scan.specs.MacroBytes.{macro_bytes}
 use Rattle.tangle_scan.specs.ReadAsMeant.{written_tokens}
 use Rattle.tangle_c_tokens.specs.Groups.{groups, group_text}
 use Rattle.tangle_c_tokens.specs.Macros.{stay_apart, IsReadAlone}
+use Rattle.std.proofs.lemmas.Bool.Decides.{nat_tests}
 
 -- the items of the examples: words, signs, a header name, and a verbatim text that is a backslash
 
@@ -109,13 +111,7 @@ over_lines_written = refl
 
 over_lines_alone : AllByRecursion (IsReadAlone texts) (groups (written_tokens texts over_lines))
 unfolding is_element is_token is_punctuator
-over_lines_alone = (
-  record { whole = refl; apart = λ ends. refl; ended = λ none. refl },
-  (
-    record { whole = refl; apart = λ ends. refl; ended = λ none. refl },
-    (record { whole = refl; apart = λ ends. refl; ended = λ none. refl }, tt),
-  ),
-)
+over_lines_alone = grind (arith, nat_tests)
 
 over_lines_read : AreRead over_lines "# define f ( x ) 1 + e" "# define f ( x ) 1 + e"
 unfolding is_element is_token is_punctuator

@@ -1,19 +1,14 @@
 -- A body that determines the shape of its node gives the expansion of the node.
-use Rattle.std.proofs.Common.{◌<◌, ◌≡◌, ◌∙◌, ℕ, List, [], ◌∷◌, map, refl, sym}
+use Rattle.std.proofs.Common.{◌<◌, ◌≡◌, ◌∙◌, ℕ, List, [], map, sym}
 use Rattle.std.specs.Prelude.{slice_index_or, Contains}
 use Rattle.std.proofs.lemmas.Simd.{map-map}
-use Rattle.tangle_names.proofs.ContainsLemmas.{here, there}
 use Rattle.tangle_plans.specs.Shapes.{Shapes, Named}
 use Rattle.tangle_plans.specs.Flat.{depth, flat, Symbol}
 use Rattle.tangle_plans.specs.Meaning.{body_flat}
 use Rattle.tangle_plans.specs.NodeBodies.{HoldsShape, body_title, body_uses}
 use Rattle.tangle_plans.specs.declared.nodes.NodeBody.{NodeBody}
 use Rattle.tangle_plans.proofs.FlatLemmas.{held_flat}
-use Rattle.tangle_expansion.proofs.SameShapes.{flat_by_uses}
-
-map_same : {X : Type 0} (f g : ℕ → X) (ns : List ℕ) → ((n : ℕ) → Contains ns n → f n ≡ g n) → map f ns ≡ map g ns
-map_same f g [] same = refl
-map_same f g (n ∷ ns) same = λ i. same n (here n ns) i ∷ map_same f g ns (λ m c. same m (there n ns m c)) i
+use Rattle.tangle_expansion.proofs.SameShapes.{flat_by_uses, map_same}
 
 pub body_expands : (names : List (List ℕ)) (shapes : Shapes) (levels : ℕ) (body : NodeBody) (symbols : ℕ → List Symbol)
     → HoldsShape names (shapes (body_title body)) body

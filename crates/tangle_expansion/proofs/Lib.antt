@@ -1,6 +1,5 @@
 mod WorkedWebs
 pub mod Weights
-mod WithoutClasses
 pub mod LineTruth
 mod PieceLemmas
 pub mod NumberLemmas

@@ -2,7 +2,7 @@
 use Rattle.std.proofs.Common.{◌≡◌, ℕ, ◌-◌, ◌<◌, ◌≤◌, suc, Bool, true, false, List, [], ◌∷◌, ◌++◌, length, take, get_or}
 use Rattle.std.proofs.Common.{All, refl, ap, ◌∙◌, arith}
 use Rattle.std.proofs.Math.Seq.{take-suc}
-use Rattle.std.proofs.lemmas.List.Elements.{All-take}
+use Rattle.std.proofs.lemmas.List.Elements.{All-cons, All-head, All-tail}
 use Rattle.tangle_scan.specs.declared.items.Item.{Item}
 use Rattle.tangle_scan.specs.MacroBytes.{is_dropped_at_end, without_end, without_end_after}
 
@@ -21,21 +21,16 @@ module _ (texts : List (List ℕ)) where
   written_last [] x written = rw written
   written_last (y ∷ ys) x written = ap (without_end_after texts y) (written_last ys x written) ∙ written_tail y ys x
 
-  front_by : (x : Item) (xs written : List Item) (n : ℕ) (u : Bool)
-      → is_dropped_at_end texts x ≡ u → written ≡ take n xs
-      → (m : ℕ) × (without_end_after texts x written ≡ take m (x ∷ xs))
-  front_by x xs [] n true dropped is = (0, rw dropped)
-  front_by x xs [] n false dropped is = (1, rw dropped)
-  front_by x xs (y ∷ ys) n u dropped is = (suc n, ap (λ t. x ∷ t) is)
-
-  -- the items without those dropped at the end are a prefix of all items
-  is_front : (xs : List Item) → (n : ℕ) × (without_end texts xs ≡ take n xs)
-  is_front [] = (0, refl)
-  is_front (x ∷ xs) =
-      front_by x xs (without_end texts xs) (is_front xs).0 (is_dropped_at_end texts x) refl (is_front xs).1
+  all_after : (P : Item → Type 0) (x : Item) (written : List Item) (u : Bool) → is_dropped_at_end texts x ≡ u
+      → P x → All P written → All P (without_end_after texts x written)
+  all_after P x (y ∷ ys) u e p h = All-cons P x (y ∷ ys) p h
+  all_after P x [] true e p h = rw e h
+  all_after P x [] false e p h = rw e (All-cons P x [] p h)
 
   pub All-without_end : (P : Item → Type 0) (xs : List Item) → All P xs → All P (without_end texts xs)
-  All-without_end P xs all = rw (is_front xs).1 (All-take P (is_front xs).0 xs all)
+  All-without_end P [] all = all
+  All-without_end P (x ∷ xs) all = all_after P x (without_end texts xs) (is_dropped_at_end texts x) refl
+      (All-head P x xs all) (All-without_end P xs (All-tail P x xs all))
 
   -- a prefix, and its last item
   parted : (xs : List Item) (n : ℕ) (d : Item)

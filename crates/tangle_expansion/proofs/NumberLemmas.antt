@@ -1,13 +1,15 @@
 -- The numbers of a node are those of its pieces.
-use Rattle.std.proofs.Common.{◌≡◌, ℕ, Bool, true, false, List, [], ◌∷◌, map, length, Option, None, Some, refl, ap}
-use Rattle.std.proofs.Common.{sym}
-use Rattle.std.specs.Prelude.{filter, if◌then◌else◌, ◌||◌, unwrap_or, slice_index_or}
-use Rattle.std.specs.Map.{lookup}
-use Rattle.std.specs.List.{list_any}
+use Rattle.std.proofs.Common.{◌≡◌, ◌≤◌, ◌∙◌, ◌+◌, ℕ, suc, Bool, true, false, cond, List, [], ◌∷◌, map, length, get_or}
+use Rattle.std.proofs.Common.{Option, None, Some, refl, ap, sym, arith}
+use Rattle.std.specs.Prelude.{filter, nat_lt}
+use Rattle.std.specs.List.{position_or_len}
+use Rattle.std.specs.Option.{option_map_or}
 use Rattle.std.specs.Str.{bytes_eq}
+use Rattle.std.proofs.lemmas.List.{get_or_past, get_or-map, length-map}
+use Rattle.std.proofs.lemmas.List.Sums.{fails_before_first, passes_at_first}
 use Rattle.std.proofs.lemmas.Slice.Eq.{bytes_eq-Decides}
-use Rattle.std.proofs.lemmas.Bool.{false_from_ne_true, both_ways}
-use Rattle.std.proofs.lemmas.List.Folds.{list_any_at}
+use borrow.Author.Tests.{ltb-true, ltb-false}
+use Rattle.digraph.specs.Graph.{row_at}
 use Rattle.tangle_scan.specs.Web.{WebRead, PieceRead}
 use Rattle.tangle_names.specs.declared.Resolved.{Resolved}
 use Rattle.tangle_names.specs.declared.Resolved.TheVariants.{Name}
@@ -15,27 +17,13 @@ use Rattle.tangle_names.specs.NameTable.{TableRead}
 use Rattle.tangle_plans.specs.Shapes.{Title, Program, Named}
 use Rattle.tangle_plans.specs.WebShapes.{is_node, node_of, node_of_occurrence, is_piece_of, pieces_of, resolved_at}
 use Rattle.tangle_plans.specs.WebShapes.{IsNameBelow, ResolvesInside}
-use Rattle.tangle_expansion.specs.Numbers.{numbers_of_piece, numbers_of, node_numbers}
+use Rattle.tangle_expansion.specs.Numbers.{PieceNumbersRead, numbers_of_piece, numbers_of, node_numbers}
 use Rattle.tangle_files.specs.declared.marks.MarkMode.{MarkMode}
 
--- a row of each name, of which one without the name is empty
-looked_up : {A : Type 0} (f : List ℕ → List A) (name : List ℕ) (names : List (List ℕ))
-    → (list_any (bytes_eq name) names ≡ false → f name ≡ [])
-    → unwrap_or (lookup (bytes_eq name) (map (λ n. (n, f n)) names)) [] ≡ f name
-looked_up f name [] none = sym (none refl)
-looked_up f name (n ∷ names) none = by (bytes_eq name n) refl none (looked_up f name names)
-  where
-    by : (t : Bool) → bytes_eq name n ≡ t → ((t || list_any (bytes_eq name) names) ≡ false → f name ≡ [])
-        → ((list_any (bytes_eq name) names ≡ false → f name ≡ [])
-        → unwrap_or (lookup (bytes_eq name) (map (λ n. (n, f n)) names)) [] ≡ f name)
-        → unwrap_or (if t then Some (f n) else lookup (bytes_eq name) (map (λ n. (n, f n)) names)) [] ≡ f name
-    by true e none more = ap f (sym ((bytes_eq-Decides name n).0 e))
-    by false e none more = more none
-
-module _ (table : TableRead) (name : List ℕ) (none : list_any (bytes_eq name) table.names ≡ false) where
+module _ (table : TableRead) (name : List ℕ)
+    (none : length table.names ≤ position_or_len (bytes_eq name) table.names) where
   no_node : (r : Resolved) → IsNameBelow (length table.names) r → is_node table (Named name) (node_of table r) ≡ false
-  no_node (Name id) h = false_from_ne_true (bytes_eq name (slice_index_or table.names id []))
-      (λ e. both_ways _ none (list_any_at (bytes_eq name) table.names id [] h e))
+  no_node (Name id) h = fails_before_first (bytes_eq name) table.names id [] (omega (arith, h, none))
   no_node _ h = refl
 
   no_piece : ResolvesInside table → (o : Option ℕ) → is_node table (Named name) (node_of_occurrence table o) ≡ false
@@ -50,6 +38,29 @@ module _ (table : TableRead) (name : List ℕ) (none : list_any (bytes_eq name) 
 pub node_numbers_of : (web : WebRead) (table : TableRead) (marks : MarkMode) → ResolvesInside table → (node : Title)
     → node_numbers (numbers_of web table marks) node ≡ map numbers_of_piece (pieces_of web table node)
 node_numbers_of web table marks inside Program = refl
-node_numbers_of web table marks inside (Named name) =
-    looked_up (λ name. map numbers_of_piece (pieces_of web table (Named name))) name table.names
-    (λ none. ap (map numbers_of_piece) (no_pieces table name none inside web.pieces))
+node_numbers_of web table marks inside (Named name) = by (nat_lt k (length names)) refl
+  where
+    names : List (List ℕ)
+    names = table.names
+
+    k : ℕ
+    k = position_or_len (bytes_eq name) names
+
+    of_name : List ℕ → List PieceRead
+    of_name name = pieces_of web table (Named name)
+
+    of_each : List PieceRead → List PieceNumbersRead
+    of_each = map numbers_of_piece
+
+    by : (t : Bool) → nat_lt k (length names) ≡ t
+        → row_at (of_each (pieces_of web table Program) ∷ map of_each (map of_name names))
+        (option_map_or suc (cond t (Some k) None) (length names + 1)) ≡ of_each (of_name name)
+    by true e =
+        let low = ltb-true k (length names) e in
+        get_or-map of_each (map of_name names) k [] [] (omega (arith, low, length-map names of_name))
+        ∙ ap of_each (get_or-map of_name names k [] [] low
+        ∙ ap of_name (sym ((bytes_eq-Decides name (get_or names k [])).0 (passes_at_first (bytes_eq name) names [] low))))
+    by false e =
+        get_or_past (of_each (pieces_of web table Program) ∷ map of_each (map of_name names)) (length names + 1) []
+        (omega (arith, length-map names of_name, length-map (map of_name names) of_each))
+        ∙ ap of_each (sym (no_pieces table name (ltb-false k (length names) e) inside web.pieces))

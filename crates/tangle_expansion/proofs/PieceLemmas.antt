@@ -13,16 +13,16 @@ use Rattle.tangle_names.specs.declared.Resolved.{Resolved}
 use Rattle.tangle_names.specs.declared.Resolved.TheVariants.{Name}
 use Rattle.tangle_names.specs.NameTable.{TableRead}
 use Rattle.tangle_plans.specs.Shapes.{Title, ShapeItem}
-use Rattle.tangle_plans.specs.Flat.{Symbol, Byte, MarkOf, items_flat, pieces_flat}
-use Rattle.tangle_plans.specs.WebShapes.{resolved_at, shape_item, use_of}
+use Rattle.tangle_plans.specs.Flat.{Symbol, MarkOf, items_flat, pieces_flat}
+use Rattle.tangle_plans.specs.WebShapes.{resolved_at, shape_item, shape_of, use_of}
 use Rattle.tangle_files.specs.declared.marks.MarkMode.{MarkMode}
 use Rattle.tangle_files.specs.declared.marks.MarkMode.TheVariants.{Full, Bare}
 use Rattle.tangle_expansion.specs.Numbers.{NumbersRead, symbol_bytes, closing_bytes, expansion_bytes, item_origins, mark_bytes, mark_end}
 use Rattle.tangle_expansion.specs.Numbers.{mark_bytes_at, no_origin, no_numbers, node_numbers, numbers_at, numbers_of_piece}
-use Rattle.tangle_expansion.specs.Numbers.{opening_bytes, origin_of_mark}
+use Rattle.tangle_expansion.specs.Numbers.{PieceNumbersRead, opening_bytes, origin_of_mark}
 use Rattle.tangle_expansion.specs.PieceBytes.{bytes_after_mark, items_bytes, piece_bytes, resolved_bytes, used_bytes}
 use Rattle.tangle_expansion.proofs.LineTruth.{next_of}
-use Rattle.tangle_expansion.proofs.WrittenLemmas.{written-bytes}
+use Rattle.tangle_expansion.proofs.WrittenLemmas.{bytes_then}
 
 then : (own tail closing rest whole : List ℕ)
     → whole ≡ own ++ rest → rest ≡ tail ++ closing → whole ≡ (own ++ tail) ++ closing
@@ -31,12 +31,7 @@ then own tail closing rest whole first more = first ∙ ap (λ l. own ++ l) more
 piece_then : (opening mark inner after whole items closing rest : List ℕ)
     → whole ≡ inner ++ after → inner ≡ items ++ closing → after ≡ rest
     → opening ++ (mark ++ whole) ≡ opening ++ mark ++ items ++ closing ++ rest
-piece_then opening mark inner after whole items closing rest e f g =
-    ap (λ (l : List ℕ). opening ++ (mark ++ l))
-    (e ∙ ap (λ (l : List ℕ). l ++ after) f ∙ ap (λ (l : List ℕ). items ++ closing ++ l) g)
-    ∙ sym (append_assoc opening mark (items ++ closing ++ rest))
-    ∙ sym (append_assoc (opening ++ mark) (items ++ closing) rest)
-    ∙ ap (λ (l : List ℕ). l ++ rest) (sym (append_assoc (opening ++ mark) items closing))
+piece_then opening mark inner after whole items closing rest e f g = rw (e, f, g) (simp append_assoc)
 
 line_feed_first : (marks : MarkMode) (file : List ℕ) (line : ℕ)
     → mark_bytes marks file line ≡ line_feed ∷ drop 1 (mark_bytes marks file line)
@@ -44,12 +39,6 @@ line_feed_first Full file line = refl
 line_feed_first Bare file line = refl
 
 module _ (numbers : NumbersRead) where
-  bytes_then : (bytes : List ℕ) (rest : List Symbol)
-      → expansion_bytes numbers (map Byte bytes ++ rest) ≡ bytes ++ expansion_bytes numbers rest
-  bytes_then bytes rest =
-      flat_map-append (symbol_bytes numbers) (map Byte bytes) rest
-      ∙ ap (λ l. l ++ expansion_bytes numbers rest) (written-bytes numbers bytes)
-
   mark_then : (node : Title) (piece mark : ℕ) (origin : Origin) (rest : List Symbol)
       → origin_of_mark numbers node piece mark ≡ origin
       → expansion_bytes numbers (MarkOf node piece mark ∷ rest)
@@ -89,35 +78,29 @@ module _ (numbers : NumbersRead) where
     items_written piece marks (x ∷ items) origins =
         then (bytes_in texts x) (items_bytes numbers table used texts items)
         (closing_bytes (numbers_at numbers node piece).section) _ _
-        (bytes_then (bytes_in texts x) _) (items_written piece marks items origins)
+        (bytes_then numbers (bytes_in texts x) _) (items_written piece marks items origins)
 
     -- the pieces of a node, from the one with this number on
     pub pieces_written : (piece : ℕ) (pieces : List PieceRead)
         → drop piece (node_numbers numbers node) ≡ map numbers_of_piece pieces
         → expansion_bytes numbers
-        (pieces_flat used node piece (map (λ (p : PieceRead). map (shape_item texts table) p.items) pieces))
+        (pieces_flat used node piece (shape_of texts table pieces))
         ≡ flat_map (piece_bytes numbers table used texts) pieces
     pieces_written piece [] are = refl
     pieces_written piece (p ∷ pieces) are =
         let next =
         next_of no_numbers (node_numbers numbers node) piece (numbers_of_piece p) (map numbers_of_piece pieces) are in
-        let section : (numbers_at numbers node piece).section ≡ p.section = ap (λ n. n.section) next.0 in
-        let mark : origin_of_mark numbers node piece 0 ≡ p.origin = ap (λ n. get_or n.origins 0 no_origin) next.0 in
         let marks : drop (0 + 1) (numbers_at numbers node piece).origins ≡ flat_map item_origins p.items =
         ap (λ n. drop 1 n.origins) next.0 in
         let rest = flat_map (piece_bytes numbers table used texts) pieces in
         let items = items_bytes numbers table used texts p.items in
         let inner = items_flat used node piece 0 (map (shape_item texts table) p.items) in
-        let after =
-        pieces_flat used node (piece + 1) (map (λ (p : PieceRead). map (shape_item texts table) p.items) pieces) in
+        let after = pieces_flat used node (piece + 1) (shape_of texts table pieces) in
         piece_then (opening_bytes (numbers_at numbers node piece).section)
         (mark_bytes_at numbers (origin_of_mark numbers node piece 0)) _ _ _
         items (closing_bytes (numbers_at numbers node piece).section) rest
         (flat_map-append (symbol_bytes numbers) inner after) (items_written piece 0 p.items marks)
         (pieces_written (piece + 1) pieces next.1)
         ∙ ap
-        (λ (n : ℕ). opening_bytes n ++ mark_bytes_at numbers (origin_of_mark numbers node piece 0)
-        ++ items ++ closing_bytes n ++ rest) section
-        ∙ ap
-        (λ (o : Origin). opening_bytes p.section ++ mark_bytes_at numbers o ++ items ++ closing_bytes p.section ++ rest)
-        mark
+        (λ (n : PieceNumbersRead). opening_bytes n.section ++ mark_bytes_at numbers (get_or n.origins 0 no_origin)
+        ++ items ++ closing_bytes n.section ++ rest) next.0

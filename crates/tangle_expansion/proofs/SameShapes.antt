@@ -1,83 +1,63 @@
 -- The expansion of a node follows from the shapes that the node reaches.
-use Rattle.std.proofs.Common.{◌≡◌, ◌∙◌, ℕ, ◌+◌, ◌<◌, ◌≤◌, zero, suc, min, List, [], ◌∷◌, refl, ap, inl, inr}
-use Rattle.std.proofs.Common.{◌≢◌, arith, length}
-use Rattle.tangle_files.specs.Bytes.{space}
-use Rattle.tangle_plans.specs.Shapes.{Title, Named, ShapeItem, Use, Shape, Shapes, IsUseOf, UsesInPiece, UsesInShape}
+use Rattle.std.proofs.Common.{◌≡◌, ◌≢◌, ◌∙◌, ℕ, ◌<◌, ◌≤◌, zero, suc, min, List, [], ◌∷◌, map, length, refl, ap, sym, arith}
+use Rattle.std.specs.Prelude.{Contains, sum_by}
+use Rattle.std.proofs.lemmas.List.Sums.{sum_by-cons}
 use Rattle.digraph.specs.Reach.{Reaches, here, on, ContainsItself, ReachesCycle}
-use Rattle.tangle_plans.specs.Shapes.{Uses}
-use Rattle.tangle_plans.specs.Flat.{Symbol, Byte, marks_after_shape_item, item_flat, items_flat, pieces_flat, flat}
-use Rattle.tangle_plans.specs.Flat.{item_weight, items_weight, pieces_weight, weight, item_depth, items_depth}
-use Rattle.tangle_plans.specs.Flat.{pieces_depth, depth}
+use Rattle.tangle_names.proofs.ContainsLemmas.{here as here_in, there}
+use Rattle.tangle_plans.specs.Shapes.{Title, Named, Shape, Shapes, Uses, shape_names}
+use Rattle.tangle_plans.specs.Tags.{shape_bytes, shape_tags}
+use Rattle.tangle_plans.specs.Meaning.{tags_flat}
+use Rattle.tangle_plans.specs.Flat.{Symbol, pieces_flat, flat, pieces_weight, weight, greatest_by, pieces_depth, depth}
+use Rattle.tangle_plans.proofs.FlatLemmas.{shape_flat}
 use Rattle.tangle_expansion.specs.Affected.{IsExpandable}
 use Rattle.tangle_expansion.proofs.UsedLemmas.{pieces_depth-use, pieces_weight-use, deeper, heavier}
-use Rattle.tangle_expansion.proofs.Weights.{weight-length, pieces_weight-length}
+use Rattle.tangle_expansion.proofs.Weights.{weight-suc, pieces_length}
 
--- the symbols of an item, of a piece and of a shape are equal if those of the used names are
-module _ (f g : List ℕ → List Symbol) (node : Title) where
-  item_flat-same : (piece marks : ℕ) (item : ShapeItem) → ((name : List ℕ) → IsUseOf item name → f name ≡ g name)
-      → item_flat f node piece marks item ≡ item_flat g node piece marks item
-  item_flat-same piece marks (Use name) same = ap (λ l. Byte space ∷ l) (same name refl)
-  item_flat-same piece marks _ same = refl
+pub map_same : {X Y : Type 0} (f g : X → Y) (xs : List X)
+    → ((x : X) → Contains xs x → f x ≡ g x) → map f xs ≡ map g xs
+map_same f g [] same = refl
+map_same f g (x ∷ xs) same = λ i. same x (here_in x xs) i ∷ map_same f g xs (λ y c. same y (there x xs y c)) i
 
-  items_flat-same : (piece marks : ℕ) (items : List ShapeItem)
-      → ((name : List ℕ) → UsesInPiece items name → f name ≡ g name)
-      → items_flat f node piece marks items ≡ items_flat g node piece marks items
-  items_flat-same piece marks [] same = refl
-  items_flat-same piece marks (item ∷ items) same =
-      cc (
-        item_flat-same piece marks item (λ name u. same name (inl u)),
-        items_flat-same piece (marks_after_shape_item marks item) items (λ name u. same name (inr u)),
-      )
-
-  pieces_flat-same : (piece : ℕ) (pieces : Shape) → ((name : List ℕ) → UsesInShape pieces name → f name ≡ g name)
-      → pieces_flat f node piece pieces ≡ pieces_flat g node piece pieces
-  pieces_flat-same piece [] same = refl
-  pieces_flat-same piece (items ∷ pieces) same =
-      cc (
-        items_flat-same piece 0 items (λ name u. same name (inl u)),
-        pieces_flat-same (piece + 1) pieces (λ name u. same name (inr u)),
-      )
+-- the symbols of a shape are equal if those of the used names are
+pub pieces_flat-same : (f g : List ℕ → List Symbol) (node : Title) (shape : Shape)
+    → ((name : List ℕ) → Contains (shape_names shape) name → f name ≡ g name)
+    → pieces_flat f node 0 shape ≡ pieces_flat g node 0 shape
+pieces_flat-same f g node shape same =
+    sym (shape_flat node f 0 0 shape)
+    ∙ ap (tags_flat node 0 0 (shape_bytes shape) (shape_tags shape)) (map_same f g (shape_names shape) same)
+    ∙ shape_flat node g 0 0 shape
 
 -- weights and depths are equal up to a cap if those of the used names are
 module _ (cap : ℕ) (f g : List ℕ → ℕ) where
-  item_alike : (item : ShapeItem) → ((name : List ℕ) → IsUseOf item name → min cap (f name) ≡ min cap (g name))
-      → (min (suc cap) (item_weight f item) ≡ min (suc cap) (item_weight g item))
-      × (min cap (item_depth f item) ≡ min cap (item_depth g item))
-  item_alike (Use name) same = (omega (arith, same name refl), same name refl)
-  item_alike _ same = (refl, refl)
+  names_alike : (names : List (List ℕ)) → ((name : List ℕ) → Contains names name → min cap (f name) ≡ min cap (g name))
+      → (min cap (sum_by f names) ≡ min cap (sum_by g names))
+      × (min cap (greatest_by f names) ≡ min cap (greatest_by g names))
+  names_alike [] same = (refl, refl)
+  names_alike (name ∷ names) same =
+      let first = same name (here_in name names) in
+      let rest = names_alike names (λ other c. same other (there name names other c)) in
+      (omega (arith, sum_by-cons f name names, sum_by-cons g name names), omega arith)
 
-  items_alike : (items : List ShapeItem)
-      → ((name : List ℕ) → UsesInPiece items name → min cap (f name) ≡ min cap (g name))
-      → (min (suc cap) (items_weight f items) ≡ min (suc cap) (items_weight g items))
-      × (min cap (items_depth f items) ≡ min cap (items_depth g items))
-  items_alike [] same = (refl, refl)
-  items_alike (item ∷ items) same =
-      let first = item_alike item (λ name u. same name (inl u)) in
-      let rest = items_alike items (λ name u. same name (inr u)) in
-      (omega arith, omega arith)
-
-  pub pieces_alike : (pieces : Shape) → ((name : List ℕ) → UsesInShape pieces name → min cap (f name) ≡ min cap (g name))
+  pub pieces_alike : (pieces : Shape)
+      → ((name : List ℕ) → Contains (shape_names pieces) name → min cap (f name) ≡ min cap (g name))
       → (min (suc cap) (pieces_weight f pieces) ≡ min (suc cap) (pieces_weight g pieces))
       × (min (suc cap) (pieces_depth f pieces) ≡ min (suc cap) (pieces_depth g pieces))
   pieces_alike [] same = (refl, refl)
   pieces_alike (items ∷ pieces) same =
-      let first = items_alike items (λ name u. same name (inl u)) in
-      let rest = pieces_alike pieces (λ name u. same name (inr u)) in
-      (omega arith, omega arith)
+      let alike = names_alike (shape_names (items ∷ pieces)) same in
+      (omega (arith, alike.0), omega (arith, alike.1))
 
 -- no depth exceeds the fuel
-module _ (cap : ℕ) (f : List ℕ → ℕ) (h : (name : List ℕ) → f name ≤ cap) where
-  item_depth-bound : (item : ShapeItem) → item_depth f item ≤ cap
-  item_depth-bound (Use name) = h name
-  item_depth-bound _ = omega arith
 
-  items_depth-bound : (items : List ShapeItem) → items_depth f items ≤ cap
-  items_depth-bound [] = omega arith
-  items_depth-bound (item ∷ items) = omega (arith, item_depth-bound item, items_depth-bound items)
+greatest_bound : (cap : ℕ) (f : List ℕ → ℕ) → ((name : List ℕ) → f name ≤ cap)
+    → (names : List (List ℕ)) → greatest_by f names ≤ cap
+greatest_bound cap f h [] = omega arith
+greatest_bound cap f h (name ∷ names) = omega (arith, h name, greatest_bound cap f h names)
 
-  pieces_depth-bound : (pieces : Shape) → pieces_depth f pieces ≤ suc cap
-  pieces_depth-bound [] = omega arith
-  pieces_depth-bound (items ∷ pieces) = omega (arith, items_depth-bound items, pieces_depth-bound pieces)
+pieces_depth-bound : (cap : ℕ) (f : List ℕ → ℕ) → ((name : List ℕ) → f name ≤ cap)
+    → (pieces : Shape) → pieces_depth f pieces ≤ suc cap
+pieces_depth-bound cap f h [] = omega arith
+pieces_depth-bound cap f h (items ∷ pieces) = omega (arith, greatest_bound cap f h (shape_names (items ∷ pieces)))
 
 depth-bound : (fuel : ℕ) (shapes : Shapes) (node : Title) → depth fuel shapes node ≤ fuel
 depth-bound zero shapes node = omega arith
@@ -92,7 +72,7 @@ pub flat-same : (fuel : ℕ) (old new : Shapes) (node : Title)
     → SameReached old new node → flat fuel new node ≡ flat fuel old node
 flat-same zero old new node same = refl
 flat-same (suc fuel) old new node same =
-    pieces_flat-same (λ name. flat fuel new (Named name)) (λ name. flat fuel old (Named name)) node 0 (new node)
+    pieces_flat-same (λ name. flat fuel new (Named name)) (λ name. flat fuel old (Named name)) node (new node)
     (λ name u. flat-same fuel old new (Named name) (λ other r. same other (on u r)))
     ∙ ap (pieces_flat (λ name. flat fuel old (Named name)) node 0) (same node here)
 
@@ -116,7 +96,7 @@ pub flat_by_uses : (fuel : ℕ) (shapes : Shapes) (node : Title) → depth fuel 
 flat_by_uses zero shapes node h = absurd (omega (arith, h))
 flat_by_uses (suc fuel) shapes node h =
     pieces_flat-same (λ name. flat fuel shapes (Named name))
-    (λ name. flat (suc fuel) shapes (Named name)) node 0 (shapes node)
+    (λ name. flat (suc fuel) shapes (Named name)) node (shapes node)
     (λ name u. flat_by_uses fuel shapes (Named name)
     (omega (arith, h, pieces_depth-use (λ other. depth fuel shapes (Named other)) (shapes node) name u)))
 
@@ -126,8 +106,9 @@ settles : (cap : ℕ) (shapes : Shapes) (node : Title)
     × (min cap (depth (suc cap) shapes node) ≡ min cap (depth cap shapes node))
 settles zero shapes node = (omega arith, omega arith)
 settles (suc cap) shapes node = (
-  (pieces_alike cap (λ name. weight (suc cap) shapes (Named name)) (λ name. weight cap shapes (Named name))
-      (shapes node) (λ name u. (settles cap shapes (Named name)).0)).0,
+  (let alike = pieces_alike cap (λ name. weight (suc cap) shapes (Named name)) (λ name. weight cap shapes (Named name))
+      (shapes node) (λ name u. (settles cap shapes (Named name)).0) in
+      omega (arith, alike.0, weight-suc (suc cap) shapes node, weight-suc cap shapes node)),
   (pieces_alike cap (λ name. depth (suc cap) shapes (Named name)) (λ name. depth cap shapes (Named name))
       (shapes node) (λ name u. (settles cap shapes (Named name)).1)).1,
 )
@@ -139,7 +120,7 @@ pub weight_by_uses : (cap : ℕ) (shapes : Shapes) (node : Title)
 weight_by_uses cap shapes node =
     let alike = pieces_alike cap (λ name. weight cap shapes (Named name))
     (λ name. min cap (weight cap shapes (Named name))) (shapes node) (λ name u. omega arith) in
-    omega (arith, alike.0, (settles cap shapes node).0)
+    omega (arith, alike.0, weight-suc cap shapes node, (settles cap shapes node).0)
 
 -- the capped depth, from those of the used names
 pub depth_by_uses : (fuel : ℕ) (shapes : Shapes) (node : Title)
@@ -168,19 +149,11 @@ pub used_expandable : (levels limit : ℕ) (shapes : Shapes) (node : Title) (nam
 used_expandable levels limit shapes node name e u has =
     let shallow = pieces_depth-use (λ m. depth levels shapes (Named m)) (shapes node) name u in
     let deep = depth_by_uses levels shapes node in
-    let light = pieces_weight-use (λ m. length (flat levels shapes (Named m))) (shapes node) name u in
-    let weighs = pieces_weight-length (λ m. flat levels shapes (Named m)) node 0 (shapes node) in
+    let light = pieces_weight-use (λ m. weight levels shapes (Named m)) (shapes node) name u in
+    let weighs = pieces_length (λ m. flat levels shapes (Named m)) node 0 (shapes node) in
     let long = ap length (flat_by_uses levels shapes node e.shallow) in
     record {
       has_piece = has;
       shallow = omega (arith, e.shallow, deep, shallow);
-      light = omega (
-        arith,
-        e.light,
-        light,
-        weighs,
-        long,
-        weight-length levels shapes node,
-        weight-length levels shapes (Named name),
-      );
+      light = omega (arith, e.light, light, weighs, long);
     }

@@ -10,7 +10,6 @@ use Rattle.tangle_plans.specs.Shapes.{LineEnd, ShapeItem, Written, Mark, AllMacr
 use Rattle.tangle_plans.specs.Flat.{flat}
 use Rattle.tangle_expansion.specs.Affected.{IsExpandable, IsAffected}
 use Rattle.tangle_expansion.proofs.SameShapes.{SameReached, flat-same, depth-same, cycle_deep_and_heavy}
-use Rattle.tangle_expansion.proofs.Weights.{weight-length}
 
 -- equality of shapes can be decided
 
@@ -51,13 +50,7 @@ stays levels limit old new node expandable unaffected =
       record {
         has_piece = λ e. expandable.has_piece (shape ∙ e);
         shallow = omega (arith, expandable.shallow, depth-same levels old new node same);
-        light = omega (
-          arith,
-          expandable.light,
-          weight-length levels new node,
-          weight-length levels old node,
-          ap length symbols,
-        );
+        light = omega (arith, expandable.light, ap length symbols);
       },
       symbols,
     )

@@ -1,39 +1,31 @@
 -- A used name is less deep than its user, and weighs less.
 use Rattle.std.proofs.Common.{◌≤◌, ℕ, suc, List, [], ◌∷◌, ap, inl, inr, arith}
-use Rattle.tangle_plans.specs.Shapes.{Title, Program, Named, ShapeItem, Use, Shape, Shapes, IsUseOf, UsesInPiece}
-use Rattle.tangle_plans.specs.Shapes.{UsesInShape, Uses}
-use Rattle.tangle_plans.specs.Flat.{item_weight, items_weight, pieces_weight, item_depth, items_depth, pieces_depth}
-use Rattle.tangle_plans.specs.Flat.{weight, depth}
+use Rattle.std.specs.Prelude.{Contains, sum_by}
+use Rattle.std.proofs.lemmas.List.Sums.{sum_by-cons}
+use Rattle.tangle_names.proofs.ContainsLemmas.{cons_cases, no_item}
+use Rattle.tangle_plans.specs.Shapes.{Title, Program, Named, Shape, Shapes, Uses, shape_names}
+use Rattle.tangle_plans.specs.Flat.{greatest_by, pieces_weight, pieces_depth, weight, depth}
+use Rattle.tangle_expansion.proofs.Weights.{weight-suc}
 
 module _ (f : List ℕ → ℕ) where
-  item_depth-use : (item : ShapeItem) (name : List ℕ) → IsUseOf item name → f name ≤ item_depth f item
-  item_depth-use (Use other) name u = omega (arith, ap f u)
-  item_depth-use _ name u = absurd u
+  at_most : (names : List (List ℕ)) (name : List ℕ)
+      → Contains names name → (f name ≤ sum_by f names) × (f name ≤ greatest_by f names)
+  at_most [] name c = absurd (no_item name c)
+  at_most (first ∷ names) name c = elim (cons_cases first names name c) [
+    | inl e ↦ (omega (arith, ap f e, sum_by-cons f first names), omega (arith, ap f e))
+    | inr d ↦ (let more = at_most names name d in
+        (omega (arith, more.0, sum_by-cons f first names), omega (arith, more.1)))
+  ]
 
-  items_depth-use : (items : List ShapeItem) (name : List ℕ) → UsesInPiece items name → f name ≤ items_depth f items
-  items_depth-use [] name u = absurd u
-  items_depth-use (item ∷ items) name (inl u) = omega (arith, item_depth-use item name u)
-  items_depth-use (item ∷ items) name (inr u) = omega (arith, items_depth-use items name u)
+  pub pieces_depth-use : (pieces : Shape) (name : List ℕ)
+      → Contains (shape_names pieces) name → suc (f name) ≤ pieces_depth f pieces
+  pieces_depth-use [] name u = absurd (no_item name u)
+  pieces_depth-use (items ∷ pieces) name u = omega (arith, (at_most (shape_names (items ∷ pieces)) name u).1)
 
-  pub pieces_depth-use : (pieces : Shape) (name : List ℕ) → UsesInShape pieces name → suc (f name) ≤ pieces_depth f pieces
-  pieces_depth-use [] name u = absurd u
-  pieces_depth-use (items ∷ pieces) name (inl u) = omega (arith, items_depth-use items name u)
-  pieces_depth-use (items ∷ pieces) name (inr u) = omega (arith, pieces_depth-use pieces name u)
-
-  item_weight-use : (item : ShapeItem) (name : List ℕ) → IsUseOf item name → suc (f name) ≤ item_weight f item
-  item_weight-use (Use other) name u = omega (arith, ap f u)
-  item_weight-use _ name u = absurd u
-
-  items_weight-use : (items : List ShapeItem) (name : List ℕ)
-      → UsesInPiece items name → suc (f name) ≤ items_weight f items
-  items_weight-use [] name u = absurd u
-  items_weight-use (item ∷ items) name (inl u) = omega (arith, item_weight-use item name u)
-  items_weight-use (item ∷ items) name (inr u) = omega (arith, items_weight-use items name u)
-
-  pub pieces_weight-use : (pieces : Shape) (name : List ℕ) → UsesInShape pieces name → suc (f name) ≤ pieces_weight f pieces
-  pieces_weight-use [] name u = absurd u
-  pieces_weight-use (items ∷ pieces) name (inl u) = omega (arith, items_weight-use items name u)
-  pieces_weight-use (items ∷ pieces) name (inr u) = omega (arith, pieces_weight-use pieces name u)
+  pub pieces_weight-use : (pieces : Shape) (name : List ℕ)
+      → Contains (shape_names pieces) name → suc (f name) ≤ pieces_weight f pieces
+  pieces_weight-use [] name u = absurd (no_item name u)
+  pieces_weight-use (items ∷ pieces) name u = omega (arith, (at_most (shape_names (items ∷ pieces)) name u).0)
 
 -- A node is one level deeper than a name that it uses, and heavier by at least 1.
 
@@ -47,4 +39,9 @@ pub heavier : (steps : ℕ) (shapes : Shapes) (a b : Title)
     → Uses shapes a b → steps ≤ weight steps shapes b → suc steps ≤ weight (suc steps) shapes a
 heavier steps shapes a Program u h = absurd u
 heavier steps shapes a (Named name) u h =
-    omega (arith, h, pieces_weight-use (λ other. weight steps shapes (Named other)) (shapes a) name u)
+    omega (
+      arith,
+      h,
+      weight-suc steps shapes a,
+      pieces_weight-use (λ other. weight steps shapes (Named other)) (shapes a) name u,
+    )

@@ -1,49 +1,57 @@
--- The weight of a node is the length of its expansion.
-use Rattle.std.proofs.Common.{◌≡◌, ◌≤◌, ◌∙◌, ℕ, ◌+◌, zero, suc, List, [], ◌∷◌, length, refl, ap, sym, arith, length-append}
-use Rattle.std.proofs.Math.Path.{fun_ext}
+-- The weight of a node is that of its own symbols, and the weights of the names that it uses.
+use Rattle.std.proofs.Common.{◌≡◌, ℕ, ◌+◌, suc, List, [], ◌∷◌, ◌++◌, map, length, refl, arith, length-append}
+use Rattle.std.specs.Prelude.{sum_by, flat_map}
 use Rattle.std.proofs.lemmas.List.{length-map}
-use Rattle.tangle_plans.specs.Shapes.{Title, Named, ShapeItem, Written, Use, Shape, Shapes}
+use Rattle.std.proofs.lemmas.List.Sums.{sum_by-cons, sum_by-append}
+use Rattle.tangle_plans.specs.Shapes.{Title, Program, Named, ShapeItem, Written, Use, Shape, Shapes, item_names, shape_names}
+use Rattle.tangle_plans.specs.Shapes as kind
+use Rattle.tangle_plans.specs.Tags.{item_bytes, item_tag, piece_end, shape_bytes, shape_tags}
 use Rattle.tangle_plans.specs.Flat.{Symbol, Byte, marks_after_shape_item, item_flat, items_flat, pieces_flat, flat}
-use Rattle.tangle_plans.specs.Flat.{item_weight, items_weight, pieces_weight, weight}
-use Rattle.tangle_expansion.specs.Limits.{levels, heaviest, flat_of, IsExpandableNode}
+use Rattle.tangle_plans.specs.Flat.{own_symbols, own_counts, pieces_weight, weight}
+use Rattle.tangle_plans.proofs.CountLemmas.{own_counts-append}
 
 module _ (used : List ℕ → List Symbol) (node : Title) where
-  item_weight-length : (piece marks : ℕ) (item : ShapeItem)
-      → item_weight (λ name. length (used name)) item ≡ length (item_flat used node piece marks item)
-  item_weight-length piece marks (Written kind bytes) = sym (length-map bytes Byte)
-  item_weight-length piece marks (Use name) = omega arith
-  item_weight-length piece marks _ = refl
+  abbrev used_weight : List ℕ → ℕ
+  used_weight name = length (used name)
 
-  items_weight-length : (piece marks : ℕ) (items : List ShapeItem)
-      → items_weight (λ name. length (used name)) items + 1 ≡ length (items_flat used node piece marks items)
-  items_weight-length piece marks [] = refl
-  items_weight-length piece marks (item ∷ items) =
+  item_length : (piece marks : ℕ) (item : ShapeItem)
+      → length (item_flat used node piece marks item)
+      ≡ length (item_bytes item) + length (own_symbols Program 0 0 (item_tag item).kind)
+      + sum_by used_weight (item_names item)
+  item_length piece marks (Written kind.Word bytes) = omega (arith, length-map bytes Byte)
+  item_length piece marks (Written _ bytes) = omega (arith, length-map bytes Byte)
+  item_length piece marks (Use name) = omega (arith, sum_by-cons used_weight name [])
+  item_length piece marks _ = refl
+
+  items_length : (piece marks : ℕ) (items : List ShapeItem)
+      → length (items_flat used node piece marks items)
+      ≡ length (flat_map item_bytes items) + own_counts (map item_tag items ++ piece_end ∷ [])
+      + sum_by used_weight (flat_map item_names items)
+  items_length piece marks [] = refl
+  items_length piece marks (item ∷ items) =
       omega (
         arith,
-        item_weight-length piece marks item,
-        items_weight-length piece (marks_after_shape_item marks item) items,
+        item_length piece marks item,
+        items_length piece (marks_after_shape_item marks item) items,
         length-append {A = Symbol},
+        length-append (item_bytes item) (flat_map item_bytes items),
+        sum_by-append used_weight (item_names item) (flat_map item_names items),
       )
 
-  pub pieces_weight-length : (piece : ℕ) (pieces : Shape)
-      → pieces_weight (λ name. length (used name)) pieces ≡ length (pieces_flat used node piece pieces)
-  pieces_weight-length piece [] = refl
-  pieces_weight-length piece (items ∷ pieces) =
+  pub pieces_length : (piece : ℕ) (pieces : Shape)
+      → length (pieces_flat used node piece pieces) ≡ pieces_weight used_weight pieces
+  pieces_length piece [] = refl
+  pieces_length piece (items ∷ pieces) =
       omega (
         arith,
-        items_weight-length piece 0 items,
-        pieces_weight-length (piece + 1) pieces,
+        items_length piece 0 items,
+        pieces_length (piece + 1) pieces,
         length-append (items_flat used node piece 0 items) (pieces_flat used node (piece + 1) pieces),
+        length-append (flat_map item_bytes items) (shape_bytes pieces),
+        own_counts-append (map item_tag items ++ piece_end ∷ []) (shape_tags pieces),
+        sum_by-append used_weight (flat_map item_names items) (shape_names pieces),
       )
 
-pub weight-length : (fuel : ℕ) (shapes : Shapes) (node : Title)
-    → weight fuel shapes node ≡ length (flat fuel shapes node)
-weight-length zero shapes node = refl
-weight-length (suc fuel) shapes node =
-    ap (λ used. pieces_weight used (shapes node)) (fun_ext (λ name. weight-length fuel shapes (Named name)))
-    ∙ pieces_weight-length (λ name. flat fuel shapes (Named name)) node 0 (shapes node)
-
--- an expandable node has no more symbols than the limit of weight
-pub expandable_light : (shapes : Shapes) (node : Title)
-    → IsExpandableNode shapes node → length (flat_of shapes node) ≤ heaviest
-expandable_light shapes node e = omega (arith, e.light, weight-length levels shapes node)
+pub weight-suc : (fuel : ℕ) (shapes : Shapes) (node : Title)
+    → weight (suc fuel) shapes node ≡ pieces_weight (λ name. weight fuel shapes (Named name)) (shapes node)
+weight-suc fuel shapes node = pieces_length (λ name. flat fuel shapes (Named name)) node 0 (shapes node)

@@ -1,13 +1,14 @@
 -- The bytes of lists of symbols.
-use Rattle.std.proofs.Common.{◌*◌, arith, length-append, ◌≡◌, ℕ, ◌≤◌, List, [], ◌∷◌, map, length, refl, ap}
+use Rattle.std.proofs.Common.{◌*◌, arith, length-append, ◌≡◌, ℕ, ◌≤◌, List, [], ◌∷◌, ◌++◌, map, length, refl, ap}
 use native.Mathlib.Nat.{suc-mul}
 use Rattle.std.specs.List.{AllByRecursion}
 use Rattle.tangle_plans.specs.Flat.{Symbol, Byte}
 use Rattle.tangle_expansion.specs.Numbers.{NumbersRead, symbol_bytes, expansion_bytes}
 
-pub written-bytes : (numbers : NumbersRead) (bytes : List ℕ) → expansion_bytes numbers (map Byte bytes) ≡ bytes
-written-bytes numbers [] = refl
-written-bytes numbers (b ∷ bytes) = ap (λ t. b ∷ t) (written-bytes numbers bytes)
+pub bytes_then : (numbers : NumbersRead) (bytes : List ℕ) (rest : List Symbol)
+    → expansion_bytes numbers (map Byte bytes ++ rest) ≡ bytes ++ expansion_bytes numbers rest
+bytes_then numbers [] rest = refl
+bytes_then numbers (b ∷ bytes) rest = ap (λ t. b ∷ t) (bytes_then numbers bytes rest)
 
 -- if at most `b` bytes are written for each symbol, at most `b` times the length are written for the list
 pub written-short : (numbers : NumbersRead) (b : ℕ) (symbols : List Symbol)

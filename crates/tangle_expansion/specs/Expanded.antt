@@ -5,7 +5,8 @@ use Rattle.std.proofs.Common.{arith, length-append}
 use denote.Param.Weighed.{most}
 use Rattle.tangle_plans.specs.Shapes.{Title}
 use Rattle.tangle_plans.specs.Flat.{Symbol, Byte}
-use Rattle.tangle_plans.specs.Meaning.{left_over, tags_flat, body_flat, own_symbols, with_used}
+use Rattle.tangle_plans.specs.Meaning.{left_over, tags_flat, body_flat, with_used}
+use Rattle.tangle_plans.specs.Flat.{own_symbols}
 use Rattle.tangle_plans.specs.Meaning.{pieces_after, marks_after}
 use Rattle.tangle_plans.specs.declared.tags.ItemKind.{ItemKind}
 use Rattle.tangle_plans.specs.declared.tags.ItemKind.TheVariants as tag

@@ -1,8 +1,9 @@
 -- The section numbers and origins of a web, the bytes of its macros, and the bytes that an
 -- expansion gives with them.
-use Rattle.std.specs.Prelude.{ℕ, ◌==◌, ◌||◌, List, [], ◌∷◌, ◌++◌, map, flat_map, get_or, codes}
-use Rattle.std.specs.Prelude.{decimal, unwrap_or, if◌then◌else◌}
-use Rattle.std.specs.Map.{lookup}
+use Rattle.std.specs.Prelude.{ℕ, suc, ◌+◌, ◌==◌, ◌||◌, List, [], ◌∷◌, ◌++◌, map, flat_map, get_or, codes}
+use Rattle.std.specs.Prelude.{decimal, length, position, if◌then◌else◌}
+use Rattle.std.specs.Option.{option_map_or}
+use Rattle.digraph.specs.Graph.{row_at}
 use Rattle.std.specs.Str.{bytes_eq}
 use Rattle.tangle_files.specs.Bytes.{line_feed}
 use Rattle.tangle_lines.specs.Bytes.{double_quote}
@@ -28,8 +29,9 @@ pub record PieceNumbersRead : Type 0 where
 pub record NumbersRead : Type 0 where
   -- for each file, what comes after the number in its line marks
   pub mark_ends : List (List ℕ)
-  pub program : List PieceNumbersRead
-  pub names : List (List ℕ × List PieceNumbersRead)
+  -- the names of the table, and the rows of the numbers of the program's pieces and of each name's
+  pub names : List (List ℕ)
+  pub rows : List (List PieceNumbersRead)
   pub macros : List ℕ
   -- how line marks are written
   pub marks : MarkMode
@@ -54,19 +56,15 @@ abbrev pub numbers_of_piece : PieceRead → PieceNumbersRead
 numbers_of_piece piece =
     record { section = piece.section; origins = piece.origin ∷ flat_map item_origins piece.items }
 
-module _ (web : WebRead) (table : TableRead) where
-  abbrev pub name_numbers : List (List ℕ × List PieceNumbersRead)
-  name_numbers =
-      map (λ name. (name, map numbers_of_piece (pieces_of web table (Named name)))) table.names
-
-  abbrev pub numbers_of : MarkMode → NumbersRead
-  numbers_of marks = record {
-    mark_ends = map mark_end web.file_names;
-    program = map numbers_of_piece (pieces_of web table Program);
-    names = name_numbers;
-    macros = flat_map (macro_bytes web.texts) web.macros;
-    marks = marks;
-  }
+abbrev pub numbers_of : WebRead → TableRead → MarkMode → NumbersRead
+numbers_of web table marks = record {
+  mark_ends = map mark_end web.file_names;
+  names = table.names;
+  rows = map (map numbers_of_piece) (pieces_of web table Program
+      ∷ map (λ name. pieces_of web table (Named name)) table.names);
+  macros = flat_map (macro_bytes web.texts) web.macros;
+  marks = marks;
+}
 
 -- the bytes of an expansion
 
@@ -76,13 +74,9 @@ opening_bytes section = codes "/*" ++ decimal section ++ codes ":*/"
 abbrev pub closing_bytes : ℕ → List ℕ
 closing_bytes section = codes "/*:" ++ decimal section ++ codes "*/"
 
--- a line mark that is written in full
-abbrev pub full_mark_bytes : List ℕ → ℕ → List ℕ
-full_mark_bytes ending line = codes "\n#line " ++ decimal line ++ ending
-
 -- the bytes of a line mark; a bare one is a line feed
 abbrev pub mark_bytes : MarkMode → List ℕ → ℕ → List ℕ
-mark_bytes Full ending line = full_mark_bytes ending line
+mark_bytes Full ending line = codes "\n#line " ++ decimal line ++ ending
 mark_bytes Bare ending line = line_feed ∷ []
 
 abbrev pub no_numbers : PieceNumbersRead
@@ -91,11 +85,16 @@ no_numbers = record { section = 0; origins = [] }
 abbrev pub no_origin : Origin
 no_origin = record { file = 0; line = 0 }
 
+-- the number of a node's row: that after the last one for a name that is none of these
+abbrev pub row_number : List (List ℕ) → Title → ℕ
+row_number names Program = 0
+row_number names (Named name) =
+    option_map_or suc (position (bytes_eq name) names) (length names + 1)
+
 module _ (numbers : NumbersRead) where
   -- the numbers of a node's pieces
   abbrev pub node_numbers : Title → List PieceNumbersRead
-  node_numbers Program = numbers.program
-  node_numbers (Named name) = unwrap_or (lookup (bytes_eq name) numbers.names) []
+  node_numbers node = row_at numbers.rows (row_number numbers.names node)
 
   abbrev pub numbers_at : Title → ℕ → PieceNumbersRead
   numbers_at node piece = get_or (node_numbers node) piece no_numbers

@@ -1,7 +1,5 @@
 -- The numbers, as they are in memory.
-use Rattle.std.specs.Prelude.{◌≡◌, ◌+◌, drop, length, map}
-use Rattle.std.specs.List.{zip}
-use Rattle.digraph.specs.Graph.{row_at}
+use Rattle.std.specs.Prelude.{◌≡◌, ◌+◌, length, map}
 use Rattle.tangle_expansion.specs.Numbers.{NumbersRead}
 use Rattle.tangle_expansion.specs.PieceNumbers.{numbers_of_rows}
 use Rattle.tangle_expansion.specs.SymbolLimits.{SymbolsAreShort}
@@ -10,8 +8,8 @@ use Rattle.tangle_expansion.specs.declared.numbers.Numbers.TheInside.{Inside}
 abbrev pub numbers_read : Inside → NumbersRead
 numbers_read n = record {
   mark_ends = map (λ ending. ending.items) n.mark_ends.items;
-  program = row_at (numbers_of_rows n.pieces n.rows.value) 0;
-  names = zip n.names (drop 1 (numbers_of_rows n.pieces n.rows.value));
+  names = n.names;
+  rows = numbers_of_rows n.pieces n.rows.value;
   macros = n.macros.items;
   marks = n.marks;
 }

@@ -1,20 +1,20 @@
 -- The bytes of an output file, each of which is at its line of the source.
 use Rattle.std.specs.Prelude.{◌≡◌, ◌≤◌, length, true, unwrap_or, IsSome, ℕ, Bool, List, [], ◌∷◌}
-use Rattle.std.specs.Prelude.{◌++◌, map, if◌then◌else◌, None}
+use Rattle.std.specs.Prelude.{◌++◌, if◌then◌else◌, None}
 use Rattle.tangle_files.specs.Bytes.{line_feed}
 use Rattle.tangle_lines.specs.Reading.{SourceRead}
 use Rattle.tangle_scan.specs.Web.{WebRead}
 use Rattle.tangle_names.specs.NameTable.{table_of}
 use Rattle.tangle_plans.specs.Shapes.{Title}
 use Rattle.tangle_plans.specs.Flat.{Symbol}
-use Rattle.tangle_expansion.specs.Limits.{levels, heaviest}
+use Rattle.tangle_plans.specs.WebShapes.{shapes}
+use Rattle.tangle_expansion.specs.Limits.{levels, heaviest, flat_of}
 use Rattle.tangle_expansion.specs.Numbers.{NumbersRead, numbers_of, expansion_bytes}
 use Rattle.tangle_expansion.specs.Kept.{kept_at}
 use Rattle.tangle_files.specs.declared.marks.MarkMode.TheVariants.{Full}
 use Rattle.digraph.specs.Nodes.{Node}
 use Rattle.tangle_expansion.specs.declared.kept.Kept.{Kept}
-use Rattle.tangle_expansion.specs.Location.{LocatedSymbol, located, located_shapes}
-use Rattle.tangle_expansion.specs.Location.{AreAtTheirOrigins}
+use Rattle.tangle_expansion.specs.Location.{AreAtTheirOrigins, classes}
 
 abbrev pub front_bytes : NumbersRead → Bool → List ℕ
 front_bytes numbers has_macros = if has_macros then numbers.macros else []
@@ -47,10 +47,6 @@ abbrev pub kept_output_bytes : NumbersRead → Kept → OutputRead → List ℕ
 kept_output_bytes numbers kept output =
     output_file_bytes numbers output.has_macros output.has_piece (node_symbols kept output.node)
 
--- the expansion of a node, with the origin of each source item
-abbrev pub located_of : SourceRead → WebRead → Title → List LocatedSymbol
-located_of source web node = located levels (located_shapes source web (table_of web)) node
-
 -- The bytes are those of the node's expansion and, where marks are written in full, the counted
 -- origin at each byte of a source item outside stretches is that of the byte's source line. Before
 -- the first mark of a file the origin is unknown.
@@ -58,6 +54,6 @@ pub record IsTrueToLines (source : SourceRead) (web : WebRead)
     (node : Title) (bytes : List ℕ) : Type 0 where
   pub written : bytes
       ≡ expansion_bytes (numbers_of web (table_of web) Full)
-      (map (λ p. p.symbol) (located_of source web node))
+      (flat_of (shapes web (table_of web)) node)
   pub origins : AreAtTheirOrigins (numbers_of web (table_of web) Full)
-      None (located_of source web node)
+      None (flat_of (shapes web (table_of web)) node) (classes levels source web node)

@@ -3,8 +3,7 @@ use Rattle.std.specs.Prelude.{◌≡◌, ℕ, List, [], ◌++◌, drop, flat_map
 use Rattle.std.specs.Prelude.{slice_index_or}
 use Rattle.std.specs.List.{AllZip}
 use Rattle.tangle_lines.specs.declared.origin.Origin.{Origin}
-use Rattle.tangle_lexer.specs.declared.tokens.Token.{Token}
-use Rattle.tangle_lines.specs.Reading.{SourceLine, SourceRead}
+use Rattle.tangle_lines.specs.Reading.{SourceRead}
 use Rattle.tangle_scan.specs.ReadAsMeant.{IsMacroReadAsMeant, IsPieceReadAsMeant, all_macro_tokens}
 use Rattle.tangle_scan.specs.ReadAsMeant.{all_piece_tokens}
 use Rattle.tangle_scan.specs.ItemBytes.{piece_item_bytes}
@@ -46,18 +45,9 @@ module _ (numbers : NumbersRead) where
           opening_bytes piece.section ++ mark_bytes_at numbers piece.origin
           ++ items_bytes piece.items ++ closing_bytes piece.section
 
-      -- a C compiler reads the items of a piece with these tokens as the author means them, from the
-      -- mark of its opening up to its closing
-      abbrev pub IsWrittenAsMeant : List SourceLine → List Token → PieceRead → Type 0
-      IsWrittenAsMeant lines tokens piece =
-          (bytes : List ℕ)
-          × (piece_bytes piece
-          ≡ opening_bytes piece.section ++ mark_bytes_at numbers piece.origin
-          ++ bytes ++ closing_bytes piece.section)
-          × IsPieceReadAsMeant lines used_bytes bytes_after_mark numbers.macros tokens bytes
-
--- The bytes of the macros are those of each macro, one after another. In these bytes and in those of
--- each piece a C compiler reads the items as the author means them.
+-- The bytes of the macros are those of each macro, one after another. In these bytes, and in those
+-- of each piece from the mark of its opening up to its closing, a C compiler reads the items as the
+-- author means them.
 pub record AreWrittenAsMeant (source : SourceRead) (web : WebRead) (table : TableRead)
     (used : List ℕ → List Symbol) (numbers : NumbersRead) : Type 0 where
   pub macros_written : numbers.macros ≡ flat_map (macro_bytes web.texts) web.macros
@@ -65,5 +55,7 @@ pub record AreWrittenAsMeant (source : SourceRead) (web : WebRead) (table : Tabl
       (λ items tokens. IsMacroReadAsMeant web.texts tokens (macro_bytes web.texts items))
       web.macros (all_macro_tokens source.lines)
   pub pieces : AllZip
-      (λ piece tokens. IsWrittenAsMeant numbers table used web.texts source.lines tokens piece)
+      (λ piece tokens. IsPieceReadAsMeant source.lines (used_bytes numbers table used)
+      (bytes_after_mark numbers) numbers.macros tokens
+      (items_bytes numbers table used web.texts piece.items))
       web.pieces (all_piece_tokens source.lines)

@@ -1,14 +1,16 @@
 -- Writing a body from one of its tags on. Only private contracts cite these definitions.
-use Rattle.std.specs.Prelude.{◌≡◌, ◌+◌, ◌-◌, ◌^◌, ℕ, Bool, true, false, min, List, [], ◌∷◌, ◌++◌, take, drop}
+use Rattle.std.specs.Prelude.{◌≡◌, ◌+◌, ◌-◌, ◌^◌, ℕ, Bool, min, List, [], ◌∷◌, ◌++◌, take, drop}
 use Rattle.std.specs.Prelude.{Result}
 use Rattle.tangle_files.specs.Bytes.{space}
 use Rattle.tangle_streams.specs.declared.failures.WriteFault.{WriteFault}
 use Rattle.tangle_streams.specs.Streams.{Stream, IsWrittenAfter}
+use Rattle.tangle_scan.specs.ReadAsMeant.{is_empty}
 use Rattle.tangle_plans.specs.Flat.{Symbol}
 use Rattle.tangle_plans.specs.Meaning.{title_of, tags_flat, pieces_after, marks_after}
+use Rattle.tangle_plans.specs.Flat.{own_symbols}
+use Rattle.tangle_plans.specs.Shapes.{Program}
 use Rattle.tangle_plans.specs.declared.nodes.NodeBody.{NodeBody}
 use Rattle.tangle_plans.specs.declared.tags.ItemKind.{ItemKind}
-use Rattle.tangle_plans.specs.declared.tags.ItemKind.TheVariants as tag
 use Rattle.tangle_plans.specs.declared.tags.ItemTag.{ItemTag}
 use Rattle.tangle_expansion.specs.Numbers.{NumbersRead, expansion_bytes}
 use Rattle.tangle_expansion.specs.declared.cursor.Cursor.{Cursor}
@@ -19,13 +21,7 @@ bytes_between bytes start end = take (end - start) (drop start bytes)
 
 -- whether a tag of this kind has no symbols besides its bytes
 abbrev pub has_bytes_alone : ItemKind → Bool
-has_bytes_alone tag.PieceStart = false
-has_bytes_alone tag.Mark = false
-has_bytes_alone tag.AllMacros = false
-has_bytes_alone tag.Use = false
-has_bytes_alone tag.NoUse = false
-has_bytes_alone tag.PieceEnd = false
-has_bytes_alone _ = true
+has_bytes_alone k = is_empty (own_symbols Program 0 0 k)
 
 -- the cursor after a tag
 pub record IsAfterTag (at : Cursor) (t : ItemTag) (next : Cursor) : Type 0 where
@@ -45,14 +41,15 @@ module _ (body : NodeBody) (at : Cursor) where
   abbrev pub bytes_from : NumbersRead → List (List Symbol) → List ℕ
   bytes_from numbers used = expansion_bytes numbers (symbols_from used)
 
--- The text up to a use, or to the end, was written: `whole` are the bytes of all remaining symbols,
--- and `rest` those after the use, where used names have these symbols. The space of the use, and the
--- symbols of the name, come next.
-pub record WritesToUse (numbers : NumbersRead) (old new : Stream) (so_far result : Result ℕ WriteFault)
-    (whole rest : List (List Symbol) → List ℕ) : Type 0 where
+-- The bytes from a use on, where used names have these symbols: the space of the use, the symbols
+-- of the name, and the rest. There are none where there is no use.
+abbrev pub from_use : NumbersRead → (List (List Symbol) → List ℕ) → List (List Symbol) → List ℕ
+from_use numbers rest [] = []
+from_use numbers rest (symbols ∷ used) = space ∷ expansion_bytes numbers symbols ++ rest used
+
+-- the bytes of this whole were written, except for the rest
+pub record Wrote (old new : Stream) (so_far result : Result ℕ WriteFault)
+    (rest whole : List ℕ) : Type 0 where
   pub done : List ℕ
   pub writes : IsWrittenAfter old new so_far done result
-  pub none : whole [] ≡ done
-  pub next : (symbols : List Symbol) (used : List (List Symbol))
-      → whole (symbols ∷ used)
-      ≡ done ++ (space ∷ [] ++ (expansion_bytes numbers symbols ++ rest used))
+  pub split : done ++ rest ≡ whole

@@ -23,28 +23,16 @@ ghost use Rattle.std.specs.List.{AllByRecursion};
 ghost use Rattle.tangle_expansion.specs.Limits.{flat_of, heaviest, IsExpandableNode};
 ghost use Rattle.tangle_expansion.specs.Outputs.{IsTrueToLines};
 ghost use Rattle.tangle_expansion.specs.PieceBytes.{piece_bytes, AreWrittenAsMeant};
-ghost use Rattle.tangle_expansion.specs.Location.{LocatedSymbol, located, located_shapes};
-ghost use Rattle.tangle_expansion.specs.Location.{AreAtTheirOrigins};
+ghost use Rattle.tangle_expansion.specs.Location.{AreAtTheirOrigins, classes};
 
-/// The weight of a node is the number of symbols in its expansion.
-pub fn the_weight_is_the_length()
-    ensures { (fuel : ℕ) (shapes : Shapes) (node : Title) → weight fuel shapes node
-        ≡ length (flat fuel shapes node) }
-{}
-
-/// Without their classes, the located symbols of a node are its expansion. If the source items of
-/// each piece are at their lines, then in a whole output the counted origin at each byte of a
-/// source item outside stretches is that of the byte's source line.
+/// If the source items of each piece are at their lines, then in a whole output the counted origin
+/// at each byte of a source item outside stretches is that of the byte's source line.
 pub fn bytes_are_at_their_origins()
-    ensures symbols { (source : SourceRead) (web : WebRead) (table : TableRead) (fuel : ℕ)
-        (node : Title)
-        → map (λ (p : LocatedSymbol). p.symbol)
-        (located fuel (located_shapes source web table) node) ≡ flat fuel (shapes web table) node }
-    ensures origins { (source : SourceRead) (web : WebRead) (fuel : ℕ) (node : Title)
+    ensures { (source : SourceRead) (web : WebRead) (fuel : ℕ) (node : Title)
         (origin : Option Origin)
         → PiecesAreAtTheirLines source web
         → AreAtTheirOrigins (numbers_of web (table_of web) Full) origin
-        (located fuel (located_shapes source web (table_of web)) node) }
+        (flat fuel (shapes web (table_of web)) node) (classes fuel source web node) }
 {}
 
 /// The expansion of each node, written with marks in full, is true to lines if each piece is, which
@@ -52,6 +40,7 @@ pub fn bytes_are_at_their_origins()
 /// verbatim text or an ASCII constant is that of the byte's source line, except in stretches. Of
 /// all other bytes nothing is said: those of macros, blanks, line ends, marks and the comments
 /// around a piece.
+#[tactic(auto, using(crate::proofs::LineTruth::true_to_lines))]
 pub fn outputs_are_true_to_lines()
     ensures { (source : SourceRead) (web : WebRead) (node : Title)
         → PiecesAreAtTheirLines source web
@@ -63,6 +52,7 @@ pub fn outputs_are_true_to_lines()
 /// A node that is expandable after an edit, and not affected by it, was expandable before, with the
 /// same symbols. This holds whatever the edit redefines, resolves otherwise or renumbers, and
 /// whatever cycles it makes or removes.
+#[tactic(auto, using(crate::proofs::Unaffected::stays))]
 pub fn unaffected_nodes_stay()
     ensures { (levels limit : ℕ) (old new : Shapes) (node : Title)
         → IsExpandable levels limit new node → ¬ (IsAffected levels limit old new node)
@@ -72,6 +62,7 @@ pub fn unaffected_nodes_stay()
 /// An expandable node reaches no name that contains itself. So a caller that expands only
 /// expandable nodes needs no search for cycles. With any fuel, the depth and the weight of a node
 /// that reaches such a name are at least the fuel: the limit of depth alone excludes the node.
+#[tactic(auto, using(crate::proofs::Unaffected::no_cycle, crate::proofs::SameShapes::cycle_deep_and_heavy))]
 pub fn expandable_nodes_reach_no_cycle()
     ensures none { (levels limit : ℕ) (shapes : Shapes) (node other : Title)
         → IsExpandable levels limit shapes node → Reaches (Uses shapes) node other
@@ -86,6 +77,7 @@ pub fn expandable_nodes_reach_no_cycle()
 
 /// The expansion of a node, its capped weight and its capped depth follow from those of the names
 /// that the node uses.
+#[tactic(auto, using(crate::proofs::SameShapes::flat_by_uses, crate::proofs::SameShapes::weight_by_uses, crate::proofs::SameShapes::depth_by_uses))]
 pub fn nodes_expand_by_uses()
     ensures symbols { (levels : ℕ) (shapes : Shapes) (node : Title)
         → depth levels shapes node < levels
@@ -107,15 +99,9 @@ pub fn used_names_are_expandable()
         → shapes (Named name) ≢ [] → IsExpandable levels limit shapes (Named name) }
 {}
 
-/// The expansion of an expandable node has no more symbols than the limit of weight, which
-/// `write_text` requires.
-pub fn expandable_nodes_are_light()
-    ensures { (shapes : Shapes) (node : Title) → IsExpandableNode shapes node
-        → length (flat_of shapes node) ≤ heaviest }
-{}
-
 /// A body that determines the shape of its node gives the expansion of the node, where each use is
 /// replaced by the expansion of the used name.
+#[tactic(auto, using(crate::proofs::FilledLemmas::body_expands))]
 pub fn bodies_give_expansions()
     ensures { (names : List (List ℕ)) (shapes : Shapes) (levels : ℕ) (body : NodeBody)
         (symbols : ℕ → List Symbol)

@@ -24,10 +24,9 @@ pub use expanding::expand;
 pub use expansion::Expansion;
 pub use kept::Kept;
 pub use laws::{
-    bodies_give_expansions, bytes_are_at_their_origins, expandable_nodes_are_light,
-    expandable_nodes_reach_no_cycle, items_are_written_as_meant, nodes_are_written_by_pieces,
-    nodes_expand_by_uses, outputs_are_short, outputs_are_true_to_lines, the_weight_is_the_length,
-    unaffected_nodes_stay, used_names_are_expandable,
+    bodies_give_expansions, bytes_are_at_their_origins, expandable_nodes_reach_no_cycle,
+    items_are_written_as_meant, nodes_are_written_by_pieces, nodes_expand_by_uses,
+    outputs_are_short, outputs_are_true_to_lines, unaffected_nodes_stay, used_names_are_expandable,
 };
 pub use numbers::Numbers;
 pub use outputs::{Output, file_size, write_file};

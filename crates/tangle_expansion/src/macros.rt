@@ -74,6 +74,7 @@ fn is_dropped_at_end(web: &Web, item: Item) -> bool
 }
 
 /// The items up to the last one that is no blank, line end or backslash.
+#[tactic(auto, using(crate::proofs::MacroEndLemmas::dropped_at, crate::proofs::MacroEndLemmas::written_at))]
 fn without_end<'i>(web: &Web, items: &'i [Item]) -> &'i [Item]
     ensures { result.now ≡ without_end web.now.texts items.now }
 {

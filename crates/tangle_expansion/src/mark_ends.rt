@@ -1,6 +1,5 @@
 //! What comes after the number in the line marks of each file.
-ghost use Rattle.std.specs.Prelude.{◌≡◌, ◌<◌, ◌^◌, ◌++◌, map, vec_len, IfOk, OnOk};
-ghost use Rattle.std.specs.List.{All};
+ghost use Rattle.std.specs.Prelude.{◌≡◌, ◌++◌, map, IfOk, OnOk};
 ghost use Rattle.tangle_expansion.specs.Numbers.{escaped_byte, mark_end};
 
 use std::alloc::Global;
@@ -34,9 +33,8 @@ fn mark_end(alloc: Global, name: &[u8]) -> Result<Vec<u8>, NoMemory>
 
 /// What comes after the number in the line marks of each file of the web.
 pub(crate) fn mark_ends(alloc: Global, web: &Web) -> Result<Vec<Vec<u8>>, NoMemory>
-    ensures ends { IfOk result
+    ensures { IfOk result
         (λ ends. map (λ e. e.items) ends.items ≡ map mark_end web.now.file_names) }
-    ensures short { IfOk result (λ ends. All (λ e. vec_len e < 2 ^ 64) ends.items) }
 {
     let mut ends = Vec::new(alloc);
     for number in 0..web.file_count() {

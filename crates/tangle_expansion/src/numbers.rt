@@ -4,7 +4,7 @@ ghost use Rattle.tangle_names.specs.NameTable.{table_of};
 ghost use Rattle.tangle_plans.specs.Meaning.{title_of};
 ghost use Rattle.tangle_plans.specs.Nodes.{IsGroupedBy};
 ghost use Rattle.tangle_expansion.specs.Numbers.{node_numbers, numbers_of, mark_end};
-ghost use Rattle.tangle_expansion.specs.PieceNumbers.{row_number};
+ghost use Rattle.tangle_expansion.specs.Numbers.{row_number};
 ghost use Rattle.tangle_expansion.specs.SymbolLimits.{SymbolsAreShort};
 
 use crate::macros::macros_bytes;

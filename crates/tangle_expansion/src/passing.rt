@@ -1,5 +1,5 @@
 //! Passes tags of a body that is being written.
-ghost use Rattle.std.specs.Prelude.{◌≡◌, ◌≤◌, ◌+◌, ◌<◌, ◌^◌, ◌++◌, List, true};
+ghost use Rattle.std.specs.Prelude.{◌≡◌, ◌≤◌, ◌+◌, ◌<◌, ◌^◌, ◌++◌, List};
 ghost use Rattle.tangle_plans.specs.Flat.{Symbol};
 ghost use Rattle.tangle_expansion.specs.Numbers.{NumbersRead};
 ghost use Rattle.tangle_expansion.specs.Writing.{IsAfterTag, bytes_between, bytes_from};
@@ -7,20 +7,6 @@ ghost use Rattle.tangle_expansion.specs.Writing.{has_bytes_alone};
 
 use crate::cursor::Cursor;
 use tangle_plans::{ItemKind, ItemTag, NodeBody};
-
-/// The cursor after a tag that has no symbols besides its bytes.
-fn after_bytes_of(at: Cursor, tag: ItemTag) -> Cursor
-    requires tag { at.tag + 1 < 2 ^ 64 }
-    requires alone { has_bytes_alone tag.kind ≡ true }
-    ensures { IsAfterTag at tag result }
-{
-    Cursor {
-        tag: at.tag + 1,
-        piece: at.piece,
-        marks: at.marks,
-        start: at.start.saturating_add(tag.size as usize),
-    }
-}
 
 /// Whether a tag of this kind has no symbols besides its bytes.
 fn has_bytes_alone(kind: ItemKind) -> bool
@@ -52,7 +38,7 @@ pub(crate) fn after_bytes(body: &NodeBody, from: Cursor) -> Cursor
         if !has_bytes_alone(tag.kind) {
             return at;
         }
-        at = after_bytes_of(at, tag);
+        at = cursor_after(at, tag);
     }
     at
 }

@@ -1,12 +1,14 @@
 //! Writing an expansion.
-ghost use Rattle.std.specs.Prelude.{◌≡◌, ◌+◌, ◌^◌, ◌<◌, ◌≤◌, ◌++◌, decimal, length};
+ghost use Rattle.std.specs.Prelude.{◌≡◌, ◌+◌, ◌^◌, ◌<◌, ◌≤◌, ◌++◌, List, decimal, length};
 ghost use Rattle.tangle_streams.specs.Streams.{IsWritten, IsWrittenAfter};
 ghost use Rattle.tangle_expansion.specs.Limits.{heaviest};
-ghost use Rattle.tangle_plans.specs.Meaning.{title_of, own_symbols};
+ghost use Rattle.tangle_plans.specs.Flat.{Symbol};
+ghost use Rattle.tangle_plans.specs.Meaning.{title_of};
+ghost use Rattle.tangle_plans.specs.Flat.{own_symbols};
 ghost use Rattle.tangle_expansion.specs.Numbers.{node_numbers};
 ghost use Rattle.tangle_expansion.specs.Numbers.{opening_bytes, mark_bytes_at, expansion_bytes};
 ghost use Rattle.tangle_expansion.specs.SymbolLimits.{SymbolsAreShort};
-ghost use Rattle.tangle_expansion.specs.Writing.{WritesToUse, bytes_between, bytes_from};
+ghost use Rattle.tangle_expansion.specs.Writing.{Wrote, bytes_between, bytes_from, from_use};
 
 use crate::cursor::{Cursor, first_cursor};
 use crate::expansion::{Expansion, SharedExpansion};
@@ -154,9 +156,10 @@ fn write_to_use<S: Sink>(
 ) -> (Cursor, Result<u128, WriteFault>)
     requires { text.now.pieces
         ≡ node_numbers text.now.numbers.now (title_of text.now.body.now.name) }
-    ensures { WritesToUse text.now.numbers.now (S.stream sink.old) (S.stream sink.new)
-        so_far result.1 (bytes_from text.now.body.now from text.now.numbers.now)
-        (bytes_from text.now.body.now result.0 text.now.numbers.now) }
+    ensures { (used : List (List Symbol)) → Wrote (S.stream sink.old) (S.stream sink.new)
+        so_far result.1 (from_use text.now.numbers.now
+        (bytes_from text.now.body.now result.0 text.now.numbers.now) used)
+        (bytes_from text.now.body.now from text.now.numbers.now used) }
 {
     let body = text.body;
     let mut at = from;

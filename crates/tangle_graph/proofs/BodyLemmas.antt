@@ -1,12 +1,12 @@
 -- Bodies of nodes, and bodies that are read by their number.
-use Rattle.std.proofs.Common.{◌≡◌, ◌≢◌, ◌∙◌, ◌<◌, ◌≤◌, ◌↔◌, ℕ, Bool, true, false, not, List, [], length, map, get_or}
-use Rattle.std.proofs.Common.{refl, ap, sym, subst, arith, true≢false}
-use Rattle.std.specs.Prelude.{All, Contains, slice_get, Some}
+use Rattle.std.proofs.Common.{◌≡◌, ◌≢◌, ◌∙◌, ◌<◌, ◌↔◌, ℕ, zero, suc, Bool, true, false, not, List, [], ◌∷◌, length}
+use Rattle.std.proofs.Common.{refl, ap, sym, subst, arith, true≢false, map, get_or}
+use Rattle.std.specs.Prelude.{Contains, slice_get, Some}
 use Rattle.std.specs.Global.{Global}
 use Rattle.std.specs.declared.rc.Rc.{Rc}
 use Rattle.std.proofs.lemmas.List.{get_or-map, length-map}
 use Rattle.std.proofs.lemmas.List.Elements.{All-contains}
-use Rattle.std.proofs.lemmas.Option.{get_or_from_slice_get, same_Some, slice_get-get_or, slice_get_within}
+use Rattle.std.proofs.lemmas.Option.{get_or_from_slice_get, slice_get_read, slice_get_within}
 use Rattle.digraph.specs.Graph.{row_at}
 use Rattle.tangle_names.proofs.ContainsLemmas.{into_map, out_of_map}
 use Rattle.tangle_plans.specs.Nodes.{title_at}
@@ -15,8 +15,7 @@ use Rattle.tangle_plans.specs.NodeBodies.{body_uses}
 use Rattle.tangle_plans.specs.Shapes.{Named, Shape, Shapes, Uses}
 use Rattle.tangle_plans.proofs.ShapeLemmas.{bodies_decide}
 use Rattle.tangle_plans.specs.declared.nodes.NodeBody.{NodeBody}
-use Rattle.tangle_graph.specs.Bodies.{AreBodiesOf, IsBodyOf, node_bodies}
-use Rattle.tangle_graph.proofs.GroupLemmas.{shape_uses}
+use Rattle.tangle_graph.specs.Bodies.{IsBodyOf, node_bodies}
 
 -- a part of a body, read from the rows of this part of all bodies
 pub part_read : {Y : Type 0} (f : NodeBody → List Y) (bodies : List NodeBody) (n : ℕ) (body : NodeBody)
@@ -25,50 +24,33 @@ part_read f bodies n body at =
     get_or-map f bodies n body [] (slice_get_within bodies n body at)
     ∙ ap f (get_or_from_slice_get bodies n body body at)
 
+pub some_at : {X : Type 0} (xs : List X) (n : ℕ) → n < length xs → (x : X) × (slice_get xs n ≡ Some x)
+some_at [] n h = absurd (omega (arith, h))
+some_at (x ∷ xs) zero h = (x, refl)
+some_at (x ∷ xs) (suc n) h = some_at xs n (omega (arith, h))
+
 -- a body that is read by its number
-module _ (bodies : List (Rc NodeBody Global)) (n : ℕ) where
-  pub read : (body : Rc NodeBody Global)
-      → n < length bodies → body ≡ get_or bodies n body → slice_get (node_bodies bodies) n ≡ Some body.value
-  read body low same =
-      slice_get-get_or (node_bodies bodies) n body.value
-      (omega (arith, low, length-map bodies (λ (t : Rc NodeBody Global). t.value)))
-      ∙ ap Some (get_or-map (λ (t : Rc NodeBody Global). t.value) bodies n body body.value low
-      ∙ ap (λ (t : Rc NodeBody Global). t.value) (sym same))
+pub read : (bodies : List (Rc NodeBody Global)) (n : ℕ) (body : Rc NodeBody Global)
+    → n < length bodies → body ≡ get_or bodies n body → slice_get (node_bodies bodies) n ≡ Some body.value
+read bodies n body low same = slice_get_read (node_bodies bodies) (length bodies) n body.value
+    (sym (length-map bodies (λ (t : Rc NodeBody Global). t.value))) low
+    (ap (λ (t : Rc NodeBody Global). t.value) same
+    ∙ sym (get_or-map (λ (t : Rc NodeBody Global). t.value) bodies n body body.value low))
 
-  pub uses_of_read : (P : ℕ → Type 0) (body : Rc NodeBody Global)
-      → All (All P) (map body_uses (node_bodies bodies))
-      → n < length bodies → body ≡ get_or bodies n body → All P (body_uses body.value)
-  uses_of_read P body all low same =
-      let had = read body low same in
-      subst (All P) (part_read body_uses (node_bodies bodies) n body.value had)
-      (all n [] (omega (
-        arith,
-        slice_get_within (node_bodies bodies) n body.value had,
-        length-map (node_bodies bodies) body_uses,
-      )))
+-- the names with the numbers that a body has are those that its node uses
+module _ (shapes : Shapes) (names : List (List ℕ))
+    (node : ℕ) (body : NodeBody) (is : IsBodyOf shapes names node body) where
+  pub used_name : (id : ℕ) → Contains (body_uses body) id
+      → Uses shapes (title_at names node) (Named (get_or names id []))
+  used_name id c = subst (λ l. Contains l (get_or names id [])) is.shape.names_used
+      (into_map (λ k. get_or names k []) (body_uses body) id c)
 
-module _ (shapes : Shapes) (names : List (List ℕ)) where
-  -- the body with a node's number is the node's
-  pub body_of : (bodies : List NodeBody) (n : ℕ) (body : NodeBody)
-      → AreBodiesOf shapes names bodies → n ≤ length names → slice_get bodies n ≡ Some body → IsBodyOf shapes names n body
-  body_of bodies n body are low at =
-      let found = are.each n low in
-      subst (IsBodyOf shapes names n) (same_Some found.0 body (sym found.1 ∙ at)) found.2
-
-  -- the names with the numbers that a body has are those that its node uses
-  module _ (node : ℕ) (body : NodeBody) (is : IsBodyOf shapes names node body) where
-    pub used_name : (id : ℕ) → Contains (body_uses body) id → Uses shapes (title_at names node) (Named (get_or names id []))
-    used_name id c = (shape_uses (shapes (title_at names node)) (get_or names id [])).0
-        (subst (λ l. Contains l (get_or names id [])) is.shape.names_used
-        (into_map (λ k. get_or names k []) (body_uses body) id c))
-
-    pub name_used : (name : List ℕ) → Uses shapes (title_at names node) (Named name)
-        → (id : ℕ) × Contains (body_uses body) id × (id < length names) × (get_or names id [] ≡ name)
-    name_used name u =
-        let found = out_of_map (λ k. get_or names k []) (body_uses body) name
-        (subst (λ l. Contains l name) (sym is.shape.names_used)
-        ((shape_uses (shapes (title_at names node)) name).1 u)) in
-        (found.0, found.1, All-contains (λ id. id < length names) (body_uses body) found.0 is.inside found.1, found.2)
+  pub name_used : (name : List ℕ) → Uses shapes (title_at names node) (Named name)
+      → (id : ℕ) × Contains (body_uses body) id × (id < length names) × (get_or names id [] ≡ name)
+  name_used name u =
+      let found = out_of_map (λ k. get_or names k []) (body_uses body) name
+      (subst (λ l. Contains l name) (sym is.shape.names_used) u) in
+      (found.0, found.1, All-contains (λ id. id < length names) (body_uses body) found.0 is.inside found.1, found.2)
 
 -- whether the shape of a node that had a body is new
 pub new_unless_same : (names old_names : List (List ℕ)) (body before : NodeBody) (s t : Shape) (same : Bool)

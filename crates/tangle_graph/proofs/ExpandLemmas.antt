@@ -17,7 +17,7 @@ use Rattle.tangle_graph.specs.Measures.{measure_at, no_piece_measure}
 use Rattle.tangle_graph.specs.Stores.{StoreRead, IsNodeIn, IsStoreOf, KeepsUsed, body_at, is_expandable_at}
 use Rattle.tangle_graph.specs.Stores.{title_in_store}
 use Rattle.tangle_graph.specs.declared.measures.Measure.{Measure}
-use Rattle.tangle_graph.proofs.BodyLemmas.{body_of, used_name}
+use Rattle.tangle_graph.proofs.BodyLemmas.{used_name}
 use Rattle.tangle_graph.proofs.StoreLemmas.{expandable_is}
 
 -- an expandable node is a node of the store
@@ -46,7 +46,7 @@ pub expanded_right : (shapes : Shapes) (store : StoreRead) (kept : Kept) (node :
     → body_flat body (map (used_symbols kept) (body_uses body)) ≡ flat_of shapes (title_in_store store node)
 expanded_right shapes store kept node body is e keeps at =
     let here = expandable_in shapes store is node e in
-    let own = body_of shapes store.names store.bodies node body is.bodies here at in
+    let own = is.bodies.each node body at in
     rw (← own.title) (body_expands store.names shapes levels body (used_symbols kept)
     (rw own.title own.shape) (rw own.title ((expandable_at shapes store is node here).0 e).shallow)
     (λ id c. keeps id (record {

@@ -5,6 +5,7 @@ use Rattle.std.specs.List.{IsDistinct}
 use Rattle.std.specs.Str.{bytes_eq}
 use Rattle.std.specs.Prelude.{Some, slice_get}
 use Rattle.std.proofs.lemmas.List.{length-map}
+use Rattle.std.proofs.lemmas.Option.{slice_get_within}
 use Rattle.std.proofs.lemmas.List.Elements.{All-contains, All-from_get_or}
 use Rattle.tangle_scan.specs.Web.{WebRead}
 use Rattle.tangle_names.specs.NameTable.{TableRead, table_of}
@@ -14,17 +15,16 @@ use Rattle.tangle_plans.specs.NodeBodies.{body_uses}
 use Rattle.tangle_plans.specs.Nodes.{pieces_at, no_piece, title_at}
 use Rattle.tangle_plans.specs.Shapes.{Title, Named, Shapes, Uses}
 use Rattle.tangle_plans.specs.Shapes as title
-use Rattle.tangle_plans.specs.WebShapes.{ResolvesInside, pieces_of}
+use Rattle.tangle_plans.specs.WebShapes.{ResolvesInside, is_piece_of, pieces_of}
 use Rattle.tangle_plans.specs.declared.nodes.NodeBody.{NodeBody}
 use Rattle.tangle_plans.proofs.InsideLemmas.{table_inside}
 use Rattle.digraph.specs.Graph.{Graph, HasUse, row_at}
 use Rattle.digraph.specs.Rows.{IsRowsOf}
 use Rattle.digraph.proofs.GraphLemmas.{node_in}
 use Rattle.tangle_graph.specs.Bodies.{AreBodiesOf}
-use Rattle.tangle_graph.specs.Grouping.{is_piece_of_node, positions_of}
+use Rattle.tangle_graph.specs.Grouping.{positions_of}
 use Rattle.tangle_graph.specs.NameGraphs.{AreUsesOf}
-use Rattle.tangle_graph.proofs.BodyLemmas.{name_used, part_read, used_name}
-use Rattle.tangle_graph.proofs.GroupLemmas.{pieces_by_number}
+use Rattle.tangle_graph.proofs.BodyLemmas.{name_used, part_read, some_at, used_name}
 use Rattle.tangle_graph.proofs.NodeLemmas.{title_inside}
 use Rattle.tangle_graph.proofs.RowLemmas.{positions_below, positions_read}
 
@@ -41,14 +41,13 @@ module _ (web : WebRead) (table : TableRead) (ours : table ≡ table_of web) whe
         → pieces_at web.pieces (row_at rows n) ≡ pieces_of web table (title_at table.names n)
     pieces_are n low =
         ap (pieces_at web.pieces) (grouped.row n (omega (arith, low)))
-        ∙ positions_read (is_piece_of_node table n) [] web.pieces no_piece
-        ∙ pieces_by_number table distinct_names resolves_inside web n low
+        ∙ positions_read (is_piece_of table (title_at table.names n)) [] web.pieces no_piece
 
     -- the positions of pieces are numbers of pieces
     pub pieces_inside : All (All (λ i. i < length web.pieces)) rows
     pieces_inside = All-from_get_or (All (λ i. i < length web.pieces)) rows []
         (λ n h. subst (All (λ i. i < length web.pieces)) (sym (grouped.row n (omega (arith, h, grouped.size))))
-        (positions_below (is_piece_of_node table n) 0 (length web.pieces) web.pieces (omega arith)))
+        (positions_below (is_piece_of table (title_at table.names n)) 0 (length web.pieces) web.pieces (omega arith)))
 
 module _ (shapes : Shapes) (names : List (List ℕ)) (bodies : List NodeBody) (uses : Graph)
     (are : AreBodiesOf shapes names bodies) (used : AreUsesOf (map body_uses bodies) uses) where
@@ -56,34 +55,35 @@ module _ (shapes : Shapes) (names : List (List ℕ)) (bodies : List NodeBody) (u
   uses_count = used.size ∙ length-map bodies body_uses ∙ are.size
 
   -- each name that the body of a node has is a use of the node
-  pub use_up : (n id : ℕ) (body : NodeBody) → n ≤ length names → slice_get bodies n ≡ Some body
+  pub use_up : (n id : ℕ) (body : NodeBody) → slice_get bodies n ≡ Some body
       → Contains (body_uses body) id → HasUse uses n (suc id)
-  use_up n id body low at c =
-      ((used.once n (omega (arith, low, used.size, uses_count))).same (suc id)).1
+  use_up n id body at c =
+      ((used.once n (omega (arith, slice_get_within bodies n body at, length-map bodies body_uses))).same (suc id)).1
       (into_map suc (row_at (map body_uses bodies) n) id
       (subst (λ r. Contains r id) (sym (part_read body_uses bodies n body at)) c))
 
   pub sound : (n m : ℕ) → HasUse uses n m → Uses shapes (title_at names n) (title_at names m)
   sound n m u =
       let inside : n < length uses = node_in uses n m u in
-      let body = are.each n (omega (arith, inside, uses_count)) in
+      let own = some_at bodies n (omega (arith, inside, uses_count, are.size)) in
+      let body = own.0 in
+      let is = are.each n body own.1 in
       let found = out_of_map suc (row_at (map body_uses bodies) n) m
       (((used.once n (omega (arith, inside, used.size))).same m).0 u) in
-      let c = subst (λ r. Contains r found.0) (part_read body_uses bodies n body.0 body.1) found.1 in
-      let within = All-contains (λ id. id < length names) (body_uses body.0) found.0 body.2.inside c in
+      let c = subst (λ r. Contains r found.0) (part_read body_uses bodies n body own.1) found.1 in
+      let within = All-contains (λ id. id < length names) (body_uses body) found.0 is.inside c in
       subst (Uses shapes (title_at names n))
       (sym (title_inside names found.0 within) ∙ ap (title_at names) found.2)
-      (used_name shapes names n body.0 body.2 found.0 c)
+      (used_name shapes names n body is found.0 c)
 
   pub complete : (n : ℕ) (t : Title) → n < length uses → Uses shapes (title_at names n) t
       → (m : ℕ) × HasUse uses n m × (m < length uses) × (title_at names m ≡ t)
   complete n title.Program h u = absurd u
   complete n (Named name) h u =
-      let low : n ≤ length names = omega (arith, h, uses_count) in
-      let body = are.each n low in
-      let found = name_used shapes names n body.0 body.2 name u in (
+      let own = some_at bodies n (omega (arith, h, uses_count, are.size)) in
+      let found = name_used shapes names n own.0 (are.each n own.0 own.1) name u in (
         suc found.0,
-        use_up n found.0 body.0 low body.1 found.1,
+        use_up n found.0 own.0 own.1 found.1,
         omega (arith, found.2, uses_count),
         title_inside names found.0 found.2 ∙ ap Named found.3,
       )

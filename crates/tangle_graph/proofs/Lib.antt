@@ -5,7 +5,7 @@ mod RowLemmas
 mod MeasureLemmas
 mod OrderLemmas
 mod StepLemmas
-mod FirstLemmas
+mod ListLemmas
 mod GraphLemmas
 pub mod StoreLemmas
 mod BodyLemmas
@@ -18,6 +18,5 @@ mod StoreIs
 pub mod OutputLemmas
 mod OrderingLemmas
 pub mod FaultLemmas
-pub mod WeightLemmas
 mod NameGraphLemmas
 pub mod StoredLemmas

@@ -8,7 +8,7 @@ use Rattle.std.specs.Str.{bytes_eq}
 use Rattle.std.proofs.Math.Decide.{dec_lt}
 use Rattle.std.proofs.lemmas.List.{get_or-map, get_or_append_left, get_or_push, length-map, map-append, take_more}
 use Rattle.std.proofs.lemmas.Slice.Eq.{bytes_eq-Decides}
-use Rattle.std.proofs.lemmas.Option.{get_or_from_slice_get}
+use Rattle.std.proofs.lemmas.Option.{slice_get-get_or, slice_get_within}
 use Rattle.std.proofs.lemmas.List.Elements.{All-contains, All-map, All-from_get_or, Contains-get_or}
 use Rattle.std.proofs.lemmas.Bool.{not-false}
 use Rattle.tangle_names.proofs.ContainsLemmas.{into_map, out_of_map}
@@ -19,19 +19,17 @@ use Rattle.digraph.specs.Graph.{Graph, InRange, row_at}
 use Rattle.digraph.specs.Rows.{IsOnceEach}
 use Rattle.tangle_graph.specs.Bodies.{AreBodiesOf, node_bodies}
 use Rattle.tangle_graph.specs.NameGraphs.{AreUsesOf}
-use Rattle.tangle_graph.proofs.BodyLemmas.{uses_of_read}
+use Rattle.tangle_graph.proofs.BodyLemmas.{part_read, read}
 
 -- the nodes of the names that bodies use have bodies
 pub uses_inside : (shapes : Shapes) (names : List (List ℕ)) (bodies : List (Rc NodeBody Global))
     → AreBodiesOf shapes names (node_bodies bodies)
     → All (All (λ id. suc id < length bodies)) (map body_uses (node_bodies bodies))
 uses_inside shapes names bodies are =
-    All-map (All (λ id. suc id < length bodies)) body_uses (node_bodies bodies)
-    (λ k d h. (let found = are.each k (omega (arith, h, are.size)) in
-    subst (λ (body : NodeBody). All (λ id. suc id < length bodies) (body_uses body))
-    (sym (get_or_from_slice_get (node_bodies bodies) k found.0 d found.1))
-    (λ i e low. (let inside = found.2.inside i e low in
-    omega (arith, inside, are.size, length-map bodies (λ (t : Rc NodeBody Global). t.value))))))
+    All-map (All (λ id. suc id < length bodies)) body_uses (node_bodies bodies) (λ k d h i e low. (
+    let own = are.each k (get_or (node_bodies bodies) k d) (slice_get-get_or (node_bodies bodies) k d h) in
+    let inside = own.inside i e low in
+    omega (arith, inside, are.size, length-map bodies (λ (t : Rc NodeBody Global). t.value))))
 
 module _ (ids : List (List ℕ)) (rows : Graph) (are : AreUsesOf ids rows) where
   pub each_increasing : All IsStrictlyIncreasing rows
@@ -85,9 +83,15 @@ pub once_all : (P : ℕ → Type 0) (bodies : List (Rc NodeBody Global)) (i : �
     → i < length bodies → body ≡ get_or bodies i body
     → All (All P) (map body_uses (node_bodies bodies)) → IsOnceEach (body_uses body.value) once
     → All P once
-once_all P bodies i body once low read all is = All-from_get_or P once 0
-    (λ k h. All-contains P (body_uses body.value) (get_or once k 0)
-    (uses_of_read bodies i P body all low read)
+once_all P bodies i body once low same all is =
+    let had = read bodies i body low same in
+    let used : All P (body_uses body.value) = subst (All P) (part_read body_uses (node_bodies bodies) i body.value had)
+    (all i [] (omega (
+      arith,
+      slice_get_within (node_bodies bodies) i body.value had,
+      length-map (node_bodies bodies) body_uses,
+    ))) in
+    All-from_get_or P once 0 (λ k h. All-contains P (body_uses body.value) (get_or once k 0) used
     ((is.same (get_or once k 0)).0 (Contains-get_or once k 0 h)))
 
 -- lists of numbers that a test finds equal

@@ -7,7 +7,7 @@ use Rattle.tangle_plans.specs.Shapes as title
 use Rattle.tangle_plans.specs.declared.nodes.NodeBody.{NodeBody}
 use Rattle.tangle_graph.specs.Plans.{AreNewBodies}
 use Rattle.tangle_graph.specs.Stores.{AreNewShapes, StoreRead, IsStoreOf, IsNodeIn, title_in_store}
-use Rattle.tangle_graph.proofs.BodyLemmas.{name_used}
+use Rattle.tangle_graph.proofs.BodyLemmas.{name_used, some_at}
 use Rattle.tangle_graph.proofs.NodeLemmas.{title_inside}
 
 -- a title with a piece is the title of a node
@@ -31,8 +31,8 @@ pub used_node : (shapes : Shapes) (store : StoreRead) (node : Node) (name : List
     → IsNodeIn store node → Uses shapes (title_in_store store node) (Named name)
     → (a : Node) × IsNodeIn store a × (title_in_store store a ≡ Named name)
 used_node shapes store node name is inside u =
-    let own = is.bodies.each node inside in
-    let found = name_used shapes store.names node own.0 own.2 name u in
+    let own = some_at store.bodies node (omega (arith, inside, is.bodies.size)) in
+    let found = name_used shapes store.names node own.0 (is.bodies.each node own.0 own.1) name u in
     (suc found.0, omega (arith, found.2), title_inside store.names found.0 found.2 ∙ ap Named found.3)
 
 -- the flags of the bodies of a store are those of its new shapes
@@ -40,8 +40,9 @@ pub new_shapes_of : (old store : StoreRead) (names : List (List ℕ)) (bodies : 
     → store.names ≡ names → store.bodies ≡ bodies → AreNewBodies old names bodies flags → AreNewShapes old store flags
 new_shapes_of old store names bodies flags named same are = λ before after before_is after_is node inside.
     let new : AreNewBodies old store.names store.bodies flags = rw (named, same) are in
-    let own = after_is.bodies.each node inside in
-    new node own.0 own.1 before (after (title_in_store store node)) before_is own.2.shape
+    let own = some_at store.bodies node (omega (arith, inside, after_is.bodies.size)) in
+    new node own.0 own.1 before (after (title_in_store store node)) before_is
+    (after_is.bodies.each node own.0 own.1).shape
 
 pub some_unless : {X : Type 0} (o : Option X) → (o ≡ None → ⊥) → IsSome o
 some_unless None h = absurd (h refl)

@@ -1,6 +1,6 @@
 -- Nodes and their titles.
 use Rattle.std.proofs.Common.{◌≡◌, ◌∙◌, ◌<◌, ◌≤◌, ℕ, zero, suc, true, List, [], length, get_or, refl, ap, sym}
-use Rattle.std.proofs.Common.{arith, Some, None, false}
+use Rattle.std.proofs.Common.{arith, Some, None, false, true≢false}
 use Rattle.std.specs.List.{position, position_or_len}
 use Rattle.std.specs.List.{IsDistinct}
 use Rattle.std.specs.Str.{bytes_eq}
@@ -25,15 +25,14 @@ pub once_named : (names : List (List ℕ)) (n m : ℕ)
 once_named names n m distinct hn hm e = elim (ℕ_discrete n m) [
   | yes same ↦ same
   | no other ↦ elim (dec_lt n m) [
-    | yes low ↦ absurd (let apart = apart_from_distinct bytes_eq names n m [] distinct low hm in
-        let is = (bytes_eq-Decides (get_or names n []) (get_or names m [])).1 e in
-        let both : true ≡ false = sym is ∙ apart in cc)
-    | no high ↦
-        absurd (let apart = apart_from_distinct bytes_eq names m n [] distinct (omega (arith, high, other)) hn in
-        let is = (bytes_eq-Decides (get_or names m []) (get_or names n [])).1 (sym e) in
-        let both : true ≡ false = sym is ∙ apart in cc)
+    | yes low ↦ absurd (later n m low hm e)
+    | no high ↦ absurd (later m n (omega (arith, high, other)) hn (sym e))
   ]
 ]
+  where
+    later : (a b : ℕ) → a < b → b < length names → get_or names a [] ≡ get_or names b [] → ⊥
+    later a b low h same = true≢false (sym ((bytes_eq-Decides (get_or names a []) (get_or names b [])).1 same)
+        ∙ apart_from_distinct bytes_eq names a b [] distinct low h)
 
 -- each title has one node
 pub once_titled : (names : List (List ℕ)) (n m : ℕ)

@@ -1,28 +1,28 @@
 -- What holds of each output file of a web.
-use Rattle.std.proofs.Common.{◌≡◌, ◌<◌, ◌==◌, suc, ◌||◌, ℕ, Bool, true, false, List, [], ◌∷◌, length, map, filter}
-use Rattle.std.proofs.Common.{flat_map, refl, sym, subst, inl, inr, arith}
-use Rattle.std.specs.Prelude.{not, if◌then◌else◌, Contains, All, option_to_list}
+use Rattle.std.proofs.Common.{◌≡◌, ◌<◌, ◌||◌, ℕ, Bool, true, false, List, [], ◌∷◌, length, map, filter}
+use Rattle.std.proofs.Common.{refl, sym, subst, inl, inr, arith}
+use Rattle.std.specs.Prelude.{not, if◌then◌else◌, Contains, All}
+use Rattle.std.specs.List.{range_with_len}
 use Rattle.std.specs.Str.{bytes_eq}
 use Rattle.std.proofs.lemmas.Bool.{and_parts}
-use Rattle.std.proofs.lemmas.List.Elements.{All-cons, All-nil, All-contains, All-filter}
+use Rattle.std.proofs.lemmas.List.Elements.{All-contains, All-filter}
 use Rattle.std.proofs.lemmas.List.Elements.{Contains-append_cases, Contains-push_cases}
 use Rattle.tangle_scan.specs.Web.{WebRead}
-use Rattle.tangle_names.specs.declared.Resolved.{Resolved}
-use Rattle.tangle_names.specs.declared.Resolved.TheVariants as resolved
 use Rattle.tangle_names.specs.NameTable.{TableRead}
 use Rattle.tangle_names.proofs.ContainsLemmas.{out_of_filter, out_of_map}
 use Rattle.tangle_expansion.specs.Limits.{IsExpandableNode}
 use Rattle.tangle_expansion.specs.Outputs.{OutputRead}
-use Rattle.tangle_plans.specs.WebShapes.{shapes, resolved_at, IsNameBelow, ResolvesInside}
+use Rattle.tangle_plans.specs.ItemTags.{uses_resolved}
+use Rattle.tangle_plans.specs.WebShapes.{name_at, shapes, resolved_at, ResolvesInside}
 use Rattle.tangle_plans.specs.Shapes.{Named, Shapes}
 use Rattle.tangle_plans.specs.Shapes as title
-use Rattle.digraph.specs.Nodes.{program}
 use Rattle.tangle_plans.specs.Nodes.{title_at}
-use Rattle.tangle_graph.specs.Grouping.{resolved_number}
+use Rattle.tangle_graph.specs.Grouping.{has_number_in}
 use Rattle.tangle_graph.specs.Nodes.{IsNodeOf}
-use Rattle.tangle_graph.specs.Outputs.{shape_has_piece, is_expandable, firsts, file_occurrences, file_names}
-use Rattle.tangle_graph.specs.Outputs.{name_with_number, named_file, main_file, is_written, outputs}
-use Rattle.tangle_graph.proofs.GroupLemmas.{all_flat}
+use Rattle.tangle_graph.specs.Outputs.{shape_has_piece, is_expandable, file_names, first_file_name}
+use Rattle.tangle_graph.specs.Outputs.{main_output, named_file, main_file, is_written, outputs, first_file_occurrence}
+use Rattle.tangle_graph.proofs.GroupLemmas.{resolved_below}
+use Rattle.tangle_graph.proofs.ListLemmas.{all_flat}
 use Rattle.tangle_graph.proofs.NodeLemmas.{title_inside}
 use Rattle.tangle_graph.proofs.StoreLemmas.{expandable_is, no_pieces}
 
@@ -39,38 +39,17 @@ one_where true x y c = elim (Contains-push_cases [] x y c) [
 ]
 one_where false x y c = absurd (omega (arith, c.1))
 
-all_firsts : (P : ℕ → Type 0) (ns : List ℕ) → All P ns → All P (firsts ns)
-all_firsts P [] all = all
-all_firsts P (n ∷ ns) all =
-    All-cons P n (filter (λ m. not (m == n)) (firsts ns)) (all 0 n (omega arith))
-    (All-filter (λ m. not (m == n)) P (firsts ns) (all_firsts P ns (λ i d h. all (suc i) d (omega (arith, h)))))
-
 module _ (web : WebRead) (table : TableRead) (resolves : ResolvesInside table) where
-  below_one : (r : Resolved)
-      → IsNameBelow (length table.names) r → All (λ id. id < length table.names) (option_to_list (resolved_number r))
-  below_one (resolved.Name id) h =
-      All-cons (λ id. id < length table.names) id [] h (All-nil (λ id. id < length table.names))
-  below_one resolved.NoFullName h = All-nil (λ id. id < length table.names)
-  below_one resolved.Ambiguous h = All-nil (λ id. id < length table.names)
-
   pub names_below : All (λ id. id < length table.names) (file_names web table)
-  names_below =
-      all_firsts (λ id. id < length table.names)
-      (flat_map (λ occurrence. option_to_list (resolved_number (resolved_at table occurrence)))
-      (file_occurrences web table))
-      (all_flat (λ id. id < length table.names)
-      (λ occurrence. option_to_list (resolved_number (resolved_at table occurrence)))
-      (λ occurrence. below_one (resolved_at table occurrence) (resolves occurrence)) (file_occurrences web table))
+  names_below = all_flat (λ id. id < length table.names) (first_file_name table)
+      (λ k. All-filter (λ id. has_number_in k (first_file_occurrence table id)) (λ id. id < length table.names)
+      (uses_resolved (resolved_at table k)) (resolved_below (length table.names) (resolved_at table k) (resolves k)))
+      (range_with_len 0 (length web.occurrences))
 
   module _ (out : List ℕ) where
     main_fits : (not (shape_has_piece (shapes web table title.Program))
         || is_expandable (shapes web table) title.Program) ≡ true
-        → IsFit (shapes web table) table.names (record {
-          name = out;
-          node = program;
-          has_macros = not web.has_all_macros;
-          has_piece = shape_has_piece (shapes web table title.Program);
-        })
+        → IsFit (shapes web table) table.names (main_output web table out)
     main_fits h = record {
       inside = omega arith;
       there = λ t. (expandable_is (shapes web table) title.Program).0
@@ -87,9 +66,9 @@ module _ (web : WebRead) (table : TableRead) (resolves : ResolvesInside table) w
     named_fits id h is = record {
       inside = h;
       there = λ t. subst (IsExpandableNode (shapes web table)) (sym (title_inside table.names id h))
-          ((expandable_is (shapes web table) (Named (name_with_number table id))).0
-          (and_parts (is_expandable (shapes web table) (Named (name_with_number table id)))
-          (not (bytes_eq (name_with_number table id) out)) is).0);
+          ((expandable_is (shapes web table) (Named (name_at table id))).0
+          (and_parts (is_expandable (shapes web table) (Named (name_at table id)))
+          (not (bytes_eq (name_at table id) out)) is).0);
       none = λ f. absurd (let no : true ≡ false = f in cc);
     }
 
@@ -99,12 +78,7 @@ module _ (web : WebRead) (table : TableRead) (resolves : ResolvesInside table) w
         (map (named_file table) (filter (is_written web table out) (file_names web table))) output c) [
           | inl main ↦ (let found = one_where
               (not (shape_has_piece (shapes web table title.Program)) || is_expandable (shapes web table) title.Program)
-              (record {
-                name = out;
-                node = program;
-                has_macros = not web.has_all_macros;
-                has_piece = shape_has_piece (shapes web table title.Program);
-              }) output main in
+              (main_output web table out) output main in
               subst (IsFit (shapes web table) table.names) found.1
               (main_fits found.0))
           | inr named ↦ (let found =

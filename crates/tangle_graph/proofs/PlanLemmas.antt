@@ -1,11 +1,12 @@
 -- Bodies that are made of the pieces of a node.
-use Rattle.std.proofs.Common.{◌≡◌, ◌≢◌, ◌∙◌, ◌<◌, ◌↔◌, ℕ, true, List, [], length, map, get_or, refl, ap, sym, subst, arith}
+use Rattle.std.proofs.Common.{◌≡◌, ◌≢◌, ◌∙◌, ◌<◌, ◌↔◌, ◌==◌, ℕ, not, true, List, [], length, map, get_or}
+use Rattle.std.proofs.Common.{refl, ap, sym, subst, arith}
 use Rattle.std.specs.Prelude.{All}
 use Rattle.std.proofs.lemmas.List.{length-map}
 use Rattle.digraph.specs.Graph.{row_at}
 use Rattle.digraph.specs.Nodes.{Node}
 use Rattle.tangle_scan.specs.Web.{PieceRead}
-use Rattle.tangle_plans.specs.Nodes.{pieces_at, no_piece, row_has_piece, title_at}
+use Rattle.tangle_plans.specs.Nodes.{pieces_at, no_piece, title_at}
 use Rattle.tangle_plans.specs.NodeBodies.{ItemsRead, AreItemsOf, HaveOneShape, HoldsShape, body_items, body_title}
 use Rattle.tangle_plans.specs.NodeBodies.{body_uses, names_at}
 use Rattle.tangle_plans.specs.Shapes.{Shape}
@@ -74,12 +75,12 @@ module _ (grouped : GroupedWeb) (is : IsGrouped grouped) (node : Node) (inside :
   -- whether the shape of a node that had no piece is new
   pub new_if_pieces : (body : NodeBody) (s t : Shape)
       → IsBodyOf (shapes grouped.web.now grouped.table.now) names node body
-      → HoldsShape names s body → t ≡ [] → ((row_has_piece row ≡ true) ↔ (s ≢ t))
+      → HoldsShape names s body → t ≡ [] → ((not (length row == 0) ≡ true) ↔ (s ≢ t))
   new_if_pieces body s t has held none =
       let same : shapes grouped.web.now grouped.table.now (title_at names node) ≡ s =
       (bodies_decide names names body body _ s has.shape held).0
       (record { tags = refl; bytes = refl; names_used = refl }) in
-      subst (λ u. (row_has_piece row ≡ true) ↔ (s ≢ u)) (sym none)
+      subst (λ u. (not (length row == 0) ≡ true) ↔ (s ≢ u)) (sym none)
       (piece_of_row row s (ap length (sym same)
       ∙ length-map pieces (λ (p : PieceRead). map (shape_item grouped.web.now.texts grouped.table.now) p.items)
       ∙ ap length (sym given) ∙ length-map row (λ n. get_or grouped.web.now.pieces n no_piece)))

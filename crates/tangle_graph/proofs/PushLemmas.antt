@@ -1,5 +1,5 @@
 -- One more body, with its flag.
-use Rattle.std.proofs.Common.{◌≡◌, ◌∙◌, ◌<◌, ℕ, zero, suc, Bool, false, List, [], ◌∷◌, ◌++◌, length, get_or, refl, sym}
+use Rattle.std.proofs.Common.{◌≡◌, ◌∙◌, ℕ, zero, suc, Bool, false, List, [], ◌∷◌, ◌++◌, length, get_or, sym}
 use Rattle.std.proofs.Common.{subst, arith}
 use Rattle.std.specs.Global.{Global}
 use Rattle.std.specs.declared.rc.Rc.{Rc}
@@ -47,11 +47,6 @@ bodies_push R bodies flags n body flag size flags_size all one =
     (sym (map-append (λ (t : Rc NodeBody Global). t.value) bodies (body ∷ [])))
     (each_push R (node_bodies bodies) flags body.value flag (flags_size ∙ sym (count ∙ size)) all
     (subst (λ k. R k flag body.value) (sym (count ∙ size)) one))
-
-pub some_at : {X : Type 0} (xs : List X) (n : ℕ) → n < length xs → (x : X) × (slice_get xs n ≡ Some x)
-some_at [] n h = absurd (omega (arith, h))
-some_at (x ∷ xs) zero h = (x, refl)
-some_at (x ∷ xs) (suc n) h = some_at xs n (omega (arith, h))
 
 -- the flags of all bodies, where there is an old store
 pub new_of_old : (grouped : GroupedWeb) (old : Option (Bor StoreRead)) (bodies : List NodeBody) (flags : List Bool)

@@ -1,5 +1,6 @@
 -- The shape of a node of a store, and whether the store records a piece of the node.
-use Rattle.std.proofs.Common.{◌≡◌, ◌∙◌, ◌↔◌, Bool, true, false, not, [], ◌∷◌, length, ap, sym, refl, arith}
+use Rattle.std.proofs.Common.{◌≡◌, ◌∙◌, Bool, true, false, not, [], ◌∷◌, length, ap, sym, refl, arith}
+use Rattle.std.specs.Bool.{Decides}
 use Rattle.std.specs.Prelude.{nat_le, nat_lt}
 use Rattle.std.proofs.Math.Decide.{dec_lt}
 use Rattle.std.proofs.lemmas.Bool.{le-leb}
@@ -29,17 +30,9 @@ module _ (shapes : Shapes) (store : StoreRead) where
   ]
 
 -- a shape without a piece is the empty one
-pub without_piece : (s t : Shape) (b : Bool) → t ≡ [] → b ≡ shape_has_piece s
-    → ((not b ≡ true) ↔ (s ≡ t)) × ((not b ≡ true) ↔ (t ≡ s))
-without_piece [] t b none e =
-    (((λ _. sym none), (λ _. ap not e)), ((λ _. none), (λ _. ap not e)))
-without_piece (x ∷ s) t b none e = (
-  (
-    (λ no. absurd (let both : false ≡ true = sym (ap not e) ∙ no in cc)),
-    (λ same. absurd (let both : x ∷ s ≡ [] = same ∙ none in cc)),
-  ),
-  (
-    (λ no. absurd (let both : false ≡ true = sym (ap not e) ∙ no in cc)),
-    (λ same. absurd (let both : x ∷ s ≡ [] = sym same ∙ none in cc)),
-  ),
+pub without_piece : (s : Shape) (b : Bool) → b ≡ shape_has_piece s → Decides (not b) (s ≡ [])
+without_piece [] b e = ((λ _. refl), (λ _. ap not e))
+without_piece (x ∷ s) b e = (
+  (λ no. absurd (let both : false ≡ true = sym (ap not e) ∙ no in cc)),
+  (λ same. absurd (let both : x ∷ s ≡ [] = same in cc)),
 )

@@ -1,14 +1,13 @@
 -- What holds of a node, by what holds of the names that its body uses.
-use Rattle.std.proofs.Common.{◌≡◌, ◌∙◌, ◌≤◌, ◌+◌, ◌&&◌, ℕ, suc, min, max, Bool, true, false, List, [], ◌∷◌, map}
+use Rattle.std.proofs.Common.{◌≡◌, ◌∙◌, ◌≤◌, ◌+◌, ◌&&◌, ℕ, suc, min, max, Bool, true, false, List, [], ◌∷◌, get_or}
 use Rattle.std.proofs.Common.{refl, ap, sym, arith}
 use Rattle.std.specs.Prelude.{nat_le, nat_lt, sum_by}
 use Rattle.std.proofs.lemmas.Bool.{false_from_ne_true}
 use Rattle.std.proofs.lemmas.List.Sums.{sum_by-cons}
 use Rattle.tangle_names.proofs.ContainsLemmas.{here, there}
-use Rattle.tangle_plans.specs.Flat.{pieces_weight, pieces_depth, depth, weight}
+use Rattle.tangle_plans.specs.Flat.{own_weight, pieces_weight, pieces_depth, depth, weight}
 use Rattle.tangle_plans.specs.NodeBodies.{HoldsShape, body_uses, names_at}
 use Rattle.tangle_plans.specs.Shapes.{Named, Shapes, Title}
-use Rattle.tangle_plans.specs.Tags.{shape_names}
 use Rattle.tangle_plans.specs.declared.nodes.NodeBody.{NodeBody}
 use Rattle.tangle_expansion.specs.Limits.{weight_cap, levels, heaviest, weight_of, depth_of}
 use Rattle.tangle_expansion.proofs.SameShapes.{weight_by_uses, depth_by_uses}
@@ -17,24 +16,27 @@ use Rattle.tangle_graph.specs.Outputs.{is_expandable, shape_has_piece}
 use Rattle.tangle_graph.specs.declared.measures.Measure.{Measure}
 use Rattle.tangle_graph.proofs.MeasureLemmas.{depth_counted}
 use Rattle.tangle_graph.proofs.StoreLemmas.{expandable_by_limits, expandable_is}
-use Rattle.tangle_graph.proofs.WeightLemmas.{weight_counted}
 
-sum_by_mapped : {X Y : Type 0} (f : Y → ℕ) (g : X → Y) (xs : List X) → sum_by (λ x. f (g x)) xs ≡ sum_by f (map g xs)
-sum_by_mapped f g [] = refl
-sum_by_mapped f g (x ∷ xs) =
-    omega (arith, sum_by-cons (λ y. f (g y)) x xs, sum_by-cons f (g x) (map g xs), sum_by_mapped f g xs)
+-- the weights and the depths that are recorded of names are those of the names
+module _ (shapes : Shapes) (names : List (List ℕ)) (measures : List Measure) where
+  weights_used : (ids : List ℕ) → AreUsesMeasured shapes names measures ids
+      → sum_by (λ id. (measure_at measures (suc id)).weight) ids
+      ≡ sum_by (λ name. weight_of shapes (Named name)) (names_at names ids)
+  weights_used [] known = refl
+  weights_used (id ∷ ids) known = omega (
+    arith,
+    sum_by-cons (λ k. (measure_at measures (suc k)).weight) id ids,
+    sum_by-cons (λ name. weight_of shapes (Named name)) (get_or names id []) (names_at names ids),
+    ap (λ (m : Measure). m.weight) (known id (here id ids)),
+    weights_used ids (λ k c. known k (there id ids k c)),
+  )
 
-greatest_by_mapped : {X Y : Type 0} (f : Y → ℕ) (g : X → Y) (xs : List X)
-    → greatest_by (λ x. f (g x)) xs ≡ greatest_by f (map g xs)
-greatest_by_mapped f g [] = refl
-greatest_by_mapped f g (x ∷ xs) = ap (max (f (g x))) (greatest_by_mapped f g xs)
-
-names_measured : (shapes : Shapes) (names : List (List ℕ)) (measures : List Measure) (ids : List ℕ)
-    → AreUsesMeasured shapes names measures ids
-    → map (λ id. measure_at measures (suc id)) ids ≡ map (λ name. measure_of shapes (Named name)) (names_at names ids)
-names_measured shapes names measures [] known = refl
-names_measured shapes names measures (id ∷ ids) known = λ i. known id (here id ids) i
-    ∷ names_measured shapes names measures ids (λ k c. known k (there id ids k c)) i
+  depths_used : (ids : List ℕ) → AreUsesMeasured shapes names measures ids
+      → greatest_by (λ id. (measure_at measures (suc id)).depth) ids
+      ≡ greatest_by (λ name. depth_of shapes (Named name)) (names_at names ids)
+  depths_used [] known = refl
+  depths_used (id ∷ ids) known = λ i. max ((known id (here id ids) i).depth)
+      (depths_used ids (λ k c. known k (there id ids k c)) i)
 
 module _ (shapes : Shapes) (title : Title) where
   -- what is recorded of a node without a piece
@@ -66,36 +68,23 @@ module _ (shapes : Shapes) (title : Title) where
 
   module _ (names : List (List ℕ)) (measures : List Measure) (body : NodeBody)
       (held : HoldsShape names (shapes title) body) (known : AreUsesMeasured shapes names measures (body_uses body)) where
-    used : map (λ id. measure_at measures (suc id)) (body_uses body)
-        ≡ map (λ name. measure_of shapes (Named name)) (shape_names (shapes title))
-    used = names_measured shapes names measures (body_uses body) known
-        ∙ ap (map (λ name. measure_of shapes (Named name))) held.names_used
-
     pub measure_with : (own w d : ℕ) (b : Bool) → shape_has_piece (shapes title) ≡ true
-        → own ≡ min weight_cap (pieces_weight (λ name. 0) (shapes title))
+        → own ≡ min weight_cap (own_weight (shapes title))
         → w ≡ min weight_cap (own + sum_by (λ id. (measure_at measures (suc id)).weight) (body_uses body))
         → d ≡ min levels (greatest_by (λ id. (measure_at measures (suc id)).depth) (body_uses body) + 1)
         → b ≡ (nat_lt d levels && nat_le w heaviest)
         → record { weight = w; depth = d; is_expandable = b } ≡ measure_of shapes title
     measure_with own w d b has counted weighs deepens within =
-        let names_used = shape_names (shapes title) in
-        let sums : sum_by (λ id. (measure_at measures (suc id)).weight) (body_uses body)
-        ≡ sum_by (λ name. weight_of shapes (Named name)) names_used =
-        sum_by_mapped (λ (m : Measure). m.weight) (λ id. measure_at measures (suc id)) (body_uses body)
-        ∙ ap (sum_by (λ (m : Measure). m.weight)) used
-        ∙ sym (sum_by_mapped (λ (m : Measure). m.weight) (λ name. measure_of shapes (Named name)) names_used) in
-        let deepest : greatest_by (λ id. (measure_at measures (suc id)).depth) (body_uses body)
-        ≡ greatest_by (λ name. depth_of shapes (Named name)) names_used =
-        greatest_by_mapped (λ (m : Measure). m.depth) (λ id. measure_at measures (suc id)) (body_uses body)
-        ∙ ap (greatest_by (λ (m : Measure). m.depth)) used
-        ∙ sym (greatest_by_mapped (λ (m : Measure). m.depth) (λ name. measure_of shapes (Named name)) names_used) in
+        let sums = weights_used shapes names measures (body_uses body) known
+        ∙ ap (sum_by (λ name. weight_of shapes (Named name))) held.names_used in
+        let deepest = depths_used shapes names measures (body_uses body) known
+        ∙ ap (greatest_by (λ name. depth_of shapes (Named name))) held.names_used in
         let weighed : w ≡ weight_of shapes title =
         omega (
           arith,
           counted,
           weighs,
           sums,
-          weight_counted (λ name. weight_of shapes (Named name)) (shapes title),
           weight_by_uses weight_cap shapes title,
         ) in
         let measured : d ≡ depth_of shapes title =

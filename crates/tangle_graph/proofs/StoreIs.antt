@@ -1,33 +1,41 @@
 -- A store with the bodies, the graph and the measures of a web is that of the web's shapes.
 use Rattle.std.proofs.Common.{◌≡◌, ◌≢◌, ◌∙◌, ◌≤◌, ◌<◌, ◌+◌, ◌↔◌, ℕ, suc, true, false, List, [], length, map, get_or}
-use Rattle.std.proofs.Common.{ap, subst, arith}
-use Rattle.std.specs.Prelude.{AllPairs}
+use Rattle.std.proofs.Common.{ap, sym, subst, inl, inr, arith}
+use Rattle.std.specs.Prelude.{AllPairs, Contains}
 use Rattle.std.specs.List.{IsDistinct}
 use Rattle.std.specs.List.Sorted.{IsStrictlyIncreasing}
 use Rattle.std.specs.Str.{bytes_eq}
+use Rattle.std.proofs.lemmas.List.{get_or_default}
+use Rattle.std.proofs.lemmas.List.Elements.{All-contains, All-from_get_or}
 use Rattle.std.proofs.lemmas.List.Kept.{AllPairs-from_increasing}
 use Rattle.tangle_scan.specs.Web.{WebRead, PieceRead}
 use Rattle.tangle_names.specs.NameTable.{TableRead}
 use Rattle.tangle_plans.specs.Shapes.{Title, Named, Shapes, Uses}
+use Rattle.tangle_plans.specs.Flat.{depth}
 use Rattle.tangle_plans.specs.NodeBodies.{body_uses}
 use Rattle.tangle_plans.specs.Nodes.{title_at}
 use Rattle.tangle_plans.specs.WebShapes.{ResolvesInside, shapes, shape_item}
 use Rattle.digraph.specs.Graph.{HasUse, row_at}
 use Rattle.digraph.specs.Titles.{IsTitled}
 use Rattle.digraph.proofs.GraphLemmas.{use_in, node_in}
+use Rattle.digraph.proofs.OrderLemmas.{left_out_deep}
 use Rattle.digraph.proofs.TitleLemmas.{contains_alike, cycle_alike}
 use Rattle.digraph.specs.Reach.{ContainsItself, ReachesCycle}
 use Rattle.tangle_plans.specs.declared.nodes.NodeBody.{NodeBody}
+use Rattle.tangle_expansion.specs.Limits.{levels}
 use Rattle.tangle_expansion.specs.Outputs.{OutputRead}
+use Rattle.tangle_expansion.proofs.UsedLemmas.{deeper}
 use Rattle.tangle_graph.specs.Bodies.{AreBodiesOf}
-use Rattle.tangle_graph.specs.Measures.{AreMeasures}
+use Rattle.tangle_graph.specs.Measures.{AreMeasures, measure_at}
 use Rattle.tangle_graph.specs.NameGraphs.{IsNameGraphOf}
-use Rattle.tangle_graph.specs.Stores.{IsStoreOf, flag_at}
+use Rattle.tangle_graph.specs.Ordering.{IsOrderIn}
+use Rattle.tangle_graph.specs.Stores.{StoreRead, IsStoreOf, flag_at}
 use Rattle.tangle_graph.specs.declared.measures.Measure.{Measure}
 use Rattle.tangle_graph.specs.declared.name_graph.NameGraph.{NameGraph}
 use Rattle.tangle_graph.proofs.GraphLemmas.{complete, sound, uses_count}
 use Rattle.tangle_graph.proofs.NodeLemmas.{once_titled, title_inside}
-use Rattle.tangle_graph.proofs.StoreLemmas.{there}
+use Rattle.tangle_graph.proofs.OrderLemmas.{among}
+use Rattle.tangle_graph.proofs.StoreLemmas.{expandable_is, there}
 
 -- a name with a piece is the name of a node
 pub known_name : (web : WebRead) (table : TableRead) → ResolvesInside table → (name : List ℕ)
@@ -40,9 +48,15 @@ known_name web table inside name h =
 apart : (row : List ℕ) → IsStrictlyIncreasing row → AllPairs (λ b c. b ≢ c) row
 apart row rising i j d low high e = absurd (omega (arith, e, AllPairs-from_increasing row rising i j d low high))
 
-module _ (all : Shapes) (names : List (List ℕ)) (stored : List NodeBody)
-    (name_graph : NameGraph) (distinct : IsDistinct bytes_eq names)
-    (bodies : AreBodiesOf all names stored) (is : IsNameGraphOf (map body_uses stored) name_graph) where
+module _ (all : Shapes) (stored : List NodeBody) (name_graph : NameGraph)
+    (distinct : IsDistinct bytes_eq name_graph.names) (bodies : AreBodiesOf all name_graph.names stored)
+    (is : IsNameGraphOf (map body_uses stored) name_graph) where
+  abbrev names : List (List ℕ)
+  names = name_graph.names
+
+  abbrev order : List ℕ
+  order = name_graph.order.items
+
   abbrev title : ℕ → Title
   title n = title_at names n
 
@@ -91,30 +105,57 @@ module _ (all : Shapes) (names : List (List ℕ)) (stored : List NodeBody)
       let flag = is.reaching n (here n low) in
       (λ e. alike.0 (flag.0 e), λ c. flag.1 (alike.1 c))
 
-  pub store_is : (pieces : List (List ℕ)) (measures : List Measure) (outputs : List OutputRead)
-      → length measures ≡ length name_graph.uses → AreMeasures all names measures
-      → ((name : List ℕ) → all (Named name) ≢ [] → (a : ℕ) × (a ≤ length names) × (title a ≡ Named name))
-      → IsStoreOf all (record {
-        names = names;
-        pieces = pieces;
-        uses = name_graph.uses;
-        users = name_graph.users;
-        self_containing = name_graph.self_containing.items;
-        reaching_cycles = name_graph.reaching_cycles.items;
-        measures = measures;
-        outputs = outputs;
-        bodies = stored;
-      })
-  store_is pieces measures outputs sized measured known = record {
-    measures_size = sized ∙ count;
-    measures = measured;
-    bodies = bodies;
-    once = λ a b ha hb. titled.once a b (here a ha) (here b hb);
-    known = known;
-    uses = uses_are;
-    users = users_are;
-    uses_once = λ a ha. apart (row_at name_graph.uses a)
-        (is.uses.once a (omega (arith, here a ha, is.uses.size))).increasing;
-    users_once = λ a ha. apart (row_at name_graph.users a) (is.users.increasing a);
-    contains_itself = contains_is;
-  }
+  module _ (pieces : List (List ℕ)) (measures : List Measure) (outputs : List OutputRead)
+      (sized : length measures ≡ length name_graph.uses) (measured : AreMeasures all names measures) where
+    abbrev made : StoreRead
+    made = record {
+      names = names;
+      pieces = pieces;
+      uses = name_graph.uses;
+      users = name_graph.users;
+      self_containing = name_graph.self_containing.items;
+      reaching_cycles = name_graph.reaching_cycles.items;
+      measures = measures;
+      outputs = outputs;
+      bodies = stored;
+    }
+
+    pub store_is : ((name : List ℕ) → all (Named name) ≢ [] → (a : ℕ) × (a ≤ length names) × (title a ≡ Named name))
+        → IsStoreOf all made
+    store_is known = record {
+      measures_size = sized ∙ count;
+      measures = measured;
+      bodies = bodies;
+      once = λ a b ha hb. titled.once a b (here a ha) (here b hb);
+      known = known;
+      uses = uses_are;
+      users = users_are;
+      uses_once = λ a ha. apart (row_at name_graph.uses a)
+          (is.uses.once a (omega (arith, here a ha, is.uses.size))).increasing;
+      users_once = λ a ha. apart (row_at name_graph.users a) (is.users.increasing a);
+      contains_itself = contains_is;
+    }
+
+    pub order_is : IsOrderIn made order
+    order_is = record { inside = inside; once = once; after = is.order.after_uses.after; expandable = expandable }
+      where
+        inside : (n : ℕ) → Contains order n → n ≤ length names
+        inside n c =
+            let low = All-contains (λ m. m < length name_graph.uses) order n
+            (All-from_get_or (λ m. m < length name_graph.uses) order 0 is.order.after_uses.nodes) c in
+            omega (arith, low, count)
+
+        once : AllPairs (λ b c. b ≢ c) order
+        once j k d less h same = is.order.after_uses.once j k less h
+            (get_or_default order j 0 d (omega (arith, less, h)) ∙ same ∙ get_or_default order k d 0 h)
+
+        expandable : (n : ℕ) → n ≤ length names → (measure_at measures n).is_expandable ≡ true → Contains order n
+        expandable n h flag = elim (among order n) [
+          | inl c ↦ c
+          | inr none ↦ (let flagged = (expandable_is all (title n)).0
+              (sym (ap (λ (m : Measure). m.is_expandable) (measured n h)) ∙ flag) in
+              let deep = left_out_deep name_graph.uses order is.order is.range (λ k m. k ≤ depth k all (title m))
+              (λ m. omega arith) (λ k a b u. deeper k all (title a) (title b) (titled.sound a b u)) levels n (here n h)
+              none in
+              absurd (omega (arith, deep, flagged.shallow)))
+        ]

@@ -1,11 +1,10 @@
 -- What a row of pieces, a weight and a depth say of a node.
-use Rattle.std.proofs.Common.{◌≡◌, ◌≢◌, ◌∙◌, ◌<◌, ◌≤◌, ◌+◌, ◌↔◌, ◌&&◌, ℕ, min, Bool, true, false, List, [], ◌∷◌, length}
-use Rattle.std.proofs.Common.{filter, get_or, refl, ap, sym, subst, arith}
+use Rattle.std.proofs.Common.{◌≡◌, ◌≢◌, ◌∙◌, ◌<◌, ◌≤◌, ◌+◌, ◌↔◌, ◌&&◌, ◌==◌, ℕ, Bool, true, false, List, [], ◌∷◌}
+use Rattle.std.proofs.Common.{not, filter, get_or, refl, ap, sym, arith, length}
 use Rattle.std.specs.Prelude.{Option, Some, None, nat_lt, nat_le}
-use Rattle.std.proofs.Math.Decide.{dec_lt}
-use Rattle.std.proofs.lemmas.Bool.Decides.{nat_tests}
+use Rattle.std.specs.Bool.{Decides}
+use Rattle.std.proofs.lemmas.Bool.Decides.{Decides-and, Decides-like, Decides-ltb, nat_tests, same_from_decides}
 use Rattle.std.proofs.lemmas.Slice.Eq.{bytes_eq-Decides}
-use Rattle.std.proofs.lemmas.Bool.{and_parts}
 use Rattle.tangle_plans.specs.Shapes.{Title, Named, Shape, Shapes}
 use Rattle.tangle_plans.specs.Flat.{weight, depth, pieces_depth}
 use Rattle.tangle_expansion.specs.Limits.{levels, heaviest, weight_cap, weight_of, depth_of, IsExpandableNode}
@@ -16,7 +15,6 @@ use Rattle.tangle_names.specs.NameTable.{TableRead}
 use Rattle.tangle_plans.specs.WebShapes.{resolved_at, node_of, node_of_occurrence, is_node, is_piece_of, IsNameBelow}
 use Rattle.tangle_plans.specs.WebShapes.{ResolvesInside, shapes}
 use Rattle.tangle_graph.specs.Outputs.{shape_has_piece, is_expandable}
-use Rattle.tangle_plans.specs.Nodes.{row_has_piece}
 use Rattle.tangle_graph.specs.Measures.{measure_of}
 use Rattle.tangle_graph.specs.declared.measures.Measure.{Measure}
 use Rattle.tangle_graph.proofs.MeasureLemmas.{weight-settles}
@@ -32,22 +30,8 @@ one_more : weight_cap ≡ heaviest + 1
 unfolding weight_cap heaviest
 one_more = refl
 
-light_of : (cap most w v : ℕ) → cap ≡ most + 1 → v ≡ w → nat_le (min cap v) most ≡ nat_le w most
-light_of cap most w v e same = elim (dec_lt most w) [
-  | yes over ↦ (let one : nat_le (min cap v) most ≡ false = grind (arith, nat_tests) in
-      let other : nat_le w most ≡ false = grind (arith, nat_tests) in one ∙ sym other)
-  | no within ↦ (let one : nat_le (min cap v) most ≡ true = grind (arith, nat_tests) in
-      let other : nat_le w most ≡ true = grind (arith, nat_tests) in one ∙ sym other)
-]
-
-pub piece_in_both : (row : List ℕ) (s : Shape) → length s ≡ length row → row_has_piece row ≡ shape_has_piece s
-piece_in_both [] [] e = refl
-piece_in_both [] (x ∷ s) e = absurd (omega (arith, e))
-piece_in_both (k ∷ row) [] e = absurd (omega (arith, e))
-piece_in_both (k ∷ row) (x ∷ s) e = refl
-
-joined : (a b c : Bool) → a ≡ true → b ≡ true → c ≡ true → (a && (b && c)) ≡ true
-joined a b c p q r = rw (p, q, r) refl
+light_decides : (w most : ℕ) → Decides (nat_le w most) (w ≤ most)
+light_decides w most = ((λ t. grind (arith, nat_tests)), (λ h. grind (arith, nat_tests)))
 
 pub piece_of_shape : (s : Shape) → (shape_has_piece s ≡ true) ↔ (s ≢ [])
 piece_of_shape [] = (λ t. absurd (let no : false ≡ true = t in cc), λ h. absurd (h refl))
@@ -59,38 +43,37 @@ no_pieces (x ∷ s) e = absurd (let no : true ≡ false = e in cc)
 
 -- the test of a node decides the property
 pub expandable_is : (shapes : Shapes) (node : Title) → (is_expandable shapes node ≡ true) ↔ IsExpandableNode shapes node
-expandable_is shapes node = (
-  λ e. (let first = and_parts (shape_has_piece (shapes node))
-      (nat_lt (depth levels shapes node) levels && nat_le (weight levels shapes node) heaviest) e in
-      let rest =
-      and_parts (nat_lt (depth levels shapes node) levels) (nat_le (weight levels shapes node) heaviest) first.1 in
-      let low : depth levels shapes node < levels = (let t = rest.0 in grind (arith, nat_tests)) in
-      let few : weight levels shapes node ≤ heaviest = (let t = rest.1 in grind (arith, nat_tests)) in
-      record { has_piece = (piece_of_shape (shapes node)).0 first.0; shallow = low; light = few }),
-  λ x. joined (shape_has_piece (shapes node)) (nat_lt (depth levels shapes node) levels)
-      (nat_le (weight levels shapes node) heaviest)
-      ((piece_of_shape (shapes node)).1 x.has_piece)
-      (let h = x.shallow in grind (arith, nat_tests)) (let h = x.light in grind (arith, nat_tests)),
-)
+expandable_is shapes node = Decides-like (is_expandable shapes node)
+    (λ all. record { has_piece = all.0; shallow = all.1.0; light = all.1.1 })
+    (λ x. (x.has_piece, (x.shallow, x.light)))
+    (Decides-and (shape_has_piece (shapes node)) _ (piece_of_shape (shapes node))
+    (Decides-and (nat_lt (depth levels shapes node) levels) (nat_le (weight levels shapes node) heaviest)
+    (Decides-ltb (depth levels shapes node) levels) (light_decides (weight levels shapes node) heaviest)))
 
 -- a shape is empty if the row of pieces is
-pub piece_of_row : (row : List ℕ) (s : Shape) → length s ≡ length row → (row_has_piece row ≡ true) ↔ (s ≢ [])
-piece_of_row row s e = subst (λ b. (b ≡ true) ↔ (s ≢ [])) (sym (piece_in_both row s e)) (piece_of_shape s)
+pub piece_of_row : (row : List ℕ) (s : Shape) → length s ≡ length row → (not (length row == 0) ≡ true) ↔ (s ≢ [])
+piece_of_row [] [] e = ((λ t. absurd (cc)), (λ h. absurd (h refl)))
+piece_of_row [] (x ∷ s) e = absurd (omega (arith, e))
+piece_of_row (k ∷ row) [] e = absurd (omega (arith, e))
+piece_of_row (k ∷ row) (x ∷ s) e = ((λ t none. cc), (λ h. grind (arith, nat_tests)))
 
 -- the test of a capped weight and depth gives whether the node is expandable
 pub expandable_by_limits : (shapes : Shapes) (node : Title) (w d : ℕ)
     → shape_has_piece (shapes node) ≡ true → w ≡ weight_of shapes node → d ≡ depth_of shapes node
     → (nat_lt d levels && nat_le w heaviest) ≡ is_expandable shapes node
 expandable_by_limits shapes node w d has weighed measured =
-    (λ i. nat_lt (measured i) levels && nat_le (weighed i) heaviest)
-    ∙ elim (dec_lt (depth levels shapes node) levels) [
-      | yes low ↦ ap (λ b. nat_lt (depth levels shapes node) levels && b)
-          (light_of weight_cap heaviest (weight levels shapes node)
-          (weight weight_cap shapes node) one_more (weight_same shapes node low))
-      | no deep ↦ (let none : nat_lt (depth levels shapes node) levels ≡ false = grind (arith, nat_tests) in
-          rw none refl)
-    ]
-    ∙ (λ i. sym has i && (nat_lt (depth levels shapes node) levels && nat_le (weight levels shapes node) heaviest))
+    same_from_decides (nat_lt d levels && nat_le w heaviest) (is_expandable shapes node)
+    (Decides-like (nat_lt d levels && nat_le w heaviest)
+    (λ both. record {
+      has_piece = (piece_of_shape (shapes node)).0 has;
+      shallow = omega (arith, both, measured);
+      light = (let low : depth levels shapes node < levels = omega (arith, both, measured) in
+          omega (arith, both, weighed, weight_same shapes node low, one_more));
+    })
+    (λ x. (let low = x.shallow in let few = x.light in
+    (omega (arith, measured, low), omega (arith, weighed, few, weight_same shapes node low, one_more))))
+    (Decides-and (nat_lt d levels) (nat_le w heaviest) (Decides-ltb d levels) (light_decides w heaviest)))
+    (expandable_is shapes node)
 
 -- the depth that is recorded of a node says whether it has a piece
 pub piece_by_measure : (shapes : Shapes) (node : Title) (m : Measure) → m ≡ measure_of shapes node

@@ -9,7 +9,11 @@ use Rattle.tangle_scan.specs.Web.{WebRead, PieceRead}
 use Rattle.tangle_scan.specs.WellFormed.{IsWellFormed}
 use Rattle.tangle_names.specs.NameTable.{TableRead, table_of}
 use Rattle.tangle_names.specs.Resolving.{resolve}
-use Rattle.tangle_graph.specs.Grouping.{positions_of, is_piece_of_node, has_number_in, node_of_piece}
+use Rattle.tangle_graph.specs.Grouping.{positions_of, has_number_in, node_of_piece}
+use Rattle.tangle_plans.specs.Nodes.{title_at}
+use Rattle.tangle_plans.specs.WebShapes.{is_piece_of}
+use Rattle.tangle_graph.proofs.GraphLemmas.{distinct_names, resolves_inside}
+use Rattle.tangle_graph.proofs.GroupLemmas.{piece_is}
 
 module _ (web : WebRead) (table : TableRead) (stored : List StoredPiece) (i : ℕ) (p : StoredPiece)
     (is : map (piece_read web.texts) stored ≡ web.pieces) (low : i < length stored) (at : p ≡ get_or stored i p) where
@@ -33,12 +37,15 @@ module _ (web : WebRead) (table : TableRead) (stored : List StoredPiece) (i : �
       (formed.occurrences.definitions i (piece_read web.texts p) inside))
 
   -- the positions of a node's pieces, with the next piece
-  pub next_position : (occurrence : Option ℕ) → occurrence ≡ p.occurrence
-      → (node : Option ℕ) → node ≡ node_of_piece table occurrence → (n : ℕ)
+  pub next_position : table ≡ table_of web → (occurrence : Option ℕ) → occurrence ≡ p.occurrence
+      → (made : Option ℕ) → made ≡ node_of_piece table occurrence → (n : ℕ) → n < length table.names + 1
       → positions_of table (take (i + 1) web.pieces) n
-      ≡ positions_of table (take i web.pieces) n ++ cond (has_number_in n node) (i ∷ []) []
-  next_position occurrence same node known n =
-      positions_more (is_piece_of_node table n) 0 web.pieces i (piece_read web.texts p) inside
+      ≡ positions_of table (take i web.pieces) n ++ cond (has_number_in n made) (i ∷ []) []
+  next_position ours occurrence same made known n h =
+      let piece = get_or web.pieces i (piece_read web.texts p) in
+      let flag = piece_is table (distinct_names web table ours) (resolves_inside web table ours) n (omega (arith, h))
+      piece.occurrence in
+      positions_more (is_piece_of table (title_at table.names n)) 0 web.pieces i (piece_read web.texts p) inside
       ∙ (λ j. positions_of table (take i web.pieces) n
-      ++ cond (has_number_in n ((ap (node_of_piece table) (occurrence_at ∙ sym same) ∙ sym known) j))
-      (zero-add i j ∷ []) [])
+      ++ cond ((sym flag ∙ ap (λ o. has_number_in n (node_of_piece table o)) (occurrence_at ∙ sym same)
+      ∙ ap (has_number_in n) (sym known)) j) (zero-add i j ∷ []) [])

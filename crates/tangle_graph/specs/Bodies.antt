@@ -7,7 +7,6 @@ use Rattle.tangle_plans.specs.NodeBodies.{HoldsShape, body_title, body_uses}
 use Rattle.tangle_plans.specs.Nodes.{title_at}
 use Rattle.tangle_plans.specs.Shapes.{Shapes}
 use Rattle.tangle_plans.specs.declared.nodes.NodeBody.{NodeBody}
-use Rattle.tangle_graph.specs.Nodes.{IsNodeOf}
 
 -- the body of each node
 abbrev pub node_bodies : List (Rc NodeBody Global) → List NodeBody
@@ -20,9 +19,9 @@ pub record IsBodyOf (shapes : Shapes) (names : List (List ℕ))
   pub shape : HoldsShape names (shapes (title_at names node)) body
   pub inside : All (λ id. id < length names) (body_uses body)
 
--- each node has such a body
+-- there is a body for each node, which is such a one
 pub record AreBodiesOf (shapes : Shapes) (names : List (List ℕ))
     (bodies : List NodeBody) : Type 0 where
   pub size : length bodies ≡ length names + 1
-  pub each : (node : Node) → IsNodeOf names node
-      → (body : NodeBody) × (slice_get bodies node ≡ Some body) × IsBodyOf shapes names node body
+  pub each : (node : Node) (body : NodeBody) → slice_get bodies node ≡ Some body
+      → IsBodyOf shapes names node body

@@ -17,16 +17,16 @@ use Rattle.tangle_names.specs.NameTable.{TableRead}
 use Rattle.tangle_names.specs.Numbers.{is_number, is_use}
 use Rattle.tangle_names.specs.Resolving.{resolve}
 use Rattle.tangle_plans.specs.Shapes.{Uses}
-use Rattle.tangle_plans.specs.WebShapes.{shapes}
+use Rattle.tangle_plans.specs.WebShapes.{name_at, shapes}
 use Rattle.tangle_plans.specs.Nodes.{title_at}
-use Rattle.tangle_graph.specs.Outputs.{shape_has_piece, is_expandable, name_with_number}
+use Rattle.tangle_graph.specs.Outputs.{shape_has_piece, is_expandable, first_file_occurrence}
 
 -- a fault about a name, at the occurrence with this number, or none where there is no number
 module _ (web : WebRead) (table : TableRead) where
   abbrev pub fault_at_number : FaultKind → ℕ → ℕ → List FaultRead
   fault_at_number kind id number =
       map
-      (λ o. fault_about kind (named_place_of web.file_names o.origin) (name_with_number table id))
+      (λ o. fault_about kind (named_place_of web.file_names o.origin) (name_at table id))
       (option_to_list (slice_get web.occurrences number))
 
   abbrev pub fault_of : FaultKind → ℕ → Option ℕ → List FaultRead
@@ -37,13 +37,9 @@ module _ (web : WebRead) (table : TableRead) where
   abbrev pub has_piece_of_node : Node → Bool
   has_piece_of_node n = shape_has_piece (shapes web table (title_at table.names n))
 
-  -- the numbers of a name's first occurrence, of its first occurrence with `@(`, and of the first
-  -- use that resolves to it
+  -- the numbers of a name's first occurrence, and of the first use that resolves to it
   abbrev pub first_occurrence_number : ℕ → Option ℕ
   first_occurrence_number id = Some (slice_index_or table.first_occurrences id 0)
-
-  abbrev pub first_file_occurrence : ℕ → Option ℕ
-  first_file_occurrence id = slice_index_or table.first_file_occurrences id None
 
   -- A use in a dropped piece counts: what its author has to mend is the name of the definition.
   abbrev pub first_use : ℕ → Option ℕ
@@ -68,7 +64,7 @@ module _ (web : WebRead) (table : TableRead) (out : List ℕ)
       if has_piece_of_node web table (suc id) then None else first_use web table id
   fault_occurrence kind.Unused id =
       if has_piece_of_node web table (suc id)
-      && (not (is_some (first_file_occurrence web table id))
+      && (not (is_some (first_file_occurrence table id))
       && not (is_some (first_use web table id)))
       then first_occurrence_number web table id
       else None
@@ -79,8 +75,8 @@ module _ (web : WebRead) (table : TableRead) (out : List ℕ)
       then first_occurrence_number web table id
       else None
   fault_occurrence kind.FileClash id =
-      if has_piece_of_node web table (suc id) && bytes_eq (name_with_number table id) out
-      then first_file_occurrence web table id
+      if has_piece_of_node web table (suc id) && bytes_eq (name_at table id) out
+      then first_file_occurrence table id
       else None
   fault_occurrence _ id = None
 
@@ -98,8 +94,9 @@ module _ (web : WebRead) (table : TableRead) (out : List ℕ)
 
   abbrev pub no_program : List FaultRead
   no_program =
-      if has_piece_of_node web table program then []
-      else fault_unplaced kind.NoProgram ∷ []
+      if not (has_piece_of_node web table program)
+      then fault_unplaced kind.NoProgram ∷ []
+      else []
 
   abbrev pub graph_faults : List FaultRead
   graph_faults =

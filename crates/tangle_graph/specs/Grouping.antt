@@ -5,16 +5,16 @@ use Rattle.tangle_scan.specs.Web.{PieceRead}
 use Rattle.tangle_names.specs.declared.Resolved.{Resolved}
 use Rattle.tangle_names.specs.declared.Resolved.TheVariants.{Name, NoFullName, Ambiguous}
 use Rattle.tangle_names.specs.NameTable.{TableRead}
-use Rattle.tangle_plans.specs.WebShapes.{resolved_at}
-use Rattle.std.specs.Option.{option_map}
+use Rattle.tangle_plans.specs.Nodes.{title_at}
+use Rattle.tangle_plans.specs.WebShapes.{is_piece_of, resolved_at}
 use Rattle.digraph.specs.Nodes.{Node, program}
 use Rattle.digraph.specs.Users.{positions}
 
--- the number of the full name, if the occurrence resolves to one
-abbrev pub resolved_number : Resolved → Option ℕ
-resolved_number (Name id) = Some id
-resolved_number NoFullName = None
-resolved_number Ambiguous = None
+-- the node of the full name, if the occurrence resolves to one
+abbrev pub node_of_resolved : Resolved → Option Node
+node_of_resolved (Name id) = Some (suc id)
+node_of_resolved NoFullName = None
+node_of_resolved Ambiguous = None
 
 abbrev pub has_number_in : ℕ → Option ℕ → Bool
 has_number_in n None = false
@@ -26,13 +26,8 @@ module _ (table : TableRead) where
   -- node.
   abbrev pub node_of_piece : Option ℕ → Option Node
   node_of_piece None = Some program
-  node_of_piece (Some occurrence) =
-      option_map suc (resolved_number (resolved_at table occurrence))
-
-  -- the piece is one of the node
-  abbrev pub is_piece_of_node : Node → PieceRead → Bool
-  is_piece_of_node n piece = has_number_in n (node_of_piece piece.occurrence)
+  node_of_piece (Some occurrence) = node_of_resolved (resolved_at table occurrence)
 
   -- the positions of the node's pieces
   abbrev pub positions_of : List PieceRead → Node → List ℕ
-  positions_of pieces n = positions (is_piece_of_node n) 0 pieces
+  positions_of pieces n = positions (is_piece_of table (title_at table.names n)) 0 pieces

@@ -1,9 +1,10 @@
 -- The weights and the depths of nodes, and which nodes are expandable.
-use Rattle.std.specs.Prelude.{◌≡◌, ◌<◌, ℕ, suc, max, false, List, [], ◌∷◌, length, slice_index_or}
+use Rattle.std.specs.Prelude.{◌≡◌, ◌⊎◌, ℕ, suc, false, List, [], slice_index_or}
 use Rattle.std.specs.Prelude.{Contains}
 use Rattle.digraph.specs.Nodes.{Node}
 use Rattle.tangle_plans.specs.Nodes.{title_at}
 use Rattle.tangle_plans.specs.Shapes.{Shapes, Title, Named}
+pub use Rattle.tangle_plans.specs.Flat.{greatest_by}
 use Rattle.tangle_expansion.specs.Limits.{weight_of, depth_of}
 use Rattle.tangle_graph.specs.Nodes.{IsNodeOf}
 use Rattle.tangle_graph.specs.Outputs.{is_expandable}
@@ -16,11 +17,6 @@ no_piece_measure = record { weight = 0; depth = 0; is_expandable = false }
 -- what is recorded of a node; where nothing is, the node counts as one without a piece
 abbrev pub measure_at : List Measure → Node → Measure
 measure_at measures node = slice_index_or measures node no_piece_measure
-
--- the greatest of the values of these items, or 0 if there is none
-abbrev pub greatest_by : {X : Type 0} → (X → ℕ) → List X → ℕ
-greatest_by f [] = 0
-greatest_by f (x ∷ xs) = max (f x) (greatest_by f xs)
 
 -- what holds of the node with this title
 abbrev pub measure_of : Shapes → Title → Measure
@@ -40,9 +36,8 @@ abbrev pub AreUsesMeasured : Shapes → List (List ℕ) → List Measure → Lis
 AreUsesMeasured shapes names measures uses = (id : ℕ) → Contains uses id
     → measure_at measures (suc id) ≡ measure_of shapes (Named (slice_index_or names id []))
 
--- each node of the list has its own measure, and each other node has the measure `other`
-pub record AreMeasured (measure : Node → Measure) (other : Measure)
-    (measures : List Measure) (nodes : List Node) : Type 0 where
-  pub listed : (n : Node) → Contains nodes n → measure_at measures n ≡ measure n
-  pub unlisted : (n : Node)
-      → n < length measures → ¬ (Contains nodes n) → measure_at measures n ≡ other
+-- the node has its own measure if it is in the list, and else the measure `other`
+abbrev pub IsMeasured : (Node → Measure) → Measure → List Measure → List Node → Node → Type 0
+IsMeasured measure other measures nodes n =
+    (Contains nodes n × (measure_at measures n ≡ measure n))
+    ⊎ ((¬ (Contains nodes n)) × (measure_at measures n ≡ other))

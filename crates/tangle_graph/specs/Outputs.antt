@@ -1,7 +1,8 @@
 -- The output files of a web: the main file, and the named ones.
-use Rattle.std.specs.Prelude.{ℕ, suc, Bool, true, false, not, ◌&&◌, ◌||◌, ◌==◌, nat_lt, nat_le}
-use Rattle.std.specs.Prelude.{if◌then◌else◌, List, [], ◌∷◌, ◌++◌, map, filter, flat_map}
-use Rattle.std.specs.Prelude.{slice_index_or, option_to_list}
+use Rattle.std.specs.Prelude.{ℕ, suc, Bool, true, false, not, ◌&&◌, ◌||◌, nat_lt, nat_le}
+use Rattle.std.specs.Prelude.{if◌then◌else◌, List, [], ◌∷◌, ◌++◌, length, map, filter, flat_map}
+use Rattle.std.specs.Prelude.{slice_index_or, Option, None}
+use Rattle.std.specs.List.{range_with_len}
 use Rattle.std.specs.Str.{bytes_eq}
 use Rattle.tangle_scan.specs.Web.{WebRead}
 use Rattle.tangle_names.specs.NameTable.{TableRead}
@@ -9,10 +10,10 @@ use Rattle.tangle_plans.specs.Shapes.{Title, Program, Named, Shape, Shapes}
 use Rattle.tangle_plans.specs.Flat.{weight, depth}
 use Rattle.tangle_expansion.specs.Limits.{levels, heaviest}
 use Rattle.tangle_expansion.specs.Outputs.{OutputRead}
-use Rattle.tangle_plans.specs.WebShapes.{shapes, resolved_at}
+use Rattle.tangle_plans.specs.ItemTags.{uses_resolved}
+use Rattle.tangle_plans.specs.WebShapes.{name_at, resolved_at, shapes}
 use Rattle.digraph.specs.Nodes.{program}
-use Rattle.digraph.specs.Users.{positions}
-use Rattle.tangle_graph.specs.Grouping.{resolved_number}
+use Rattle.tangle_graph.specs.Grouping.{has_number_in}
 
 -- the node with this shape has a piece
 abbrev pub shape_has_piece : Shape → Bool
@@ -25,52 +26,51 @@ is_expandable shapes title =
     shape_has_piece (shapes title)
     && (nat_lt (depth levels shapes title) levels && nat_le (weight levels shapes title) heaviest)
 
--- the numbers without repetitions, each at the place where it comes first
-abbrev pub firsts : List ℕ → List ℕ
-firsts [] = []
-firsts (n ∷ ns) = n ∷ filter (λ m. not (m == n)) (firsts ns)
+-- the number of the name's first occurrence with `@(`, if it has one
+abbrev pub first_file_occurrence : TableRead → ℕ → Option ℕ
+first_file_occurrence table id = slice_index_or table.first_file_occurrences id None
 
-module _ (web : WebRead) (table : TableRead) where
-  -- the numbers of the occurrences that begin with `@(`, in the order of the source
-  abbrev pub file_occurrences : List ℕ
-  file_occurrences = positions (λ o. o.is_file) 0 web.occurrences
+-- the name that has its first occurrence with `@(` here, if one has
+abbrev pub first_file_name : TableRead → ℕ → List ℕ
+first_file_name table occurrence =
+    filter (λ id. has_number_in occurrence (first_file_occurrence table id))
+    (uses_resolved (resolved_at table occurrence))
 
-  -- the names to which these occurrences resolve, each at the place where it comes first
-  abbrev pub file_names : List ℕ
-  file_names = firsts
-      (flat_map (λ occurrence. option_to_list (resolved_number (resolved_at table occurrence)))
-      file_occurrences)
-
-abbrev pub name_with_number : TableRead → ℕ → List ℕ
-name_with_number table id = slice_index_or table.names id []
+-- the names with an occurrence that begins with `@(`, in the order of their first ones
+abbrev pub file_names : WebRead → TableRead → List ℕ
+file_names web table =
+    flat_map (first_file_name table) (range_with_len 0 (length web.occurrences))
 
 abbrev pub named_file : TableRead → ℕ → OutputRead
 named_file table id = record {
-  name = name_with_number table id;
+  name = name_at table id;
   node = suc id;
   has_macros = false;
   has_piece = true;
 }
 
 module _ (web : WebRead) (table : TableRead) (out : List ℕ) where
+  abbrev pub main_output : OutputRead
+  main_output = record {
+    name = out;
+    node = program;
+    has_macros = not web.has_all_macros;
+    has_piece = shape_has_piece (shapes web table Program);
+  }
+
   -- the main file, unless the program has a piece and is not expandable
   abbrev pub main_file : List OutputRead
   main_file =
       if not (shape_has_piece (shapes web table Program))
       || is_expandable (shapes web table) Program
-      then record {
-        name = out;
-        node = program;
-        has_macros = not web.has_all_macros;
-        has_piece = shape_has_piece (shapes web table Program);
-      } ∷ []
+      then main_output ∷ []
       else []
 
   -- the name has a file of its own
   abbrev pub is_written : ℕ → Bool
   is_written id =
-      is_expandable (shapes web table) (Named (name_with_number table id))
-      && not (bytes_eq (name_with_number table id) out)
+      is_expandable (shapes web table) (Named (name_at table id))
+      && not (bytes_eq (name_at table id) out)
 
   -- the main file first, and then the named ones in the order of their first file occurrences
   abbrev pub outputs : List OutputRead

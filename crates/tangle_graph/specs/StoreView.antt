@@ -1,11 +1,11 @@
 -- A store, as it is read from its fields.
-use Rattle.std.specs.Prelude.{◌≡◌, length, map}
+use Rattle.std.specs.Prelude.{map}
 use Rattle.tangle_plans.specs.NodeBodies.{body_uses}
 use Rattle.tangle_plans.specs.Shapes.{Shapes}
-use Rattle.tangle_graph.specs.Bodies.{AreBodiesOf, node_bodies}
+use Rattle.tangle_graph.specs.Bodies.{node_bodies}
 use Rattle.tangle_graph.specs.Ordering.{IsOrderIn}
 use Rattle.tangle_graph.specs.NameGraphs.{IsNameGraphOf}
-use Rattle.tangle_graph.specs.Stores.{StoreRead}
+use Rattle.tangle_graph.specs.Stores.{StoreRead, IsStoreOf}
 use Rattle.tangle_graph.specs.declared.store.Store.TheInside.{Inside}
 
 abbrev pub store_read : Inside → StoreRead
@@ -21,11 +21,10 @@ store_read s = record {
   bodies = node_bodies s.bodies.items;
 }
 
--- The bodies are those of some shapes. The graph of names is that of the uses of the bodies, and its
+-- The store is that of some shapes. The graph of names is that of the uses of the bodies, and its
 -- order is one of the store.
 pub record StoreInvariant (s : Inside) : Type 0 where
   pub shapes : Shapes
-  pub bodies : AreBodiesOf shapes s.name_graph.value.names (node_bodies s.bodies.items)
-  pub measures_size : length s.measures.items ≡ length s.bodies.items
+  pub store : IsStoreOf shapes (store_read s)
   pub name_graph : IsNameGraphOf (map body_uses (node_bodies s.bodies.items)) s.name_graph.value
   pub order : IsOrderIn (store_read s) s.name_graph.value.order.items

@@ -1,10 +1,10 @@
 //! The body of each node, and whether its shape is new.
 ghost use Rattle.std.specs.Prelude.{◌≡◌, ◌≢◌, ◌<◌, [], IfOk, length, All, IfSome};
-ghost use Rattle.std.specs.Prelude.{true, MatchOption, None};
+ghost use Rattle.std.specs.Prelude.{true, MatchOption, None, not, ◌==◌};
 ghost use Rattle.digraph.specs.Nodes.{Node};
 ghost use Rattle.tangle_plans.specs.Meaning.{title_of};
 ghost use Rattle.tangle_plans.specs.NodeBodies.{HoldsShape, body_items, body_title, body_uses};
-ghost use Rattle.tangle_plans.specs.Nodes.{row_has_piece, title_at};
+ghost use Rattle.tangle_plans.specs.Nodes.{title_at};
 ghost use Rattle.tangle_plans.specs.Shapes.{Shapes};
 ghost use Rattle.tangle_plans.specs.WebShapes.{shapes};
 ghost use Rattle.tangle_graph.specs.Bodies.{AreBodiesOf, IsBodyOf, node_bodies};
@@ -47,15 +47,16 @@ fn old_node(old: &Names, names: &Names, same_names: bool, node: Node) -> Option<
     node_before(old, names, node)
 }
 
-/// The old body of a node, with the old names.
+/// The old body of a node, with the old names, and whether these are still the names.
 #[derive(Clone, Copy)]
 struct OldBody<'s> {
     names: &'s Names,
     body: &'s Rc<NodeBody>,
+    same_names: bool,
 }
 
-/// The body that the node had in the old store. It holds the node's old shape; a node without an old
-/// body had no piece.
+/// The body that the node had in the old store. It holds the node's old shape; a node without an
+/// old body had no piece.
 fn body_before<'s>(
     old: Option<&'s Store>,
     names: &Names,
@@ -65,7 +66,7 @@ fn body_before<'s>(
     requires same_names { same_names ≡ true → IfSome old (λ store. store.now.names ≡ names.now) }
     requires node { IsNodeOf names.now node }
     ensures same_names { IfSome result
-        (λ before. same_names ≡ true → before.names.now ≡ names.now) }
+        (λ before. before.same_names ≡ true → before.names.now ≡ names.now) }
     ensures title { IfSome result
         (λ before. body_title before.body.now.value ≡ title_at names.now node) }
     ensures uses { IfSome result
@@ -80,6 +81,7 @@ fn body_before<'s>(
     Some(OldBody {
         names: old.names(),
         body: old.body(before),
+        same_names,
     })
 }
 
@@ -117,7 +119,7 @@ fn new_body(
 
 /// Whether the node with this row of pieces has a piece.
 fn has_piece(row: &[usize]) -> bool
-    ensures { result ≡ row_has_piece row.now }
+    ensures { result ≡ not (length row.now == 0) }
 {
     !row.is_empty()
 }
@@ -158,7 +160,7 @@ fn body_after(
             has_new_shape,
         });
     };
-    let has_new_shape = !builder.has_shape_of(names, before.body, before.names, same_names);
+    let has_new_shape = !builder.has_shape_of(names, before.body, before.names, before.same_names);
     if !has_new_shape && builder.has_uses_of(before.body) {
         let body = before.body.clone()?;
         return Ok(BodyAfter {

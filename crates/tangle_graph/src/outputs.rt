@@ -1,23 +1,22 @@
 //! The output files.
-ghost use Rattle.std.specs.Prelude.{◌≡◌, [], ◌∷◌, ◌++◌, IfOk, OnOk, length, All, flat_map};
-ghost use Rattle.std.specs.Prelude.{option_to_list, if◌then◌else◌, not, ◌&&◌, ◌||◌, ◌<◌, ◌+◌};
+ghost use Rattle.std.specs.Prelude.{◌≡◌, [], ◌∷◌, ◌++◌, IfOk, OnOk, length, All};
+ghost use Rattle.std.specs.Prelude.{if◌then◌else◌, not, ◌&&◌, ◌||◌, ◌<◌, ◌+◌};
 ghost use Rattle.std.specs.Prelude.{true, false};
 ghost use Rattle.std.specs.Str.{bytes_eq};
-ghost use Rattle.digraph.specs.Users.{positions};
 ghost use Rattle.digraph.specs.Nodes.{program};
-ghost use Rattle.tangle_plans.specs.WebShapes.{ResolvesInside, resolved_at, shapes};
-ghost use Rattle.tangle_graph.specs.Grouping.{resolved_number};
+ghost use Rattle.tangle_plans.specs.WebShapes.{ResolvesInside, shapes};
+ghost use Rattle.tangle_graph.specs.Grouping.{has_number_in};
 ghost use Rattle.tangle_graph.specs.Measures.{AreMeasures};
-ghost use Rattle.tangle_graph.specs.Outputs.{firsts, file_names, outputs};
+ghost use Rattle.tangle_graph.specs.Outputs.{first_file_name, first_file_occurrence};
+ghost use Rattle.tangle_graph.specs.Outputs.{file_names, outputs};
 
 use crate::measures::{Measure, NO_PIECE};
 use crate::nodes::entry;
-use crate::pieces::resolved_number;
 use digraph::Node;
 use std::alloc::{AllocError, Global};
 use tangle_expansion::Output;
-use tangle_names::NameTable;
-use tangle_scan::{Occurrence, Web};
+use tangle_names::{NameTable, Resolved};
+use tangle_scan::Web;
 
 /// Adds the number at the end of the list, if the flag is set.
 pub(crate) fn push_where(numbers: &mut Vec<usize>, flag: bool, n: usize) -> Result<(), AllocError>
@@ -29,55 +28,32 @@ pub(crate) fn push_where(numbers: &mut Vec<usize>, flag: bool, n: usize) -> Resu
     Ok(())
 }
 
-/// The numbers of the occurrences that begin with `@(`.
-fn file_occurrences(alloc: Global, occurrences: &[Occurrence]) -> Result<Vec<usize>, AllocError>
-    ensures { IfOk result (λ numbers. numbers.items
-        ≡ positions (λ o. o.is_file) 0 occurrences.now) }
+/// Whether the name has its first occurrence that begins with `@(` here.
+fn is_first_file(table: &NameTable, id: usize, occurrence: usize) -> bool
+    requires { id < length table.now.names }
+    ensures { result ≡ has_number_in occurrence (first_file_occurrence table.now id) }
 {
-    let mut numbers = Vec::new(alloc);
-    for (i, occurrence) in occurrences.iter().enumerate() {
-        push_where(&mut numbers, occurrence.is_file(), i)?;
+    match table.first_file_occurrence(id) {
+        Some(first) => first == occurrence,
+        None => false,
     }
-    Ok(numbers)
 }
 
-/// The names that these occurrences resolve to.
-fn names_of(
-    alloc: Global,
+/// Adds the name that has its first occurrence that begins with `@(` here, if one has.
+fn add_first_file(
     table: &NameTable,
-    occurrences: &[usize],
-) -> Result<Vec<usize>, AllocError>
+    occurrence: usize,
+    names: &mut Vec<usize>,
+) -> Result<(), AllocError>
     requires inside { ResolvesInside table.now }
-    requires occurrences { All (λ occurrence. occurrence < length table.now.resolved)
-        occurrences.now }
-    ensures names { IfOk result
-        (λ names. names.items ≡ flat_map
-        (λ occurrence. option_to_list (resolved_number (resolved_at table.now occurrence)))
-        occurrences.now) }
-    ensures inside { IfOk result (λ names. All (λ id. id < length table.now.names) names.items) }
+    requires occurrence { occurrence < length table.now.resolved }
+    ensures { OnOk result (names.new.items
+        ≡ names.old.items ++ first_file_name table.now occurrence) }
 {
-    let mut names = Vec::new(alloc);
-    for occurrence in occurrences {
-        if let Some(id) = resolved_number(table.resolve(*occurrence)) {
-            names.push(id)?;
-        }
+    if let Resolved::Name(id) = table.resolve(occurrence) {
+        push_where(names, is_first_file(table, id, occurrence), id)?;
     }
-    Ok(names)
-}
-
-/// The numbers without repetitions: each at the place where it comes first.
-fn firsts(alloc: Global, count: usize, numbers: &[usize]) -> Result<Vec<usize>, AllocError>
-    requires { All (λ n. n < count) numbers.now }
-    ensures firsts { IfOk result (λ v. v.items ≡ firsts numbers.now) }
-    ensures below { IfOk result (λ v. All (λ n. n < count) v.items) }
-{
-    let mut seen = vec![in alloc; false; count]?;
-    let mut firsts = Vec::new(alloc);
-    for n in numbers {
-        push_where(&mut firsts, !seen[*n], *n)?;
-        seen[*n] = true;
-    }
-    Ok(firsts)
+    Ok(())
 }
 
 /// The names with an occurrence that begins with `@(`, in the order of their first such
@@ -92,9 +68,11 @@ pub(crate) fn file_names(
     ensures names { IfOk result (λ names. names.items ≡ file_names web.now table.now) }
     ensures inside { IfOk result (λ names. All (λ id. id < length table.now.names) names.items) }
 {
-    let occurrences = file_occurrences(alloc, web.occurrences())?;
-    let names = names_of(alloc, table, &occurrences)?;
-    firsts(alloc, table.count(), &names)
+    let mut names = Vec::new(alloc);
+    for occurrence in 0..web.occurrences().len() {
+        add_first_file(table, occurrence, &mut names)?;
+    }
+    Ok(names)
 }
 
 /// The main file, if the program has no piece or is expandable.

@@ -4,7 +4,7 @@ ghost use Rattle.std.specs.Prelude.{◌++◌, ℕ, length, if◌then◌else◌, 
 ghost use Rattle.digraph.specs.Rows.{IsRowsOf};
 ghost use Rattle.tangle_names.specs.NameTable.{table_of};
 ghost use Rattle.tangle_plans.specs.WebShapes.{ResolvesInside};
-ghost use Rattle.tangle_graph.specs.Grouping.{resolved_number, node_of_piece, has_number_in};
+ghost use Rattle.tangle_graph.specs.Grouping.{node_of_piece, has_number_in};
 ghost use Rattle.tangle_graph.specs.Grouping.{positions_of};
 
 use digraph::{GrowingRows, Node, Rows};
@@ -23,16 +23,6 @@ fn node_count(table: &NameTable) -> Result<usize, AllocError>
     table.count().checked_add(1).ok_or(AllocError)
 }
 
-/// The number of the full name, if the occurrence resolves to one.
-pub(crate) fn resolved_number(resolved: Resolved) -> Option<usize>
-    ensures { result ≡ resolved_number resolved }
-{
-    match resolved {
-        Resolved::Name(id) => Some(id),
-        Resolved::NoFullName | Resolved::Ambiguous => None,
-    }
-}
-
 /// The node that a piece belongs to, by the occurrence that defines the piece. A piece without an
 /// occurrence belongs to the program.
 fn node_of_piece(table: &NameTable, occurrence: Option<OccurrenceNumber>) -> Option<Node>
@@ -45,9 +35,9 @@ fn node_of_piece(table: &NameTable, occurrence: Option<OccurrenceNumber>) -> Opt
     let Some(occurrence) = occurrence else {
         return Some(Node::program());
     };
-    match resolved_number(table.resolve(occurrence.number())) {
-        Some(id) => Some(Node::name(id)),
-        None => None,
+    match table.resolve(occurrence.number()) {
+        Resolved::Name(id) => Some(Node::name(id)),
+        Resolved::NoFullName | Resolved::Ambiguous => None,
     }
 }
 
@@ -56,7 +46,8 @@ fn node_at(web: &Web, table: &NameTable, i: usize) -> Option<Node>
     requires table { table.now ≡ table_of web.now }
     requires piece { i < length web.now.pieces }
     requires count { length table.now.names + 1 < 2 ^ 64 }
-    ensures next { (n : ℕ) → positions_of table.now (take (i + 1) web.now.pieces) n
+    ensures next { (n : ℕ) → n < length table.now.names + 1
+        → positions_of table.now (take (i + 1) web.now.pieces) n
         ≡ positions_of table.now (take i web.now.pieces) n
         ++ (if has_number_in n result then i ∷ [] else []) }
     ensures within { IfSome result (λ n. n < length table.now.names + 1) }

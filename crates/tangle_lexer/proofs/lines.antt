@@ -2,7 +2,6 @@ pub mod KindSteps
 pub mod LineSteps
 pub mod OpenLines
 pub mod PartLines
-pub mod SourceBytes
 pub mod StateLines
 pub mod TextSteps
 pub mod VerbatimSteps

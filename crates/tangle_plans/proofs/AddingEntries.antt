@@ -1,57 +1,22 @@
 -- The entries of a piece, and the pieces of a node, are added one after another.
-use Rattle.std.proofs.Common.{◌≡◌, ◌∙◌, ℕ, List, [], ◌∷◌, ◌++◌, fold, map, refl, ap, sym, append_assoc, append-nil, subst}
+use Rattle.std.proofs.Common.{◌≡◌, ◌∙◌, ℕ, List, [], ◌∷◌, ◌++◌, map, refl, ap, sym, append_assoc, append-nil, subst}
 use Rattle.std.specs.Prelude.{flat_map, length, slice_index_or}
 use Rattle.tangle_scan.specs.declared.items.Entry.{Entry}
 use Rattle.tangle_scan.specs.Entries.{items_of}
-use Rattle.tangle_scan.specs.ItemBytes.{bytes_in}
 use Rattle.tangle_scan.specs.Web.{WebRead, PieceRead}
 use Rattle.tangle_names.specs.NameTable.{TableRead}
-use Rattle.tangle_plans.specs.MakingBodies.{nothing_made, with_entry, with_piece, AddsPieces}
-use Rattle.tangle_plans.specs.ItemTags.{uses_in, pieces_uses, shape_of}
-use Rattle.tangle_plans.specs.Entries.{AreEntriesAt, entry_tag, entry_uses, entry_bytes}
+use Rattle.tangle_plans.specs.MakingBodies.{nothing_made, with_piece, AddsPieces}
+use Rattle.tangle_plans.specs.ItemTags.{pieces_uses}
+use Rattle.tangle_plans.specs.Entries.{AreEntriesAt, entry_uses, entry_bytes}
 use Rattle.tangle_plans.specs.NodeBodies.{ItemsRead, AreItemsOf}
 use Rattle.tangle_plans.specs.Nodes.{no_piece}
-use Rattle.tangle_plans.specs.Tags.{piece_start, piece_end, shape_tags, shape_bytes}
+use Rattle.tangle_plans.specs.Tags.{item_tag, piece_start, piece_end, shape_tags, shape_bytes}
 use Rattle.tangle_plans.specs.UnfoldedTags.{StandFor, unfolded_tags}
-use Rattle.tangle_plans.specs.WebShapes.{name_at}
-use Rattle.tangle_plans.proofs.EntryLemmas.{entries_bytes, entries_uses, piece_unfolds}
+use Rattle.tangle_plans.specs.WebShapes.{shape_item, shape_of}
+use Rattle.tangle_plans.proofs.EntryLemmas.{entries_bytes, entries_uses, piece_unfolds, stand_append}
 use Rattle.tangle_plans.proofs.HeldLemmas.{bytes_held}
 
--- a piece that is begun, and one that is ended
-
-abbrev pub begun : ItemsRead → ItemsRead
-begun old = record old { tags = old.tags ++ piece_start ∷ [] }
-
-abbrev pub ended : ItemsRead → ItemsRead
-ended old = record old { tags = old.tags ++ piece_end ∷ [] }
-
 module _ (texts : List (List ℕ)) (table : TableRead) where
-  entries_made : (old : ItemsRead) (entries : List Entry)
-      → ended (fold (with_entry texts table) old entries)
-      ≡ record {
-        tags = old.tags ++ (map (entry_tag table) entries ++ piece_end ∷ []);
-        bytes = old.bytes ++ flat_map (entry_bytes texts) entries;
-        uses = old.uses ++ flat_map (entry_uses table) entries;
-      }
-  entries_made old [] = sym (λ i. record (ended old) { bytes = append-nil old.bytes i; uses = append-nil old.uses i })
-  entries_made old (e ∷ entries) =
-      entries_made (with_entry texts table old e) entries
-      ∙ (λ i. record {
-        tags = append_assoc old.tags (entry_tag table e ∷ []) (map (entry_tag table) entries ++ piece_end ∷ []) i;
-        bytes = append_assoc old.bytes (entry_bytes texts e) (flat_map (entry_bytes texts) entries) i;
-        uses = append_assoc old.uses (entry_uses table e) (flat_map (entry_uses table) entries) i;
-      })
-
-  pub piece_made : (old : ItemsRead) (entries : List Entry)
-      → ended (fold (with_entry texts table) (begun old) entries) ≡ with_piece texts table old entries
-  piece_made old entries =
-      entries_made (begun old) entries
-      ∙ (λ i. record {
-        tags = append_assoc old.tags (piece_start ∷ []) (map (entry_tag table) entries ++ piece_end ∷ []) i;
-        bytes = old.bytes ++ sym (entries_bytes texts entries) i;
-        uses = old.uses ++ sym (entries_uses texts table entries) i;
-      })
-
   pub no_pieces_added : (old : ItemsRead) → AddsPieces texts table old old []
   no_pieces_added old = record {
     bytes = sym (append-nil old.bytes);
@@ -82,10 +47,14 @@ module _ (web : WebRead) (table : TableRead) where
       let added = rw is at h in
       let shape = shape_of texts table pieces in
       let p = slice_index_or web.pieces number no_piece in
+      let tags = piece_start ∷ map item_tag (map (shape_item texts table) items) ++ piece_end ∷ [] in
       subst (λ q. AddsPieces texts table old new (q ∷ pieces)) (λ i. record p { items = at.items i }) (record {
-        bytes = added.bytes ∙ append_assoc old.bytes (flat_map (bytes_in texts) items) (shape_bytes shape)
-            ∙ ap (λ l. old.bytes ++ (l ++ shape_bytes shape)) (bytes_held (name_at table) texts table items);
+        bytes = added.bytes ∙ append_assoc old.bytes (flat_map (entry_bytes texts) entries) (shape_bytes shape)
+            ∙ ap (λ l. old.bytes ++ (l ++ shape_bytes shape))
+            (sym (entries_bytes texts entries) ∙ bytes_held texts table items);
         tags = λ before h. subst (StandFor new.tags new.bytes) (append_assoc before _ (shape_tags shape))
-            (added.tags _ (piece_unfolds texts table entries old.tags before old.bytes (at.own table ours) at.spans h));
-        uses = added.uses ∙ append_assoc old.uses (flat_map (uses_in table) items) (pieces_uses table pieces);
+            (added.tags _ (stand_append old.tags _ old.bytes _ before tags h
+            (piece_unfolds texts table entries (at.own table ours) at.spans)));
+        uses = added.uses ∙ append_assoc old.uses (flat_map (entry_uses table) entries) (pieces_uses table pieces)
+            ∙ ap (λ l. old.uses ++ (l ++ pieces_uses table pieces)) (sym (entries_uses texts table entries));
       })

@@ -17,8 +17,9 @@ use Rattle.tangle_scan.specs.Web.{PieceRead, WebRead}
 use Rattle.tangle_names.specs.declared.Resolved.{Resolved}
 use Rattle.tangle_names.specs.declared.Resolved.TheVariants.{Name}
 use Rattle.tangle_names.specs.NameTable.{TableRead}
-use Rattle.tangle_plans.specs.Tags.{item_tag, piece_start, piece_end}
-use Rattle.tangle_plans.specs.WebShapes.{name_at, resolved_at, shape_item}
+use Rattle.tangle_plans.specs.Tags.{item_tag, item_bytes, piece_start, piece_end}
+use Rattle.tangle_plans.specs.Shapes.{ShapeItem, Written}
+use Rattle.tangle_plans.specs.WebShapes.{resolved_at, shape_item}
 use Rattle.tangle_plans.specs.ItemTags.{use_tag, tag_in, uses_in}
 use Rattle.tangle_plans.specs.Nodes.{no_piece}
 use Rattle.tangle_plans.specs.Entries.{IsEntryOf, AreEntriesAt, entry_tag, entries_tags, entry_uses, entry_bytes}
@@ -26,7 +27,7 @@ use Rattle.tangle_plans.specs.UnfoldedTags.{StandFor, kind_tags, unfolded_tags}
 use Rattle.tangle_plans.specs.declared.tags.ItemTag.{ItemTag}
 use Rattle.tangle_scan.proofs.lemmas.StoredPieces.{pieces-count, piece-at}
 use Rattle.tangle_plans.proofs.EachLemmas.{each_of_lists}
-use Rattle.tangle_plans.proofs.HeldLemmas.{span_length, tags_held}
+use Rattle.tangle_plans.proofs.HeldLemmas.{span_length, tag_held, byte_held, tags_held}
 use Rattle.tangle_plans.proofs.RunItems.{run_items_tags, run_items_uses}
 use Rattle.tangle_plans.proofs.RunLemmas.{run_bytes}
 
@@ -54,77 +55,68 @@ entries_uses texts table entries =
 
 -- tags
 
+-- one tag, with its bytes
+stand_one : (t : ItemTag) (bytes : List ℕ) → t.size ≡ length bytes → StandFor (t ∷ []) bytes (kind_tags t.kind t bytes)
+stand_one t bytes e = λ more rest.
+    ap (λ n. kind_tags t.kind t (take n (bytes ++ rest)) ++ unfolded_tags more (drop n (bytes ++ rest))) e
+    ∙ (λ i. kind_tags t.kind t (take-append_seam bytes rest i) ++ unfolded_tags more (drop-append_seam bytes rest i))
+
+pub stand_append : (tags tags' : List ItemTag) (bytes bytes' : List ℕ) (unfolded unfolded' : List ItemTag)
+    → StandFor tags bytes unfolded → StandFor tags' bytes' unfolded'
+    → StandFor (tags ++ tags') (bytes ++ bytes') (unfolded ++ unfolded')
+stand_append tags tags' bytes bytes' unfolded unfolded' one other = λ more rest.
+    (λ i. unfolded_tags (append_assoc tags tags' more i) (append_assoc bytes bytes' rest i))
+    ∙ one (tags' ++ more) (bytes' ++ rest) ∙ ap (λ l. unfolded ++ l) (other more rest)
+    ∙ sym (append_assoc unfolded unfolded' (unfolded_tags more rest))
+
 module _ (texts : List (List ℕ)) (table : TableRead) where
-  use_sized : (r : Resolved) → (use_tag r).size ≡ 0
-  use_sized (Name id) = refl
-  use_sized _ = refl
+  item_sized : (x : ShapeItem) → (item_tag x).size ≡ length (item_bytes x)
+  item_sized (Written k bytes) = refl
+  item_sized _ = refl
 
   -- the tag of an entry has the number of its bytes
-  pub entry_sized : (e : Entry) → IsEntryOf texts table e → (entry_tag table e).size ≡ length (entry_bytes texts e)
-  entry_sized (entry.Item (item.Word s)) h = sym (span_length texts s h.0)
-  entry_sized (entry.Item (item.Sign s)) h = sym (span_length texts s h.0)
-  entry_sized (entry.Item (item.Quoted s)) h = sym (span_length texts s h.0)
-  entry_sized (entry.Item (item.Verbatim s)) h = sym (span_length texts s h.0)
-  entry_sized (entry.Item (item.UseOf occurrence)) h = use_sized (resolved_at table occurrence)
+  entry_sized : (e : Entry) → IsEntryOf texts table e → (entry_tag table e).size ≡ length (entry_bytes texts e)
+  entry_sized (entry.Item x) h =
+      ap (λ t. t.size) (tag_held texts table x h.0) ∙ item_sized (shape_item texts table x)
+      ∙ ap length (sym (byte_held texts table x))
   entry_sized (entry.Run s) h = sym (span_length texts s h)
-  entry_sized _ h = refl
 
   use_tagged : (r : Resolved) (bytes : List ℕ) → kind_tags (use_tag r).kind (use_tag r) bytes ≡ use_tag r ∷ []
   use_tagged (Name id) bytes = refl
   use_tagged _ bytes = refl
 
   -- the tag of an entry, with its bytes, stands for the tags of its items
-  pub entry_tagged : (e : Entry)
+  entry_tagged : (e : Entry)
       → kind_tags (entry_tag table e).kind (entry_tag table e) (entry_bytes texts e)
       ≡ map (tag_in table) (entry_items texts e)
   entry_tagged (entry.Item (item.UseOf occurrence)) = use_tagged (resolved_at table occurrence) []
   entry_tagged (entry.Run s) = sym (run_items_tags table texts s)
   entry_tagged _ = refl
 
-  -- one more tag, whose bytes are in front
-  unfolded-cons : (t : ItemTag) (tags : List ItemTag) (front bytes : List ℕ) → t.size ≡ length front
-      → unfolded_tags (t ∷ tags) (front ++ bytes) ≡ kind_tags t.kind t front ++ unfolded_tags tags bytes
-  unfolded-cons t tags front bytes e =
-      ap (λ n. kind_tags t.kind t (take n (front ++ bytes)) ++ unfolded_tags tags (drop n (front ++ bytes))) e
-      ∙ (λ i. kind_tags t.kind t (take-append_seam front bytes i) ++ unfolded_tags tags (drop-append_seam front bytes i))
-
   -- the tags of entries, with their bytes, stand for the tags of their items
-  pub entries_unfold : (entries : List Entry) → All (IsEntryOf texts table) entries
+  entries_unfold : (entries : List Entry) → All (IsEntryOf texts table) entries
       → StandFor (map (entry_tag table) entries)
       (flat_map (entry_bytes texts) entries) (map (tag_in table) (items_of texts entries))
   entries_unfold [] h = λ more rest. refl
-  entries_unfold (e ∷ entries) h = λ more rest.
-      let tags = map (entry_tag table) entries ++ more in
-      let bytes = flat_map (entry_bytes texts) entries ++ rest in
-      ap (unfolded_tags (entry_tag table e ∷ tags)) (append_assoc (entry_bytes texts e) _ rest)
-      ∙ unfolded-cons (entry_tag table e) tags (entry_bytes texts e) bytes
-      (entry_sized e (All-head (IsEntryOf texts table) e entries h))
-      ∙ (λ i. entry_tagged e i ++ entries_unfold entries (All-tail (IsEntryOf texts table) e entries h) more rest i)
-      ∙ sym (ap (λ l. l ++ unfolded_tags more rest)
-      (map-append (tag_in table) (entry_items texts e) (items_of texts entries))
-      ∙ append_assoc (map (tag_in table) (entry_items texts e)) _ (unfolded_tags more rest))
+  entries_unfold (e ∷ entries) h =
+      rw (map-append (tag_in table) (entry_items texts e) (items_of texts entries), ← entry_tagged e)
+      (stand_append (entry_tag table e ∷ []) _ (entry_bytes texts e) _ _ _
+      (stand_one (entry_tag table e) (entry_bytes texts e)
+      (entry_sized e (All-head (IsEntryOf texts table) e entries h)))
+      (entries_unfold entries (All-tail (IsEntryOf texts table) e entries h)))
 
-  -- those of a piece with these entries, after other tags
-  pub piece_unfolds : (entries : List Entry) (tags before : List ItemTag) (bytes : List ℕ)
+  -- those of a piece with these entries
+  pub piece_unfolds : (entries : List Entry)
       → All (IsEntryOf texts table) entries → All (IsInRange texts) (items_of texts entries)
-      → StandFor tags bytes before
-      → StandFor (tags ++ entries_tags table entries) (bytes ++ flat_map (bytes_in texts) (items_of texts entries))
-      (before ++ (piece_start ∷ map item_tag (map (shape_item texts table) (items_of texts entries)) ++ piece_end ∷ []))
-  piece_unfolds entries tags before bytes own spans h = λ more rest.
-      let items = items_of texts entries in
-      let all = map (entry_tag table) entries ++ piece_end ∷ more in
-      let written = flat_map (entry_bytes texts) entries ++ rest in
-      let held = sym (tags_held (name_at table) texts table items spans) in
-      (λ i. unfolded_tags
-      ((append_assoc tags (entries_tags table entries) more
-      ∙ ap (λ l. tags ++ piece_start ∷ l) (append_assoc (map (entry_tag table) entries) (piece_end ∷ []) more)) i)
-      ((append_assoc bytes (flat_map (bytes_in texts) items) rest
-      ∙ ap (λ l. bytes ++ (l ++ rest)) (entries_bytes texts entries)) i))
-      ∙ h (piece_start ∷ all) written
-      ∙ ap (λ l. before ++ piece_start ∷ l) (entries_unfold entries own (piece_end ∷ more) rest)
-      ∙ sym (append_assoc before _ (unfolded_tags more rest)
-      ∙ ap (λ l. before ++ piece_start ∷ l) (append_assoc _ (piece_end ∷ []) (unfolded_tags more rest)
-      ∙ ap (λ l. l ++ piece_end ∷ unfolded_tags more rest) held))
+      → StandFor (entries_tags table entries) (flat_map (entry_bytes texts) entries)
+      (piece_start ∷ map item_tag (map (shape_item texts table) (items_of texts entries)) ++ piece_end ∷ [])
+  piece_unfolds entries own spans = λ more rest.
+      ap (λ ts. piece_start ∷ unfolded_tags ts (flat_map (entry_bytes texts) entries ++ rest))
+      (append_assoc (map (entry_tag table) entries) (piece_end ∷ []) more)
+      ∙ ap (λ l. piece_start ∷ l) (entries_unfold entries own (piece_end ∷ more) rest
+      ∙ ap (λ l. l ++ piece_end ∷ unfolded_tags more rest)
+      (tags_held texts table (items_of texts entries) spans)
+      ∙ sym (append_assoc _ (piece_end ∷ []) (unfolded_tags more rest)))
 
 -- what holds of each item holds of each entry
 

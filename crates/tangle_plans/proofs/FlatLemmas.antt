@@ -1,53 +1,53 @@
 -- A body that determines a shape has the symbols of the shape.
-use Rattle.std.proofs.Common.{◌≡◌, ◌∙◌, ℕ, ◌+◌, List, [], ◌∷◌, ◌++◌, map, take, drop, length, refl, ap, sym, append_assoc}
+use Rattle.std.proofs.Common.{◌≡◌, ◌∙◌, ℕ, ◌+◌, List, [], ◌∷◌, ◌++◌, map, take, drop, length, refl, ap, sym, subst, append_assoc}
 use Rattle.std.specs.Prelude.{flat_map}
 use Rattle.std.proofs.lemmas.List.{map-append, take-append-drop}
 use Rattle.std.proofs.Math.Seq.{take-append_seam, drop-append_seam}
 use Rattle.tangle_files.specs.Bytes.{space}
-use Rattle.tangle_text.specs.Runs.{chunks, part_of, parts_of}
+use Rattle.tangle_text.specs.Runs.{chunks, part_of}
 use Rattle.tangle_text.specs.declared.runs.RunPart.{RunPart}
 use Rattle.tangle_text.specs.declared.runs.RunPart.TheVariants as part
 use Rattle.tangle_text.proofs.RunChunks.{AreChunks, joined, chunks_are, chunks_joined}
 use Rattle.tangle_plans.specs.Shapes.{Title, Kind, ShapeItem, Written, Mark, AllMacros, Use, NoUse, Shape}
 use Rattle.tangle_plans.specs.Shapes as kind
-use Rattle.tangle_plans.specs.Flat.{Symbol, Byte, MarkOf, Closing, Opening, marks_after_shape_item, item_flat, items_flat}
+use Rattle.tangle_plans.specs.Flat.{Symbol, Byte, MarkOf, Opening, items_flat}
 use Rattle.tangle_plans.specs.Flat.{pieces_flat}
 use Rattle.tangle_plans.specs.Flat as symbol
-use Rattle.tangle_plans.specs.Meaning.{pieces_after, marks_after, own_symbols, with_used, tags_flat, body_flat}
+use Rattle.tangle_plans.specs.Meaning.{pieces_after, marks_after, with_used, tags_flat, body_flat}
+use Rattle.tangle_plans.specs.Flat.{own_symbols}
 use Rattle.tangle_plans.specs.NodeBodies.{HoldsShape, body_title, body_uses, names_at}
-use Rattle.tangle_plans.specs.Tags.{item_tag, item_bytes, item_names, piece_end, shape_tags, shape_bytes, shape_names}
-use Rattle.tangle_plans.specs.UnfoldedTags.{part_tag, run_tags, kind_tags, unfolded_tags}
+use Rattle.tangle_plans.specs.Tags.{item_tag, item_bytes, piece_end, shape_tags, shape_bytes}
+use Rattle.tangle_plans.specs.Shapes.{item_names, shape_names}
+use Rattle.tangle_plans.specs.UnfoldedTags.{chunk_tag, part_tag, run_tags, kind_tags, unfolded_tags}
 use Rattle.tangle_plans.specs.declared.nodes.NodeBody.{NodeBody}
 use Rattle.tangle_plans.specs.declared.tags.ItemKind.{ItemKind}
 use Rattle.tangle_plans.specs.declared.tags.ItemKind.TheVariants as tag
 use Rattle.tangle_plans.specs.declared.tags.ItemTag.{ItemTag}
-use Rattle.tangle_plans.proofs.RunLemmas.{tag_size, part_size}
+use Rattle.tangle_plans.proofs.RunLemmas.{chunk_size}
 
 module _ (node : Title) where
   -- the parts of a run have its bytes
 
   part_flat : (piece marks : ℕ) (p : RunPart) (chunk more : List ℕ) (tags : List ItemTag) (used : List (List Symbol))
-      → tag_size (part_tag p) ≡ length chunk
+      → (part_tag p).size ≡ length chunk
       → tags_flat node piece marks (chunk ++ more) (part_tag p ∷ tags) used
       ≡ map Byte chunk ++ tags_flat node piece marks more tags used
-  part_flat piece marks (part.Word s) chunk more tags used size =
-      rw (size, take-append_seam chunk more, drop-append_seam chunk more) refl
-  part_flat piece marks (part.Sign s) chunk more tags used size =
-      rw (size, take-append_seam chunk more, drop-append_seam chunk more) refl
   part_flat piece marks part.Space chunk more tags used size =
       rw (size, take-append_seam chunk more, drop-append_seam chunk more) refl
+  part_flat piece marks _ chunk more tags used size =
+      rw (size, take-append_seam chunk more, drop-append_seam chunk more) refl
 
-  parts_flat : (piece marks line column : ℕ) (cs : List (List ℕ)) (more : List ℕ) (tags : List ItemTag)
+  chunks_flat : (piece marks : ℕ) (cs : List (List ℕ)) (more : List ℕ) (tags : List ItemTag)
       (used : List (List Symbol)) → AreChunks cs
-      → tags_flat node piece marks (joined cs ++ more) (map part_tag (parts_of line column cs) ++ tags) used
+      → tags_flat node piece marks (joined cs ++ more) (map chunk_tag cs ++ tags) used
       ≡ map Byte (joined cs) ++ tags_flat node piece marks more tags used
-  parts_flat piece marks line column [] more tags used h = refl
-  parts_flat piece marks line column (c ∷ cs) more tags used h =
-      let rest = map part_tag (parts_of line (column + length c) cs) ++ tags in
+  chunks_flat piece marks [] more tags used h = refl
+  chunks_flat piece marks (c ∷ cs) more tags used h =
+      let rest = map chunk_tag cs ++ tags in
       let whole = tags_flat node piece marks more tags used in
-      ap (λ l. tags_flat node piece marks l (part_tag (part_of line column c) ∷ rest) used) (append_assoc c (joined cs) more)
-      ∙ part_flat piece marks (part_of line column c) c (joined cs ++ more) rest used (part_size line column c h.0)
-      ∙ ap (λ l. map Byte c ++ l) (parts_flat piece marks line (column + length c) cs more tags used h.1)
+      ap (λ l. tags_flat node piece marks l (chunk_tag c ∷ rest) used) (append_assoc c (joined cs) more)
+      ∙ part_flat piece marks (part_of 0 0 c) c (joined cs ++ more) rest used (chunk_size c h.0)
+      ∙ ap (λ l. map Byte c ++ l) (chunks_flat piece marks cs more tags used h.1)
       ∙ sym (ap (λ l. l ++ whole) (map-append Byte c (joined cs)) ∙ append_assoc (map Byte c) (map Byte (joined cs)) whole)
 
   run_flat : (piece marks : ℕ) (bytes more : List ℕ) (tags : List ItemTag) (used : List (List Symbol))
@@ -55,10 +55,9 @@ module _ (node : Title) where
       ≡ map Byte bytes ++ tags_flat node piece marks more tags used
   unfolding run_tags
   run_flat piece marks bytes more tags used =
-      ap (λ l. tags_flat node piece marks (l ++ more) (map part_tag (parts_of 0 0 (chunks bytes)) ++ tags) used)
-      (sym (chunks_joined bytes))
-      ∙ parts_flat piece marks 0 0 (chunks bytes) more tags used (chunks_are bytes)
-      ∙ ap (λ l. map Byte l ++ tags_flat node piece marks more tags used) (chunks_joined bytes)
+      subst (λ l. tags_flat node piece marks (l ++ more) (map chunk_tag (chunks bytes) ++ tags) used
+      ≡ map Byte l ++ tags_flat node piece marks more tags used) (chunks_joined bytes)
+      (chunks_flat piece marks (chunks bytes) more tags used (chunks_are bytes))
 
   -- the symbols are those of the unfolded tags
 
@@ -117,7 +116,7 @@ module _ (node : Title) where
     items_shaped piece marks (NoUse ∷ items) bytes tags names =
         ap (λ l. Byte space ∷ l) (items_shaped piece marks items bytes tags names)
 
-    shape_flat : (piece marks : ℕ) (shape : Shape)
+    pub shape_flat : (piece marks : ℕ) (shape : Shape)
         → tags_flat node piece marks (shape_bytes shape) (shape_tags shape) (map symbols (shape_names shape))
         ≡ pieces_flat symbols node piece shape
     shape_flat piece marks [] = refl

@@ -1,10 +1,11 @@
 -- An occurrence that resolves to a name resolves to one of the table.
-use Rattle.std.proofs.Common.{arith, ◌≡◌, ℕ, zero, suc, Bool, true, false, List, [], ◌∷◌, map, length, refl}
-use Rattle.std.specs.Prelude.{slice_index_or, Contains}
-use Rattle.std.proofs.lemmas.List.Elements.{Contains-append_right}
+use Rattle.std.proofs.Common.{◌≡◌, Bool, true, false, List, map, length, get_or, refl}
+use Rattle.std.specs.Prelude.{Contains, ℕ}
+use Rattle.std.proofs.lemmas.List.{get_or_default}
+use Rattle.std.proofs.lemmas.List.Elements.{All-map}
 use Rattle.tangle_lexer.specs.Occurrences.{OccurrenceRead}
 use Rattle.tangle_names.specs.declared.Resolved.{Resolved}
-use Rattle.tangle_names.specs.declared.Resolved.TheVariants.{Name, NoFullName, Ambiguous}
+use Rattle.tangle_names.specs.declared.Resolved.TheVariants.{Name, NoFullName}
 use Rattle.tangle_names.specs.Names.{full_names, prefix}
 use Rattle.tangle_names.specs.Resolving.{names_in_order, resolve}
 use Rattle.tangle_names.specs.Laws.{ResolvesFull, ResolvesPrefix}
@@ -12,22 +13,24 @@ use Rattle.tangle_names.specs.NameTable.{table_of}
 use Rattle.tangle_names.proofs.LawLemmas.{full_law, prefix_law}
 use Rattle.tangle_scan.specs.Web.{WebRead}
 use Rattle.tangle_plans.specs.WebShapes.{IsNameBelow, ResolvesInside}
+use Rattle.tangle_plans.proofs.EachLemmas.{all_or}
 
 full_inside : (names : List (List ℕ)) (name : List ℕ) (r : Resolved)
     → ResolvesFull names name r → IsNameBelow (length names) r
 full_inside names name (Name id) h = h.inside
-full_inside names name NoFullName h = tt
-full_inside names name Ambiguous h = tt
+full_inside names name _ h = tt
 
 prefix_inside : (names full : List (List ℕ)) (p : List ℕ) (r : Resolved)
     → ResolvesPrefix names full p r → IsNameBelow (length names) r
 prefix_inside names full p (Name id) h = h.1.inside
-prefix_inside names full p NoFullName h = tt
-prefix_inside names full p Ambiguous h = tt
+prefix_inside names full p _ h = tt
 
 -- the table of a web has each name to which an occurrence resolves
 pub table_inside : (web : WebRead) → ResolvesInside (table_of web)
-table_inside web occurrence = at os occurrence (λ o h. by o h o.is_abbreviation refl)
+table_inside web =
+    all_or (IsNameBelow (length (names_in_order os))) (map (resolve os) os) NoFullName tt
+    (All-map (IsNameBelow (length (names_in_order os))) (resolve os) os
+    (λ i o low. by (get_or os i o) (i, low, get_or_default os i (get_or os i o) o low) (get_or os i o).is_abbreviation refl))
   where
     os : List OccurrenceRead
     os = web.occurrences
@@ -36,10 +39,3 @@ table_inside web occurrence = at os occurrence (λ o h. by o h o.is_abbreviation
         → o.is_abbreviation ≡ t → IsNameBelow (length (names_in_order os)) (resolve os o)
     by o h true e = prefix_inside (names_in_order os) (full_names os) (prefix o.text) (resolve os o) (prefix_law os o h e)
     by o h false e = full_inside (names_in_order os) o.text (resolve os o) (full_law os o h e)
-
-    at : (xs : List OccurrenceRead) (i : ℕ)
-        → ((o : OccurrenceRead) → Contains xs o → IsNameBelow (length (names_in_order os)) (resolve os o))
-        → IsNameBelow (length (names_in_order os)) (slice_index_or (map (resolve os) xs) i NoFullName)
-    at [] i h = tt
-    at (x ∷ xs) zero h = h x (0, omega arith, refl)
-    at (x ∷ xs) (suc i) h = at xs i (λ o c. h o (Contains-append_right (x ∷ []) xs o c))

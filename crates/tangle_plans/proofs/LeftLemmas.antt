@@ -8,7 +8,7 @@ use Rattle.tangle_plans.specs.UnfoldedTags.{part_tag, run_tags, kind_tags, unfol
 use Rattle.tangle_plans.specs.declared.tags.ItemTag.{ItemTag}
 use Rattle.tangle_plans.specs.declared.tags.ItemKind.{ItemKind}
 use Rattle.tangle_plans.specs.declared.tags.ItemKind.TheVariants as tag
-use Rattle.tangle_plans.proofs.RunLemmas.{first_part, no_part, no_run_tags, tag_size}
+use Rattle.tangle_plans.proofs.RunLemmas.{first_part, no_part, no_run_tags}
 
 -- the first part of a run with this number of bytes
 
@@ -18,8 +18,8 @@ pub first_tag_is : (bytes : List ℕ) (run n : ℕ) (tag : ItemTag) (p : RunPart
 first_tag_is bytes run n tag p low same is found =
     let first = first_part (take run bytes) p
     (ap (λ k. slice_get (parts_of 0 0 (chunks (take k bytes))) 0) (sym same) ∙ found) in (
-      omega (arith, first.fits, ap tag_size is, length-take run bytes),
-      first.tags ∙ ap (λ t. t ∷ run_tags (drop (tag_size t) (take run bytes))) (sym is),
+      omega (arith, first.fits, ap (λ t. t.size) is, length-take run bytes),
+      first.tags ∙ ap (λ t. t ∷ run_tags (drop (t.size) (take run bytes))) (sym is),
     )
 
 pub no_tag_is : (bytes : List ℕ) (run n : ℕ)
@@ -49,16 +49,11 @@ pub other_left : (tags ts : List ItemTag) (t : ItemTag) (bytes : List ℕ) (run 
 other_left tags ts t bytes run zero is other =
     rw (first_left tags ts t bytes run zero is, kind_other t.kind t (take t.size bytes) other, zero, no_run_tags) refl
 
-pub run_left : (tags ts : List ItemTag) (t : ItemTag) (bytes : List ℕ) (run : ℕ)
-    → run ≡ 0 → tags ≡ t ∷ ts → t.kind ≡ tag.Run
-    → tags_left tags bytes run ≡ run_tags (take t.size bytes) ++ unfolded_tags ts (drop t.size bytes)
-run_left tags ts t bytes run zero is kind = rw (first_left tags ts t bytes run zero is, kind) refl
-
 pub run_begun : (tags ts : List ItemTag) (t : ItemTag) (bytes : List ℕ) (run size : ℕ)
     → run ≡ 0 → tags ≡ t ∷ ts → t.kind ≡ tag.Run → size ≡ min t.size (length bytes)
     → tags_left ts bytes size ≡ tags_left tags bytes run
 run_begun tags ts t bytes run size zero is kind fits =
-    rw (fits, take_min t.size bytes, drop_min t.size bytes) (sym (run_left tags ts t bytes run zero is kind))
+    rw (fits, take_min t.size bytes, drop_min t.size bytes, first_left tags ts t bytes run zero is, kind) refl
 
 -- the next part of a run that was begun
 pub part_left : (tags : List ItemTag) (t : ItemTag) (bytes : List ℕ) (run : ℕ) → t.size ≤ run

@@ -14,42 +14,26 @@ use Rattle.tangle_text.proofs.RunChunks.{chunks_after, chunk_passed, span_chunks
 use Rattle.tangle_text.specs.declared.runs.RunPart.{RunPart}
 use Rattle.tangle_scan.specs.Entries.{part_item}
 use Rattle.tangle_scan.specs.ItemBytes.{bytes_in}
-use Rattle.tangle_plans.specs.UnfoldedTags.{part_tag, run_tags}
-use Rattle.tangle_plans.specs.declared.tags.ItemTag.{ItemTag}
+use Rattle.tangle_plans.specs.UnfoldedTags.{chunk_tag, part_tag, run_tags}
 use Rattle.tangle_plans.specs.declared.tags.ItemKind.TheVariants as tag
 
--- the sizes of the parts
-
--- the size of a tag
-abbrev pub tag_size : ItemTag → ℕ
-tag_size t = t.size
-
-pub part_size : (line column : ℕ) (c : List ℕ) → IsChunk c → tag_size (part_tag (part_of line column c)) ≡ length c
-part_size line column [] h = absurd h
-part_size line column (b ∷ []) h =
-    part-by (λ p. tag_size (part_tag p) ≡ 1) line column b []
+pub chunk_size : (c : List ℕ) → IsChunk c → (chunk_tag c).size ≡ length c
+chunk_size [] h = absurd h
+chunk_size (b ∷ []) h =
+    part-by (λ p. (part_tag p).size ≡ 1) 0 0 b []
     (λ is. refl) (λ is word. omega arith) (λ is sign. omega arith)
-part_size line column (b ∷ c ∷ bs) h = rw (part-word line column b (c ∷ bs) h.0) (omega arith)
+chunk_size (b ∷ c ∷ bs) h = rw (part-word 0 0 b (c ∷ bs) h.0) (omega arith)
 
--- the tags of parts don't depend on their place
-part_moved : (line column : ℕ) (c : List ℕ) → part_tag (part_of line column c) ≡ part_tag (part_of 0 0 c)
+part_moved : (line column : ℕ) (c : List ℕ) → part_tag (part_of line column c) ≡ chunk_tag c
 part_moved line column [] = refl
 part_moved line column (b ∷ bs) =
-    part-by (λ p. part_tag p ≡ part_tag (part_of 0 0 (b ∷ bs))) line column b bs (λ is. rw is refl)
+    part-by (λ p. part_tag p ≡ chunk_tag (b ∷ bs)) line column b bs (λ is. rw is refl)
     (λ is word. rw (is, word) (ap (λ n. record { kind = tag.Word; size = n }) (omega arith)))
     (λ is sign. rw (is, sign) (ap (λ n. record { kind = tag.Sign; size = n }) (omega arith)))
 
-pub tags_moved : (line column : ℕ) (cs : List (List ℕ))
-    → map part_tag (parts_of line column cs) ≡ map part_tag (parts_of 0 0 cs)
-tags_moved line column [] = refl
-tags_moved line column (c ∷ cs) =
-    (λ i. part_moved line column c i ∷ tags_moved line (column + length c) cs i)
-    ∙ ap (λ ts. part_tag (part_of 0 0 c) ∷ ts) (sym (tags_moved 0 (0 + length c) cs))
-
--- the tags of a run are those of its parts
-pub parts_tags : (line column : ℕ) (bs : List ℕ) → map part_tag (parts_of line column (chunks bs)) ≡ run_tags bs
-unfolding run_tags
-parts_tags line column bs = tags_moved line column (chunks bs)
+pub parts_tags : (line column : ℕ) (cs : List (List ℕ)) → map part_tag (parts_of line column cs) ≡ map chunk_tag cs
+parts_tags line column [] = refl
+parts_tags line column (c ∷ cs) = λ i. part_moved line column c i ∷ parts_tags line (column + length c) cs i
 
 pub no_run_tags : run_tags [] ≡ []
 unfolding run_tags
@@ -58,8 +42,8 @@ no_run_tags = refl
 -- the first part of a run
 
 pub record IsFirstPart (bs : List ℕ) (p : RunPart) : Type 0 where
-  pub fits : tag_size (part_tag p) ≤ length bs
-  pub tags : run_tags bs ≡ part_tag p ∷ run_tags (drop (tag_size (part_tag p)) bs)
+  pub fits : (part_tag p).size ≤ length bs
+  pub tags : run_tags bs ≡ part_tag p ∷ run_tags (drop ((part_tag p).size) bs)
 
 pub first_part : (bs : List ℕ) (p : RunPart)
     → slice_get (parts_of 0 0 (chunks bs)) 0 ≡ Some p → IsFirstPart bs p
@@ -74,8 +58,7 @@ first_part bs p is = go (chunks bs) refl
         let first : Some (part_of 0 0 c) ≡ Some p = ap (λ l. slice_get (parts_of 0 0 l) 0) (sym e) ∙ is in
         let same : part_of 0 0 c ≡ p = cc in
         let chunk : AreChunks (c ∷ cs) = subst AreChunks e (chunks_are bs) in
-        let size : tag_size (part_tag p) ≡ length c
-        = ap (λ q. tag_size (part_tag q)) (sym same) ∙ part_size 0 0 c chunk.0 in
+        let size : (part_tag p).size ≡ length c = ap (λ q. (part_tag q).size) (sym same) ∙ chunk_size c chunk.0 in
         let after : chunks (drop (length c) bs) ≡ cs =
         ap (λ l. chunks (drop (first_size l) bs)) (sym e) ∙ chunks_after bs ∙ ap (drop 1) e in
         record {
@@ -86,12 +69,8 @@ first_part bs p is = go (chunks bs) refl
             ap (λ l. length (joined l)) e,
             length-append c (joined cs),
           );
-          tags =
-              ap (λ l. map part_tag (parts_of 0 0 l)) e
-              ∙ ap (λ q. part_tag q ∷ map part_tag (parts_of 0 (0 + length c) cs)) same
-              ∙ ap (λ ts. part_tag p ∷ ts) (tags_moved 0 (0 + length c) cs)
-              ∙ ap (λ l. part_tag p ∷ map part_tag (parts_of 0 0 l)) (sym after)
-              ∙ ap (λ n. part_tag p ∷ map part_tag (parts_of 0 0 (chunks (drop n bs)))) (sym size);
+          tags = ap (map chunk_tag) e ∙ (λ i. part_tag (same i) ∷ map chunk_tag (sym after i))
+              ∙ ap (λ n. part_tag p ∷ map chunk_tag (chunks (drop n bs))) (sym size);
         }
 
 pub no_part : (bs : List ℕ) → slice_get (parts_of 0 0 (chunks bs)) 0 ≡ None → length bs ≡ 0

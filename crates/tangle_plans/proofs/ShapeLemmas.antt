@@ -1,7 +1,8 @@
 -- The bodies of two nodes determine whether their shapes are equal.
 use Rattle.std.proofs.Common.{◌≡◌, ◌∙◌, ◌↔◌, ℕ, List, ap, sym}
 use Rattle.tangle_plans.specs.Shapes.{Shape}
-use Rattle.tangle_plans.specs.Tags.{shape_tags, shape_bytes, shape_names}
+use Rattle.tangle_plans.specs.Tags.{shape_tags, shape_bytes}
+use Rattle.tangle_plans.specs.Shapes.{shape_names}
 use Rattle.tangle_plans.specs.NodeBodies.{HoldsShape, HaveOneShape, body_items}
 use Rattle.tangle_plans.specs.declared.nodes.NodeBody.{NodeBody}
 use Rattle.tangle_plans.proofs.TagLemmas.{same_by_tags}

@@ -4,8 +4,9 @@ use Rattle.std.specs.Prelude.{flat_map}
 use Rattle.std.proofs.Math.Seq.{take-append_seam, drop-append_seam}
 use Rattle.tangle_plans.specs.Shapes.{Kind, ShapeItem, Written, Mark, AllMacros, Use, NoUse, Shape}
 use Rattle.tangle_plans.specs.Shapes as kind
-use Rattle.tangle_plans.specs.Tags.{written_kind, item_tag, piece_end, item_bytes, item_names, shape_tags, shape_bytes}
-use Rattle.tangle_plans.specs.Tags.{shape_names}
+use Rattle.tangle_plans.specs.Tags.{written_kind, item_tag, piece_end, item_bytes, shape_tags, shape_bytes}
+use Rattle.tangle_plans.specs.Shapes.{item_names}
+use Rattle.tangle_plans.specs.Shapes.{shape_names}
 use Rattle.tangle_plans.specs.declared.tags.ItemKind.{ItemKind}
 use Rattle.tangle_plans.specs.declared.tags.ItemKind.TheVariants as tag
 use Rattle.tangle_plans.specs.declared.tags.ItemTag.{ItemTag}

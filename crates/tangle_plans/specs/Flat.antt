@@ -1,9 +1,13 @@
 -- The expansion of a node, its weight, and the depth of its uses.
-use Rattle.std.specs.Prelude.{ℕ, ◌+◌, zero, suc, max, List, [], ◌∷◌, ◌++◌, length, map}
+use Rattle.std.specs.Prelude.{ℕ, ◌+◌, zero, suc, max, List, [], ◌∷◌, ◌++◌, length, map, sum_by}
 use Rattle.tangle_files.specs.Bytes.{space}
-use Rattle.tangle_plans.specs.Shapes.{Title, Named, ShapeItem, Written, Mark, Use, NoUse, Shape}
-use Rattle.tangle_plans.specs.Shapes.{Shapes}
+use Rattle.tangle_plans.specs.Shapes.{Title, Program, Named, ShapeItem, Written, Mark, Use, NoUse}
+use Rattle.tangle_plans.specs.Shapes.{Shape, Shapes, shape_names}
 use Rattle.tangle_plans.specs.Shapes as shape
+use Rattle.tangle_plans.specs.Tags.{shape_bytes, shape_tags}
+use Rattle.tangle_plans.specs.declared.tags.ItemKind.{ItemKind}
+use Rattle.tangle_plans.specs.declared.tags.ItemKind.TheVariants as tag
+use Rattle.tangle_plans.specs.declared.tags.ItemTag.{ItemTag}
 
 -- A symbol of an expansion: one byte; an opening, a mark or a closing, with its node and the number
 -- of the piece, and for a mark also the mark's number; or all macros. The opening mark has the
@@ -49,40 +53,43 @@ flat zero shapes node = []
 flat (suc fuel) shapes node =
     pieces_flat (λ name. flat fuel shapes (Named name)) node 0 (shapes node)
 
--- The weight: each byte counts 1, and so do an opening, a mark, a closing and the macros; a use
--- counts 1 plus the weight of its name.
+-- the symbols of a tag of this kind besides its bytes, and besides those of a used name
+abbrev pub own_symbols : Title → ℕ → ℕ → ItemKind → List Symbol
+own_symbols node piece marks tag.PieceStart = Opening node piece ∷ MarkOf node piece 0 ∷ []
+own_symbols node piece marks tag.Mark = MarkOf node piece (marks + 1) ∷ []
+own_symbols node piece marks tag.AllMacros = AllMacros ∷ []
+own_symbols node piece marks tag.Use = Byte space ∷ []
+own_symbols node piece marks tag.NoUse = Byte space ∷ []
+own_symbols node piece marks tag.PieceEnd = Closing node piece ∷ []
+own_symbols node piece marks _ = []
 
-abbrev pub item_weight : (List ℕ → ℕ) → ShapeItem → ℕ
-item_weight used (Written kind bytes) = length bytes
-item_weight used (Use name) = 1 + used name
-item_weight used _ = 1
+-- the number of these for tags
+abbrev pub own_counts : List ItemTag → ℕ
+own_counts [] = 0
+own_counts (t ∷ tags) = length (own_symbols Program 0 0 t.kind) + own_counts tags
 
-abbrev pub items_weight : (List ℕ → ℕ) → List ShapeItem → ℕ
-items_weight used [] = 0
-items_weight used (item ∷ items) = item_weight used item + items_weight used items
+-- The weight: the number of symbols. It is that of the node's own symbols, and the weights of the
+-- names that it uses.
+
+abbrev pub own_weight : Shape → ℕ
+own_weight shape = length (shape_bytes shape) + own_counts (shape_tags shape)
 
 abbrev pub pieces_weight : (List ℕ → ℕ) → Shape → ℕ
-pieces_weight used [] = 0
-pieces_weight used (items ∷ pieces) = 3 + items_weight used items + pieces_weight used pieces
+pieces_weight used shape = own_weight shape + sum_by used (shape_names shape)
 
 abbrev pub weight : ℕ → Shapes → Title → ℕ
-weight zero shapes node = 0
-weight (suc fuel) shapes node =
-    pieces_weight (λ name. weight fuel shapes (Named name)) (shapes node)
+weight fuel shapes node = length (flat fuel shapes node)
 
 -- The depth: 0 without a piece, else one more than the greatest depth among the used names.
 
-abbrev pub item_depth : (List ℕ → ℕ) → ShapeItem → ℕ
-item_depth used (Use name) = used name
-item_depth used _ = 0
-
-abbrev pub items_depth : (List ℕ → ℕ) → List ShapeItem → ℕ
-items_depth used [] = 0
-items_depth used (item ∷ items) = max (item_depth used item) (items_depth used items)
+-- the greatest of the values of these items, or 0 if there is none
+abbrev pub greatest_by : {X : Type 0} → (X → ℕ) → List X → ℕ
+greatest_by f [] = 0
+greatest_by f (x ∷ xs) = max (f x) (greatest_by f xs)
 
 abbrev pub pieces_depth : (List ℕ → ℕ) → Shape → ℕ
 pieces_depth used [] = 0
-pieces_depth used (items ∷ pieces) = max (suc (items_depth used items)) (pieces_depth used pieces)
+pieces_depth used (items ∷ pieces) = suc (greatest_by used (shape_names (items ∷ pieces)))
 
 abbrev pub depth : ℕ → Shapes → Title → ℕ
 depth zero shapes node = 0

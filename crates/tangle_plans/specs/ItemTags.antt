@@ -1,13 +1,12 @@
 -- The tags of a web's items, and the numbers of the names that the items use.
-use Rattle.std.specs.Prelude.{ℕ, ◌-◌, List, [], ◌∷◌, length, map, flat_map, decimal}
+use Rattle.std.specs.Prelude.{ℕ, ◌-◌, List, [], ◌∷◌, length, flat_map, decimal}
 use Rattle.tangle_scan.specs.declared.items.Item.{Item}
 use Rattle.tangle_scan.specs.declared.items.Item.TheVariants as item
 use Rattle.tangle_scan.specs.Web.{PieceRead}
 use Rattle.tangle_names.specs.declared.Resolved.{Resolved}
 use Rattle.tangle_names.specs.declared.Resolved.TheVariants.{Name}
 use Rattle.tangle_names.specs.NameTable.{TableRead}
-use Rattle.tangle_plans.specs.WebShapes.{resolved_at, shape_item}
-use Rattle.tangle_plans.specs.Shapes.{Shape}
+use Rattle.tangle_plans.specs.WebShapes.{resolved_at}
 use Rattle.tangle_plans.specs.declared.tags.ItemKind.TheVariants as tag
 use Rattle.tangle_plans.specs.declared.tags.ItemTag.{ItemTag}
 
@@ -41,7 +40,3 @@ module _ (table : TableRead) where
 
   abbrev pub pieces_uses : List PieceRead → List ℕ
   pieces_uses pieces = flat_map (λ (p : PieceRead). flat_map uses_in p.items) pieces
-
--- the shape of a node with these pieces
-abbrev pub shape_of : List (List ℕ) → TableRead → List PieceRead → Shape
-shape_of texts table pieces = map (λ (p : PieceRead). map (shape_item texts table) p.items) pieces

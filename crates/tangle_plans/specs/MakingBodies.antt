@@ -1,12 +1,11 @@
 -- The items of a body while it is made, as they are in memory.
 use Rattle.std.specs.Prelude.{◌≡◌, ℕ, List, [], ◌∷◌, ◌++◌, flat_map}
 use Rattle.tangle_scan.specs.declared.items.Entry.{Entry}
-use Rattle.tangle_scan.specs.Entries.{items_of}
-use Rattle.tangle_scan.specs.ItemBytes.{bytes_in}
 use Rattle.tangle_scan.specs.Web.{PieceRead}
 use Rattle.tangle_names.specs.NameTable.{TableRead}
 use Rattle.tangle_plans.specs.Entries.{entry_tag, entries_tags, entry_bytes, entry_uses}
-use Rattle.tangle_plans.specs.ItemTags.{uses_in, pieces_uses, shape_of}
+use Rattle.tangle_plans.specs.ItemTags.{pieces_uses}
+use Rattle.tangle_plans.specs.WebShapes.{shape_of}
 use Rattle.tangle_plans.specs.NodeBodies.{ItemsRead, body_items}
 use Rattle.tangle_plans.specs.Tags.{shape_tags, shape_bytes}
 use Rattle.tangle_plans.specs.UnfoldedTags.{StandFor}
@@ -29,8 +28,8 @@ module _ (texts : List (List ℕ)) (table : TableRead) where
   abbrev pub with_piece : ItemsRead → List Entry → ItemsRead
   with_piece old entries = record old {
     tags = old.tags ++ entries_tags table entries;
-    bytes = old.bytes ++ flat_map (bytes_in texts) (items_of texts entries);
-    uses = old.uses ++ flat_map (uses_in table) (items_of texts entries);
+    bytes = old.bytes ++ flat_map (entry_bytes texts) entries;
+    uses = old.uses ++ flat_map (entry_uses table) entries;
   }
 
   -- these pieces were added

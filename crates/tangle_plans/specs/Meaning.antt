@@ -4,8 +4,7 @@ use Rattle.std.specs.Prelude.{Option, None, Some, Vec}
 use Rattle.std.specs.Global.{Global}
 use Rattle.tangle_files.specs.Bytes.{space}
 use Rattle.tangle_plans.specs.Shapes.{Title, Program, Named}
-use Rattle.tangle_plans.specs.Flat.{Symbol, Byte, Opening, MarkOf, Closing}
-use Rattle.tangle_plans.specs.Flat as symbol
+use Rattle.tangle_plans.specs.Flat.{Symbol, Byte, own_symbols}
 use Rattle.tangle_plans.specs.declared.nodes.NodeBody.{NodeBody}
 use Rattle.tangle_plans.specs.declared.tags.ItemKind.{ItemKind}
 use Rattle.tangle_plans.specs.declared.tags.ItemKind.TheVariants as tag
@@ -27,16 +26,6 @@ marks_after marks tag.PieceStart = 0
 marks_after marks tag.PieceEnd = 0
 marks_after marks tag.Mark = marks + 1
 marks_after marks _ = marks
-
--- the symbols of a tag of this kind besides its bytes, and besides those of a used name
-abbrev pub own_symbols : Title → ℕ → ℕ → ItemKind → List Symbol
-own_symbols node piece marks tag.PieceStart = Opening node piece ∷ MarkOf node piece 0 ∷ []
-own_symbols node piece marks tag.Mark = MarkOf node piece (marks + 1) ∷ []
-own_symbols node piece marks tag.AllMacros = symbol.AllMacros ∷ []
-own_symbols node piece marks tag.Use = Byte space ∷ []
-own_symbols node piece marks tag.NoUse = Byte space ∷ []
-own_symbols node piece marks tag.PieceEnd = Closing node piece ∷ []
-own_symbols node piece marks _ = []
 
 -- These symbols of a tag of this kind, and then the rest. At a use, those of the next used name are
 -- between; there is nothing at a use for which there are none, and an expansion that is made has some

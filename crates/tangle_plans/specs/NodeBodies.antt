@@ -3,8 +3,10 @@ use Rattle.std.specs.Prelude.{◌≡◌, ℕ, List, [], map, slice_index_or}
 use Rattle.tangle_scan.specs.Web.{PieceRead}
 use Rattle.tangle_names.specs.NameTable.{TableRead}
 use Rattle.tangle_plans.specs.Shapes.{Title, Shape}
-use Rattle.tangle_plans.specs.Tags.{shape_tags, shape_bytes, shape_names}
-use Rattle.tangle_plans.specs.ItemTags.{pieces_uses, shape_of}
+use Rattle.tangle_plans.specs.Tags.{shape_tags, shape_bytes}
+use Rattle.tangle_plans.specs.Shapes.{shape_names}
+use Rattle.tangle_plans.specs.ItemTags.{pieces_uses}
+use Rattle.tangle_plans.specs.WebShapes.{shape_of}
 use Rattle.tangle_plans.specs.Meaning.{title_of}
 use Rattle.tangle_plans.specs.declared.tags.ItemTag.{ItemTag}
 use Rattle.tangle_plans.specs.UnfoldedTags.{unfolded_tags}

@@ -1,6 +1,6 @@
 -- The shapes of a web: the pieces of each node, without section numbers and origins, and with each
 -- use resolved.
-use Rattle.std.specs.Prelude.{◌⊎◌, ◌≡◌, ℕ, Bool, true, false, List, [], ◌∷◌}
+use Rattle.std.specs.Prelude.{ℕ, Bool, true, false, List, [], ◌∷◌, flat_map, Contains}
 use Rattle.std.specs.Str.{bytes_eq}
 
 -- a node: the unnamed program, or a full name by its bytes
@@ -45,22 +45,17 @@ Shape = List (List ShapeItem)
 abbrev pub Shapes : Type 0
 Shapes = Title → Shape
 
--- the item is a use of the name
-abbrev pub IsUseOf : ShapeItem → List ℕ → Type 0
-IsUseOf (Use other) name = other ≡ name
-IsUseOf _ name = ⊥
+-- the names of the uses, one for each use
 
--- the piece has a use of the name
-abbrev pub UsesInPiece : List ShapeItem → List ℕ → Type 0
-UsesInPiece [] name = ⊥
-UsesInPiece (item ∷ items) name = IsUseOf item name ⊎ UsesInPiece items name
+abbrev pub item_names : ShapeItem → List (List ℕ)
+item_names (Use name) = name ∷ []
+item_names _ = []
 
-abbrev pub UsesInShape : Shape → List ℕ → Type 0
-UsesInShape [] name = ⊥
-UsesInShape (piece ∷ pieces) name = UsesInPiece piece name ⊎ UsesInShape pieces name
+abbrev pub shape_names : Shape → List (List ℕ)
+shape_names shape = flat_map (λ items. flat_map item_names items) shape
 
 -- One node uses another: it has a use of the other's name. Nothing uses the program. What a node
 -- reaches along these uses, and whether it contains itself, is as in `digraph`.
 abbrev pub Uses : Shapes → Title → Title → Type 0
 Uses shapes user Program = ⊥
-Uses shapes user (Named name) = UsesInShape (shapes user) name
+Uses shapes user (Named name) = Contains (shape_names (shapes user)) name

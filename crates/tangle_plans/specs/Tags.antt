@@ -37,15 +37,8 @@ abbrev pub item_bytes : ShapeItem → List ℕ
 item_bytes (Written k bytes) = bytes
 item_bytes _ = []
 
-abbrev pub item_names : ShapeItem → List (List ℕ)
-item_names (Use name) = name ∷ []
-item_names _ = []
-
 abbrev pub shape_tags : Shape → List ItemTag
 shape_tags shape = flat_map (λ items. piece_start ∷ map item_tag items ++ piece_end ∷ []) shape
 
 abbrev pub shape_bytes : Shape → List ℕ
 shape_bytes shape = flat_map (λ items. flat_map item_bytes items) shape
-
-abbrev pub shape_names : Shape → List (List ℕ)
-shape_names shape = flat_map (λ items. flat_map item_names items) shape

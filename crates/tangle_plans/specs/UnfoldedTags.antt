@@ -3,7 +3,7 @@
 use Rattle.std.specs.Prelude.{◌≡◌, ℕ, ◌-◌, List, [], ◌∷◌, ◌++◌, map, take, drop}
 use Rattle.tangle_text.specs.declared.runs.RunPart.{RunPart}
 use Rattle.tangle_text.specs.declared.runs.RunPart.TheVariants as part
-use Rattle.tangle_text.specs.Runs.{chunks, parts_of}
+use Rattle.tangle_text.specs.Runs.{chunks, part_of}
 use Rattle.tangle_plans.specs.declared.tags.ItemKind.{ItemKind}
 use Rattle.tangle_plans.specs.declared.tags.ItemKind.TheVariants as tag
 use Rattle.tangle_plans.specs.declared.tags.ItemTag.{ItemTag}
@@ -14,9 +14,13 @@ part_tag (part.Word s) = record { kind = tag.Word; size = s.end - s.start }
 part_tag (part.Sign s) = record { kind = tag.Sign; size = s.end - s.start }
 part_tag part.Space = record { kind = tag.Blank; size = 1 }
 
+-- the tag of the part with these bytes, wherever it is
+abbrev pub chunk_tag : List ℕ → ItemTag
+chunk_tag c = part_tag (part_of 0 0 c)
+
 -- the tags of the words, signs and spaces of a run with these bytes
 unfoldable pub run_tags : List ℕ → List ItemTag
-run_tags bytes = map part_tag (parts_of 0 0 (chunks bytes))
+run_tags bytes = map chunk_tag (chunks bytes)
 
 -- the tags that a tag of this kind, with these bytes, stands for
 abbrev pub kind_tags : ItemKind → ItemTag → List ℕ → List ItemTag

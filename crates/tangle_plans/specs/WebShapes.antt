@@ -10,13 +10,8 @@ use Rattle.tangle_names.specs.declared.Resolved.{Resolved}
 use Rattle.tangle_names.specs.declared.Resolved.TheVariants.{Name, NoFullName}
 use Rattle.tangle_names.specs.NameTable.{TableRead}
 use Rattle.tangle_plans.specs.Shapes.{Title, Program, Named, title_eq, ShapeItem, Written}
-use Rattle.tangle_plans.specs.Shapes.{Mark, AllMacros, Use, NoUse, Shapes}
+use Rattle.tangle_plans.specs.Shapes.{Mark, AllMacros, Use, NoUse, Shape, Shapes}
 use Rattle.tangle_plans.specs.Shapes as kind
-
--- a use, by its resolution, where `name` gives the name with each number
-abbrev pub named_use : (ℕ → List ℕ) → Resolved → ShapeItem
-named_use name (Name id) = Use (name id)
-named_use name _ = NoUse
 
 module _ (table : TableRead) where
   -- what the occurrence with this number resolves to
@@ -28,11 +23,12 @@ module _ (table : TableRead) where
   name_at id = slice_index_or table.names id []
 
   abbrev pub use_of : Resolved → ShapeItem
-  use_of resolved = named_use name_at resolved
+  use_of (Name id) = Use (name_at id)
+  use_of _ = NoUse
 
   -- the node of the name to which an occurrence resolves
   abbrev pub node_of : Resolved → Option Title
-  node_of (Name id) = Some (Named (slice_index_or table.names id []))
+  node_of (Name id) = Some (Named (name_at id))
   node_of _ = None
 
   -- the node of a piece with this occurrence; without an occurrence it is the program. A piece
@@ -58,24 +54,24 @@ abbrev pub ResolvesInside : TableRead → Type 0
 ResolvesInside table =
     (occurrence : ℕ) → IsNameBelow (length table.names) (resolved_at table occurrence)
 
-module _ (name : ℕ → List ℕ) (texts : List (List ℕ)) (table : TableRead) where
+module _ (texts : List (List ℕ)) (table : TableRead) where
   -- an item of a shape, with the kind and the bytes that the scanner cut, and without an origin
-  abbrev pub named_item : Item → ShapeItem
-  named_item (item.Word span) = Written kind.Word (span_text texts span)
-  named_item (item.Sign span) = Written kind.Sign (span_text texts span)
-  named_item (item.Quoted span) = Written kind.Quoted (span_text texts span)
-  named_item item.QuoteBreak = Written kind.QuoteBreak (line_feed ∷ [])
-  named_item (item.Verbatim span) = Written kind.Verbatim (span_text texts span)
-  named_item (item.Code value) = Written kind.AsciiConstant (decimal value)
-  named_item item.Blank = Written kind.Blank (space ∷ [])
-  named_item item.LineEnd = Written kind.LineEnd (line_feed ∷ [])
-  named_item (item.LineMark origin) = Mark
-  named_item (item.UseOf occurrence) = named_use name (resolved_at table occurrence)
-  named_item item.Defs = AllMacros
+  abbrev pub shape_item : Item → ShapeItem
+  shape_item (item.Word span) = Written kind.Word (span_text texts span)
+  shape_item (item.Sign span) = Written kind.Sign (span_text texts span)
+  shape_item (item.Quoted span) = Written kind.Quoted (span_text texts span)
+  shape_item item.QuoteBreak = Written kind.QuoteBreak (line_feed ∷ [])
+  shape_item (item.Verbatim span) = Written kind.Verbatim (span_text texts span)
+  shape_item (item.Code value) = Written kind.AsciiConstant (decimal value)
+  shape_item item.Blank = Written kind.Blank (space ∷ [])
+  shape_item item.LineEnd = Written kind.LineEnd (line_feed ∷ [])
+  shape_item (item.LineMark origin) = Mark
+  shape_item (item.UseOf occurrence) = use_of table (resolved_at table occurrence)
+  shape_item item.Defs = AllMacros
 
--- an item of a shape, with the names of the table
-abbrev pub shape_item : List (List ℕ) → TableRead → Item → ShapeItem
-shape_item texts table x = named_item (name_at table) texts table x
+  -- the shape of a node with these pieces
+  abbrev pub shape_of : List PieceRead → Shape
+  shape_of pieces = map (λ piece. map shape_item piece.items) pieces
 
 module _ (web : WebRead) (table : TableRead) where
   -- the pieces of a node, in the order of the source
@@ -83,4 +79,4 @@ module _ (web : WebRead) (table : TableRead) where
   pieces_of node = filter (is_piece_of table node) web.pieces
 
   abbrev pub shapes : Shapes
-  shapes node = map (λ piece. map (shape_item web.texts table) piece.items) (pieces_of node)
+  shapes node = shape_of web.texts table (pieces_of node)

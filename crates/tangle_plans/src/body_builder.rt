@@ -7,8 +7,7 @@ ghost use Rattle.tangle_scan.specs.WellFormed.{IsUseBelow};
 ghost use Rattle.tangle_scan.specs.declared.items.Entry.TheVariants as entry;
 ghost use Rattle.tangle_plans.specs.Entries.{IsEntryOf, run_tag};
 ghost use Rattle.tangle_plans.specs.ItemTags.{use_tag, uses_resolved};
-ghost use Rattle.tangle_plans.specs.MakingBodies.{AddsPieces, nothing_made, with_entry};
-ghost use Rattle.tangle_plans.specs.MakingBodies.{with_piece};
+ghost use Rattle.tangle_plans.specs.MakingBodies.{nothing_made, with_entry, with_piece};
 ghost use Rattle.tangle_plans.specs.Meaning.{title_of};
 ghost use Rattle.tangle_plans.specs.NodeBodies.{AreItemsOf, HaveOneShape, body_items};
 ghost use Rattle.tangle_plans.specs.NodeBodies.{body_title, body_uses};
@@ -68,7 +67,10 @@ impl BodyBuilder {
             (pieces_at web.now.pieces numbers.now) self.new) }
     {
         self.clear();
-        self.add_pieces(web, table, numbers)
+        for number in numbers {
+            self.add_piece(web, table, entries_at(web, *number))?;
+        }
+        Ok(())
     }
 
     /// Whether the items that were made, with these names, have the same shape as a body with its
@@ -122,24 +124,6 @@ impl BodyBuilder {
         self.made.bytes.clear();
         self.made.tags.clear();
         self.made.uses.clear();
-    }
-
-    /// Adds the pieces with these numbers.
-    fn add_pieces(
-        &mut self,
-        web: &Web,
-        table: &NameTable,
-        numbers: &[usize],
-    ) -> Result<(), NoMemory>
-        requires numbers { All (λ n. n < length web.now.pieces) numbers.now }
-        requires ours { length table.now.resolved ≡ length web.now.occurrences }
-        ensures { OnOk result (AddsPieces web.now.texts table.now
-            self.old self.new (pieces_at web.now.pieces numbers.now)) }
-    {
-        for number in numbers {
-            self.add_piece(web, table, entries_at(web, *number))?;
-        }
-        Ok(())
     }
 
     /// Adds a piece.

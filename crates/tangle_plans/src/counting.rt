@@ -1,7 +1,7 @@
 //! Counts the symbols of a body without those of used names.
 ghost use Rattle.std.specs.Prelude.{◌≡◌, ◌<◌, ◌^◌, ℕ, List, length, min};
-ghost use Rattle.tangle_plans.specs.Flat.{pieces_weight};
-ghost use Rattle.tangle_plans.specs.Meaning.{own_symbols};
+ghost use Rattle.tangle_plans.specs.Flat.{own_weight};
+ghost use Rattle.tangle_plans.specs.Flat.{own_symbols};
 ghost use Rattle.tangle_plans.specs.NodeBodies.{HoldsShape};
 ghost use Rattle.tangle_plans.specs.Shapes.{Program, Shape};
 
@@ -24,12 +24,12 @@ fn symbols_of_kind(kind: ItemKind) -> usize
 }
 
 impl NodeBody {
-    /// The number of the node's own symbols, where each use counts as one: the weight of its shape,
-    /// if the names that it uses weigh nothing. At most `usize::MAX` is returned.
+    /// The number of the node's own symbols, where each use counts as one. At most `usize::MAX` is
+    /// returned.
     pub fn symbol_count(&self) -> usize
         ensures { (names : List (List ℕ)) (shape : Shape) → HoldsShape names shape self.now
             → (cap : ℕ) → cap < 2 ^ 64
-            → min cap result ≡ min cap (pieces_weight (λ name. 0) shape) }
+            → min cap result ≡ min cap (own_weight shape) }
     {
         let mut count = self.bytes.len();
         for tag in self.tags.as_slice() {

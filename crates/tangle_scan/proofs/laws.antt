@@ -1,13 +1,10 @@
 pub mod MacrosAsMeant
 pub mod PiecesAsMeant
 pub mod GapReading
-pub mod BlockFlows
 pub mod ItemSpans
 pub mod LineTruthLemmas
 pub mod MacroEnds
-pub mod OccurrenceRange
 pub mod PieceBytes
-pub mod SpanOrder
-pub mod TokenSteps
 pub mod WebLaws
 pub mod WebsAsMeant
+pub mod WellFormedWebs

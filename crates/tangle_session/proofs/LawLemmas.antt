@@ -5,6 +5,7 @@ use Rattle.std.specs.Prelude.{if◌then◌else◌, Some, None, Contains, option_
 use Rattle.std.specs.List.{range_with_len}
 use Rattle.std.proofs.lemmas.List.{get_or-map, get_or_default}
 use Rattle.std.proofs.lemmas.List.Elements.{Contains-append_left, Contains-append_right}
+use Rattle.tangle_names.proofs.ContainsLemmas.{no_item}
 use Rattle.std.proofs.lemmas.List.Folds.{find_at}
 use Rattle.std.proofs.lemmas.List.FromFn.{length-range_with_len, get_or-range_with_len}
 use Rattle.tangle_faults.specs.Faults.{FaultRead, fault_about}
@@ -18,14 +19,13 @@ use Rattle.tangle_names.specs.NameTable.{table_of}
 use Rattle.tangle_names.specs.Resolving.{first_number, first_occurrence, names_in_order, resolves_to}
 use Rattle.tangle_expansion.specs.Limits.{levels, heaviest}
 use Rattle.tangle_expansion.specs.Outputs.{OutputRead}
-use Rattle.tangle_plans.specs.WebShapes.{shapes, shape_item}
-use Rattle.tangle_plans.specs.Shapes.{Title, Named, Shapes, UsesInShape, Uses}
+use Rattle.tangle_plans.specs.WebShapes.{name_at, shapes, shape_item}
+use Rattle.tangle_plans.specs.Shapes.{Title, Named, Shapes, Uses, shape_names}
 use Rattle.tangle_plans.specs.Shapes as title
 use Rattle.digraph.specs.Reach.{Reaches, here, on, ContainsItself}
 use Rattle.tangle_graph.specs.Faults.{AreGraphFaults, fault_of, fault_occurrence, faults_of_names}
 use Rattle.tangle_graph.specs.Faults as of_graph
 use Rattle.tangle_plans.specs.Nodes.{title_at}
-use Rattle.tangle_graph.specs.Outputs.{name_with_number}
 use Rattle.tangle_graph.proofs.FaultLemmas.{one_list}
 use Rattle.tangle_graph.proofs.NodeLemmas.{title_inside}
 use Rattle.tangle_graph.proofs.StoreLemmas.{there}
@@ -55,7 +55,7 @@ one_tangling files roles one other faults others x y =
 
 no_use : (shapes : Shapes) (node used : Title) → shapes node ≡ [] → Uses shapes node used → ⊥
 no_use _ node title.Program e u = u
-no_use _ node (Named name) e u = subst (λ shape. UsesInShape shape name) e u
+no_use _ node (Named name) e u = no_item name (subst (λ shape. Contains (shape_names shape) name) e u)
 
 none_reached : (shapes : Shapes) (node other : Title)
     → shapes node ≡ [] → Reaches (Uses shapes) node other → ContainsItself (Uses shapes) other → ⊥
@@ -124,7 +124,7 @@ module _ (web : WebRead) (out : List ℕ) (faults : List FaultRead)
       ∙ ap
       (λ x. map
       (λ p. fault_about kind.SelfContaining (named_place_of web.file_names p.origin)
-      (name_with_number (table_of web) id)) (option_to_list x)) reached
+      (name_at (table_of web) id)) (option_to_list x)) reached
       ∙ ap (λ t. fault_about kind.SelfContaining (named_place_of web.file_names o.origin) t ∷ []) text
 
   among : Contains (faults_of_names web (table_of web) out are.contains_itself are.reaches_cycle

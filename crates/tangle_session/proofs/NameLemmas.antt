@@ -1,13 +1,13 @@
 -- No two outputs of a web have the same name.
-use Rattle.std.proofs.Common.{◌≡◌, ◌≢◌, ◌∙◌, ◌<◌, ◌==◌, ◌&&◌, ◌||◌, ◌++◌, ℕ, Bool, true, false, List, [], ◌∷◌, length}
-use Rattle.std.proofs.Common.{map, filter, get_or, ap, sym, subst, arith}
-use Rattle.std.specs.Prelude.{not, if◌then◌else◌, Some, All, AllPairs, Contains}
-use Rattle.std.specs.List.{IsDistinct}
+use Rattle.std.proofs.Common.{◌≡◌, ◌≢◌, ◌∙◌, ◌<◌, ◌≤◌, ◌+◌, ◌&&◌, ◌||◌, ◌++◌, ℕ, zero, suc, Bool, true, false}
+use Rattle.std.proofs.Common.{map, filter, flat_map, get_or, ap, sym, subst, arith, length, ◌∷◌, [], List}
+use Rattle.std.specs.Prelude.{not, if◌then◌else◌, Option, Some, None, All, AllPairs, Contains}
+use Rattle.std.specs.List.{IsDistinct, range_with_len}
 use Rattle.std.specs.Str.{bytes_eq}
-use Rattle.std.proofs.lemmas.Bool.Decides.{nat_tests}
+use Rattle.std.proofs.lemmas.Bool.Decides.{Decides-eqb}
 use Rattle.std.proofs.lemmas.Cmp.{nat_list_eq_equiv}
 use Rattle.std.proofs.lemmas.List.{get_or-map, length-map}
-use Rattle.std.proofs.lemmas.List.Elements.{All-map, All-filter, filter_passes}
+use Rattle.std.proofs.lemmas.List.Elements.{All-append, All-nil, All-map, All-filter, filter_passes}
 use Rattle.std.proofs.lemmas.List.Kept.{AllPairs-cons, AllPairs-filter}
 use Rattle.std.proofs.lemmas.Map.Made.{IsDistinct-from_AllPairs}
 use Rattle.std.proofs.lemmas.Map.Views.{lookup-from_Contains}
@@ -15,13 +15,16 @@ use Rattle.std.proofs.lemmas.Slice.Eq.{bytes_eq-Decides}
 use Rattle.tangle_files.specs.Lines.{FileTable}
 use Rattle.tangle_files.specs.Roles.{RolesRead}
 use Rattle.tangle_scan.specs.Web.{WebRead}
+use Rattle.tangle_names.specs.declared.Resolved.{Resolved}
+use Rattle.tangle_names.specs.declared.Resolved.TheVariants as resolved
 use Rattle.tangle_names.specs.NameTable.{TableRead, table_of}
 use Rattle.tangle_expansion.specs.Outputs.{OutputRead}
-use Rattle.tangle_plans.specs.WebShapes.{shapes}
+use Rattle.tangle_plans.specs.ItemTags.{uses_resolved}
+use Rattle.tangle_plans.specs.WebShapes.{name_at, resolved_at, shapes}
 use Rattle.tangle_plans.specs.Shapes.{Named, Program}
-use Rattle.digraph.specs.Nodes.{program}
-use Rattle.tangle_graph.specs.Outputs.{firsts, file_names, shape_has_piece, is_expandable, is_written, name_with_number}
-use Rattle.tangle_graph.specs.Outputs.{named_file, outputs}
+use Rattle.tangle_graph.specs.Grouping.{has_number_in}
+use Rattle.tangle_graph.specs.Outputs.{file_names, first_file_name, first_file_occurrence, shape_has_piece}
+use Rattle.tangle_graph.specs.Outputs.{is_written, main_output, named_file, outputs, is_expandable}
 use Rattle.tangle_names.proofs.LawLemmas.{once}
 use Rattle.tangle_plans.proofs.InsideLemmas.{table_inside}
 use Rattle.tangle_graph.proofs.NodeLemmas.{once_named}
@@ -29,16 +32,51 @@ use Rattle.tangle_graph.proofs.OutputLemmas.{names_below}
 use Rattle.tangle_session.specs.Headline.{output_at, output_bytes, output_files, table_at, web_at}
 use Rattle.tangle_session.proofs.OutputLemmas.{names_written}
 
-other_number : (n m : ℕ) → not (m == n) ≡ true → n ≢ m
-other_number n m e same = grind (arith, nat_tests)
+-- a name comes at its first occurrence with `@(`, and so once
+module _ (table : TableRead) where
+  here : (k : ℕ) → All (λ id. first_file_occurrence table id ≡ Some k) (first_file_name table k)
+  here k i d h = by _ (filter_passes (λ id. has_number_in k (first_file_occurrence table id))
+      (uses_resolved (resolved_at table k)) i d h)
+    where
+      by : (o : Option ℕ) → has_number_in k o ≡ true → o ≡ Some k
+      by None e = absurd (let no : false ≡ true = e in cc)
+      by (Some m) e = ap Some ((Decides-eqb m k).0 e)
 
-firsts_once : (ns : List ℕ) → AllPairs (λ a b. a ≢ b) (firsts ns)
-firsts_once [] = λ i j d less h. absurd (omega (arith, h))
-firsts_once (n ∷ ns) =
-    AllPairs-cons (λ a b. a ≢ b) n (filter (λ m. not (m == n)) (firsts ns))
-    (λ i d h. other_number n (get_or (filter (λ m. not (m == n)) (firsts ns)) i d)
-    (filter_passes (λ m. not (m == n)) (firsts ns) i d h))
-    (AllPairs-filter (λ a b. a ≢ b) (λ m. not (m == n)) (firsts ns) (firsts_once ns))
+  abbrev IsFrom : ℕ → ℕ → Type 0
+  IsFrom a id = (k : ℕ) × (first_file_occurrence table id ≡ Some k) × (a ≤ k)
+
+  later : (a n : ℕ) → All (IsFrom a) (flat_map (first_file_name table) (range_with_len a n))
+  later a zero = All-nil (IsFrom a)
+  later a (suc n) = All-append (IsFrom a) (first_file_name table a)
+      (flat_map (first_file_name table) (range_with_len (a + 1) n))
+      (λ i d h. (a, here a i d h, omega arith))
+      (λ i d h. (let next = later (a + 1) n i d h in (next.0, next.1, omega (arith, next.2))))
+
+  apart : (a n : ℕ) → AllPairs (λ x y. x ≢ y) (flat_map (first_file_name table) (range_with_len a n))
+  apart a zero = λ i j d less h. absurd (omega (arith, h))
+  apart a (suc n) = by (first_file_name table a) (here a) (one (resolved_at table a)) (apart (a + 1) n)
+    where
+      one : (r : Resolved)
+          → length (filter (λ id. has_number_in a (first_file_occurrence table id)) (uses_resolved r)) ≤ 1
+      one (resolved.Name id) = short (has_number_in a (first_file_occurrence table id))
+        where
+          short : (b : Bool) → length (if b then id ∷ [] else []) ≤ 1
+          short true = omega arith
+          short false = omega arith
+      one _ = omega arith
+
+      by : (ids : List ℕ) → All (λ id. first_file_occurrence table id ≡ Some a) ids → length ids ≤ 1
+          → AllPairs (λ x y. x ≢ y) (flat_map (first_file_name table) (range_with_len (a + 1) n))
+          → AllPairs (λ x y. x ≢ y) (ids ++ flat_map (first_file_name table) (range_with_len (a + 1) n))
+      by [] are few rest = rest
+      by (x ∷ []) are few rest =
+          AllPairs-cons (λ x y. x ≢ y) x (flat_map (first_file_name table) (range_with_len (a + 1) n)) (λ i d h same. (
+          let first = are 0 x (omega arith) in
+          let next = later (a + 1) n i d h in
+          let at = next.1 in
+          let both : a ≡ next.0 = cc in
+          omega (arith, both, next.2))) rest
+      by (x ∷ y ∷ ids) are few rest = absurd (omega (arith, few))
 
 abbrev name_of : OutputRead → List ℕ
 name_of o = o.name
@@ -57,14 +95,15 @@ module _ (web : WebRead) (out : List ℕ) where
 
   ids_once : AllPairs (λ a b. a ≢ b) ids
   unfolding ids
-  ids_once = AllPairs-filter (λ a b. a ≢ b) (is_written web table out) (file_names web table) (firsts_once _)
+  ids_once = AllPairs-filter (λ a b. a ≢ b) (is_written web table out) (file_names web table)
+      (apart table 0 (length web.occurrences))
 
   ids_written : All (λ id. is_written web table out id ≡ true) ids
   unfolding ids
   ids_written = filter_passes (is_written web table out) (file_names web table)
 
   body_at : (i : ℕ) (d : List ℕ)
-      → i < length ids → get_or (map name_of (map (named_file table) ids)) i d ≡ name_with_number table (get_or ids i 0)
+      → i < length ids → get_or (map name_of (map (named_file table) ids)) i d ≡ name_at table (get_or ids i 0)
   body_at i d h =
       get_or-map name_of (map (named_file table) ids) i (named_file table 0)
       d (omega (arith, h, length-map ids (named_file table)))
@@ -80,9 +119,9 @@ module _ (web : WebRead) (out : List ℕ) where
       (ids_below j 0 high) (sym (body_at i d low) ∙ same ∙ body_at j d high))
 
   not_main : (a : Bool) (id : ℕ)
-      → (a && not (bytes_eq (name_with_number table id) out)) ≡ true → out ≢ name_with_number table id
-  not_main a id e same = by a (bytes_eq (name_with_number table id) out)
-      ((bytes_eq-Decides (name_with_number table id) out).1 (sym same)) e
+      → (a && not (bytes_eq (name_at table id) out)) ≡ true → out ≢ name_at table id
+  not_main a id e same = by a (bytes_eq (name_at table id) out)
+      ((bytes_eq-Decides (name_at table id) out).1 (sym same)) e
     where
       by : (a b : Bool) → b ≡ true → (a && not b) ≡ true → ⊥
       by true true t d = cc
@@ -91,23 +130,16 @@ module _ (web : WebRead) (out : List ℕ) where
   main_apart : All (λ x. out ≢ x) (map name_of (map (named_file table) ids))
   main_apart =
       All-map (λ x. out ≢ x) name_of (map (named_file table) ids) (All-map (λ o. out ≢ name_of o) (named_file table) ids
-      (λ i d h. not_main (is_expandable (shapes web table) (Named (name_with_number table (get_or ids i d))))
+      (λ i d h. not_main (is_expandable (shapes web table) (Named (name_at table (get_or ids i d))))
       (get_or ids i d) (ids_written i d h)))
 
-  main : OutputRead
-  main = record {
-    name = out;
-    node = program;
-    has_macros = not web.has_all_macros;
-    has_piece = shape_has_piece (shapes web table Program);
-  }
-
   pub names_once : AllPairs (λ a b. a ≢ b) (map (λ o. o.name) (outputs web table out))
-  unfolding ids main
+  unfolding ids
   names_once = by (not (shape_has_piece (shapes web table Program)) || is_expandable (shapes web table) Program)
     where
       by : (b : Bool)
-          → AllPairs (λ a b. a ≢ b) (map (λ o. o.name) ((if b then main ∷ [] else []) ++ map (named_file table) ids))
+          → AllPairs (λ a b. a ≢ b)
+          (map (λ o. o.name) ((if b then main_output web table out ∷ [] else []) ++ map (named_file table) ids))
       by true = AllPairs-cons (λ a b. a ≢ b) out (map name_of (map (named_file table) ids)) main_apart named_once
       by false = named_once
 

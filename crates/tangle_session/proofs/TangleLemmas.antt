@@ -27,7 +27,6 @@ use Rattle.tangle_graph.specs.Nodes.{IsNodeOf}
 use Rattle.tangle_graph.specs.Outputs.{outputs}
 use Rattle.tangle_graph.specs.Stores.{StoreRead, IsStoreOf}
 use Rattle.tangle_expansion.proofs.LineTruth.{true_to_lines}
-use Rattle.tangle_expansion.proofs.Weights.{expandable_light}
 use Rattle.tangle_plans.proofs.InsideLemmas.{table_inside}
 use Rattle.tangle_graph.proofs.ExpandLemmas.{expandable_at}
 use Rattle.tangle_graph.proofs.OutputLemmas.{IsFit, outputs_fit}
@@ -160,7 +159,7 @@ module _ (state : SessionState) (roles : RolesRead) (session : SessionRead) (vie
 
     pub is_ready : IsReady output state.kept
     is_ready = ready (shapes_of web) state.analysis.store
-        state.kept hold.analysis.store hold.kept output fit expandable_light
+        state.kept hold.analysis.store hold.kept output fit (λ shapes node e. e.light)
 
     abbrev bytes : List ℕ
     bytes = kept_output_bytes state.analysis.numbers state.kept output

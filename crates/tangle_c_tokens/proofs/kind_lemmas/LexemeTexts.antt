@@ -1,25 +1,24 @@
 -- The tokens of each lexeme are texts, one after another.
+use Rattle.std.proofs.Common.{arith}
 use Rattle.std.proofs.Common.{◌≡◌, ℕ, zero, suc, ◌+◌, Bool, true, false, not, List, [], ◌∷◌, ◌++◌, Option, Some, None}
-use Rattle.std.proofs.Common.{refl, ap, sym, subst, append-nil, drop, map, flat_map}
-use Rattle.std.specs.Prelude.{◌==◌, ◌&&◌, ◌||◌, nat_lt}
+use Rattle.std.proofs.Common.{refl, sym, subst, append-nil, drop, map, flat_map}
 use Rattle.std.specs.List.{list_any}
-use Rattle.std.proofs.lemmas.Bool.{and_parts, or_parts, cond_both, eqb-true}
+use Rattle.std.proofs.lemmas.Bool.{or_parts, cond_both}
 use Rattle.tangle_faults.specs.declared.faults.FaultKind.{FaultKind}
 use Rattle.tangle_faults.specs.declared.faults.FaultKind.TheVariants as fault
-use Rattle.tangle_lines.specs.Bytes.{at_sign, double_quote, is_white}
+use Rattle.tangle_lines.specs.Bytes.{at_sign, double_quote}
 use Rattle.tangle_text.specs.declared.regions.Region.{Region}
 use Rattle.tangle_text.specs.declared.regions.Region.TheVariants as region
 use Rattle.tangle_text.specs.declared.regions.Unit.{Unit as Unit-of}
 use Rattle.tangle_text.specs.declared.regions.Unit.TheVariants as unit
-use Rattle.tangle_text.specs.Bytes.{holds, is_line_end, holds_word_byte, are_bytes, is_end_code, asterisk, slash}
+use Rattle.tangle_text.specs.Bytes.{holds, is_line_end, holds_word_byte}
 use Rattle.tangle_text.specs.Bytes.{apostrophe}
-use Rattle.tangle_text.specs.Bytes.{less_sign, is_word_byte}
+use Rattle.tangle_text.specs.Bytes.{less_sign}
 use Rattle.tangle_text.specs.Text.{Cell, byte_at, front_line, front_column, span_at}
 use Rattle.tangle_text.specs.Regions.{unit_at, more_by, units, count_before}
 use Rattle.tangle_lexer.specs.declared.modes.Mode.{Mode}
 use Rattle.tangle_lexer.specs.declared.modes.Mode.TheVariants as mode
 use Rattle.tangle_lexer.specs.declared.modes.IncludeState.{IncludeState}
-use Rattle.tangle_lexer.specs.declared.modes.IncludeState.TheVariants as include
 use Rattle.tangle_lexer.specs.declared.modes.LexerState.{LexerState}
 use Rattle.tangle_lexer.specs.declared.lexeme_kinds.ControlCode.{ControlCode}
 use Rattle.tangle_lexer.specs.declared.lexeme_kinds.ControlCode.TheVariants as code
@@ -32,13 +31,13 @@ use Rattle.tangle_lexer.specs.declared.tokens.SpanKind.TheVariants as span_kind
 use Rattle.tangle_lexer.specs.LinesOfC.{inner_end_in}
 use Rattle.tangle_lexer.specs.Lexemes.{Lexeme, fault_if, is_in_directive}
 use Rattle.tangle_lexer.specs.Comments.{unit_line_end, line_ends, starts_section}
-use Rattle.tangle_lexer.specs.Quoted.{cut_range, unit_tokens, next_start, at_stop, cut_tokens, verbatim_end}
+use Rattle.tangle_lexer.specs.Quoted.{unit_tokens, next_start, at_stop, cut_tokens, verbatim_end}
 use Rattle.tangle_lexer.specs.Quoted.{verbatim_tokens}
 use Rattle.tangle_lexer.specs.Quoted.{empty_end, ends_at_once}
 use Rattle.tangle_lexer.specs.Constants.{constant_at, constant_lexeme}
 use Rattle.tangle_lexer.specs.Names.{use_of_name, is_ended, name_end, has_single_equals, after_name, is_macro}
 use Rattle.tangle_lexer.specs.Names.{name_in_documentation, definition_or_mention, definition_count}
-use Rattle.tangle_lexer.specs.CText.{code_at, less_kind, kind_by, kind_at}
+use Rattle.tangle_lexer.specs.CText.{code_at, kind_by, kind_at}
 use Rattle.tangle_lexer.specs.Steps.{documentation_code, c_code, c_lexeme, macro_lexeme, lexeme_in, lexeme, lexemes}
 use Rattle.tangle_lexer.proofs.lemmas.PlainTokens.{HasNone, none-append}
 use Rattle.tangle_scan.specs.Rules.{without_faults}
@@ -46,9 +45,9 @@ use Rattle.tangle_c_tokens.specs.Kinds.{IsQuotedText, AreTexts}
 use Rattle.tangle_c_tokens.proofs.kind_lemmas.Lines.{IsInLine, AreInLines}
 use Rattle.tangle_c_tokens.proofs.kind_lemmas.Texts.{is_source, faults-append, texts-none, texts-alone, texts-part}
 use Rattle.tangle_c_tokens.proofs.kind_lemmas.Texts.{texts-append, others-texts}
-use Rattle.tangle_c_tokens.proofs.kind_lemmas.QuoteBytes.{goes-two}
 use Rattle.tangle_c_tokens.proofs.kind_lemmas.Quotes.{string-text, character-text, header-text}
 use Rattle.tangle_c_tokens.proofs.kind_lemmas.Spans.{sign-span, word-span}
+use Rattle.std.proofs.lemmas.Bool.Decides.{nat_tests}
 
 -- tokens without words, signs and quoted texts
 
@@ -93,13 +92,9 @@ no-white b ends faults h k =
 
 -- verbatim texts have no breaks
 
-no-range : (line start end : ℕ) → HasNoSource (cut_range region.Verbatim line start end)
-no-range line start end = cond_both (nat_lt start end) _ [] HasNoSource (λ e. seen _ refl) (λ e. seen _ refl)
-
 no-verbatim_end : (start : ℕ) (text : List Cell) → HasNoSource (verbatim_end start text)
 no-verbatim_end start [] = seen _ refl
-no-verbatim_end start (c ∷ cs) =
-    no-append _ _ (no-range c.line start c.column) (no-fault (is_line_end c.byte) fault.VerbatimEnd c.line)
+no-verbatim_end start (c ∷ cs) = grind (arith, nat_tests)
 
 -- the tokens of a unit of a verbatim text, and those after it
 no-unit : (u : Unit-of) (start : ℕ) (c : Cell) (cs : List Cell) → unit_at region.Verbatim (c ∷ cs) ≡ u
@@ -107,13 +102,8 @@ no-unit : (u : Unit-of) (start : ℕ) (c : Cell) (cs : List Cell) → unit_at re
     → HasNoSource (at_stop u (verbatim_end start (c ∷ cs))
     (unit_tokens region.Verbatim u start c (byte_at 0 cs) ++ rest))
 no-unit unit.Stop start c cs e rest h = no-verbatim_end start (c ∷ cs)
-no-unit unit.One start c cs e rest h =
-    no-append _ _ (no-fault (holds at_sign c.byte) fault.StringAt c.line) h
-no-unit unit.Two start c cs e rest h =
-    let next : Option ℕ = byte_at 0 cs in
-    let goes = goes-two (is_line_end c.byte || is_end_code c.byte next) (are_bytes at_sign at_sign c.byte next) e in
-    let sign = (and_parts (holds at_sign c.byte) (holds at_sign next) goes.1).0 in
-    rw sign (no-append _ _ (no-range c.line start (c.column + 1)) h)
+no-unit unit.One start c cs e rest h = grind (arith, nat_tests)
+no-unit unit.Two start c cs e rest h = grind (arith, nat_tests)
 
 no-cut : (k start : ℕ) (text : List Cell) → HasNoSource (cut_tokens verbatim_end region.Verbatim k start text)
 no-cut zero start [] = no-verbatim_end start []
@@ -167,23 +157,7 @@ Shows _ b = Unit {0}
 
 kind-shows : (inc : IncludeState) (b next : Option ℕ) → Shows (kind_by inc b next) b
 kind-shows inc None next = tt
-kind-shows inc (Some b) next =
-    let P : LexemeKind → Type 0 = λ k. Shows k (Some b) in
-    cond_both (b == at_sign) (lexeme_kind.Control (code_at next)) _ P (λ e. e) (λ other.
-    cond_both (b == slash && holds asterisk next) lexeme_kind.BlockComment _ P (λ e. tt) (λ e.
-    cond_both (b == slash && holds slash next) lexeme_kind.LineComment _ P (λ e. tt) (λ e.
-    cond_both (b == double_quote) lexeme_kind.DoubleQuote _ P (λ e. same double_quote e) (λ e.
-    cond_both (b == apostrophe) lexeme_kind.Apostrophe _ P (λ e. same apostrophe e) (λ e.
-    cond_both (b == less_sign) (less_kind inc) _ P (λ e. less inc (same less_sign e)) (λ e.
-    cond_both (is_white b) lexeme_kind.White _ P (λ e. tt) (λ e.
-    cond_both (is_word_byte b) lexeme_kind.Word lexeme_kind.Other P (λ e. e) (λ e. refl))))))))
-  where
-    same : (k : ℕ) → (b == k) ≡ true → Some b ≡ Some k
-    same k e = ap (λ x. Some x) (eqb-true b k e)
-
-    less : (inc : IncludeState) → Some b ≡ Some less_sign → Shows (less_kind inc) (Some b)
-    less include.AfterInclude h = h
-    less _ h = refl
+kind-shows inc (Some b) next = grind (arith, nat_tests)
 
 module _ (texts : List (List ℕ)) where
   -- these tokens are texts, without their faults

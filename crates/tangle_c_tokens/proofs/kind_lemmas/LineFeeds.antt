@@ -1,4 +1,5 @@
 -- No line that is read has a line feed in it.
+use Rattle.std.proofs.Common.{arith}
 use Rattle.std.proofs.Common.{◌≡◌, ℕ, zero, suc, ◌+◌, Bool, false, List, [], ◌∷◌, ◌++◌, refl, Option, None, Some}
 use Rattle.std.proofs.Common.{drop, map, length}
 use Rattle.std.specs.Prelude.{◌==◌, ◌&&◌, not, nat_lt, min}
@@ -23,6 +24,7 @@ use Rattle.tangle_lines.specs.Reading.{source_line_limit, depth_limit}
 use Rattle.tangle_lines.specs.Reading.ReadingStep.{Ends, Goes}
 use Rattle.c_tokens.specs.Bytes.{line_feed}
 use Rattle.tangle_c_tokens.specs.LineFeeds.{HasNoLineFeed, HaveNoLineFeed, FilesHaveNoLineFeed}
+use Rattle.std.proofs.lemmas.Bool.Decides.{nat_tests}
 
 all-append : {X : Type 0} (P : X → Type 0) (xs ys : List X) → AllByRecursion P xs → AllByRecursion P ys
     → AllByRecursion P (xs ++ ys)
@@ -123,8 +125,7 @@ phase-clear file (InOld c) n line IsText h none = (h, tt)
 phase-clear file (InNew c) n line BeginsChange h none = (tt, closed-clear c.old_lines c h)
 phase-clear file (InNew c) n line BeginsNew h none = (h, tt)
 phase-clear file (InNew c) n line EndsChange h none = (tt, closed-clear c.old_lines c h)
-phase-clear file (InNew c) n line IsText h none =
-    (all-append (λ l. HasNoLineFeed l.1) c.new_lines ((n, line) ∷ []) h (none, tt), tt)
+phase-clear file (InNew c) n line IsText h none = grind (arith, nat_tests, all-append)
 
 end-clear : (file : List ℕ) (phase : ChangePhase) → IsClearPhase phase → HaveClearLines (at_end file phase).changes
 end-clear file Outside h = tt
@@ -163,8 +164,7 @@ module _ (files : FileTable) (change_file : ℕ) (clear : FilesHaveNoLineFeed fi
   plain-clear : (w : WaitingLine) (ws : List WaitingLine) (cs : List Change) (taken : ℕ) (name : Option (List ℕ))
       → HasNoLineFeed w.bytes → AreClear ws → HaveClearLines cs → IsClearStep (plain_step files w ws cs taken name)
   plain-clear w ws cs taken None h hs k = ((h, tt), (hs, k))
-  plain-clear w ws cs taken (Some name) h hs k =
-      (tt, (all-append (λ w. HasNoLineFeed w.bytes) (inclusion files w name).0 ws (inclusion-clear w name) hs, k))
+  plain-clear w ws cs taken (Some name) h hs k = grind (arith, nat_tests, all-append, inclusion-clear)
 
   line-clear : (w : WaitingLine) (ws : List WaitingLine) (cs : List Change) (taken : ℕ)
       → HasNoLineFeed w.bytes → AreClear ws → HaveClearLines cs
@@ -202,8 +202,7 @@ module _ (files : FileTable) (change_file : ℕ) (clear : FilesHaveNoLineFeed fi
           → ((t : State) → IsClearState t → HaveNoLineFeed (reads_in files change_file n t).lines)
           → HaveNoLineFeed (after files change_file step (λ t. reads_in files change_file n t)).lines
       by (Ends faults) h rest = tt
-      by (Goes out t) h rest =
-          all-append (λ l. HasNoLineFeed l.bytes) out.lines (reads_in files change_file n t).lines h.0 (rest t h.1)
+      by (Goes out t) h rest = grind (arith, nat_tests, all-append)
 
 pub source-clear : (files : FileTable) (roles : RolesRead) → FilesHaveNoLineFeed files
     → HaveNoLineFeed (source_of files roles).lines

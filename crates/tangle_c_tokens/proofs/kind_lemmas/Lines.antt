@@ -15,6 +15,7 @@ use Rattle.tangle_lexer.specs.SpanBytes.{first_byte}
 use Rattle.c_tokens.specs.Bytes.{line_feed}
 use Rattle.c_tokens.specs.Borders.{has_bytes}
 use Rattle.tangle_c_tokens.specs.LineFeeds.{HaveNoLineFeed}
+use Rattle.std.proofs.lemmas.Bool.Decides.{nat_tests}
 
 abbrev pub bytes_by : Option ℕ → List ℕ → List ℕ
 bytes_by None rest = []
@@ -62,13 +63,7 @@ line-in-lines : (texts : List (List ℕ)) (line column : ℕ) (bs : List ℕ) (r
     → drop column (get_or texts line []) ≡ bs → column ≤ length (get_or texts line [])
     → list_any (λ b. b == line_feed) bs ≡ false
     → IsAtFront rest → AreInLines texts rest → AreInLines texts (line_text line column bs ++ rest)
-line-in-lines texts line column [] rest is low none front all =
-    (record { bytes = is; within = low; next = next rest front; no_feed = refl }, all)
-  where
-    next : (rest : List Cell) → IsAtFront rest
-        → Continues None (record { line = line; column = column; byte = None }) rest
-    next [] h = tt
-    next (c ∷ cs) h = h
+line-in-lines texts line column [] rest is low none front all = grind (arith, nat_tests)
 line-in-lines texts line column (b ∷ bs) rest is low none front all =
     let parts = or_parts (b == line_feed) (list_any (λ c. c == line_feed) bs) none in (
       record {
@@ -120,9 +115,7 @@ byte-within texts c cs b e is =
 module _ (texts : List (List ℕ)) where
   pub span-bytes : (n : ℕ) (c : Cell) (cs : List Cell) → IsInLine texts c cs
       → span_text texts (span_at n (c ∷ cs)) ≡ take n (line_bytes (c ∷ cs))
-  span-bytes n c cs is =
-      let e : c.column + n - c.column ≡ n = omega arith in
-      ap (λ k. take k (drop c.column (get_or texts c.line []))) e ∙ ap (take n) is.bytes
+  span-bytes n c cs is = grind (arith, nat_tests)
 
   front-of : (xs : List ℕ) (k : ℕ) → get_or xs k 0 ≡ get_or (drop k xs) 0 0
   front-of xs zero = refl
@@ -131,16 +124,14 @@ module _ (texts : List (List ℕ)) where
 
   pub first-byte : (n : ℕ) (c : Cell) (cs : List Cell) → IsInLine texts c cs
       → first_byte texts (span_at n (c ∷ cs)) ≡ get_or (line_bytes (c ∷ cs)) 0 0
-  first-byte n c cs is =
-      front-of (get_or texts c.line []) c.column ∙ ap (λ t. get_or t 0 0) is.bytes
+  first-byte n c cs is = grind (arith, nat_tests, front-of (get_or texts c.line []) c.column)
 
   -- the bytes of a line between two columns
   abbrev pub range : ℕ → ℕ → ℕ → List ℕ
   range line start end = take (end - start) (drop start (get_or texts line []))
 
   pub range-none : (line column : ℕ) → range line column column ≡ []
-  range-none line column =
-      let e : column - column ≡ 0 = omega arith in ap (λ k. take k (drop column (get_or texts line []))) e
+  range-none line column = grind (arith, nat_tests)
 
   -- a range with one more byte
   range-more : (line start column b : ℕ) (bs : List ℕ) → start ≤ column
@@ -159,8 +150,7 @@ module _ (texts : List (List ℕ)) where
   -- the bytes from a column on, up to a byte and with it
   pub range-byte : (c : Cell) (cs : List Cell) (b start : ℕ) → c.byte ≡ Some b → IsInLine texts c cs → start ≤ c.column
       → range c.line start (c.column + 1) ≡ range c.line start c.column ++ b ∷ []
-  range-byte c cs b start e is h =
-      range-more c.line start c.column b (line_bytes cs) h (is.bytes ∙ ap (λ x. bytes_by x (line_bytes cs)) e)
+  range-byte c cs b start e is h = grind (arith, nat_tests, range-more c.line start c.column b (line_bytes cs) h)
 
   pub range-some : (line start end : ℕ) → start < end → end ≤ length (get_or texts line [])
       → has_bytes (range line start end) ≡ true

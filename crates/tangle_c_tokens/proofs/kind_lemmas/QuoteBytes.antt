@@ -1,11 +1,11 @@
 -- The bytes of string literals, character constants and header names, unit by unit: those of a text that ends, and
 -- those of one that does not.
-use Rattle.std.proofs.Common.{◌≡◌, inl, inr, ℕ, zero, suc, Bool, true, false, not, List, [], ◌∷◌, take, Option, Some}
+use Rattle.std.proofs.Common.{arith}
+use Rattle.std.proofs.Common.{◌≡◌, ℕ, zero, suc, Bool, true, false, not, List, [], ◌∷◌, take, Option, Some}
 use Rattle.std.proofs.Common.{None}
 use Rattle.std.proofs.Common.{refl, ap, sym, ◌∙◌, subst}
 use Rattle.std.specs.Prelude.{◌==◌, ◌&&◌, ◌||◌, slice_get}
-use Rattle.std.proofs.lemmas.Bool.{and_parts, and_from, and_right, or_parts, or_cases, both_ways, false≢true}
-use Rattle.std.proofs.lemmas.Bool.{not_from_false}
+use Rattle.std.proofs.lemmas.Bool.{and_parts, and_right, or_parts, both_ways, false≢true}
 use Rattle.std.proofs.lemmas.Bool.{eqb-true}
 use Rattle.tangle_lines.specs.Bytes.{at_sign}
 use Rattle.tangle_text.specs.declared.regions.Region.{Region}
@@ -18,27 +18,14 @@ use Rattle.c_tokens.specs.Grammar.{ends_quoted}
 use Rattle.c_tokens.specs.Reading.{spliced}
 use Rattle.c_tokens.proofs.TouchingLemmas.{spliced-first}
 use Rattle.tangle_c_tokens.specs.Kinds.{ends_header_name}
+use Rattle.std.proofs.lemmas.Bool.Decides.{nat_tests}
 
 -- the tests of a unit
-
-goes-stop : (ends two : Bool) → unit_by ends two ≡ unit.Stop → ends ≡ true
-goes-stop true two e = refl
-goes-stop false true e = cc
-goes-stop false false e = cc
 
 goes-one : (ends two : Bool) → unit_by ends two ≡ unit.One → (ends ≡ false) × (two ≡ false)
 goes-one true two e = cc
 goes-one false true e = cc
 goes-one false false e = (refl, refl)
-
-pub goes-two : (ends two : Bool) → unit_by ends two ≡ unit.Two → (ends ≡ false) × (two ≡ true)
-goes-two true two e = cc
-goes-two false true e = (refl, refl)
-goes-two false false e = cc
-
-or-nothing : (x : Bool) → (x || false) ≡ true → x ≡ true
-or-nothing true h = refl
-or-nothing false h = h
 
 -- the bytes after the first one of a text end it, by this test, or no front of them does
 abbrev pub Gives : Bool → (List ℕ → Bool) → List ℕ → Type 0
@@ -67,8 +54,7 @@ module _ (close : ℕ) (no_sign : (at_sign == close) ≡ false) (no_back : (back
   byte-false : (b : ℕ) (t : List ℕ) → (b == backslash) ≡ false → (b == close) ≡ false
       → ends_quoted close t ≡ false → ends_quoted close (b ∷ t) ≡ false
   byte-false b [] back closing h = closing
-  byte-false b (c ∷ t) back closing h =
-      rw back (and_right (not (b == close || b == line_feed)) (ends_quoted close (c ∷ t)) h)
+  byte-false b (c ∷ t) back closing h = grind (arith, nat_tests)
 
   gives-byte : (ends : Bool) (b : ℕ) (t : List ℕ) → (b == backslash) ≡ false → (b == close) ≡ false
       → (b == line_feed) ≡ false → GivesQuoted ends t → GivesQuoted ends (b ∷ t)
@@ -82,8 +68,7 @@ module _ (close : ℕ) (no_sign : (at_sign == close) ≡ false) (no_back : (back
   -- a backslash and the byte after it
   gives-escape : (ends : Bool) (y : ℕ) (t : List ℕ) → (y == line_feed) ≡ false → GivesQuoted ends t
       → GivesQuoted ends (backslash ∷ y ∷ t)
-  gives-escape true y t feed h =
-      and_from (not (y == line_feed)) (ends_quoted close t) (not_from_false (y == line_feed) feed) h
+  gives-escape true y t feed h = grind (arith, nat_tests)
   gives-escape false y t feed h = all
     where
       all : GivesQuoted false (backslash ∷ y ∷ t)
@@ -114,9 +99,7 @@ module _ (close : ℕ) (no_sign : (at_sign == close) ≡ false) (no_back : (back
 
   module _ (r : Region) (is : (b n : Option ℕ) → unit_of r b n ≡ quoted_unit close b n) where
     pub quote-stops : (b : ℕ) (n : Option ℕ) → unit_of r (Some b) n ≡ unit.Stop → (b == close) ≡ true
-    quote-stops b n e =
-        or-nothing (b == close) (goes-stop (b == close || false)
-        (are_bytes at_sign at_sign (Some b) n || b == backslash && not (holds at_sign n)) (sym (is (Some b) n) ∙ e))
+    quote-stops b n e = grind (arith, nat_tests)
 
     pub quote-one : (ends : Bool) (b : ℕ) (q : List ℕ) → unit_of r (Some b) (slice_get q 0) ≡ unit.One
         → (b == line_feed) ≡ false → holds line_feed (slice_get q 0) ≡ false → GivesQuoted ends (spliced q)
@@ -145,19 +128,12 @@ module _ (close : ℕ) (no_sign : (at_sign == close) ≡ false) (no_back : (back
         → GivesQuoted ends (spliced q)
         → GivesQuoted ends (spliced (at_sign ∷ q))
     quote-signs ends q next h =
-        subst (GivesQuoted ends) (sym (kept-first at_sign q next))
-        (gives-byte ends at_sign (spliced q) refl no_sign refl h)
+        grind (arith, nat_tests, kept-first at_sign q next, gives-byte ends at_sign (spliced q) refl no_sign refl h)
 
     -- a unit of two bytes that are not @ begins with a backslash
     backslash-first : (b : ℕ) (n : Option ℕ) → unit_of r (Some b) n ≡ unit.Two
         → are_bytes at_sign at_sign (Some b) n ≡ false → b ≡ backslash
-    backslash-first b n e pair =
-        let goes = goes-two (b == close || false)
-        (are_bytes at_sign at_sign (Some b) n || b == backslash && not (holds at_sign n)) (sym (is (Some b) n) ∙ e) in
-        elim (or_cases (are_bytes at_sign at_sign (Some b) n) (b == backslash && not (holds at_sign n)) goes.1) [
-          | inl signs ↦ absurd (both_ways (are_bytes at_sign at_sign (Some b) n) pair signs)
-          | inr back ↦ eqb-true b backslash (and_parts (b == backslash) (not (holds at_sign n)) back).0
-        ]
+    backslash-first b n e pair = grind (arith, nat_tests)
 
     pub quote-others : (ends : Bool) (b y : ℕ) (q : List ℕ) → unit_of r (Some b) (Some y) ≡ unit.Two
         → (b == at_sign) ≡ false → (y == line_feed) ≡ false → holds line_feed (slice_get q 0) ≡ false
@@ -170,9 +146,7 @@ module _ (close : ℕ) (no_sign : (at_sign == close) ≡ false) (no_back : (back
 
     pub quote-broken : (ends : Bool) (b : ℕ) (q : List ℕ) → unit_of r (Some b) None ≡ unit.Two
         → GivesQuoted ends (spliced q) → GivesQuoted ends (spliced (b ∷ line_feed ∷ q))
-    quote-broken ends b q e h =
-        let back : b ≡ backslash = backslash-first b None e (and_right (b == at_sign) false refl) in
-        subst (λ k. GivesQuoted ends (spliced (k ∷ line_feed ∷ q))) (sym back) h
+    quote-broken ends b q e h = grind (arith, nat_tests)
 
 -- header names
 
@@ -200,8 +174,7 @@ header-byte false b q closing feed h = all
 
 pub header-stops : (b : ℕ) (n : Option ℕ) → unit_of region.HeaderName (Some b) n ≡ unit.Stop
     → (b == greater_sign) ≡ true
-header-stops b n e =
-    or-nothing (b == greater_sign) (goes-stop (b == greater_sign || false) (are_bytes at_sign at_sign (Some b) n) e)
+header-stops b n e = grind (arith, nat_tests)
 
 pub header-one : (ends : Bool) (b : ℕ) (q : List ℕ) → unit_of region.HeaderName (Some b) (slice_get q 0) ≡ unit.One
     → (b == line_feed) ≡ false → holds line_feed (slice_get q 0) ≡ false → GivesHeader ends q
@@ -217,12 +190,8 @@ header-signs ends q next h = header-byte ends at_sign q refl refl h
 pub header-others : (ends : Bool) (b y : ℕ) (q : List ℕ) → unit_of region.HeaderName (Some b) (Some y) ≡ unit.Two
     → (b == at_sign) ≡ false → (y == line_feed) ≡ false → holds line_feed (slice_get q 0) ≡ false
     → GivesHeader ends q → GivesHeader ends (b ∷ y ∷ q)
-header-others ends b y q e sign feed next h =
-    let goes = goes-two (b == greater_sign || false) (are_bytes at_sign at_sign (Some b) (Some y)) e in
-    absurd (both_ways (b == at_sign) sign (and_parts (b == at_sign) (y == at_sign) goes.1).0)
+header-others ends b y q e sign feed next h = grind (arith, nat_tests)
 
 pub header-broken : (ends : Bool) (b : ℕ) (q : List ℕ) → unit_of region.HeaderName (Some b) None ≡ unit.Two
     → GivesHeader ends q → GivesHeader ends (b ∷ line_feed ∷ q)
-header-broken ends b q e h =
-    let goes = goes-two (b == greater_sign || false) (are_bytes at_sign at_sign (Some b) None) e in
-    absurd (false≢true (and_parts (b == at_sign) false goes.1).1)
+header-broken ends b q e h = grind (arith, nat_tests)

@@ -5,7 +5,7 @@ use Rattle.std.proofs.Common.{cond, get_or, length}
 use Rattle.std.specs.Prelude.{◌==◌, ◌&&◌, nat_lt, slice_get}
 use Rattle.std.specs.List.{list_all}
 use Rattle.std.proofs.lemmas.Bool.{false≢true, both_ways}
-use Rattle.std.proofs.lemmas.Bool.{eqb-true, eq-eqb, ltb-true, ltb-false}
+use Rattle.std.proofs.lemmas.Bool.{eqb-true, eq-eqb, ltb-true}
 use Rattle.tangle_faults.specs.declared.faults.FaultKind.TheVariants as fault
 use Rattle.tangle_lines.specs.Bytes.{at_sign}
 use Rattle.tangle_text.specs.declared.regions.Region.{Region}
@@ -30,6 +30,7 @@ use Rattle.tangle_c_tokens.specs.Edges.{last_byte_passes}
 use Rattle.tangle_c_tokens.specs.Kinds.{is_range, range_bytes}
 use Rattle.tangle_c_tokens.proofs.kind_lemmas.Lines.{IsInLine, AreInLines, Continues, after-byte, byte-within, range}
 use Rattle.tangle_c_tokens.proofs.kind_lemmas.Lines.{range-none, range-byte, range-some}
+use Rattle.std.proofs.lemmas.Bool.Decides.{nat_tests}
 
 -- the last byte of a text is that of the text with one more byte before it
 last-more : (test : ℕ → Bool) (b : ℕ) (q : List ℕ) → last_byte_passes test q ≡ true → last_byte_passes test (b ∷ q) ≡ true
@@ -80,16 +81,7 @@ module _ (texts : List (List ℕ)) (r : Region) (close last_line : ℕ) (cut : I
       → Ends (range texts c.line start c.column) c.byte (tokens_of start (c ∷ cs))
 
   end-holds : Holds 0 []
-  end-holds = record {
-    ends = false;
-    ahead = [];
-    bytes = refl;
-    first = refl;
-    closes = unended;
-    last = λ e. cc;
-    ranges = refl;
-    full = refl;
-  }
+  end-holds = grind (arith, nat_tests)
 
   -- the tokens after a range are ranges with these bytes
   abbrev IsAfter : ℕ → ℕ → ℕ → List Token → Type 0
@@ -109,10 +101,7 @@ module _ (texts : List (List ℕ)) (r : Region) (close last_line : ℕ) (cut : I
           let some : has_bytes (range texts line start end) ≡ true =
           range-some texts line start end (ltb-true start end h) within in
           rw (h, kind, some) (refl, refl, refl)
-      by false h =
-          let same : end ≡ start = omega (arith, low, ltb-false start end h) in
-          let none : range texts line start end ≡ [] = ap (range texts line start) same ∙ range-none texts line start in
-          rw (h, none) (refl, refl, refl)
+      by false h = grind (arith, nat_tests)
 
   no-byte : (n : Option ℕ) → (u : Unit-of) → unit_of r None n ≡ u → (u ≡ unit.Stop → ⊥) → ⊥
   no-byte n u e go = go (sym e ∙ cut.stops n)
@@ -162,10 +151,8 @@ module _ (texts : List (List ℕ)) (r : Region) (close last_line : ℕ) (cut : I
 
   stop-holds : (text : List Cell) → unit_at r text ≡ unit.Stop → Holds 0 text
   stop-holds [] e = end-holds
-  stop-holds (c ∷ cs) e = λ is start low.
-      subst (Ends (range texts c.line start c.column) c.byte)
-      (sym (cut-stop (quote_end r close last_line) r start (c ∷ cs) e))
-      (stop-by c cs start (holds close c.byte) refl e is.0 low)
+  stop-holds (c ∷ cs) e =
+      grind (arith, nat_tests, range texts c.line, cut-stop (quote_end r close last_line) r, stop-by c cs)
 
   -- a unit of one byte
 
@@ -175,11 +162,7 @@ module _ (texts : List (List ℕ)) (r : Region) (close last_line : ℕ) (cut : I
   no-faults false line ts = refl
 
   one-holds : (n : ℕ) (c : Cell) (cs : List Cell) → unit_at r (c ∷ cs) ≡ unit.One → Holds n cs → Holds (suc n) (c ∷ cs)
-  one-holds n c [] e next is start low = absurd (alone c.byte e is.0.next)
-    where
-      alone : (x : Option ℕ) → unit_of r x None ≡ unit.One → Continues x c [] → ⊥
-      alone None e k = no-byte None unit.One e (λ u. cc)
-      alone (Some b) e k = k
+  one-holds n c [] e next is start low = grind (arith, nat_tests)
   one-holds n c (d ∷ cs) e next is start low = by c.byte refl
     where
       by : (x : Option ℕ) → c.byte ≡ x → Ends (range texts c.line start c.column) c.byte (tokens_of start (c ∷ d ∷ cs))
@@ -246,8 +229,7 @@ module _ (texts : List (List ℕ)) (r : Region) (close last_line : ℕ) (cut : I
       → Holds n cs → AreInLines texts (c ∷ d ∷ cs) → start ≤ c.column
       → tokens_of start (c ∷ d ∷ cs) ≡ cut_range r c.line start (c.column + 1) ++ tokens_of (c.column + 2) cs
       → Ends (range texts c.line start c.column) c.byte (tokens_of start (c ∷ d ∷ cs))
-  signs-holds n c d [] y start sign z next is low tokens =
-      absurd (subst (λ x. Continues x d []) z is.1.0.next)
+  signs-holds n c d [] y start sign z next is low tokens = grind (arith, nat_tests)
   signs-holds n c d (f ∷ cs) y start sign z next is low tokens =
       let x : c.byte ≡ Some at_sign = here c.byte sign in
       let at = after-byte texts c d (f ∷ cs) at_sign x is.0 in
@@ -283,8 +265,7 @@ module _ (texts : List (List ℕ)) (r : Region) (close last_line : ℕ) (cut : I
       → Holds n cs → AreInLines texts (c ∷ d ∷ cs) → start ≤ c.column
       → tokens_of start (c ∷ d ∷ cs) ≡ tokens_of start cs
       → Ends (range texts c.line start c.column) c.byte (tokens_of start (c ∷ d ∷ cs))
-  others-holds n c d [] b y start x z e other next is low tokens =
-      absurd (subst (λ k. Continues k d []) z is.1.0.next)
+  others-holds n c d [] b y start x z e other next is low tokens = grind (arith, nat_tests)
   others-holds n c d (f ∷ cs) b y start x z e other next is low tokens =
       let at = after-byte texts c d (f ∷ cs) b x is.0 in
       let then = after-byte texts d f cs y z is.1.0 in
@@ -322,16 +303,9 @@ module _ (texts : List (List ℕ)) (r : Region) (close last_line : ℕ) (cut : I
 
       by : (x : Option ℕ) → c.byte ≡ x → (z : Option ℕ) → d.byte ≡ z → (sign : Bool) → holds at_sign c.byte ≡ sign
           → Ends (range texts c.line start c.column) c.byte (tokens_of start (c ∷ d ∷ cs))
-      by None x z k sign s =
-          absurd (no-byte d.byte unit.Two (subst (λ y. unit_of r y d.byte ≡ unit.Two) x e) (λ u. cc))
-      by (Some b) x None k true s =
-          absurd (false≢true (sym (ap (holds at_sign) k) ∙ sym (cut.pairs c.byte d.byte e) ∙ s))
-      by (Some b) x None k false s =
-          let back : holds backslash c.byte ≡ true =
-          cut.takes c.byte (subst (λ y. unit_of r c.byte y ≡ unit.Two) k e) in
-          broken-holds n c d cs b start x k e next is low
-          (tokens ∙ rw (s, back, k) (append_assoc (cut_range r c.line start (c.column + 1)) (token.QuoteBreak ∷ [])
-          (tokens_of 0 cs)))
+      by None x z k sign s = grind (arith, nat_tests)
+      by (Some b) x None k true s = grind (arith, nat_tests)
+      by (Some b) x None k false s = grind (arith, nat_tests, broken-holds n c d cs b start x k e next is low, tokens)
       by (Some b) x (Some y) k true s =
           signs-holds n c d cs y start s k next is low (tokens ∙ rw s refl)
       by (Some b) x (Some y) k false s =
@@ -376,8 +350,4 @@ module _ (texts : List (List ℕ)) (r : Region) (close last_line : ℕ) (cut : I
       }
     where
       lone : (f : Cell) → unit_at r (f ∷ []) ≡ unit.Two → Holds 1 (f ∷ [])
-      lone f e is start low = absurd (by f.byte e is.0.next)
-        where
-          by : (x : Option ℕ) → unit_of r x None ≡ unit.Two → Continues x f [] → ⊥
-          by None e k = no-byte None unit.Two e (λ u. cc)
-          by (Some b) e k = k
+      lone f e is start low = grind (arith, nat_tests)

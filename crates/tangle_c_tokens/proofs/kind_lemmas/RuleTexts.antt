@@ -1,7 +1,8 @@
 -- The rules that make items of tokens leave texts as they are.
+use Rattle.std.proofs.Common.{arith}
 use Rattle.std.proofs.Common.{◌≡◌, ℕ, Bool, true, false, List, [], ◌∷◌, ◌++◌, refl, ap, sym, ◌∙◌, subst, map}
 use Rattle.std.specs.List.{AllByRecursion, list_all}
-use Rattle.std.proofs.lemmas.Bool.{and_parts, cond_both, both_ways}
+use Rattle.std.proofs.lemmas.Bool.{and_parts, cond_both}
 use Rattle.tangle_text.specs.declared.spans.Span.{Span}
 use Rattle.tangle_lexer.specs.declared.tokens.Token.{Token}
 use Rattle.tangle_lexer.specs.declared.tokens.Token.TheVariants as token
@@ -17,6 +18,7 @@ use Rattle.tangle_scan.specs.Rules.{macro_tokens}
 use Rattle.tangle_lexer.specs.LinesOfParts.{body}
 use Rattle.tangle_c_tokens.specs.Kinds.{HasItsKind, is_range, IsQuotedText, AreTexts}
 use Rattle.tangle_c_tokens.proofs.kind_lemmas.Texts.{texts-none, texts-alone, texts-part, texts-by, texts-append}
+use Rattle.std.proofs.lemmas.Bool.Decides.{nat_tests}
 
 -- what is true of ranges and breaks
 pub range-by : (P : Token → Type 0) → ((s : Span) → P (token.Span span_kind.Quoted s)) → P token.QuoteBreak
@@ -35,9 +37,7 @@ KeepsRanges f = (t : Token) (ts : List Token) → is_range t ≡ true → f (t �
 keeps-part : (f : List Token → List Token) → KeepsRanges f → (part ts : List Token) → list_all is_range part ≡ true
     → f (part ++ ts) ≡ part ++ f ts
 keeps-part f keeps [] ts h = refl
-keeps-part f keeps (t ∷ part) ts h =
-    let both = and_parts (is_range t) (list_all is_range part) h in
-    keeps t (part ++ ts) both.0 ∙ ap (λ us. t ∷ us) (keeps-part f keeps part ts both.1)
+keeps-part f keeps (t ∷ part) ts h = grind (arith, nat_tests, keeps-part f keeps part ts)
 
 -- a range is where the name of a macro should be
 abbrev pub name_is_range : List Token → Bool
@@ -130,8 +130,7 @@ module _ (texts : List (List ℕ)) where
       cond_both (has_join run) [] run (AreTexts texts) (λ e. texts-none texts) (λ e. alone-texts run all)
 
   runs-keep : KeepsRanges (map_runs left_of_run [])
-  runs-keep t ts h =
-      range-by (λ t. map_runs left_of_run [] (t ∷ ts) ≡ t ∷ map_runs left_of_run [] ts) (λ s. refl) refl t h
+  runs-keep t ts h = grind (arith, nat_tests)
 
   runs-texts : (ts : List Token) → AreTexts texts ts → (run : List Token) → AreAlone run
       → AreTexts texts (map_runs left_of_run run ts)
@@ -215,10 +214,7 @@ module _ (texts : List (List ℕ)) where
           → (name_is_range ts ≡ false → AreTexts texts (with_name_space texts ts)) → name_is_range (part ++ ts) ≡ false
           → AreTexts texts (with_name_space texts (part ++ ts))
       by [] ts quoted made h = made h
-      by (t ∷ part) ts quoted made h =
-          let range = (and_parts (is_range t) (list_all is_range part) quoted.ranges).0 in
-          absurd (both_ways (name_is_range (t ∷ part ++ ts)) h
-          (range-by (λ u. name_is_range (u ∷ part ++ ts) ≡ true) (λ s. refl) refl t range))
+      by (t ∷ part) ts quoted made h = grind (arith, nat_tests)
 
   -- the tokens of a macro before its name is looked for
   abbrev pub front_tokens : List Token → List Token

@@ -1,5 +1,5 @@
 -- The spans of words and signs have bytes of their kinds.
-use Rattle.std.proofs.Common.{◌≡◌, ℕ, suc, ◌+◌, Bool, true, false, not, List, ◌∷◌, Option, Some, None, get_or, take}
+use Rattle.std.proofs.Common.{◌≡◌, ℕ, suc, ◌+◌, Bool, true, false, List, ◌∷◌, Option, Some, None, get_or, take}
 use Rattle.std.proofs.Common.{refl, ap, sym, ◌∙◌, subst, arith}
 use Rattle.std.specs.Prelude.{if◌then◌else◌}
 use Rattle.std.specs.List.{list_all}
@@ -15,9 +15,10 @@ use Rattle.tangle_lexer.specs.declared.tokens.Token.TheVariants as token
 use Rattle.tangle_lexer.proofs.laws.RegionUnits.{units-by}
 use Rattle.tangle_lexer.specs.SpanBytes.{first_byte}
 use Rattle.c_tokens.specs.Touching.TextKind.{Plain, Other}
-use Rattle.tangle_c_tokens.specs.Kinds.{text_kind_of_sign, IsTextOfKind, HasItsKind}
+use Rattle.tangle_c_tokens.specs.Kinds.{IsTextOfKind, HasItsKind}
 use Rattle.tangle_c_tokens.proofs.kind_lemmas.Lines.{IsInLine, bytes_by, line_bytes, span-bytes, first-byte}
 use Rattle.tangle_c_tokens.proofs.kind_lemmas.WordKinds.{word-text, sign-text}
+use Rattle.std.proofs.lemmas.Bool.Decides.{nat_tests}
 
 -- the cells of a word have word bytes
 word-bytes : (text : List Cell) → list_all is_word_byte (take (count_before region.Word text) (line_bytes text)) ≡ true
@@ -25,16 +26,11 @@ word-bytes =
     units-by region.Word (λ n text. list_all is_word_byte (take n (line_bytes text)) ≡ true) (λ text e. refl) refl
     (λ n c cs e h. one n cs h (byte_at 0 cs) c.byte e) (λ n c d cs e h. absurd (never _ e)) (λ c e. absurd (never _ e))
   where
-    is-word : (word : Bool) → unit_by (not word) false ≡ unit.One → word ≡ true
-    is-word true e = refl
-    is-word false e = cc
-
     one : (n : ℕ) (cs : List Cell) → list_all is_word_byte (take n (line_bytes cs)) ≡ true → (next b : Option ℕ)
         → unit_of region.Word b next ≡ unit.One
         → list_all is_word_byte (take (suc n) (bytes_by b (line_bytes cs))) ≡ true
     one n cs h next None e = cc
-    one n cs h next (Some b) e =
-        and_from (is_word_byte b) (list_all is_word_byte (take n (line_bytes cs))) (is-word (is_word_byte b) e) h
+    one n cs h next (Some b) e = grind (arith, nat_tests)
 
     never : (b : Bool) → unit_by b false ≡ unit.Two → ⊥
     never true e = cc
@@ -53,9 +49,7 @@ module _ (texts : List (List ℕ)) where
 
   pub sign-span : (c : Cell) (cs : List Cell) (b : ℕ) → c.byte ≡ Some b → IsInLine texts c cs
       → HasItsKind texts (token.Span span_kind.Sign (span_at 1 (c ∷ cs)))
-  sign-span c cs b e is =
-      subst (λ k. IsTextOfKind (text_kind_of_sign k) (span_text texts (span_at 1 (c ∷ cs)))) (sym (first-is 1 c cs b e is))
-      (subst (IsTextOfKind (text_kind_of_sign b)) (sym (at-byte 1 c cs b e is)) (sign-text b))
+  sign-span c cs b e is = grind (arith, nat_tests, first-is 1 c cs b e is, at-byte 1 c cs b e is, sign-text b)
 
   pub word-span : (c : Cell) (cs : List Cell) (b : ℕ) → c.byte ≡ Some b → is_word_byte b ≡ true → IsInLine texts c cs
       → HasItsKind texts (token.Span span_kind.Word (span_at (1 + count_before region.Word cs) (c ∷ cs)))

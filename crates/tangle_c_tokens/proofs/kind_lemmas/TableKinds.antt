@@ -1,5 +1,6 @@
 -- The table of what may touch is that of the kinds of texts for C.
-use Rattle.std.proofs.Common.{◌≡◌, ℕ, Bool, true, false, if◌then◌else◌, List, [], ◌∷◌, refl, ap, ◌∙◌, codes}
+use Rattle.std.proofs.Common.{arith}
+use Rattle.std.proofs.Common.{◌≡◌, ℕ, Bool, true, false, if◌then◌else◌, List, [], ◌∷◌, refl, codes}
 use Rattle.tangle_text.specs.Bytes.{is_digit}
 use Rattle.tangle_lexer.specs.declared.tokens.Token.{Token}
 use Rattle.tangle_lexer.specs.declared.tokens.Token.TheVariants as token
@@ -7,9 +8,10 @@ use Rattle.tangle_lexer.specs.declared.tokens.SpanKind.TheVariants as span_kind
 use Rattle.tangle_scan.specs.Rules as rules
 use Rattle.tangle_scan.specs.Rules.{touch_kind, may_touch}
 use Rattle.tangle_lexer.specs.SpanBytes.{first_byte}
-use Rattle.c_tokens.specs.Touching.{TextKind, kinds_may_touch, is_separator, is_operator}
+use Rattle.c_tokens.specs.Touching.{TextKind, kinds_may_touch}
 use Rattle.c_tokens.specs.Touching.TextKind.{Separator, Operator, Plain, Other}
 use Rattle.tangle_c_tokens.specs.Kinds.{text_kind_of_sign, item_kind}
+use Rattle.std.proofs.lemmas.Bool.Decides.{nat_tests}
 
 -- Both tables of what may touch are one: an item of each kind of the first table stands for that kind of the second.
 
@@ -23,12 +25,7 @@ sample Plain = token.Span span_kind.Quoted (record { line = 0; start = 0; end = 
 sample Other = token.White
 
 sample-sign : (b : ℕ) → rules.sign_kind b ≡ touch_kind samples (sample (text_kind_of_sign b))
-sample-sign b = by (is_separator b) refl (is_operator b) refl
-  where
-    by : (s : Bool) → is_separator b ≡ s → (o : Bool) → is_operator b ≡ o → rules.sign_kind b ≡ touch_kind samples (sample (text_kind_of_sign b))
-    by true s o of_o = rw s refl
-    by false s true o = rw (s, o) refl
-    by false s false o = rw (s, o) refl
+sample-sign b = grind (arith, nat_tests)
 
 sample-word : (digit : Bool) → (if digit then touch_kind samples (sample Other) else touch_kind samples (sample Plain)) ≡
     touch_kind samples (sample (if digit then Other else Plain))
@@ -60,6 +57,4 @@ sample-touch Other Other = refl
 
 pub same-table : (texts : List (List ℕ)) (e f : Token) → may_touch texts e f ≡ kinds_may_touch (item_kind texts e) (item_kind texts f)
 same-table texts e f =
-    ap (λ k. rules.kinds_may_touch k (touch_kind texts f)) (sample-kind texts e)
-    ∙ ap (rules.kinds_may_touch (touch_kind samples (sample (item_kind texts e)))) (sample-kind texts f)
-    ∙ sample-touch (item_kind texts e) (item_kind texts f)
+    cc (sample-kind texts e, sample-kind texts f, sample-touch (item_kind texts e) (item_kind texts f))

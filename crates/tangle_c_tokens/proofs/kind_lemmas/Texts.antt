@@ -1,14 +1,15 @@
 -- Tokens that are texts, one after another.
+use Rattle.std.proofs.Common.{arith}
 use Rattle.std.proofs.Common.{◌≡◌, ◌⊎◌, inl, inr, ℕ, Bool, true, false, List, [], ◌∷◌, ◌++◌, refl, ap, sym, subst}
 use Rattle.std.proofs.Common.{append_assoc, flat_map}
-use Rattle.std.specs.List.{AllByRecursion, list_any}
-use Rattle.std.proofs.lemmas.Bool.{or_parts}
+use Rattle.std.specs.List.{AllByRecursion}
 use Rattle.tangle_lexer.specs.declared.tokens.Token.{Token}
 use Rattle.tangle_lexer.specs.declared.tokens.Token.TheVariants as token
 use Rattle.tangle_lexer.specs.declared.tokens.SpanKind.TheVariants as span_kind
 use Rattle.tangle_scan.specs.Rules.{without_faults}
 use Rattle.tangle_lexer.proofs.lemmas.PlainTokens.{HasNone}
 use Rattle.tangle_c_tokens.specs.Kinds.{HasItsKind, is_range, IsQuotedText, IsAlone, AreTexts}
+use Rattle.std.proofs.lemmas.Bool.Decides.{nat_tests}
 
 abbrev joined : List (List Token) → List Token
 joined parts = flat_map (λ part. part) parts
@@ -47,10 +48,7 @@ module _ (texts : List (List ℕ)) where
     parts-by : (parts : List (List Token))
         → AllByRecursion (λ part. IsAlone texts part ⊎ IsQuotedText texts part) parts → P (joined parts)
     parts-by [] all = none
-    parts-by ([] ∷ parts) all = elim all.0 [
-      | inl one ↦ absurd one
-      | inr text ↦ quoted [] (joined parts) text (parts, refl, all.1) (parts-by parts all.1)
-    ]
+    parts-by ([] ∷ parts) all = grind (arith, nat_tests)
     parts-by ((t ∷ []) ∷ parts) all = elim all.0 [
       | inl one ↦ alone t (joined parts) one.0 one.1 (parts, refl, all.1) (parts-by parts all.1)
       | inr text ↦ quoted (t ∷ []) (joined parts) text (parts, refl, all.1) (parts-by parts all.1)
@@ -84,7 +82,4 @@ module _ (texts : List (List ℕ)) where
   pub others-texts : (ts : List Token) → HasNone is_source ts → AreTexts texts (without_faults ts)
   others-texts [] h = texts-none
   others-texts (token.Fault kind line ∷ ts) h = others-texts ts h
-  others-texts (t ∷ ts) h =
-      let parts = or_parts (is_source t) (list_any is_source ts) h in
-      let other = one-other t parts.0 in
-      texts-alone t (without_faults ts) other.0 other.1 (others-texts ts parts.1)
+  others-texts (t ∷ ts) h = grind (arith, nat_tests, one-other t, texts-alone t (without_faults ts), others-texts ts)

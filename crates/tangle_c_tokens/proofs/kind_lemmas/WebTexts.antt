@@ -1,9 +1,9 @@
 -- The tokens of a source, of its pieces and of its macros are texts, one after another.
+use Rattle.std.proofs.Common.{arith}
 use Rattle.std.proofs.Common.{◌≡◌, ℕ, Bool, true, false, List, [], ◌∷◌, ◌++◌, refl, ap, subst, map, flat_map}
 use Rattle.std.proofs.Common.{length, get_or, zero-add}
 use Rattle.std.specs.Prelude.{if◌then◌else◌}
 use Rattle.std.specs.List.{AllByRecursion, list_all}
-use Rattle.std.proofs.lemmas.Bool.{and_parts}
 use Rattle.tangle_lines.specs.Reading.{SourceLine}
 use Rattle.tangle_text.specs.Text.{text_from, texts_of}
 use Rattle.tangle_lexer.specs.declared.tokens.Token.{Token}
@@ -24,6 +24,7 @@ use Rattle.tangle_c_tokens.proofs.kind_lemmas.LexemeTexts.{lexemes-whole}
 use Rattle.tangle_c_tokens.proofs.kind_lemmas.RuleTexts.{range-by, body-texts, part-texts, macro-texts}
 use Rattle.tangle_c_tokens.proofs.kind_lemmas.RuleTexts.{backslashes-texts}
 use Rattle.tangle_c_tokens.proofs.kind_lemmas.MacroNames.{kept-name}
+use Rattle.std.proofs.lemmas.Bool.Decides.{nat_tests}
 
 pub source-texts : (lines : List SourceLine) → HaveNoLineFeed lines
     → AreTexts (texts_of lines) (without_faults (all_tokens lines))
@@ -65,18 +66,13 @@ module _ (texts : List (List ℕ)) where
 
       by : (part ts : List Token) (n : ℕ) → list_all is_range part ≡ true → HaveBodies n ts → HaveBodies n (part ++ ts)
       by [] ts n ranges made = made
-      by (t ∷ part) ts n ranges made =
-          let both = and_parts (is_range t) (list_all is_range part) ranges in
-          range-by (λ u. HaveBodies n (u ∷ part ++ ts)) (λ s. by part ts n both.1 made)
-          (by part ts n both.1 made) t both.0
+      by (t ∷ part) ts n ranges made = grind (arith, nat_tests, range-by, by part ts n)
 
   blocks-texts : (n : ℕ) (ts : List Token) → HaveBodies n (without_faults ts) → HaveTexts (blocks n ts)
   blocks-texts n [] all = tt
   blocks-texts n (token.Fault kind line ∷ ts) all = blocks-texts n ts all
-  blocks-texts n (token.MacroStart line ∷ ts) all =
-      (subst (AreTexts texts) (body-faults ts) all.0, blocks-texts n ts all.1)
-  blocks-texts n (token.UnnamedPart line ∷ ts) all =
-      (subst (AreTexts texts) (body-faults ts) all.0, blocks-texts n ts all.1)
+  blocks-texts n (token.MacroStart line ∷ ts) all = grind (arith, nat_tests, body-faults ts, blocks-texts n ts all.1)
+  blocks-texts n (token.UnnamedPart line ∷ ts) all = grind (arith, nat_tests, body-faults ts, blocks-texts n ts all.1)
   blocks-texts n (token.NamedPart line occurrence ∷ ts) all =
       (subst (AreTexts texts) (body-faults ts) all.0, blocks-texts n ts all.1)
   blocks-texts n (t ∷ ts) all = blocks-texts (section_after n t) ts all

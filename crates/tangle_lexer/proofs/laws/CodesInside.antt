@@ -4,18 +4,17 @@ use Rattle.std.proofs.Common.{Option, None, inl, inr, refl, ap, sym, ◌∙◌, 
 use Rattle.std.proofs.Math.Seq.{take-add}
 use Rattle.std.proofs.lemmas.List.{drop-take}
 use Rattle.std.specs.List.{AllByRecursion}
-use Rattle.std.proofs.lemmas.Bool.{and_parts, or_parts, not-false}
+use Rattle.std.proofs.lemmas.Bool.{or_parts, not-false}
 use Rattle.tangle_lines.specs.Bytes.{at_sign}
 use Rattle.tangle_text.specs.declared.regions.Region.{Region}
 use Rattle.tangle_text.specs.declared.regions.Region.TheVariants as region
 use Rattle.tangle_text.specs.declared.regions.Unit.TheVariants as unit
-use Rattle.tangle_text.specs.Bytes.{asterisk, slash, greater_sign, holds, is_line_end, are_bytes, is_section_start}
+use Rattle.tangle_text.specs.Bytes.{asterisk, slash, holds, is_line_end, are_bytes, is_section_start}
 use Rattle.tangle_text.specs.Bytes.{is_name_start, is_end_code}
 use Rattle.tangle_text.specs.Text.{Cell, byte_at}
 use Rattle.tangle_text.specs.Regions.{unit_by, unit_of, count_before}
 use Rattle.tangle_lexer.specs.Comments.{has_end_code, starts_section, ends_comment, two_if}
 use Rattle.tangle_lexer.specs.Segments.{control_codes, HasNoSection, IsEndCode, ends_name}
-use Rattle.tangle_lexer.proofs.laws.RegionOrder.{other-byte}
 use Rattle.tangle_lexer.proofs.laws.RegionUnits.{units-by}
 
 abbrev AllCodes : (List Cell → Type 0) → List Cell → Type 0
@@ -24,8 +23,7 @@ AllCodes P cells = AllByRecursion P (control_codes cells)
 -- a cell that is not @ begins no control code
 codes-pass : (P : List Cell → Type 0) (c : Cell) (cs : List Cell)
     → holds at_sign c.byte ≡ false → AllCodes P cs → AllCodes P (c ∷ cs)
-codes-pass P c [] plain rest = rw plain tt
-codes-pass P c (d ∷ cs) plain rest = rw plain rest
+codes-pass x c y plain rest = grind arith
 
 -- an @ begins a control code, with the cell after it
 code-passes : (P : List Cell → Type 0) (c d : Cell) (cs : List Cell)
@@ -57,26 +55,16 @@ codes-region r ends is P end none code stop =
   where
     -- a unit of one cell or of two, and whether its first cell is @
     one-shows : (ends sign : Bool) → unit_by ends sign ≡ unit.One → sign ≡ false
-    one-shows ends false e = refl
-    one-shows true true e = cc
-    one-shows false true e = cc
+    one-shows ends sign e = grind arith
 
     two-shows : (ends sign : Bool) → unit_by ends sign ≡ unit.Two → (ends ≡ false) × (sign ≡ true)
-    two-shows false true e = (refl, refl)
-    two-shows true true e = cc
-    two-shows true false e = cc
-    two-shows false false e = cc
+    two-shows ends sign e = (grind arith, grind arith)
 
 -- @> at the end of a control text or a name
 end-shows : (P : List Cell → Type 0)
     → ((cells : List Cell) → IsEndCode cells → P cells) → (b : Bool) (cells : List Cell) → has_end_code cells ≡ b
     → AllCodes P (take (two_if b) cells)
-end-shows P into false cells e = tt
-end-shows P into true [] e = cc
-end-shows P into true (c ∷ []) e = let none : false ≡ true = (and_parts (holds at_sign c.byte) false e).1 in cc
-end-shows P into true (c ∷ d ∷ cs) e =
-    code-passes P c d [] (and_parts (holds at_sign c.byte) (holds greater_sign d.byte) e).0
-    (into (c ∷ d ∷ []) (e, refl)) tt
+end-shows x into y cells e = grind arith
 
 pub control_text-codes : (text : List Cell) → let inside : ℕ = count_before region.ControlText text in
     let after : List Cell = drop inside text in
@@ -101,14 +89,7 @@ name-codes =
 
 -- */ at the end of a comment
 comment-end : (b : Bool) (cells : List Cell) → ends_comment cells ≡ b → HasNoSection (take (two_if b) cells)
-comment-end false cells e = tt
-comment-end true [] e = cc
-comment-end true (c ∷ []) e = let none : false ≡ true = (and_parts (holds asterisk c.byte) false e).1 in cc
-comment-end true (c ∷ d ∷ cs) e =
-    let h = and_parts (holds asterisk c.byte) (holds slash d.byte) e in
-    let P : List Cell → Type 0 = λ text. starts_section text ≡ false in
-    codes-pass P c (d ∷ []) (other-byte asterisk at_sign c.byte refl h.0)
-    (codes-pass P d [] (other-byte slash at_sign d.byte refl h.1) tt)
+comment-end x cells e = grind arith
 
 pub block_comment-codes : (text : List Cell) → let inside : ℕ = count_before region.BlockComment text in
     let after : List Cell = drop inside text in

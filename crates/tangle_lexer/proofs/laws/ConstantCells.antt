@@ -1,9 +1,8 @@
 -- An ASCII constant is on one line, and has no apostrophe before its last byte, except for one that a backslash escapes.
-use Rattle.std.proofs.Common.{◌≡◌, ◌<◌, ◌≤◌, ℕ, zero, suc, ◌+◌, ◌-◌, Bool, true, false, not, ◌==◌, ◌||◌, List, [], ◌∷◌, drop}
+use Rattle.std.proofs.Common.{◌≡◌, ◌<◌, ◌≤◌, ℕ, zero, suc, ◌+◌, ◌-◌, Bool, true, false, ◌==◌, ◌||◌, List, ◌∷◌, drop}
 use Rattle.std.proofs.Common.{Option, Some, None, inl, inr, refl, ap, sym, ◌∙◌, arith, subst, if◌then◌else◌}
 use Rattle.std.proofs.lemmas.Bool.Decides.{eqb_tells}
-use Rattle.std.proofs.lemmas.Bool.{not-false, eqb-true, cond_both}
-use Rattle.std.proofs.lemmas.List.{drop-drop}
+use Rattle.std.proofs.lemmas.Bool.{cond_both}
 use Rattle.std.proofs.lemmas.Option.{cond_some}
 use Rattle.tangle_lines.specs.Bytes.{at_sign}
 use Rattle.tangle_text.specs.declared.regions.Region.TheVariants as region
@@ -14,14 +13,13 @@ use Rattle.tangle_text.specs.Regions.{unit_by, count_before}
 use Rattle.tangle_text.proofs.AheadLemmas.{byte_at-drop}
 use Rattle.tangle_lexer.specs.declared.modes.LexerState.{LexerState}
 use Rattle.tangle_lexer.specs.declared.constants.AsciiConstant.{AsciiConstant}
-use Rattle.tangle_lexer.specs.Constants.{escape_value, if_closed, if_byte, octal_constant, escaped_constant, constant_by}
-use Rattle.tangle_lexer.specs.Constants.{constant_at, constant_lexeme, ascii_constant}
+use Rattle.tangle_lexer.specs.Constants.{escape_value, if_closed, octal_constant, escaped_constant, constant_by}
+use Rattle.tangle_lexer.specs.Constants.{constant_at, bad_constant, constant_lexeme, ascii_constant}
 use Rattle.tangle_lexer.specs.Quoted.{one_if}
-use Rattle.tangle_lexer.proofs.laws.Points.{Point, IsByte, after_cells, HoldsBytes, IsTextAt}
-use Rattle.tangle_lexer.proofs.laws.TokenOrder.{AreInOrder}
-use Rattle.tangle_lexer.proofs.laws.RegionOrder.{other-byte, holds-byte, more-bytes, bytes-precede}
+use Rattle.tangle_lexer.proofs.laws.Points.{Point, IsByte, HoldsBytes, IsTextAt}
+use Rattle.tangle_lexer.proofs.laws.RegionOrder.{other-byte, holds-byte, more-bytes, lexeme-line}
 use Rattle.tangle_lexer.proofs.laws.RegionUnits.{units-by}
-use Rattle.tangle_lexer.proofs.laws.WhiteOrder.{never-two, bad_constant-bytes, bad_constant-in_order}
+use Rattle.tangle_lexer.proofs.laws.WhiteOrder.{bad_constant-bytes, LexemeIsInOrder}
 
 -- an apostrophe at position `j` is possible only directly after a backslash at the front
 abbrev IsEscaped : ℕ → List Cell → Type 0
@@ -41,8 +39,7 @@ next-byte : (n : ℕ) (text : List Cell) → HoldsBytes n text → IsByte (byte_
 next-byte n text h byte = more-bytes n 1 text h (front (drop n text) (subst IsByte (byte_at-drop n text) byte))
   where
     front : (text : List Cell) → IsByte (byte_at 0 text) → HoldsBytes 1 text
-    front [] h = absurd h
-    front (c ∷ cs) h = (h, tt)
+    front x h = grind arith
 
 -- one more byte
 more-character : (n : ℕ) (text : List Cell)
@@ -65,21 +62,6 @@ known-character x n text other h is =
     let no_quote = other-byte x apostrophe (byte_at n text) other is in
     more-character n text h (holds-byte x (byte_at n text) is) (λ quote. absurd (let e = sym no_quote ∙ quote in cc))
 
--- one more octal digit
-octal-character : (n : ℕ) (text : List Cell)
-    → AreCharacter n text → is_octal (byte_at n text) ≡ true → AreCharacter (n + 1) text
-octal-character n text h octal =
-    more-character n text h (byte (byte_at n text) octal) (λ quote. absurd (other (byte_at n text) octal quote))
-  where
-    byte : (b : Option ℕ) → is_octal b ≡ true → IsByte b
-    byte None h = cc
-    byte (Some b) h = tt
-
-    other : (b : Option ℕ) → is_octal b ≡ true → holds apostrophe b ≡ true → ⊥
-    other None h quote = cc
-    other (Some b) h quote =
-        let never : false ≡ true = ap (λ k. is_octal (Some k)) (sym (eqb-true b apostrophe quote)) ∙ h in cc
-
 closed-if : (v : Option ℕ) (n : ℕ) (text : List Cell)
     → ((x : ℕ) → v ≡ Some x → AreCharacter n text) → IsClosed text (if_closed v n text)
 closed-if None n text h = tt
@@ -87,22 +69,13 @@ closed-if (Some x) n text h =
     cond_both (holds apostrophe (byte_at n text)) _ None (IsClosed text)
     (λ e. (next-byte n text (h x refl).bytes (holds-byte apostrophe (byte_at n text) e), (h x refl).quotes)) (λ e. tt)
 
-value-closed : (value n : ℕ) (text : List Cell) → AreCharacter n text → IsClosed text (if_byte value n text)
-value-closed value n text h = closed-if _ n text (λ x e. h)
-
 -- a backslash at the front
 backslash-character : (text : List Cell) → holds backslash (byte_at 0 text) ≡ true → AreCharacter 1 text
 backslash-character text h = known-character backslash 0 text refl (no-character text) h
 
 octal-closed : (text : List Cell) → holds backslash (byte_at 0 text) ≡ true → is_octal (byte_at 1 text) ≡ true
     → IsClosed text (octal_constant text)
-octal-closed text h octal =
-    let two = octal-character 1 text (backslash-character text h) octal in
-    cond_both (not (is_octal (byte_at 2 text))) _ _ (IsClosed text) (λ e. value-closed _ 2 text two)
-    (λ e.
-    let three = octal-character 2 text two (not-false (is_octal (byte_at 2 text)) e) in
-    cond_both (not (is_octal (byte_at 3 text))) _ _ (IsClosed text) (λ k. value-closed _ 3 text three)
-    (λ k. value-closed _ 4 text (octal-character 3 text three (not-false (is_octal (byte_at 3 text)) k))))
+octal-closed text h octal = grind arith
 
 escaped-closed : (text : List Cell)
     → holds backslash (byte_at 0 text) ≡ true → IsClosed text (escaped_constant text)
@@ -112,8 +85,7 @@ escaped-closed text h =
     (λ x k. more-character 1 text (backslash-character text h) (byte (byte_at 1 text) x k) (λ quote. (refl, h))))
   where
     byte : (b : Option ℕ) (x : ℕ) → escape_value b ≡ Some x → IsByte b
-    byte None x e = cc
-    byte (Some b) x e = tt
+    byte y x e = grind arith
 
 constant-closed : (b : Option ℕ) (text : List Cell) → byte_at 0 text ≡ b → IsClosed text (constant_by b text)
 constant-closed None text e = tt
@@ -136,21 +108,16 @@ HasNoQuote n text = (j : ℕ) → j < n → holds apostrophe (byte_at j text) �
 bad-quotes : (text : List Cell) → HasNoQuote (count_before region.BadConstant text) text
 bad-quotes =
     units-by region.BadConstant HasNoQuote (λ text e j l. absurd (omega (arith, l))) (λ j l. absurd (omega (arith, l)))
-    one (λ n c d cs e. absurd (never-two _ e)) (λ c e. absurd (never-two _ e))
+    one (λ n c d cs e. grind arith) (λ c e. grind arith)
   where
-    goes-on : (x y : Bool) → unit_by (x || y) false ≡ unit.One → x ≡ true → ⊥
-    goes-on true y e quote = cc
-    goes-on false y e quote = cc
-
     one : (n : ℕ) (c : Cell) (cs : List Cell)
         → unit_by (holds apostrophe c.byte || is_line_end c.byte) false ≡ unit.One
         → HasNoQuote n cs → HasNoQuote (suc n) (c ∷ cs)
-    one n c cs e rest zero l = goes-on (holds apostrophe c.byte) (is_line_end c.byte) e
-    one n c cs e rest (suc j) l = rest j (omega (arith, l))
+    one n c cs e rest zero l quote = grind arith
+    one n c cs e rest (suc j) l quote = rest j (omega (arith, l)) quote
 
 one_if-few : (b : Bool) → one_if b ≤ 1
-one_if-few true = omega arith
-one_if-few false = omega arith
+one_if-few b = grind arith
 
 pub ascii_constant-quotes : (s : LexerState) (text : List Cell) (k : ℕ)
     → 2 ≤ k → k + 1 < 1 + (ascii_constant s text).more → holds apostrophe (byte_at k text) ≡ true
@@ -162,11 +129,7 @@ ascii_constant-quotes s text k first last quote =
   where
     there : (k : ℕ)
         → k ≡ 2 + (k - 2) → holds apostrophe (byte_at k text) ≡ holds apostrophe (byte_at (k - 2) (drop 2 text))
-    there k sum =
-        ap (λ n. holds apostrophe (byte_at n text)) sum
-        ∙ ap (holds apostrophe)
-        (byte_at-drop (2 + (k - 2)) text ∙ ap (byte_at 0) (sym (drop-drop (k - 2) 2 text))
-        ∙ sym (byte_at-drop (k - 2) (drop 2 text)))
+    there k sum = grind arith
 
     by : (c : Option AsciiConstant) → IsClosed (drop 2 text) c → k + 1 < 1 + (constant_lexeme c s text).more
         → holds apostrophe (byte_at (k - 2) (drop 2 text)) ≡ true
@@ -190,15 +153,13 @@ ascii_constant-bytes s text h =
         let sum : 2 + (k.count + 1) ≡ 1 + (2 + k.count) = omega arith in
         subst (λ n. HoldsBytes n text) sum (more-bytes 2 (k.count + 1) text h closed.0)
 
-module _ (width : ℕ → ℕ) (count : ℕ) where
+module _ (texts : List (List ℕ)) where
   pub ascii_constant-in_order : (s : LexerState) (at : Point) (c : Cell) (cs : List Cell)
-      → IsTextAt width count at (c ∷ cs) → HoldsBytes 2 (c ∷ cs)
-      → AreInOrder width count true at (ascii_constant s (c ∷ cs)).tokens
-      true (after_cells at (1 + (ascii_constant s (c ∷ cs)).more) (c ∷ cs))
+      → IsTextAt texts at (c ∷ cs) → HoldsBytes 2 (c ∷ cs)
+      → LexemeIsInOrder texts at.line cs (ascii_constant s (c ∷ cs))
   ascii_constant-in_order s at c cs is h = by (constant_at (drop 1 cs)) (ascii_constant-bytes s (c ∷ cs) h)
     where
       by : (k : Option AsciiConstant) → HoldsBytes (1 + (constant_lexeme k s (c ∷ cs)).more) (c ∷ cs)
-          → AreInOrder width count true at (constant_lexeme k s (c ∷ cs)).tokens
-          true (after_cells at (1 + (constant_lexeme k s (c ∷ cs)).more) (c ∷ cs))
-      by None bytes = bad_constant-in_order width count s at (c ∷ cs) is h
-      by (Some k) bytes = (is.0.line, (is.0.real, bytes-precede width count at (1 + (2 + k.count)) (c ∷ cs) is bytes))
+          → LexemeIsInOrder texts at.line cs (constant_lexeme k s (c ∷ cs))
+      by None bytes = (tt, (tt, lexeme-line texts at (bad_constant s (c ∷ cs)).more c cs is bytes))
+      by (Some k) bytes = ((is.0.line, is.0.real), lexeme-line texts at (2 + k.count) c cs is bytes)

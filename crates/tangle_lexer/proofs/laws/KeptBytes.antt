@@ -3,7 +3,6 @@ use Rattle.std.proofs.Common.{◌≡◌, ℕ, zero, suc, ◌+◌, ◌-◌, Bool,
 use Rattle.std.proofs.Common.{flat_map, map, Option, Some, None, refl, ap, sym, ◌∙◌, arith, append_assoc, append-nil}
 use Rattle.std.proofs.Common.{if◌then◌else◌}
 use Rattle.std.proofs.lemmas.Grind.{flat_map-append}
-use Rattle.std.proofs.lemmas.Bool.{cond_both}
 use Rattle.std.specs.List.{list_any}
 use Rattle.tangle_faults.specs.declared.faults.FaultKind.{FaultKind}
 use Rattle.tangle_faults.specs.declared.faults.FaultKind.TheVariants as fault
@@ -19,7 +18,7 @@ use Rattle.tangle_text.specs.declared.regions.Region.{Region}
 use Rattle.tangle_text.specs.declared.regions.Region.TheVariants as region
 use Rattle.tangle_lexer.specs.declared.constants.AsciiConstant.{AsciiConstant}
 use Rattle.tangle_lines.specs.Bytes.{at_sign, double_quote}
-use Rattle.tangle_text.specs.Bytes.{apostrophe, greater_sign, is_line_end}
+use Rattle.tangle_text.specs.Bytes.{apostrophe, greater_sign}
 use Rattle.tangle_text.specs.Text.{Cell, byte_at, front_line, span_at}
 use Rattle.tangle_text.specs.Regions.{count_before, units}
 use Rattle.tangle_lexer.specs.Lexemes.{Lexeme, fault_if, is_c_part, is_in_directive}
@@ -38,8 +37,8 @@ use Rattle.tangle_lexer.proofs.lemmas.PlainLexemes.{IsPlainLexeme, use-plain, me
 use Rattle.tangle_lexer.proofs.lemmas.PlainLexemes.{kind-plain}
 use Rattle.tangle_lexer.proofs.lemmas.LexemeCases.{OpensLexeme, kind-opens, lexeme-by}
 use Rattle.tangle_lexer.proofs.lemmas.StepLemmas.{lexeme-here}
-use Rattle.tangle_lexer.proofs.laws.Points.{Point, after_cell, after_cells, HoldsBytes, IsTextAt, text-after_cells}
-use Rattle.tangle_lexer.proofs.laws.RegionOrder.{holds-byte, some-byte, more-bytes}
+use Rattle.tangle_lexer.proofs.laws.Points.{Point, after_cell, HoldsBytes, IsTextAt, text-after}
+use Rattle.tangle_lexer.proofs.laws.RegionOrder.{holds-byte, some-byte, code-bytes, more-bytes}
 use Rattle.tangle_lexer.proofs.laws.WhiteOrder.{word-bytes}
 use Rattle.tangle_lexer.proofs.laws.SegmentPoints.{token_points, fault-points, points-append, bytes-columns}
 use Rattle.tangle_lexer.proofs.laws.CutTexts.{double_quote-cut, apostrophe-cut, header_name-cut}
@@ -83,8 +82,7 @@ line_ends-points : (r : Region) (text : List Cell) → token_points (line_ends r
 line_ends-points r text = points-flat unit_line_end one (units r text)
   where
     one : (u : List Cell) → token_points (unit_line_end u) ≡ []
-    one [] = refl
-    one (c ∷ cs) = cond_both (is_line_end c.byte) _ [] (λ ts. token_points ts ≡ []) (λ e. refl) (λ e. refl)
+    one x = grind arith
 
 inner-points : (b : Bool) (ts : List Token) → token_points (map (inner_end_in b) ts) ≡ token_points ts
 inner-points b [] = refl
@@ -105,17 +103,16 @@ white-points r text inner b kind line =
 
 constant-points : (k : Option AsciiConstant) (s : LexerState) (text : List Cell)
     → token_points (constant_lexeme k s text).tokens ≡ []
-constant-points None s text = refl
-constant-points (Some k) s text = refl
+constant-points x s text = grind arith
 
-module _ (width : ℕ → ℕ) (count : ℕ) where
+module _ (texts : List (List ℕ)) where
   -- the points of a span are those of its bytes
   span-keeps : (at : Point) (n : ℕ) (c : Cell) (cs : List Cell)
-      → IsTextAt width count at (c ∷ cs) → HoldsBytes n (c ∷ cs)
+      → IsTextAt texts at (c ∷ cs) → HoldsBytes n (c ∷ cs)
       → span_points (span_at n (c ∷ cs)) ++ [] ≡ byte_points (take n (c ∷ cs)) ++ []
   span-keeps at n c cs is h =
       let e : c.column + n - c.column ≡ n = omega arith in
-      rw (e, bytes-columns width count at n (c ∷ cs) is h, is.0.line, is.0.column) refl
+      rw (e, bytes-columns texts at n (c ∷ cs) is h, is.0.line, is.0.column) refl
 
   -- the bytes in the spans of a lexeme's tokens are those that its segments keep
 
@@ -137,11 +134,10 @@ module _ (width : ℕ → ℕ) (count : ℕ) where
     where
       by : (b : Bool) (cells : List Cell)
           → flat_map kept_points (if b then segment ControlBytes cells ∷ [] else []) ≡ []
-      by true cells = refl
-      by false cells = refl
+      by x cells = grind arith
 
   kind-keeps : (kind : LexemeKind) (s : LexerState) (at : Point) (c : Cell) (cs : List Cell)
-      → IsTextAt width count at (c ∷ cs) → OpensLexeme kind (c ∷ cs) → KindKeeps kind s (c ∷ cs)
+      → IsTextAt texts at (c ∷ cs) → OpensLexeme kind (c ∷ cs) → KindKeeps kind s (c ∷ cs)
   kind-keeps (lexeme_kind.Control code.DoubleAt) s at c cs is o =
       span-keeps at 1 c cs is (holds-byte at_sign c.byte o.0, tt)
   kind-keeps (lexeme_kind.Control code.Name) s at c cs is o =
@@ -162,7 +158,8 @@ module _ (width : ℕ → ℕ) (count : ℕ) where
       white-points region.ControlText (drop 1 cs) (is_in_directive s) (not (has_end_code rest))
       fault.ControlText (front_line s.last_line rest)
   kind-keeps (lexeme_kind.Control code.Verbatim) s at c cs is o =
-      verbatim-keeps width count (after_cells at 2 (c ∷ cs)) (drop 1 cs) (text-after_cells width count at 2 (c ∷ cs) is)
+      verbatim-keeps texts _ (drop 1 cs)
+      (text-after texts 2 at (c ∷ cs) is (code-bytes code.Verbatim (c ∷ cs) (λ e. cc) o))
       ∙ sym (verbatim-kept (c ∷ cs))
   kind-keeps (lexeme_kind.Control code.AsciiConstant) s at c cs is o =
       constant-points (constant_at (drop 1 cs)) s (c ∷ cs)
@@ -174,11 +171,11 @@ module _ (width : ℕ → ℕ) (count : ℕ) where
       let rest : List Cell = drop (count_before region.LineComment (drop 1 cs)) (drop 1 cs) in
       fault-points (starts_section rest) fault.CommentEnd (front_line s.last_line rest)
   kind-keeps lexeme_kind.DoubleQuote s at c cs is o =
-      quoted-keeps width count region.DoubleQuote double_quote-cut double_quote refl s at c cs is (some-byte c.byte o.0) o.1
+      quoted-keeps texts region.DoubleQuote double_quote-cut double_quote refl s at c cs is (some-byte c.byte o.0) o.1
   kind-keeps lexeme_kind.Apostrophe s at c cs is o =
-      quoted-keeps width count region.Apostrophe apostrophe-cut apostrophe refl s at c cs is (some-byte c.byte o.0) o.1
+      quoted-keeps texts region.Apostrophe apostrophe-cut apostrophe refl s at c cs is (some-byte c.byte o.0) o.1
   kind-keeps lexeme_kind.HeaderName s at c cs is o =
-      quoted-keeps width count region.HeaderName header_name-cut greater_sign refl s at c cs is (some-byte c.byte o.0) o.1
+      quoted-keeps texts region.HeaderName header_name-cut greater_sign refl s at c cs is (some-byte c.byte o.0) o.1
   kind-keeps lexeme_kind.Word s at c cs is o =
       span-keeps at (1 + count_before region.Word cs) c cs is
       (more-bytes 1 (count_before region.Word cs) (c ∷ cs) (some-byte c.byte o.0, tt) (word-bytes cs))
@@ -242,7 +239,7 @@ module _ (width : ℕ → ℕ) (count : ℕ) where
         inside = λ within kind p o. plain-leads s _ out (kind-plain kind s text p);
       })
 
-  lexeme-keeps : (s : LexerState) (at : Point) (c : Cell) (cs : List Cell) → IsTextAt width count at (c ∷ cs)
+  lexeme-keeps : (s : LexerState) (at : Point) (c : Cell) (cs : List Cell) → IsTextAt texts at (c ∷ cs)
       → Keeps s.mode (lexeme s (c ∷ cs)) (segments_in s.mode s (1 + (lexeme s (c ∷ cs)).more) (c ∷ cs))
   lexeme-keeps s at c cs is = by s.mode refl
     where
@@ -256,7 +253,7 @@ module _ (width : ℕ → ℕ) (count : ℕ) where
       by _ m = lexeme-leads s (c ∷ cs) (ap is_c_part m)
 
   -- all lexemes: the points of the spans in C parts are those of the segments that are kept
-  pub segments-keep : (k : ℕ) (s : LexerState) (text : List Cell) (at : Point) → IsTextAt width count at text
+  pub segments-keep : (k : ℕ) (s : LexerState) (text : List Cell) (at : Point) → IsTextAt texts at text
       → part_points (is_c_part s.mode) (flat_map (λ l. l.tokens) (lexemes k s text))
       ≡ flat_map kept_points (segments k s text)
   segments-keep k s [] at is = refl

@@ -1,10 +1,9 @@
 -- The ranges of quoted and verbatim texts have all bytes of these texts but the second @ of each @@.
-use Rattle.std.proofs.Common.{◌≡◌, ℕ, zero, suc, ◌+◌, ◌-◌, ◌≤◌, Bool, true, false, not, List, [], ◌∷◌, ◌++◌, take, drop}
-use Rattle.std.proofs.Common.{Option, Some, None, inl, inr, refl, ap, sym, ◌∙◌, arith, subst, cond, ◌==◌, ◌&&◌}
+use Rattle.std.proofs.Common.{◌≡◌, ℕ, suc, ◌+◌, ◌-◌, ◌≤◌, Bool, true, false, not, List, [], ◌∷◌, ◌++◌, take, drop}
+use Rattle.std.proofs.Common.{Option, None, inl, inr, refl, ap, sym, ◌∙◌, arith, cond, ◌==◌, ◌&&◌}
 use Rattle.std.proofs.Common.{append_assoc, append-nil, flat_map}
 use Rattle.std.proofs.Math.Seq.{take-add}
 use Rattle.std.proofs.lemmas.Bool.Decides.{eqb_tells}
-use Rattle.std.proofs.lemmas.Bool.{and_right}
 use Rattle.tangle_faults.specs.declared.faults.FaultKind.TheVariants as fault
 use Rattle.tangle_lexer.specs.declared.tokens.Token.{Token}
 use Rattle.tangle_lexer.specs.declared.tokens.SpanKind.TheVariants as span_kind
@@ -21,44 +20,23 @@ use Rattle.tangle_lexer.specs.Quoted.{cut_range, cut_tokens, quote_end, one_if, 
 use Rattle.tangle_lexer.specs.Quoted.{verbatim_end, empty_end, verbatim_tokens}
 use Rattle.tangle_lexer.specs.Segments.{points_by, kept_points, byte_points, cell_kind, text_segments}
 use Rattle.tangle_lexer.specs.Segments.SegmentKind.{Kept, SecondAtSign, LineEnd}
-use Rattle.tangle_lexer.proofs.laws.Points.{Point, point_at, IsByte, IsTextAt, after-byte}
+use Rattle.tangle_lexer.proofs.laws.Points.{Point, point_at, IsByte, IsTextAt, text-next}
 use Rattle.tangle_lexer.proofs.laws.CutTexts.{IsCut, verbatim-cut, cut-by}
 use Rattle.tangle_lexer.proofs.laws.RegionOrder.{other-byte, holds-byte}
 use Rattle.tangle_lexer.proofs.laws.SegmentPoints.{columns_to, columns-next, columns-nothing, byte-point, token_points}
-use Rattle.tangle_lexer.proofs.laws.SegmentPoints.{fault-points, cut-points}
+use Rattle.tangle_lexer.proofs.laws.SegmentPoints.{cut-points}
 
 -- the points of the bytes that are kept of such a text
 abbrev pub text_points : Bool → List Cell → List (ℕ × ℕ)
 text_points after_at_sign cells = flat_map kept_points (text_segments after_at_sign cells)
 
--- a byte is kept unless it is the second @ of an @@
-kept-kind : (after_at_sign : Bool) (c : Cell)
-    → IsByte c.byte → (after_at_sign && holds at_sign c.byte) ≡ false → cell_kind after_at_sign c ≡ Kept
-kept-kind after_at_sign c h k = by c.byte h (after_at_sign && holds at_sign c.byte) k
-  where
-    by : (b : Option ℕ) → IsByte b → (x : Bool)
-        → x ≡ false → cond (is_line_end b) LineEnd (cond x SecondAtSign Kept) ≡ Kept
-    by None h x e = absurd h
-    by (Some b) h true e = cc
-    by (Some b) h false e = refl
-
 kept-byte : (after_at_sign : Bool) (c : Cell) → IsByte c.byte → (after_at_sign && holds at_sign c.byte) ≡ false
     → points_by (cell_kind after_at_sign c) (c ∷ []) ≡ (c.line, c.column) ∷ []
-kept-byte after_at_sign c h k =
-    ap (λ f. points_by f (c ∷ [])) (kept-kind after_at_sign c h k) ∙ ap (λ ps. ps ++ []) (byte-point c h)
-
--- a text that does not begin with @ has the same points after an @ as after another cell
-after_at_sign-off : (after_at_sign : Bool) (text : List Cell)
-    → holds at_sign (byte_at 0 text) ≡ false → text_points after_at_sign text ≡ text_points false text
-after_at_sign-off false text h = refl
-after_at_sign-off true [] h = refl
-after_at_sign-off true (c ∷ cs) h = rw h refl
+kept-byte after_at_sign c h k = grind arith
 
 front-take : (n : ℕ) (text : List Cell)
     → holds at_sign (byte_at 0 text) ≡ false → holds at_sign (byte_at 0 (take n text)) ≡ false
-front-take zero text h = refl
-front-take (suc n) [] h = refl
-front-take (suc n) (c ∷ cs) h = h
+front-take x text h = grind arith
 
 -- the points of a text before cells whose points do not depend on the cell before them
 points-before : (after_at_sign : Bool) (xs ys : List Cell) (ps : List (ℕ × ℕ))
@@ -70,10 +48,10 @@ points-before after_at_sign (x ∷ xs) ys ps h =
     ∙ sym (append_assoc (points_by (cell_kind after_at_sign x) (x ∷ []))
     (text_points (holds at_sign x.byte && not after_at_sign) xs) ps)
 
-module _ (width : ℕ → ℕ) (count : ℕ) where
+module _ (texts : List (List ℕ)) where
   -- a text that is cut; `last` gives the points of its end
   module _ (r : Region) (cut : IsCut r) (ends : ℕ → List Cell → List Token) (last : List Cell → List (ℕ × ℕ))
-      (stop : (at : Point) (start : ℕ) (text : List Cell) → start ≤ at.column → IsTextAt width count at text
+      (stop : (at : Point) (start : ℕ) (text : List Cell) → start ≤ at.column → IsTextAt texts at text
       → token_points (ends start text) ≡ columns_to at.line start at.column ++ last text) where
     -- the points of the first `n` cells, which are the region, and those of its end
     abbrev kept_of : ℕ → List Cell → List (ℕ × ℕ)
@@ -92,15 +70,7 @@ module _ (width : ℕ → ℕ) (count : ℕ) where
     one-points : (c : Cell) (cs : List Cell) (n : ℕ)
         → IsByte c.byte → (holds at_sign c.byte ≡ true → holds at_sign (byte_at 0 cs) ≡ false)
         → kept_of (suc n) (c ∷ cs) ≡ (c.line, c.column) ∷ kept_of n cs
-    one-points c cs n byte alone =
-        ap (λ ps. (ps ++ text_points (holds at_sign c.byte && true) (take n cs)) ++ last (drop n cs))
-        (kept-byte false c byte refl)
-        ∙ ap (λ ps. (c.line, c.column) ∷ ps ++ last (drop n cs)) (by (holds at_sign c.byte) alone)
-      where
-        by : (b : Bool) → (b ≡ true → holds at_sign (byte_at 0 cs) ≡ false)
-            → text_points (b && true) (take n cs) ≡ text_points false (take n cs)
-        by false h = refl
-        by true h = after_at_sign-off true (take n cs) (front-take n cs (h refl))
+    one-points c cs n byte alone = grind arith
 
     -- a unit of two cells that begins with a byte: the second cell is kept if it is a byte and the first is not @
     abbrev second_points : Bool → Cell → List (ℕ × ℕ)
@@ -124,14 +94,13 @@ module _ (width : ℕ → ℕ) (count : ℕ) where
         (append_assoc (second_points sign d) (text_points false (take n cs)) (last (drop n cs)))
       where
         by : (b : Bool) → (b && not (b && true)) ≡ false
-        by true = refl
-        by false = refl
+        by b = grind arith
 
     pub cut-keeps : (at : Point) (start : ℕ) (text : List Cell)
-        → start ≤ at.column → IsTextAt width count at text
+        → start ≤ at.column → IsTextAt texts at text
         → Keeps at start (cut_tokens ends r 0 start text) (count_before r text) text
     cut-keeps =
-        cut-by width count r cut ends Keeps stop
+        cut-by texts r cut ends Keeps stop
         (λ at start c cs ts n h is byte alone kept.
         rw (one-points c cs n byte alone, ← is.line, ← is.column)
         (no-points (holds at_sign c.byte) c.line ts ∙ kept
@@ -160,13 +129,11 @@ module _ (width : ℕ → ℕ) (count : ℕ) where
       where
         no-points : (b : Bool) (line : ℕ) (ts : List Token)
             → token_points (fault_if b fault.StringAt line ++ ts) ≡ token_points ts
-        no-points true line ts = refl
-        no-points false line ts = refl
+        no-points b line ts = grind arith
 
         second-sign : (cells : List Cell) (b : Option ℕ) → IsByte b → holds at_sign b ≡ true
             → points_by (cond (is_line_end b) LineEnd (cond (holds at_sign b) SecondAtSign Kept)) cells ≡ []
-        second-sign cells None byte same = absurd byte
-        second-sign cells (Some b) byte same = rw same refl
+        second-sign cells x byte same = grind arith
 
   -- quoted texts
 
@@ -175,14 +142,13 @@ module _ (width : ℕ → ℕ) (count : ℕ) where
   close-points close text = byte_points (take (one_if (holds close (byte_at 0 text))) text)
 
   quote-stop : (r : Region) (close last : ℕ) (at : Point) (start : ℕ) (text : List Cell)
-      → start ≤ at.column → IsTextAt width count at text
+      → start ≤ at.column → IsTextAt texts at text
       → token_points (quote_end r close last start text) ≡ columns_to at.line start at.column ++ close-points close text
   quote-stop r close last at start [] h is =
       let none : at.column - start ≡ 0 = omega (arith, is) in rw none (by (holds close None))
     where
       by : (b : Bool) → [] ≡ byte_points (take (one_if b) [])
-      by true = refl
-      by false = refl
+      by x = grind arith
   quote-stop r close last at start (c ∷ cs) h is =
       rw (← is.0.line, ← is.0.column) (by (holds close c.byte) (holds-byte close c.byte))
     where
@@ -201,28 +167,16 @@ module _ (width : ℕ → ℕ) (count : ℕ) where
   -- the closing byte is kept, whatever cell is before it
   close-kept : (close : ℕ) (text : List Cell) → ((b : Option ℕ) → holds close b ≡ true → holds at_sign b ≡ false)
       → (h : Bool) → text_points h (take (one_if (holds close (byte_at 0 text))) text) ≡ close-points close text
-  close-kept close [] other h = by (holds close None)
-    where
-      by : (b : Bool) → text_points h (take (one_if b) []) ≡ byte_points (take (one_if b) [])
-      by true = refl
-      by false = refl
-  close-kept close (c ∷ cs) other h = by (holds close c.byte) (holds-byte close c.byte) (other c.byte)
-    where
-      by : (b : Bool) → (b ≡ true → IsByte c.byte) → (b ≡ true → holds at_sign c.byte ≡ false)
-          → text_points h (take (one_if b) (c ∷ cs)) ≡ byte_points (take (one_if b) (c ∷ cs))
-      by false byte sign = refl
-      by true byte sign =
-          ap (λ ps. ps ++ []) (kept-byte h c (byte refl) (and_right h (holds at_sign c.byte) (sign refl)))
-          ∙ sym (ap (λ ps. ps ++ []) (byte-point c (byte refl)))
+  close-kept close x other h = grind arith
 
   pub quoted-keeps : (r : Region) → IsCut r → (close : ℕ) → (close == at_sign) ≡ false
       → (s : LexerState) (at : Point) (c : Cell) (cs : List Cell)
-      → IsTextAt width count at (c ∷ cs) → IsByte c.byte → holds at_sign c.byte ≡ false
+      → IsTextAt texts at (c ∷ cs) → IsByte c.byte → holds at_sign c.byte ≡ false
       → token_points (quoted_text r close s (c ∷ cs)).tokens
       ≡ text_points false (take (1 + (quoted_text r close s (c ∷ cs)).more) (c ∷ cs))
   quoted-keeps r cut close other s at c cs is byte sign =
       let front : Point = point_at c.line (c.column + 1) in
-      let text = subst (λ p. IsTextAt width count p cs) (after-byte c byte) is.1 in
+      let text = text-next texts at c cs is byte in
       let n : ℕ = count_before r cs in
       let last : ℕ = one_if (holds close (byte_at 0 (drop n cs))) in
       let kept = cut-keeps r cut (quote_end r close s.last_line)
@@ -245,22 +199,15 @@ module _ (width : ℕ → ℕ) (count : ℕ) where
 
   -- verbatim texts
 
-  verbatim-stop : (at : Point) (start : ℕ) (text : List Cell) → start ≤ at.column → IsTextAt width count at text
+  verbatim-stop : (at : Point) (start : ℕ) (text : List Cell) → start ≤ at.column → IsTextAt texts at text
       → token_points (verbatim_end start text) ≡ columns_to at.line start at.column ++ []
-  verbatim-stop at start [] h is = let none : at.column - start ≡ 0 = omega (arith, is) in rw none refl
-  verbatim-stop at start (c ∷ cs) h is =
-      rw (← is.0.line, ← is.0.column)
-      (cut-points region.Verbatim c.line start c.column (fault_if (is_line_end c.byte) fault.VerbatimEnd c.line)
-      ∙ ap (λ ps. columns_to c.line start c.column ++ ps)
-      (fault-points (is_line_end c.byte) fault.VerbatimEnd c.line))
+  verbatim-stop at start x h is = grind arith
 
   empty-points : (text : List Cell)
       → token_points (token.Span span_kind.Verbatim (span_at 0 text) ∷ empty_end text) ≡ []
-  empty-points [] = refl
-  empty-points (c ∷ cs) =
-      let none : c.column + 0 - c.column ≡ 0 = omega arith in rw none (fault-points (is_line_end c.byte) fault.VerbatimEnd c.line)
+  empty-points x = grind arith
 
-  pub verbatim-keeps : (at : Point) (text : List Cell) → IsTextAt width count at text
+  pub verbatim-keeps : (at : Point) (text : List Cell) → IsTextAt texts at text
       → token_points (verbatim_tokens text) ≡ text_points false (take (count_before region.Verbatim text) text)
   verbatim-keeps at [] is = refl
   verbatim-keeps at (c ∷ cs) is =

@@ -20,9 +20,7 @@ module _ (r : Region) (P : ℕ → List Cell → Type 0)
   counted-by (c ∷ []) = by (unit_at r (c ∷ [])) refl
     where
       by : (u : Unit-of) → unit_at r (c ∷ []) ≡ u → P (count_by u (counted r (more_by u) [])) (c ∷ [])
-      by unit.Stop e = stop (c ∷ []) e
-      by unit.One e = one 0 c [] e nothing
-      by unit.Two e = last c e
+      by x e = grind arith
   counted-by (c ∷ d ∷ cs) = by (unit_at r (c ∷ d ∷ cs)) refl (counted-by (d ∷ cs)) (counted-by cs)
     where
       by : (u : Unit-of) → unit_at r (c ∷ d ∷ cs) ≡ u → P (counted r 0 (d ∷ cs)) (d ∷ cs) → P (counted r 0 cs) cs

@@ -6,7 +6,7 @@ use Rattle.std.proofs.Math.Seq.{take-add}
 use Rattle.std.proofs.lemmas.Grind.{flat_map-append}
 use Rattle.std.proofs.lemmas.List.{take-append-drop, drop-drop, length-take}
 use Rattle.std.specs.List.{AllByRecursion}
-use Rattle.std.proofs.lemmas.Bool.{and_parts, eqb-true, cond_both}
+use Rattle.std.proofs.lemmas.Bool.{cond_both}
 use Rattle.tangle_lines.specs.Bytes.{at_sign, is_white}
 use Rattle.tangle_lexer.specs.declared.modes.Mode.{Mode}
 use Rattle.tangle_lexer.specs.declared.modes.Mode.TheVariants as mode
@@ -19,10 +19,10 @@ use Rattle.tangle_text.specs.declared.regions.Region.TheVariants as region
 use Rattle.tangle_lexer.specs.declared.constants.AsciiConstant.{AsciiConstant}
 use Rattle.tangle_text.specs.declared.regions.Unit.TheVariants as unit
 use Rattle.tangle_text.specs.Bytes.{asterisk, slash, less_sign, left_parenthesis, equals_sign, apostrophe, backslash}
-use Rattle.tangle_text.specs.Bytes.{greater_sign, holds, is_line_end, holds_white, are_bytes, is_between}
-use Rattle.tangle_text.specs.Bytes.{lower, is_white_or_line_end, is_section_start}
+use Rattle.tangle_text.specs.Bytes.{holds, is_line_end, are_bytes, is_between}
+use Rattle.tangle_text.specs.Bytes.{lower}
 use Rattle.tangle_text.specs.Text.{Cell, byte_at}
-use Rattle.tangle_text.specs.Regions.{count_before, unit_by, unit_of}
+use Rattle.tangle_text.specs.Regions.{count_before, unit_of}
 use Rattle.tangle_lexer.specs.Lexemes.{Lexeme}
 use Rattle.tangle_lexer.specs.Comments.{has_end_code, two_if, ends_comment, block_comment, line_comment, control_text}
 use Rattle.tangle_lexer.specs.Constants.{constant_at, constant_lexeme, ascii_constant}
@@ -38,7 +38,7 @@ use Rattle.tangle_text.proofs.AheadLemmas.{byte_at-drop}
 use Rattle.tangle_lexer.proofs.laws.Points.{IsByte, HoldsBytes}
 use Rattle.tangle_lexer.proofs.laws.RegionOrder.{holds-byte, some-byte, are_bytes-hold, code-bytes, more-bytes}
 use Rattle.tangle_lexer.proofs.laws.RegionUnits.{units-by}
-use Rattle.tangle_lexer.proofs.laws.WhiteOrder.{never-two, word-bytes, line_comment-bytes}
+use Rattle.tangle_lexer.proofs.laws.WhiteOrder.{word-bytes, line_comment-bytes}
 use Rattle.tangle_lexer.proofs.laws.CodesInside.{control_text-codes, name-codes, block_comment-codes}
 use Rattle.tangle_lexer.proofs.laws.CodesInside.{line_comment-codes, codes-opened}
 use Rattle.tangle_lexer.proofs.laws.ConstantCells.{ascii_constant-bytes, ascii_constant-quotes}
@@ -72,8 +72,7 @@ verbatim-fills text =
   where
     by : (b : Bool) (cells : List Cell)
         → cells_of (if b then segment ControlBytes (take 2 cells) ∷ [] else []) ≡ take (two_if b) cells
-    by true cells = append-nil (take 2 cells)
-    by false cells = refl
+    by x cells = grind arith
 
 kind-fills : (kind : LexemeKind) (s : LexerState) (text : List Cell)
     → cells_of (c_segments kind (1 + (c_lexeme kind s text).more) text) ≡ take (1 + (c_lexeme kind s text).more) text
@@ -137,11 +136,7 @@ second-sign (Some n) e =
     cond_both (m == apostrophe) code.AsciiConstant code.Other P (λ h k. cc) (λ h k. cc))))))))))) e)
   where
     small : (b : Bool) → is_between 65 90 n ≡ b → ((if b then n + 32 else n) == at_sign) ≡ true → (n == at_sign) ≡ true
-    small false e h = h
-    small true e h =
-        let sum : n + 32 ≡ 64 = eqb-true (n + 32) at_sign h in
-        let there : n ≡ 32 = omega (arith, sum) in
-        let no_capital : false ≡ true = ap (λ k. is_between 65 90 k) (sym there) ∙ e in cc
+    small x e h = grind arith
 
 -- the first cells of a text are the same after the cells from the n-th on are dropped
 
@@ -169,29 +164,17 @@ bytes-shows (suc n) [] h = tt
 bytes-shows (suc n) (c ∷ cs) h = (by c.byte h.0, bytes-shows n cs h.1)
   where
     by : (b : Option ℕ) → IsByte b → is_line_end b ≡ false
-    by None h = absurd h
-    by (Some b) h = refl
+    by b h = grind arith
 
 -- comments
 
 comment-goes : (b n : Option ℕ)
     → (unit_of region.BlockComment b n ≡ unit.Stop → ⊥) → are_bytes asterisk slash b n ≡ false
-comment-goes b n go = by (are_bytes asterisk slash b n) (is_section_start b n) (holds at_sign b) go
-  where
-    by : (x y s : Bool) → (unit_by (x || y) s ≡ unit.Stop → ⊥) → x ≡ false
-    by true y s go = absurd (go refl)
-    by false y s go = refl
+comment-goes b n go = grind arith
 
 -- the second byte of a control code in a comment is not the * of the */ that ends the comment
 comment-second : (b n : Option ℕ) → unit_of region.BlockComment b n ≡ unit.Two → holds asterisk n ≡ false
-comment-second b n e = by (are_bytes asterisk slash b n) (holds at_sign b) (is_white_or_line_end n) (holds asterisk n) e
-  where
-    by : (x sign blank star : Bool) → unit_by (x || (sign && (blank || star))) sign ≡ unit.Two → star ≡ false
-    by x sign blank false e = refl
-    by true sign blank true e = cc
-    by false true true true e = cc
-    by false true false true e = cc
-    by false false blank true e = cc
+comment-second b n e = grind arith
 
 -- no */ begins at the first `n` cells
 abbrev IsOpen : ℕ → List Cell → Type 0
@@ -199,8 +182,7 @@ IsOpen n text = (k : ℕ) → k < n → ends_comment (drop k text) ≡ false
 
 cell-open : (n : ℕ) (c : Cell) (cs : List Cell)
     → ends_comment (c ∷ cs) ≡ false → IsOpen n cs → IsOpen (suc n) (c ∷ cs)
-cell-open n c cs here next zero h = here
-cell-open n c cs here next (suc k) h = next k (omega (arith, h))
+cell-open n c cs here next x h = grind arith
 
 -- no */ begins in a comment before its end
 comment-open : (text : List Cell) → IsOpen (count_before region.BlockComment text) text
@@ -213,8 +195,7 @@ comment-open =
     (λ c e. cell-open 0 c [] (comment-goes c.byte None (λ q. cc)) (λ k h. absurd (omega (arith, h))))
 
 two_if-few : (b : Bool) → two_if b ≤ 2
-two_if-few true = omega arith
-two_if-few false = omega arith
+two_if-few b = grind arith
 
 -- */ is at distance `k` where the text from there on begins with */
 cells-there : (k : ℕ) (text : List Cell)
@@ -262,12 +243,7 @@ line_comment-shows s text o =
 white-shows : (text : List Cell) → ShowsKind WhiteSpace (take (count_before region.White text) text)
 white-shows =
     units-by region.White (λ n text. ShowsKind WhiteSpace (take n text)) (λ text e. tt) tt
-    (λ n c cs e rest. (by (holds_white c.byte) e, rest))
-    (λ n c d cs e rest. absurd (never-two _ e)) (λ c e. absurd (never-two _ e))
-  where
-    by : (b : Bool) → unit_by (not b) false ≡ unit.One → b ≡ true
-    by true e = refl
-    by false e = cc
+    (λ n c cs e rest. (grind arith, rest)) (λ n c d cs e rest. grind arith) (λ c e. grind arith)
 
 text-shows : (after_at_sign : Bool) (cells : List Cell) → AllShow (text_segments after_at_sign cells)
 text-shows after_at_sign [] = tt
@@ -278,10 +254,7 @@ text-shows after_at_sign (c ∷ cs) = (
   where
     by : (e : Bool) → is_line_end c.byte ≡ e → (h sign : Bool)
         → holds at_sign c.byte ≡ sign → ShowsKind (cond e LineEnd (cond (h && sign) SecondAtSign Kept)) (c ∷ [])
-    by true e h sign k = (e, tt)
-    by false e true true k = (refl, k)
-    by false e true false k = (e, tt)
-    by false e false sign k = (e, tt)
+    by x e h sign k = grind arith
 
 verbatim-shows : (text : List Cell) → holds at_sign (byte_at 0 text) ≡ true → AllShow (verbatim_segments text)
 verbatim-shows text sign =
@@ -295,12 +268,7 @@ verbatim-shows text sign =
   where
     by : (b : Bool) (cells : List Cell)
         → has_end_code cells ≡ b → AllShow (if b then segment ControlBytes (take 2 cells) ∷ [] else [])
-    by true cells e = (
-      code-taken 2 cells (omega arith) (omega arith)
-          (and_parts (holds at_sign (byte_at 0 cells)) (holds greater_sign (byte_at 1 cells)) e).0,
-      tt,
-    )
-    by false cells e = tt
+    by x cells e = grind arith
 
 control_text-shows : (s : LexerState) (text : List Cell)
     → OpensWith code.ControlText text → IsControlText (take (1 + (control_text s text).more) text)
@@ -320,8 +288,7 @@ name-shows s text o =
     )
 
 constant-long : (k : Option AsciiConstant) (s : LexerState) (text : List Cell) → 1 < 1 + (constant_lexeme k s text).more
-constant-long None s text = omega arith
-constant-long (Some k) s text = omega arith
+constant-long x s text = grind arith
 
 constant-shows : (s : LexerState) (c : Cell) (cs : List Cell)
     → OpensWith code.AsciiConstant (c ∷ cs) → IsAsciiConstant (take (1 + (ascii_constant s (c ∷ cs)).more) (c ∷ cs))
@@ -346,8 +313,7 @@ signs-shows c cs o =
     (bytes-shows 1 (c ∷ cs) (holds-byte at_sign c.byte o.0, tt), (by cs (second-sign (byte_at 0 cs) o.1), tt))
   where
     by : (cells : List Cell) → holds at_sign (byte_at 0 cells) ≡ true → ShowsKind SecondAtSign (take 1 cells)
-    by [] h = cc
-    by (d ∷ ds) h = (refl, h)
+    by x h = grind arith
 
 kind-shows : (kind : LexemeKind) (s : LexerState) (c : Cell) (cs : List Cell)
     → OpensLexeme kind (c ∷ cs) → AllShow (c_segments kind (1 + (c_lexeme kind s (c ∷ cs)).more) (c ∷ cs))

@@ -1,8 +1,7 @@
 -- The points of the bytes of cells and of ranges.
-use Rattle.std.proofs.Common.{◌≡◌, ℕ, zero, suc, ◌+◌, ◌-◌, ◌≤◌, Bool, true, false, List, [], ◌∷◌, ◌++◌, take, Option}
-use Rattle.std.proofs.Common.{Some, None, refl, ap, sym, ◌∙◌, arith, append_assoc, cond}
+use Rattle.std.proofs.Common.{◌≡◌, ℕ, zero, suc, ◌+◌, ◌-◌, ◌≤◌, Bool, List, [], ◌∷◌, ◌++◌, take}
+use Rattle.std.proofs.Common.{refl, ap, sym, ◌∙◌, arith, append_assoc, cond}
 use Rattle.std.specs.Prelude.{nat_lt}
-use Rattle.std.proofs.lemmas.Bool.{ltb-false}
 use Rattle.tangle_lexer.specs.declared.tokens.Token.{Token}
 use Rattle.tangle_lexer.specs.declared.tokens.Token.TheVariants as token
 use Rattle.tangle_text.specs.declared.regions.Region.{Region}
@@ -40,11 +39,7 @@ pub columns-nothing : (line column : ℕ) → columns_to line column column ≡ 
 columns-nothing line column = let e : column - column ≡ 0 = omega arith in ap (columns_from line column) e
 
 pub byte-point : (c : Cell) → IsByte c.byte → cell_point c.byte c ≡ (c.line, c.column) ∷ []
-byte-point c h = by c.byte h
-  where
-    by : (b : Option ℕ) → IsByte b → cell_point b c ≡ (c.line, c.column) ∷ []
-    by None h = absurd h
-    by (Some b) h = refl
+byte-point c h = grind arith
 
 -- the points of the tokens that have a span
 
@@ -61,8 +56,7 @@ points-append (token.Span kind s ∷ ts) us =
 points-append (_ ∷ ts) us = points-append ts us
 
 pub fault-points : (b : Bool) (kind : FaultKind) (line : ℕ) → token_points (fault_if b kind line) ≡ []
-fault-points true kind line = refl
-fault-points false kind line = refl
+fault-points b kind line = grind arith
 
 -- the points of a range are its columns, also if the range is empty
 pub cut-points : (r : Region) (line start end : ℕ) (ts : List Token)
@@ -72,15 +66,11 @@ cut-points r line start end ts = by (nat_lt start end) refl
     by : (b : Bool) → nat_lt start end ≡ b
         → token_points (cond b (range_token r (record { line = line; start = start; end = end }) ∷ []) [] ++ ts)
         ≡ columns_to line start end ++ token_points ts
-    by true e = refl
-    by false e =
-        let less : end ≤ start = ltb-false start end e in
-        let none : end - start ≡ 0 = omega (arith, less) in
-        sym (ap (λ n. columns_from line start n ++ token_points ts) none)
+    by x e = grind arith
 
-module _ (width : ℕ → ℕ) (count : ℕ) where
+module _ (texts : List (List ℕ)) where
   -- the points of bytes of one line are its columns from the first byte on
-  pub bytes-columns : (at : Point) (n : ℕ) (text : List Cell) → IsTextAt width count at text → HoldsBytes n text
+  pub bytes-columns : (at : Point) (n : ℕ) (text : List Cell) → IsTextAt texts at text → HoldsBytes n text
       → byte_points (take n text) ≡ columns_from at.line at.column n
   bytes-columns at zero text is h = refl
   bytes-columns at (suc n) [] is h = absurd h

@@ -9,7 +9,6 @@ use Rattle.tangle_lines.specs.Reading.{SourceLine}
 use Rattle.tangle_text.specs.Text.{Cell, IsRestOf, texts_of}
 use Rattle.tangle_lexer.specs.declared.modes.LexerState.{LexerState}
 use Rattle.tangle_lexer.specs.declared.tokens.Token.{Token}
-use Rattle.tangle_lexer.specs.declared.tokens.Token.TheVariants as token
 use Rattle.tangle_lexer.specs.Lexemes.{Lexeme}
 use Rattle.tangle_lexer.specs.Heads.{is_head}
 use Rattle.tangle_lexer.specs.Reads.{IsRead, ReadsOn}
@@ -28,12 +27,10 @@ pub no-run : (ts : List Token) → HasNone is_special ts → HasNone is_run ts
 no-run = none-by is_special is_run (λ t h. (or_parts (is_head t) (is_run t) h).1)
 
 pub head-no-run : (t : Token) → is_head t ≡ true → is_run t ≡ false
-head-no-run (token.Run s) h = cc
-head-no-run _ h = refl
+head-no-run x h = grind arith
 
 unfolded-one : (texts : List (List ℕ)) (t : Token) → is_run t ≡ false → unfolded_token texts t ≡ t ∷ []
-unfolded-one texts (token.Run s) h = cc
-unfolded-one texts _ h = refl
+unfolded-one texts x h = grind arith
 
 pub unfolded-plain : (texts : List (List ℕ)) (ts : List Token) → HasNone is_run ts → unfolded texts ts ≡ ts
 unfolded-plain texts [] h = refl
@@ -46,8 +43,7 @@ pub unfolded-append : (texts : List (List ℕ)) (ts us : List Token)
 unfolded-append texts ts us = flat_map-append (unfolded_token texts) ts us
 
 run_in-one : (texts : List (List ℕ)) (t : Token) → is_run t ≡ false → IsRunIn texts t
-run_in-one texts (token.Run s) h = cc
-run_in-one texts _ h = tt
+run_in-one texts x h = grind arith
 
 pub runs-plain : (texts : List (List ℕ)) (ts : List Token) → HasNone is_run ts → All (IsRunIn texts) ts
 runs-plain texts [] h = All-nil (IsRunIn texts)
@@ -143,8 +139,7 @@ no_head-snoc (t ∷ ts) head h j = go (is_head t) j (no_head-snoc ts head h)
   where
     go : (b : Bool) → (b || list_any is_head (ts ++ head ∷ [])) ≡ false
         → (HasNone is_head (ts ++ head ∷ []) → ⊥) → ⊥
-    go true j next = cc
-    go false j next = next j
+    go x j next = grind arith
 
 -- a head was removed: it is the lexeme, and the tokens are those from before
 pub record IsTaken (old kept : List Token) (here : Lexeme) (head : Token) : Type 0 where

@@ -1,17 +1,15 @@
 -- Texts that are cut, unit by unit.
-use Rattle.std.proofs.Common.{◌≡◌, ◌<◌, ◌+◌, ℕ, Bool, true, false, ◌&&◌, ◌||◌, nat_eq, List, [], ◌∷◌, ◌++◌, length, drop}
+use Rattle.std.proofs.Common.{◌≡◌, ◌<◌, ◌+◌, ℕ, Bool, true, false, nat_eq, List, [], ◌∷◌, ◌++◌, length, drop}
 use Rattle.std.proofs.Common.{drop-drop, refl, ap, sym, ◌∙◌, arith}
-use Rattle.std.proofs.lemmas.Bool.{ne_eqb, eqb-true}
+use Rattle.std.proofs.lemmas.Bool.{eqb-true}
 use Rattle.tangle_text.specs.declared.regions.Region.{Region}
 use Rattle.tangle_text.specs.declared.regions.Unit.{Unit as Unit-of}
 use Rattle.tangle_text.specs.declared.regions.Unit.TheVariants as unit
 use Rattle.tangle_lexer.specs.declared.tokens.Token.{Token}
 use Rattle.tangle_text.specs.Text.{Cell, byte_at, front_cell}
 use Rattle.tangle_text.specs.declared.regions.Region.TheVariants as region
-use Rattle.tangle_lines.specs.Bytes.{at_sign}
-use Rattle.tangle_text.specs.Bytes.{holds, is_line_end}
-use Rattle.tangle_text.specs.Regions.{unit_at, unit_by, more_by, units, region_end, count_before}
-use Rattle.tangle_text.proofs.UnitLemmas.{count_by, counted, count-is}
+use Rattle.tangle_text.specs.Regions.{unit_at, more_by, units, region_end, count_before}
+use Rattle.tangle_text.proofs.UnitLemmas.{count_by, count-is}
 use Rattle.tangle_lexer.specs.Quoted.{cut_tokens, unit_tokens, next_start, ends_at_once, one_if}
 use Rattle.tangle_lexer.specs.Quoted.{is_backslash_at, last_is_backslash}
 use Rattle.tangle_text.proofs.RegionLemmas.{region_end-is}
@@ -22,11 +20,7 @@ pub cut-go : (ends : ℕ → List Cell → List Token) (r : Region) (start last 
     cut_tokens ends r 0 start text
     ≡ unit_tokens r u start (front_cell last text) (byte_at 1 text)
     ++ cut_tokens ends r 0 (next_start u start (front_cell last text) (byte_at 1 text)) (drop (more_by u) (drop 1 text))
-cut-go ends r start last [] u inside h go = absurd (omega (arith, inside))
-cut-go ends r start last (c ∷ cs) unit.Stop inside h go = absurd (go refl)
-cut-go ends r start last (c ∷ cs) unit.One inside h go = rw h refl
-cut-go ends r start last (c ∷ []) unit.Two inside h go = rw h refl
-cut-go ends r start last (c ∷ d ∷ cs) unit.Two inside h go = rw h refl
+cut-go ends r start last x u inside h go = grind arith
 
 pub cut-stop : (ends : ℕ → List Cell → List Token) (r : Region) (start : ℕ) (text : List Cell)
     → unit_at r text ≡ unit.Stop
@@ -42,15 +36,7 @@ cut-nothing ends r start text h = rw h refl
 
 pub backslash-stop : (last : Bool) (text : List Cell) → unit_at region.Verbatim text ≡ unit.Stop
     → last_is_backslash last (units region.Verbatim text) ≡ last
-backslash-stop last [] h = refl
-backslash-stop last (c ∷ []) h = rw h refl
-backslash-stop last (c ∷ d ∷ cs) h = rw h refl
-
--- @@ is two cells
-alone-one : (a b : Bool) → unit_by a (b && false) ≡ unit.Two → ⊥
-alone-one true b h = cc
-alone-one false true h = cc
-alone-one false false h = cc
+backslash-stop last x h = grind arith
 
 pub backslash-go : (last : Bool) (text : List Cell) (u : Unit-of)
     → 0 < length text → unit_at region.Verbatim text ≡ u → (u ≡ unit.Stop → ⊥)
@@ -60,21 +46,15 @@ backslash-go last [] u inside h go = absurd (omega (arith, inside))
 backslash-go last text unit.Stop inside h go = absurd (go refl)
 backslash-go last (c ∷ []) unit.One inside h go = rw h refl
 backslash-go last (c ∷ d ∷ cs) unit.One inside h go = rw h refl
-backslash-go last (c ∷ []) unit.Two inside h go =
-    absurd (alone-one (is_line_end c.byte || holds at_sign c.byte && false) (holds at_sign c.byte) h)
+backslash-go last (c ∷ []) unit.Two inside h go = grind arith
 backslash-go last (c ∷ d ∷ cs) unit.Two inside h go = rw h refl
 
 -- a region that ends at the front is empty
 pub at_once-stop : (r : Region) (text : List Cell) → unit_at r text ≡ unit.Stop → ends_at_once r text ≡ true
-at_once-stop r [] h = refl
-at_once-stop r (c ∷ cs) h = ap (λ n. nat_eq n 0) (count-is r (c ∷ cs)) ∙ none
-  where
-    none : nat_eq (counted r 0 (c ∷ cs)) 0 ≡ true
-    none = rw h refl
+at_once-stop r x h = grind arith
 
 count_by-go : (u : Unit-of) (n : ℕ) → (u ≡ unit.Stop → ⊥) → nat_eq (count_by u n) 0 ≡ false
-count_by-go unit.Stop n go = absurd (go refl)
-count_by-go _ n go = ne_eqb (1 + n) 0 (λ h. omega (arith, h))
+count_by-go x n go = grind arith
 
 pub at_once-go : (r : Region) (text : List Cell) (u : Unit-of)
     → 0 < length text → unit_at r text ≡ u → (u ≡ unit.Stop → ⊥) → ends_at_once r text ≡ false

@@ -1,4 +1,5 @@
 -- A head is the only token of its lexeme, no lexeme has a run, and a C part begins with a head.
+use Rattle.std.proofs.Common.{arith}
 use Rattle.std.proofs.Common.{◌≡◌, ℕ, Bool, true, false, ◌||◌, List, [], ◌∷◌, Option, Some, None, ◌⊎◌, inl, inr, refl}
 use Rattle.std.proofs.Common.{sym, ◌∙◌}
 use Rattle.tangle_lexer.specs.declared.modes.Mode.{Mode}
@@ -44,8 +45,7 @@ plain-special : (ts : List Token) → ArePlain ts → HasNone is_special ts
 plain-special ts h = none-by is_not_plain is_special one ts h.none
   where
     one : (t : Token) → is_not_plain t ≡ false → is_special t ≡ false
-    one (token.UseOf line occurrence) h = refl
-    one _ h = h
+    one x h = grind arith
 
 plain-alone : (s : LexerState) (l : Lexeme) → IsPlainLexeme s l → IsHeadAlone s l
 plain-alone s l h = inl (plain-special l.tokens h.tokens, λ e. sym h.mode ∙ e)

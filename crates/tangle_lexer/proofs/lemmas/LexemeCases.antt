@@ -1,4 +1,5 @@
 -- The cases of a lexeme, by the mode and by the first two cells.
+use Rattle.std.proofs.Common.{arith}
 use Rattle.std.proofs.Common.{◌≡◌, ℕ, Bool, true, false, ◌&&◌, ◌==◌, Option, Some, None, List, [], refl, ap}
 use Rattle.std.proofs.lemmas.Bool.{cond_both}
 use Rattle.tangle_faults.specs.declared.faults.FaultKind.TheVariants as fault
@@ -7,7 +8,6 @@ use Rattle.tangle_lexer.specs.declared.modes.Mode.{Mode}
 use Rattle.tangle_lexer.specs.declared.modes.Mode.TheVariants as mode
 use Rattle.tangle_lexer.specs.declared.modes.LexerState.{LexerState}
 use Rattle.tangle_lexer.specs.declared.modes.IncludeState.{IncludeState}
-use Rattle.tangle_lexer.specs.declared.modes.IncludeState.TheVariants as include
 use Rattle.tangle_lexer.specs.declared.lexeme_kinds.ControlCode.{ControlCode}
 use Rattle.tangle_lexer.specs.declared.lexeme_kinds.ControlCode.TheVariants as code
 use Rattle.tangle_lexer.specs.declared.lexeme_kinds.LexemeKind.{LexemeKind}
@@ -23,7 +23,7 @@ use Rattle.tangle_lexer.specs.Lexemes.{is_c_part}
 use Rattle.tangle_lexer.specs.Simple.{is_c_text}
 use Rattle.tangle_lexer.specs.CText.{code_at, less_kind, kind_by, kind_at, section_start, code_fault}
 use Rattle.tangle_lexer.specs.Steps.{documentation_code}
-use Rattle.tangle_lexer.specs.Steps.{limbo_code, c_code, c_lexeme, macro_code, macro_lexeme, lexeme_in, lexeme}
+use Rattle.tangle_lexer.specs.Steps.{limbo_code, c_lexeme, macro_lexeme, lexeme_in, lexeme}
 
 -- what the first two cells of a lexeme of this kind are
 abbrev pub Opens : LexemeKind → Option ℕ → Option ℕ → Type 0
@@ -52,8 +52,7 @@ kind-opens inc (Some b) next =
     cond_both (is_word_byte b) lexeme_kind.Word lexeme_kind.Other P (λ e. (refl, other)) (λ e. (refl, other)))))))))
   where
     less : (inc : IncludeState) → holds at_sign (Some b) ≡ false → Opens (less_kind inc) (Some b) next
-    less include.AfterInclude h = (refl, h)
-    less _ h = (refl, h)
+    less x h = grind arith
 
 -- lexemes of C text that begin no section and are no use of a name
 abbrev pub IsPlainKind : LexemeKind → Type 0
@@ -82,35 +81,15 @@ pub record LexemeCases (P : Lexeme → Type 0) (s : LexerState) (text : List Cel
       → (kind : LexemeKind) → IsPlainKind kind → OpensLexeme kind text → P (c_lexeme kind s text)
 
 module _ (P : Lexeme → Type 0) (s : LexerState) (text : List Cell) (by : LexemeCases P s text) where
-  code-by : (kind : ControlCode) → is_c_text s.mode ≡ true → (kind ≡ code.Name → s.mode ≡ mode.CPart)
-      → OpensWith kind text → P (c_code kind s text)
-  code-by code.SectionStart inside part o = by.section
-  code-by code.Name inside part o = by.used (part refl) o
-  code-by kind inside part o = by.inside inside (lexeme_kind.Control kind) tt o
-
   c-by : (kind : LexemeKind) → s.mode ≡ mode.CPart → OpensLexeme kind text → P (c_lexeme kind s text)
-  c-by (lexeme_kind.Control kind) m o = code-by kind (ap is_c_text m) (λ e. m) o
-  c-by kind m o = by.inside (ap is_c_text m) kind tt o
-
-  macro_code-by : (kind : ControlCode) → s.mode ≡ mode.Macro → OpensWith kind text → P (macro_code kind s text)
-  macro_code-by code.Macro m o = by.macro o
-  macro_code-by code.UnnamedPart m o = by.part o
-  macro_code-by code.Name m o = by.name (ap is_c_part m)
-  macro_code-by code.Format m o = by.format m
-  macro_code-by code.AllMacros m o = by.misplaced m o
-  macro_code-by kind m o = code-by kind (ap is_c_text m) (λ e. cc) o
+  c-by kind m o = grind arith
 
   macro-by : (kind : LexemeKind) → s.mode ≡ mode.Macro → OpensLexeme kind text → P (macro_lexeme kind s text)
-  macro-by (lexeme_kind.Control kind) m o = macro_code-by kind m o
-  macro-by kind m o = by.inside (ap is_c_text m) kind tt o
+  macro-by kind m o = grind arith
 
   documentation-by : (kind : ControlCode)
       → s.mode ≡ mode.Documentation → OpensWith kind text → P (documentation_code kind s text)
-  documentation-by code.SectionStart m o = by.section
-  documentation-by code.Macro m o = by.macro o
-  documentation-by code.UnnamedPart m o = by.part o
-  documentation-by code.Name m o = by.name (ap is_c_part m)
-  documentation-by _ m o = by.skip (ap is_c_text m) 1
+  documentation-by x m o = grind arith
 
   mode-by : (m : Mode) → s.mode ≡ m → P (lexeme_in m s text)
   mode-by mode.Limbo m =

@@ -1,6 +1,6 @@
 -- The tokens of the units of a region.
 use Rattle.std.proofs.Common.{◌≡◌, ◌<◌, ℕ, Bool, if◌then◌else◌, List, [], ◌∷◌, ◌++◌}
-use Rattle.std.proofs.Common.{length, drop, Option, refl, ap, sym, ◌∙◌, arith}
+use Rattle.std.proofs.Common.{length, drop, Option, refl, ◌∙◌, arith}
 use Rattle.tangle_text.specs.declared.regions.Region.{Region}
 use Rattle.tangle_text.specs.declared.regions.Unit.{Unit as Unit-of}
 use Rattle.tangle_text.specs.declared.regions.Unit.TheVariants as unit
@@ -14,18 +14,6 @@ use Rattle.tangle_text.specs.declared.regions.Region.TheVariants as region
 use Rattle.tangle_lexer.specs.LinesOfC.{after_line_end, after_line_ends}
 use Rattle.tangle_lexer.specs.Lexemes.{line_end_by}
 use Rattle.tangle_lexer.specs.Comments.{unit_line_end, line_ends}
-
--- a unit that does not end the region adds the items that `f` gives for it
-pub from_units-go : {A : Type 0} (f : Unit-of → Cell → Option ℕ → List A)
-    (r : Region) (last : ℕ) (text : List Cell) (u : Unit-of)
-    → 0 < length text → unit_at r text ≡ u → (u ≡ unit.Stop → ⊥)
-    → from_units f r 0 text
-    ≡ f u (front_cell last text) (byte_at 1 text) ++ from_units f r 0 (drop (more_by u) (drop 1 text))
-from_units-go f r last [] u inside h go = absurd (omega (arith, inside))
-from_units-go f r last (c ∷ cs) unit.Stop inside h go = absurd (go refl)
-from_units-go f r last (c ∷ cs) unit.One inside h go = rw h refl
-from_units-go f r last (c ∷ []) unit.Two inside h go = rw h refl
-from_units-go f r last (c ∷ d ∷ cs) unit.Two inside h go = rw h refl
 
 pub from_units-stop : {A : Type 0} (f : Unit-of → Cell → Option ℕ → List A) (r : Region) (text : List Cell)
     → unit_at r text ≡ unit.Stop → from_units f r 0 text ≡ []
@@ -47,10 +35,7 @@ pub line_ends-go : (r : Region) (last : ℕ) (text : List Cell) (u : Unit-of)
     → 0 < length text → unit_at r text ≡ u → (u ≡ unit.Stop → ⊥)
     → line_ends r text
     ≡ line_end_of u (front_cell last text) (byte_at 1 text) ++ line_ends r (drop (more_by u) (drop 1 text))
-line_ends-go r last text u inside h go =
-    line_ends-are r text ∙ from_units-go line_end_of r last text u inside h go
-    ∙ ap (λ ts. line_end_of u (front_cell last text) (byte_at 1 text) ++ ts)
-    (sym (line_ends-are r (drop (more_by u) (drop 1 text))))
+line_ends-go r last text u inside h go = grind arith
 
 -- names, unit by unit
 
@@ -61,10 +46,7 @@ pub name_bytes-go : (last : ℕ) (text : List Cell) (u : Unit-of)
     → 0 < length text → unit_at region.Name text ≡ u → (u ≡ unit.Stop → ⊥)
     → name_bytes text
     ≡ name_bytes_of u (front_cell last text) (byte_at 1 text) ++ name_bytes (drop (more_by u) (drop 1 text))
-name_bytes-go last text u inside h go =
-    name_bytes-are text ∙ from_units-go name_bytes_of region.Name last text u inside h go
-    ∙ ap (λ bs. name_bytes_of u (front_cell last text) (byte_at 1 text) ++ bs)
-    (sym (name_bytes-are (drop (more_by u) (drop 1 text))))
+name_bytes-go last text u inside h go = grind arith
 
 pub after_line_ends-append : (b : Bool) (ts us : List Token) (l : LineState)
     → after_line_ends b (ts ++ us) l ≡ after_line_ends b us (after_line_ends b ts l)

@@ -111,10 +111,4 @@ definition-not-found last found text after rest ended is none takes =
     by : (e : Equals) → equals_in (after_name text) ≡ e
         → PassesEquals e (count_before_equals (after_name text)) last (after_name text) rest None
         → (definition_count text ≡ None) × (rest ≡ drop (name_more text) (drop 1 text))
-    by equals.Absent absent takes = (
-      ap (λ b. if b then equals_count (after_name text) else None) ended
-          ∙ ap (λ e. count_through e (count_before_equals (after_name text))) absent,
-      takes.0,
-    )
-    by equals.Single single takes = absurd (none-some _ takes.1)
-    by equals.Double double takes = absurd (none-some _ takes.1)
+    by x absent takes = grind arith

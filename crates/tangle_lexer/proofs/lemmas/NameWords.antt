@@ -3,7 +3,6 @@ use Rattle.std.proofs.Common.{◌≡◌, ◌<◌, ℕ, List, [], ◌∷◌, ◌+
 use Rattle.std.proofs.Common.{append-nil, length, length-append, Option, Some, None, refl, ap, sym, ◌∙◌, arith, cond}
 use Rattle.std.proofs.Common.{All, inl, inr, ◌⊎◌, if◌then◌else◌, filter}
 use Rattle.std.specs.List.{slice_split, onto_first, join_with_byte, last_or}
-use Rattle.std.proofs.lemmas.Bool.{ne_eqb}
 use Rattle.std.proofs.lemmas.List.Splits.{slice_split_none, slice_split-cons_yes, slice_split-cons_no}
 use Rattle.std.proofs.lemmas.List.Elements.{filter-append, All-nil, All-cons}
 use Rattle.tangle_files.specs.Bytes.{space}
@@ -56,8 +55,7 @@ join-append (first ∷ second ∷ words) word =
 
 join-begins : (b : ℕ) (bytes : List ℕ) (words : List (List ℕ))
     → has_bytes (join_with_byte space ((b ∷ bytes) ∷ words)) ≡ true
-join-begins b bytes [] = refl
-join-begins b bytes (word ∷ words) = refl
+join-begins b bytes x = grind arith
 
 -- the normal form has a byte if there is a word
 join-has : (parts : List (List ℕ))
@@ -70,18 +68,14 @@ join-has ((b ∷ bytes) ∷ parts) = join-begins b bytes (filter has_bytes parts
 
 by-append : (b : ℕ) (white : Bool) (parts more : List (List ℕ))
     → 0 < length parts → parts_by b white (parts ++ more) ≡ parts_by b white parts ++ more
-by-append b white [] more any = absurd (omega (arith, any))
-by-append b true (part ∷ parts) more any = refl
-by-append b false (part ∷ parts) more any = refl
+by-append b white x more any = grind arith
 
 parts-any : (bytes : List ℕ) → 0 < length (parts_of bytes)
 parts-any [] = omega arith
 parts-any (b ∷ bytes) = by (is_white b) (parts_of bytes)
   where
     by : (white : Bool) (parts : List (List ℕ)) → 0 < length (parts_by b white parts)
-    by true parts = omega arith
-    by false [] = omega arith
-    by false (part ∷ parts) = omega arith
+    by x parts = grind arith
 
 -- white space separates parts
 parts-white : (front : List ℕ) (b : ℕ) (rest : List ℕ)
@@ -202,13 +196,11 @@ so-far-next read name white b is h = record {
 }
   where
     one : (any ends : Bool) → ends ≡ false → (if any && ends then space ∷ b ∷ [] else b ∷ []) ≡ b ∷ []
-    one true ends e = ap (λ c. if c then space ∷ b ∷ [] else b ∷ []) e
-    one false ends e = refl
+    one any ends e = grind arith
 
     two : (any ends : Bool)
         → ends ≡ true → (if any && ends then space ∷ b ∷ [] else b ∷ []) ≡ (if any then space ∷ b ∷ [] else b ∷ [])
-    two true ends e = ap (λ c. if c then space ∷ b ∷ [] else b ∷ []) e
-    two false ends e = refl
+    two any ends e = grind arith
 
     by : (front : List ℕ) (a : ℕ) (white : Bool) → is_white a ≡ white
         → normal_form (front ++ a ∷ [])
@@ -255,14 +247,7 @@ IsPlainSoFar read true =
 IsPlainSoFar read false = (0 < length read) × IsNameSoFar read read false
 
 pub past-space : (b : ℕ) → 32 < b → is_white b ≡ false
-past-space b past =
-    rw (
-      ne_eqb b 32 (λ e. absurd (omega (arith, past, e))),
-      ne_eqb b 9 (λ e. absurd (omega (arith, past, e))),
-      ne_eqb b 13 (λ e. absurd (omega (arith, past, e))),
-      ne_eqb b 11 (λ e. absurd (omega (arith, past, e))),
-      ne_eqb b 12 (λ e. absurd (omega (arith, past, e))),
-    ) refl
+past-space b past = grind arith
 
 pub plain-space : (read : List ℕ) (b : ℕ) → b ≡ space → IsPlainSoFar read false → IsPlainSoFar (read ++ b ∷ []) true
 plain-space read b is h = rw is (inr (read, h.0, refl, so-far-white read read false space refl h.1))

@@ -39,13 +39,7 @@ plain-below count (t ∷ ts) h = both t (λ k. plain-below count ts k) h
   where
     both : (t : Token) → (list_any is_not_plain ts ≡ false → AreBelow count ts)
         → (is_not_plain t || list_any is_not_plain ts) ≡ false → IsBelow count t × AreBelow count ts
-    both token.Section more h = cc
-    both (token.MacroStart line) more h = cc
-    both (token.UnnamedPart line) more h = cc
-    both (token.NamedPart line occurrence) more h = cc
-    both (token.UseOf line occurrence) more h = cc
-    both (token.Run s) more h = cc
-    both _ more h = (tt, more h)
+    both x more h = grind arith
 
 -- a lexeme without an occurrence
 plain-keeps : (s : LexerState) (l : Lexeme)
@@ -89,9 +83,7 @@ lexeme-keeps s text =
 -- all lexemes of a text
 
 token-more : (few many : ℕ) (t : Token) → few ≤ many → IsBelow few t → IsBelow many t
-token-more few many (token.UseOf line occurrence) h k = omega (arith, h, k)
-token-more few many (token.NamedPart line occurrence) h k = omega (arith, h, k)
-token-more few many _ h k = tt
+token-more few many x h k = grind arith
 
 below-more : (few many : ℕ) (ts : List Token) → few ≤ many → AreBelow few ts → AreBelow many ts
 below-more few many [] h k = tt

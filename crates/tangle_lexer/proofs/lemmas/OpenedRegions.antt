@@ -12,8 +12,7 @@ drop-two text = drop-drop 1 1 text
 
 -- the text after a lexeme that two cells open
 pub after-two : (n : ℕ) (text : List Cell) → drop (1 + n) (drop 1 text) ≡ drop n (drop 2 text)
-after-two n text =
-    drop-drop (1 + n) 1 text ∙ (ap (λ k. drop k text) (omega arith) ∙ sym (drop-drop n 2 text))
+after-two n text = grind arith
 
 -- the text after a region that opens with two cells
 pub mid-is : (r : Region) (text mid : List Cell)

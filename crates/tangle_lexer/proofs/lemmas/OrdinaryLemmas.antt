@@ -1,7 +1,6 @@
 -- Ordinary bytes of a region are units of one cell without tokens.
-use Rattle.std.proofs.Common.{◌≡◌, ℕ, zero, suc, true, false, List, [], ◌∷◌, Option, Some, None, drop, refl, sym, ◌∙◌}
+use Rattle.std.proofs.Common.{◌≡◌, ℕ, zero, suc, true, false, List, [], ◌∷◌, Option, drop, refl, sym, ◌∙◌}
 use Rattle.std.proofs.Common.{◌++◌, ap, arith}
-use Rattle.std.proofs.lemmas.Bool.{false≢true, not-true}
 use Rattle.tangle_text.specs.declared.regions.Region.{Region}
 use Rattle.tangle_lexer.specs.declared.tokens.Token.{Token}
 use Rattle.tangle_lines.specs.Bytes.{at_sign}
@@ -13,15 +12,13 @@ use Rattle.tangle_text.specs.declared.regions.Unit.TheVariants as unit
 use Rattle.tangle_lexer.specs.Lexemes.{line_end_by}
 use Rattle.tangle_lexer.specs.Comments.{line_ends}
 use Rattle.tangle_lexer.specs.Quoted.{cut_tokens}
-use Rattle.tangle_text.proofs.OrdinaryBytes.{or-false, cell-one}
+use Rattle.tangle_text.proofs.OrdinaryBytes.{cell-one}
 
 no_line_end : (b : Option ℕ) (line : ℕ) → holds_ordinary b ≡ true → line_end_by b line ≡ []
-no_line_end None line h = absurd (false≢true h)
-no_line_end (Some b) line h = refl
+no_line_end x line h = grind arith
 
 no_at : (b : Option ℕ) → holds_ordinary b ≡ true → holds at_sign b ≡ false
-no_at None h = refl
-no_at (Some b) h = not-true _ (or-false _ _ (or-false _ _ (or-false _ _ (or-false _ _ (or-false _ _ h).0).0).0).0).0
+no_at x h = grind arith
 
 pub line_ends-ordinary : (r : Region) → skips_ordinary r ≡ true → (n : ℕ) (text : List Cell)
     → AreOrdinary n text → line_ends r (drop n text) ≡ line_ends r text

@@ -1,5 +1,6 @@
 -- Lexemes whose tokens are plain, and which leave the mode, the count of occurrences and the last line unchanged.
-use Rattle.std.proofs.Common.{◌≡◌, ℕ, false, List, [], ◌++◌, drop, refl, Option, None, Some}
+use Rattle.std.proofs.Common.{arith}
+use Rattle.std.proofs.Common.{◌≡◌, ℕ, false, List, [], ◌++◌, drop, refl, Option, None}
 use Rattle.tangle_faults.specs.declared.faults.FaultKind.{FaultKind}
 use Rattle.tangle_faults.specs.declared.faults.FaultKind.TheVariants as fault
 use Rattle.tangle_text.specs.declared.regions.Region.{Region}
@@ -52,8 +53,7 @@ mention-plain s text = plain-append _ _ (fault_if-plain _ fault.NameEnd _)
 
 constant-plain : (constant : Option AsciiConstant) (s : LexerState) (text : List Cell)
     → IsPlainLexeme s (constant_lexeme constant s text)
-constant-plain None s text = plain s _ (seen _ refl) refl refl refl refl
-constant-plain (Some constant) s text = plain s _ (seen _ refl) refl refl refl refl
+constant-plain x s text = grind arith
 
 pub quoted-text : (r : Region) (close : ℕ) (s : LexerState) (text : List Cell)
     → AreText (quoted_text r close s text).tokens

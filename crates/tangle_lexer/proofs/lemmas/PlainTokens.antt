@@ -1,5 +1,6 @@
 -- Tokens that are neither heads nor uses nor runs.
-use Rattle.std.proofs.Common.{◌≡◌, ℕ, zero, suc, ◌+◌, Bool, true, false, ◌&&◌, nat_lt, List, [], ◌∷◌, ◌++◌, refl, Option}
+use Rattle.std.proofs.Common.{arith}
+use Rattle.std.proofs.Common.{◌≡◌, ℕ, zero, suc, Bool, true, false, List, [], ◌∷◌, ◌++◌, refl, Option}
 use Rattle.std.proofs.Common.{flat_map, map}
 use Rattle.std.proofs.lemmas.Bool.{cond_both, or_parts}
 use Rattle.std.specs.List.{list_any}
@@ -7,20 +8,15 @@ use Rattle.std.proofs.lemmas.List.Folds.{list_any-append}
 use Rattle.tangle_faults.specs.declared.faults.FaultKind.{FaultKind}
 use Rattle.tangle_lexer.specs.declared.tokens.Token.{Token}
 use Rattle.tangle_lexer.specs.declared.tokens.Token.TheVariants as token
-use Rattle.tangle_text.specs.declared.spans.Span.{Span}
 use Rattle.tangle_text.specs.declared.regions.Region.{Region}
 use Rattle.tangle_text.specs.declared.regions.Region.TheVariants as region
 use Rattle.tangle_text.specs.declared.regions.Unit.{Unit as Unit-of}
-use Rattle.tangle_text.specs.declared.regions.Unit.TheVariants as unit
-use Rattle.tangle_lines.specs.Bytes.{at_sign}
-use Rattle.tangle_text.specs.Bytes.{holds, backslash, is_line_end}
-use Rattle.tangle_faults.specs.declared.faults.FaultKind.TheVariants as fault
 use Rattle.tangle_text.specs.Text.{Cell, byte_at, front_column}
 use Rattle.tangle_text.specs.Regions.{unit_at, more_by, units}
 use Rattle.tangle_lexer.specs.LinesOfC.{inner_end_in}
 use Rattle.tangle_lexer.specs.Lexemes.{fault_if}
 use Rattle.tangle_lexer.specs.Comments.{unit_line_end, line_ends}
-use Rattle.tangle_lexer.specs.Quoted.{range_token, cut_range, unit_tokens, next_start, at_stop, cut_tokens, quote_end}
+use Rattle.tangle_lexer.specs.Quoted.{unit_tokens, next_start, at_stop, cut_tokens, quote_end}
 use Rattle.tangle_lexer.specs.Quoted.{verbatim_end, verbatim_tokens, empty_end, ends_at_once}
 use Rattle.tangle_lexer.specs.Heads.{is_head}
 
@@ -57,8 +53,7 @@ pub plain-append : (xs ys : List Token) → ArePlain xs → ArePlain ys → AreP
 plain-append xs ys h k = seen (xs ++ ys) (none-append is_not_plain xs ys h.none k.none)
 
 pub fault_if-plain : (b : Bool) (kind : FaultKind) (line : ℕ) → ArePlain (fault_if b kind line)
-fault_if-plain true kind line = seen _ refl
-fault_if-plain false kind line = seen _ refl
+fault_if-plain x kind line = grind arith
 
 -- line ends
 
@@ -71,14 +66,11 @@ pub line_ends-plain : (r : Region) (text : List Cell) → ArePlain (line_ends r 
 line_ends-plain r text = seen _ (none-flat is_not_plain unit_line_end one (units r text))
   where
     one : (u : List Cell) → HasNone is_not_plain (unit_line_end u)
-    one [] = refl
-    one (c ∷ cs) = cond_both (is_line_end c.byte) _ [] (HasNone is_not_plain) (λ e. refl) (λ e. refl)
+    one x = grind arith
 
 -- as white space of a directive they are plain too
 inner-plain : (b : Bool) (t : Token) → is_not_plain (inner_end_in b t) ≡ is_not_plain t
-inner-plain true (token.LineEnd line) = refl
-inner-plain true _ = refl
-inner-plain false t = refl
+inner-plain b t = grind arith
 
 inner_ends-plain : (b : Bool) (ts : List Token)
     → HasNone is_not_plain ts → HasNone is_not_plain (map (inner_end_in b) ts)
@@ -115,36 +107,15 @@ pub text-plain : (ts : List Token) → AreText ts → ArePlain ts
 text-plain ts h = seen ts (none-by is_not_text is_not_plain one ts h.none)
   where
     one : (t : Token) → is_not_text t ≡ false → is_not_plain t ≡ false
-    one (token.Span kind s) h = refl
-    one token.QuoteBreak h = refl
-    one (token.Fault kind line) h = refl
-    one _ h = cc
-
-fault_if-text : (b : Bool) (kind : FaultKind) (line : ℕ) → AreText (fault_if b kind line)
-fault_if-text true kind line = are-text _ refl
-fault_if-text false kind line = are-text _ refl
-
-range-text : (r : Region) (s : Span) → AreText (range_token r s ∷ [])
-range-text region.Verbatim s = are-text _ refl
-range-text _ s = are-text _ refl
-
-cut_range-text : (r : Region) (line start end : ℕ) → AreText (cut_range r line start end)
-cut_range-text r line start end =
-    cond_both (nat_lt start end) _ [] AreText
-    (λ e. range-text r (record { line = line; start = start; end = end })) (λ e. are-text [] refl)
+    one t h = grind arith
 
 unit_tokens-text : (r : Region) (u : Unit-of) (start : ℕ) (c : Cell) (next : Option ℕ)
     → AreText (unit_tokens r u start c next)
-unit_tokens-text r unit.Two start c next =
-    cond_both (holds at_sign c.byte) _ _ AreText (λ e. cut_range-text r c.line start (c.column + 1))
-    (λ e. cond_both (holds backslash c.byte && is_line_end next) _ _ AreText
-    (λ k. text-append _ _ (cut_range-text r c.line start (c.column + 1)) (are-text _ refl)) (λ k. are-text [] refl))
-unit_tokens-text r _ start c next = fault_if-text (holds at_sign c.byte) fault.StringAt c.line
+unit_tokens-text r x start c next = grind arith
 
 at_stop-text : (u : Unit-of) (ending others : List Token)
     → AreText ending → AreText others → AreText (at_stop u ending others)
-at_stop-text unit.Stop ending others h k = h
-at_stop-text _ ending others h k = k
+at_stop-text x ending others h k = grind arith
 
 pub cut_tokens-text : (ends : ℕ → List Cell → List Token) (r : Region) (k start : ℕ) (text : List Cell)
     → ((start : ℕ) (text : List Cell) → AreText (ends start text))
@@ -160,20 +131,13 @@ cut_tokens-text ends r zero start (c ∷ cs) h =
 
 pub quote_end-text : (r : Region) (close last start : ℕ) (text : List Cell)
     → AreText (quote_end r close last start text)
-quote_end-text r close last start [] = are-text _ refl
-quote_end-text r close last start (c ∷ cs) =
-    cond_both (holds close c.byte) _ _ AreText (λ e. cut_range-text r c.line start (c.column + 1))
-    (λ e. text-append _ _ (cut_range-text r c.line start c.column) (are-text _ refl))
+quote_end-text r close last start x = grind arith
 
 verbatim_end-text : (start : ℕ) (text : List Cell) → AreText (verbatim_end start text)
-verbatim_end-text start [] = are-text [] refl
-verbatim_end-text start (c ∷ cs) =
-    text-append _ _ (cut_range-text region.Verbatim c.line start c.column)
-    (fault_if-text (is_line_end c.byte) fault.VerbatimEnd c.line)
+verbatim_end-text start x = grind arith
 
 empty_end-text : (text : List Cell) → AreText (empty_end text)
-empty_end-text [] = are-text [] refl
-empty_end-text (c ∷ cs) = fault_if-text (is_line_end c.byte) fault.VerbatimEnd c.line
+empty_end-text x = grind arith
 
 pub verbatim_tokens-text : (text : List Cell) → AreText (verbatim_tokens text)
 verbatim_tokens-text text =

@@ -1,36 +1,28 @@
 -- A run of a C part is read: its token stands for those of the words, signs and spaces that it consists of.
 use Rattle.std.proofs.Common.{◌≡◌, ◌<◌, ◌≤◌, ℕ, zero, suc, ◌+◌, ◌-◌, Bool, true, false, ◌&&◌, List, [], ◌∷◌, ◌++◌, length}
-use Rattle.std.proofs.Common.{take, drop, map, get_or, slice_get, Option, Some, None, IsSome, ◌⊎◌, inl, inr, refl, ap}
+use Rattle.std.proofs.Common.{take, drop, map, get_or, slice_get, Option, IsSome, ◌⊎◌, inl, inr, refl, ap}
 use Rattle.std.proofs.Common.{sym, ◌∙◌, subst, arith, append_assoc, append-nil, length-drop, option_to_list}
 use Rattle.std.specs.List.{All}
-use Rattle.std.proofs.lemmas.Bool.{and_parts, not-true}
+use Rattle.std.proofs.lemmas.Bool.{and_parts}
 use Rattle.std.proofs.lemmas.List.Elements.{All-push}
 use Rattle.tangle_lines.specs.Reading.{SourceLine}
 use Rattle.tangle_text.specs.declared.spans.Span.{Span}
-use Rattle.tangle_text.specs.Text.{Cell, line_text, text_from, byte_at, bytes_of, span_at, texts_of}
-use Rattle.tangle_text.specs.Bytes.{number_sign, holds}
+use Rattle.tangle_text.specs.Text.{Cell, line_text, text_from, byte_at, span_at, texts_of}
 use Rattle.tangle_text.specs.Text.{IsRestOf}
-use Rattle.tangle_text.specs.Words.{is_include_word, word_more}
 use Rattle.tangle_text.specs.Runs.{holds_plain, run_count, run_size, chunks, parts_of, run_parts, has_single_spaces}
 use Rattle.tangle_text.proofs.RunPartLemmas.{run_count-line, run_size-fits}
 use Rattle.tangle_lexer.specs.declared.modes.Mode.{Mode}
 use Rattle.tangle_lexer.specs.declared.modes.Mode.TheVariants as mode
-use Rattle.tangle_lexer.specs.declared.modes.IncludeState.{IncludeState}
-use Rattle.tangle_lexer.specs.declared.modes.IncludeState.TheVariants as include
 use Rattle.tangle_lexer.specs.declared.modes.LineOfC.{LineOfC}
-use Rattle.tangle_lexer.specs.declared.modes.LineOfC.TheVariants as line
 use Rattle.tangle_lexer.specs.declared.modes.LexerState.{LexerState}
 use Rattle.tangle_lexer.specs.declared.simple.SimpleLexeme.{SimpleLexeme}
-use Rattle.tangle_lexer.specs.declared.simple.SimpleLexeme.TheVariants as simple
-use Rattle.tangle_lexer.specs.declared.tokens.SpanKind.TheVariants as span_kind
 use Rattle.tangle_lexer.specs.declared.tokens.Token.{Token}
 use Rattle.tangle_lexer.specs.declared.tokens.Token.TheVariants as token
 use Rattle.tangle_lexer.specs.LinesOfC.{with_item}
-use Rattle.tangle_lexer.specs.Lexemes.{Lexeme, lexeme_of, with_line, elsewhere, is_c_part}
+use Rattle.tangle_lexer.specs.Lexemes.{Lexeme, elsewhere, is_c_part}
 use Rattle.tangle_lexer.specs.Reads.{ReadsOn}
 use Rattle.tangle_lexer.specs.Runs.{part_token, unfolded, IsRunOf, IsRunIn}
 use Rattle.tangle_lexer.specs.Simple.{IsSimple, simple_kind, is_c_text, is_word_or_sign, begins_run, is_apart}
-use Rattle.tangle_lexer.specs.CText.{include_after_word, include_after_sign}
 use Rattle.tangle_lexer.specs.Steps.{c_lexeme, lexeme, tokens_from}
 use Rattle.tangle_lexer.specs.Steps.{occurrences_from}
 use Rattle.tangle_lexer.proofs.lemmas.BlockLemmas.{unfolded-append, rest-drop}
@@ -127,8 +119,7 @@ span-line line column n [] rest = refl
 span-line line column n (b ∷ bs) rest = refl
 
 some-size : (bs : List ℕ) → BeginsRun bs → 0 < run_size bs
-some-size [] h = absurd h
-some-size (b ∷ bs) h = let n : run_size (b ∷ bs) ≡ 1 + run_size bs = rw h.0 refl in omega (arith, n)
+some-size x h = grind arith
 
 parts-are : (texts : List (List ℕ)) (line column n : ℕ)
     → run_parts texts (record { line = line; start = column; end = column + n })
@@ -177,52 +168,15 @@ line-run lines l stays occurrences last line column rest real inside begins =
 
 -- the first lexeme of a run is read as if an item were before it on its line
 
-word-apart : (inc : IncludeState) (l : LineOfC) (b : Option ℕ) (is_include : Bool)
-    → is_apart inc l b ≡ true → include_after_word is_include inc ≡ include.Elsewhere
-word-apart include.AfterNumberSign l b is_include h = cc
-word-apart _ l b is_include h = refl
-
-sign-apart : (inc : IncludeState) (l : LineOfC) (b : Option ℕ)
-    → is_apart inc l b ≡ true → include_after_sign b inc ≡ include.Elsewhere
-sign-apart include.AtStart l b h = rw (not-true _ h) refl
-sign-apart _ l b h = refl
-
 -- the first item of a line stays its first
 
 item-stays : (first b : Bool) (l : LineOfC) → with_item b (with_item first l) ≡ with_item first l
-item-stays first b line.Directive = refl
-item-stays first b line.Other = refl
-item-stays true b _ = refl
-item-stays false b _ = refl
-
-item-apart : (inc : IncludeState) (l : LineOfC) (b : Option ℕ)
-    → is_apart inc l b ≡ true → with_item (holds number_sign b) l ≡ with_item false l
-item-apart include.AtStart l b h = rw (not-true _ h) refl
-item-apart include.Elsewhere line.Directive b h = refl
-item-apart include.Elsewhere line.Other b h = refl
-item-apart include.Elsewhere _ b h = rw (not-true _ h) refl
-item-apart _ l b h = cc
+item-stays first b x = grind arith
 
 kind-apart : (p : SimpleLexeme) (s : LexerState) (text : List Cell)
     → is_word_or_sign p ≡ true → is_apart s.line.include s.line.line (byte_at 0 text) ≡ true
     → c_lexeme (simple_kind p) s text ≡ c_lexeme (simple_kind p) (elsewhere s) text
-kind-apart simple.Word s text h apart =
-    ap (λ l. lexeme_of (token.Span span_kind.Word (span_at (1 + word_more text) text) ∷ []) (word_more text)
-    (with_line l s))
-    (rw (
-      word-apart s.line.include s.line.line (byte_at 0 text) (is_include_word (bytes_of (take (1 + word_more text) text)))
-          apart,
-      item-stays false false s.line.line,
-    ) refl)
-kind-apart simple.Sign s text h apart =
-    ap (λ l. lexeme_of (token.Span span_kind.Sign (span_at 1 text) ∷ []) 0 (with_line l s))
-    (rw (
-      sign-apart s.line.include s.line.line (byte_at 0 text) apart,
-      item-apart s.line.include s.line.line (byte_at 0 text) apart,
-      item-stays false (holds number_sign (byte_at 0 text)) s.line.line,
-    ) refl)
-kind-apart simple.White s text h apart = cc
-kind-apart simple.LineEnd s text h apart = cc
+kind-apart x s text h apart = grind arith
 
 lexeme-apart : (s : LexerState) (text : List Cell) (p : SimpleLexeme)
     → IsSimple text p → is_c_text s.mode ≡ true → is_word_or_sign p ≡ true
@@ -246,8 +200,7 @@ occurrences-apart s t text inside same =
     ∙ sym (occurrences_from-step t text inside))
 
 c_part-is : (m : Mode) → is_c_part m ≡ true → m ≡ mode.CPart
-c_part-is mode.CPart h = refl
-c_part-is _ h = cc
+c_part-is x h = grind arith
 
 -- a run that may begin at a simple lexeme is read from there on
 pub run-read : (lines : List SourceLine) (s : LexerState) (text : List Cell) (p : SimpleLexeme)
@@ -286,8 +239,7 @@ run-read lines s text p here begins ours =
     }
   where
     plain-some : (b : Option ℕ) → holds_plain b ≡ true → IsSome b
-    plain-some None h = cc
-    plain-some (Some b) h = refl
+    plain-some x h = grind arith
 
 -- the token of a run is added
 pub run-reads-on : (lines : List SourceLine) (old new : List Token)

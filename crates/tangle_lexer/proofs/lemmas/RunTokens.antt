@@ -15,7 +15,7 @@ use Rattle.tangle_text.specs.Text.{Cell, line_text, byte_at, span_at}
 use Rattle.tangle_text.specs.Regions.{unit_at, count_before}
 use Rattle.tangle_text.specs.Runs.{is_plain, holds_plain, is_in_run, run_size, chunks, parts_of, has_single_spaces}
 use Rattle.tangle_text.proofs.RunChunks.{differs, alone-chunk, front-chunk, alone-before, part-word}
-use Rattle.tangle_text.proofs.UnitLemmas.{count-is, count-one}
+use Rattle.tangle_text.proofs.UnitLemmas.{count-one}
 use Rattle.tangle_lexer.specs.declared.modes.Mode.TheVariants as mode
 use Rattle.tangle_lexer.specs.declared.modes.IncludeState.TheVariants as include
 use Rattle.tangle_lexer.specs.declared.modes.LineOfC.{LineOfC}
@@ -73,22 +73,15 @@ pub record ArePlainTests (b : ℕ) : Type 0 where
   pub backslash : (b == backslash) ≡ false
 
 pub plain-tests : (b : ℕ) → is_plain b ≡ true → ArePlainTests b
-plain-tests b h =
-    let both = or_parts _ (b == backslash) (not-true _ h) in
-    let all = or_parts _ (b == at_sign) both.0 in
-    let slashes = or_parts _ (b == slash) all.0 in
-    let apostrophes = or_parts _ (b == apostrophe) slashes.0 in
-    let quotes = or_parts (is_white b) (b == double_quote) apostrophes.0 in
-    let spaces = or_parts (b == space) _ quotes.0 in
-    record {
-      white = quotes.0;
-      quote = quotes.1;
-      apostrophe = apostrophes.1;
-      slash = slashes.1;
-      at_sign = all.1;
-      space = spaces.0;
-      backslash = both.1;
-    }
+plain-tests b h = record {
+  white = grind arith;
+  quote = grind arith;
+  apostrophe = grind arith;
+  slash = grind arith;
+  at_sign = grind arith;
+  space = grind arith;
+  backslash = grind arith;
+}
 
 word-kind : (b : ℕ) (next : Option ℕ) → is_word_byte b ≡ true → kind_of b next ≡ lexeme_kind.Word
 word-kind b next h =
@@ -155,12 +148,10 @@ word-taken b bs word = ap (λ n. take n (b ∷ bs)) (run-grows b bs (rw (word-pl
 -- regions that end at once
 
 stop-count : (r : Region) (text : List Cell) → unit_at r text ≡ unit.Stop → count_before r text ≡ 0
-stop-count r [] h = refl
-stop-count r (c ∷ cs) h = count-is r (c ∷ cs) ∙ rw h refl
+stop-count r x h = grind arith
 
 plain-no_white : (b : Option ℕ) → holds_plain b ≡ true → holds_white b ≡ false
-plain-no_white None h = cc
-plain-no_white (Some b) h = (plain-tests b h).white
+plain-no_white x h = grind arith
 
 white-stop : (text : List Cell) → holds_plain (byte_at 0 text) ≡ true → count_before region.White text ≡ 0
 white-stop text h = stop-count region.White text (rw (plain-no_white (byte_at 0 text) h) refl)
@@ -228,12 +219,10 @@ HasSingle line column bs xs =
     → has_single_spaces before (parts_of line column (chunks xs)) ≡ true
 
 pub plain-begins : (bs : List ℕ) → holds_plain (slice_get bs 0) ≡ true → BeginsRun bs
-plain-begins [] h = cc
-plain-begins (b ∷ bs) h = (rw h refl, (plain-tests b h).space)
+plain-begins x h = grind arith
 
 nothing-single : (line column : ℕ) (bs : List ℕ) → (BeginsRun bs → ⊥) → HasSingle line column bs []
-nothing-single line column bs not true h = absurd (not (h refl))
-nothing-single line column bs not false h = refl
+nothing-single line column bs not x h = grind arith
 
 module _ (l : LineOfC) (stays : (b : Bool) → with_item b l ≡ l) (occurrences last line : ℕ) (rest : List Cell) where
   abbrev here : LexerState

@@ -1,15 +1,13 @@
 -- Simple lexemes: words, white space, signs and line ends of C text.
-use Rattle.std.proofs.Common.{◌≡◌, ◌<◌, ℕ, ◌==◌, Bool, true, false, if◌then◌else◌, List, [], ◌∷◌, ◌++◌, length, drop}
+use Rattle.std.proofs.Common.{◌≡◌, ◌<◌, ℕ, Bool, true, false, if◌then◌else◌, List, [], ◌∷◌, ◌++◌, length, drop}
 use Rattle.std.proofs.Common.{arith, Option, Some, None, option_to_list, subst, refl, ap, sym, ◌∙◌}
 use Rattle.std.specs.List.{list_any}
 use Rattle.std.specs.Option.{IfSome}
-use Rattle.std.proofs.lemmas.Bool.{or_parts}
-use Rattle.tangle_lines.specs.Bytes.{at_sign, double_quote, is_white}
+use Rattle.tangle_lines.specs.Bytes.{is_white}
 use Rattle.tangle_lexer.specs.declared.modes.IncludeState.{IncludeState}
 use Rattle.tangle_lexer.specs.declared.lexeme_kinds.LexemeKind.TheVariants as lexeme_kind
-use Rattle.tangle_text.specs.Bytes.{slash, backslash, apostrophe, less_sign, is_opener, is_word_byte}
+use Rattle.tangle_text.specs.Bytes.{is_opener, is_word_byte}
 use Rattle.tangle_lexer.specs.declared.modes.Mode.{Mode}
-use Rattle.tangle_lexer.specs.declared.modes.Mode.TheVariants as mode
 use Rattle.tangle_lexer.specs.declared.modes.LexerState.{LexerState}
 use Rattle.tangle_lexer.specs.declared.modes.LineState.{LineState}
 use Rattle.tangle_lexer.specs.declared.simple.SimpleLexeme.{SimpleLexeme}
@@ -33,21 +31,16 @@ unfolding lexeme
 lexeme-simple s text p here h = go s.mode h
   where
     alike : (p : SimpleLexeme) → macro_lexeme (simple_kind p) s text ≡ c_lexeme (simple_kind p) s text
-    alike simple.White = refl
-    alike _ = refl
+    alike x = grind arith
 
     go : (m : Mode) → is_c_text m ≡ true → lexeme_in m s text ≡ c_lexeme (simple_kind p) s text
-    go mode.Limbo h = cc
-    go mode.Documentation h = cc
-    go mode.CPart h = ap (λ k. c_lexeme k s text) (here.lexeme_kind s.line.include)
-    go mode.Macro h = ap (λ k. macro_lexeme k s text) (here.lexeme_kind s.line.include) ∙ alike p
+    go x h = grind arith
 
 -- a simple lexeme changes nothing of the state but how the line was read
 pub simple-after : (p : SimpleLexeme) (l : LineState) (s : LexerState) (text : List Cell)
     → (c_lexeme (simple_kind p) (with_line l s) text).after
     ≡ with_line (c_lexeme (simple_kind p) (with_line l s) text).after.line s
-simple-after simple.White l s text = refl
-simple-after _ l s text = refl
+simple-after x l s text = grind arith
 
 pub simple-again : (old new : List Token) (l : LineState)
     (s state after : LexerState) (text rest : List Cell) (p : SimpleLexeme)
@@ -65,13 +58,11 @@ simple-again old new l s state after text rest p is read =
 -- a simple lexeme has no occurrence, no head and no run
 pub simple-none : (p : SimpleLexeme) (s : LexerState) (text : List Cell)
     → (c_lexeme (simple_kind p) s text).occurrence ≡ None
-simple-none simple.White s text = refl
-simple-none _ s text = refl
+simple-none x s text = grind arith
 
 simple-plain : (p : SimpleLexeme) (s : LexerState) (text : List Cell)
     → HasNone is_special (c_lexeme (simple_kind p) s text).tokens
-simple-plain simple.White s text = refl
-simple-plain _ s text = refl
+simple-plain x s text = grind arith
 
 pub simple-special : (s : LexerState) (text : List Cell) (p : SimpleLexeme) → IsSimple text p → is_c_text s.mode ≡ true
     → HasNone is_special (lexeme s text).tokens
@@ -105,22 +96,10 @@ some-inside (c ∷ cs) b h = omega arith
 closed-kind : (inc : IncludeState) (b : ℕ) (next : Option ℕ) → is_opener b ≡ false
     → kind_by inc (Some b) next
     ≡ (if is_white b then lexeme_kind.White else if is_word_byte b then lexeme_kind.Word else lexeme_kind.Other)
-closed-kind inc b next h =
-    let backslashes = or_parts _ (b == backslash) h in
-    let less = or_parts _ (b == less_sign) backslashes.0 in
-    let apostrophes = or_parts _ (b == apostrophe) less.0 in
-    let quotes = or_parts _ (b == double_quote) apostrophes.0 in
-    let slashes = or_parts (b == at_sign) (b == slash) quotes.0 in
-    rw (slashes.0, slashes.1, quotes.1, apostrophes.1, less.1) refl
+closed-kind inc b next h = grind arith
 
 closed-plain : (b : ℕ) → is_opener b ≡ false → is_white b ≡ false → is_plain b ≡ true
-closed-plain b h white =
-    let backslashes = or_parts _ (b == backslash) h in
-    let less = or_parts _ (b == less_sign) backslashes.0 in
-    let apostrophes = or_parts _ (b == apostrophe) less.0 in
-    let quotes = or_parts _ (b == double_quote) apostrophes.0 in
-    let slashes = or_parts (b == at_sign) (b == slash) quotes.0 in
-    rw (white, quotes.1, apostrophes.1, slashes.1, slashes.0, backslashes.1) refl
+closed-plain b h white = grind arith
 
 pub simple-is : (text : List Cell) (b : ℕ)
     → byte_at 0 text ≡ Some b → IfSome (simple_of b) (λ simple. IsSimple text simple)

@@ -1,6 +1,7 @@
 -- White space that ends on its line: which lexemes are white space alone, and the text after it.
+use Rattle.std.proofs.Common.{arith}
 use Rattle.std.proofs.Common.{◌≡◌, ◌<◌, ℕ, zero, suc, ◌+◌, Bool, true, false, not, ◌&&◌, List, [], ◌∷◌, ◌++◌}
-use Rattle.std.proofs.Common.{map, length, drop, drop-drop, Option, Some, None, refl, ap, sym, ◌∙◌}
+use Rattle.std.proofs.Common.{map, length, drop, drop-drop, Option, refl, ap, sym, ◌∙◌}
 use Rattle.std.proofs.lemmas.Bool.{or_parts, and_parts}
 use Rattle.std.specs.Prelude.{is_some}
 use Rattle.tangle_faults.specs.declared.faults.FaultKind.{FaultKind}
@@ -36,13 +37,10 @@ use Rattle.tangle_lexer.proofs.lemmas.PlainLexemes.{quoted-text}
 -- white space with line ends, and with a fault unless it ends
 white-by : (ends : List Token) (is_ended : Bool) (kind : FaultKind) (line : ℕ)
     → is_white_alone (token.White ∷ ends ++ fault_if (not is_ended) kind line) ≡ (is_on_line ends && is_ended)
-white-by [] true kind line = refl
-white-by [] false kind line = refl
-white-by (t ∷ ts) is_ended kind line = refl
+white-by ends is_ended kind line = grind arith
 
 inner-on_line : (b : Bool) (ends : List Token) → is_on_line (map (inner_end_in b) ends) ≡ is_on_line ends
-inner-on_line b [] = refl
-inner-on_line b (t ∷ ts) = refl
+inner-on_line b x = grind arith
 
 pub region-white : (r : Region) (kind : FaultKind) (s : LexerState) (text : List Cell)
     → is_white_alone (comment_or_control_text r kind s text).tokens ≡ ends_on_line r (drop 2 text)
@@ -69,8 +67,7 @@ pub line-white : (s : LexerState) (text : List Cell) → is_white_alone (line_co
 line-white s text = by (starts_section (drop (count_before region.LineComment (drop 2 text)) (drop 2 text))) _
   where
     by : (b : Bool) (line : ℕ) → is_white_alone (token.White ∷ [] ++ fault_if b fault.CommentEnd line) ≡ not b
-    by true line = refl
-    by false line = refl
+    by b line = grind arith
 
 -- Whether a region ends on its first line, by a position that is reached in it without a line end before.
 
@@ -88,16 +85,13 @@ module _ (r : Region) (text whole : List Cell)
       ∙ (ap (λ b. is_on_line (line_ends r whole) && b) (nothing r) ∙ never (is_on_line (line_ends r whole)))
     where
       nothing : (r : Region) → ends_region r [] ≡ false
-      nothing region.BlockComment = refl
-      nothing _ = refl
+      nothing x = grind arith
 
       never : (b : Bool) → (b && false) ≡ false
-      never true = refl
-      never false = refl
+      never b = grind arith
 
 pub no-line_end : (b : Option ℕ) → is_some b ≡ true → is_line_end b ≡ false
-no-line_end None h = cc
-no-line_end (Some b) h = refl
+no-line_end b h = grind arith
 
 -- a unit without a line end adds none
 pub line-goes : (r : Region) (text : List Cell) (u : Unit-of) → 0 < length text → unit_at r text ≡ u
@@ -111,14 +105,12 @@ text-dark [] h = refl
 text-dark (t ∷ []) h = one t (or_parts (is_not_text t) false h.none).0
   where
     one : (t : Token) → is_not_text t ≡ false → is_white_token t ≡ false
-    one token.White h = cc
-    one _ h = refl
+    one t h = grind arith
 text-dark (t ∷ u ∷ ts) h = refl
 
 constant-dark : (constant : Option AsciiConstant) (s : LexerState) (text : List Cell)
     → is_white_alone (constant_lexeme constant s text).tokens ≡ false
-constant-dark None s text = refl
-constant-dark (Some constant) s text = refl
+constant-dark x s text = grind arith
 
 pub code-dark : (kind : ControlCode) (text : List Cell)
     → (kind ≡ code.ControlText → ⊥) → (kind ≡ code.Other → ⊥)
@@ -157,8 +149,7 @@ pub white-goes : (text : List Cell) → is_white_alone (next_but_name text).toke
 white-goes [] h = white-nothing (next_but_name []).more
   where
     white-nothing : (k : ℕ) → white_end [] ≡ white_end (drop k [])
-    white-nothing zero = refl
-    white-nothing (suc k) = refl
+    white-nothing x = grind arith
 white-goes (c ∷ cs) h =
     let more = (next_but_name (c ∷ cs)).more in
     rw h (sym (drop-drop (white_count more cs) 1 (c ∷ cs)) ∙ skipped more cs)

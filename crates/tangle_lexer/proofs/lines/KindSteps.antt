@@ -1,13 +1,13 @@
 -- In a C part the lexer's state follows the open line of C, lexeme by lexeme.
+use Rattle.std.proofs.Common.{arith}
 use Rattle.std.proofs.Common.{◌≡◌, ℕ, Bool, true, false, List, [], ◌∷◌, ◌++◌, map, flat_map, drop, ◌==◌}
 use Rattle.std.proofs.Common.{Option, Some, None, refl, ap, sym, ◌∙◌, subst, ◌&&◌}
-use Rattle.std.proofs.lemmas.Bool.{cond_both}
 use Rattle.tangle_faults.specs.declared.faults.FaultKind.{FaultKind}
 use Rattle.tangle_faults.specs.declared.faults.FaultKind.TheVariants as fault
 use Rattle.tangle_text.specs.declared.regions.Region.{Region}
 use Rattle.tangle_text.specs.declared.regions.Region.TheVariants as region
 use Rattle.tangle_lines.specs.Bytes.{at_sign, double_quote}
-use Rattle.tangle_text.specs.Bytes.{number_sign, backslash, apostrophe, greater_sign, holds, is_line_end}
+use Rattle.tangle_text.specs.Bytes.{number_sign, backslash, apostrophe, greater_sign, holds}
 use Rattle.tangle_text.specs.Text.{Cell, span_at, front_line}
 use Rattle.tangle_text.specs.Regions.{units}
 use Rattle.tangle_lexer.specs.declared.tokens.Token.{Token}
@@ -34,11 +34,11 @@ use Rattle.tangle_lexer.specs.Steps.{c_lexeme}
 use Rattle.tangle_lexer.specs.LinesOfParts.{is_use_fault}
 use Rattle.tangle_lexer.specs.SpanBytes.{first_byte}
 use Rattle.tangle_lexer.proofs.lemmas.LexemeCases.{OpensLexeme, IsPlainKind}
-use Rattle.tangle_lexer.proofs.laws.Points.{Point, IsByte, after_cells, IsTextAt, text-after_cells}
+use Rattle.tangle_lexer.proofs.laws.Points.{Point, IsByte, IsCellAt, IsTextAt, byte-test, text-after}
 use Rattle.tangle_lexer.proofs.laws.CutTexts.{double_quote-cut, apostrophe-cut, header_name-cut}
-use Rattle.tangle_lexer.proofs.laws.RegionOrder.{some-byte, holds-byte, other-byte}
-use Rattle.tangle_lexer.proofs.lines.SourceBytes.{HasBytes, byte-test, bytes-drop}
-use Rattle.tangle_lexer.proofs.lines.LineSteps.{Judgement, Steps, no-steps, steps-append, white-step, fault-step, item-step, join-step}
+use Rattle.tangle_lexer.proofs.laws.RegionOrder.{some-byte, holds-byte, other-byte, code-bytes}
+use Rattle.tangle_lexer.proofs.lines.LineSteps.{Judgement, Steps, no-steps, steps-append, white-step, fault-step, faults-step}
+use Rattle.tangle_lexer.proofs.lines.LineSteps.{item-step, join-step}
 use Rattle.tangle_lexer.proofs.lines.LineSteps.{line_end-step, inner-step, use-step}
 use Rattle.tangle_lexer.proofs.lines.TextSteps.{end_by, quoted-steps}
 use Rattle.tangle_lexer.proofs.lines.VerbatimSteps.{verbatim-steps}
@@ -57,19 +57,14 @@ line_ends-are : (r : Region) (text : List Cell) → AreLineEnds (line_ends r tex
 line_ends-are r text = all (units r text)
   where
     one : (u : List Cell) → AreLineEnds (unit_line_end u)
-    one [] = tt
-    one (c ∷ cs) = cond_both (is_line_end c.byte) _ [] AreLineEnds (λ e. tt) (λ e. tt)
+    one x = grind arith
 
     all : (us : List (List Cell)) → AreLineEnds (flat_map unit_line_end us)
     all [] = tt
     all (u ∷ us) = line_ends-append (unit_line_end u) (flat_map unit_line_end us) (one u) (all us)
 
 directive-line : (l : LineOfC) → lines_of_c.is_directive l ≡ true → line.Directive ≡ l
-directive-line line.Directive h = refl
-directive-line line.Other h = cc
-directive-line line.Empty h = cc
-directive-line line.AfterDirective h = cc
-directive-line line.AfterOther h = cc
+directive-line l h = grind arith
 
 pub in_directive : (s : LexerState) → s.mode ≡ mode.CPart → is_in_directive s ≡ lines_of_c.is_directive s.line.line
 in_directive s m = ap (λ x. is_c_part x && lines_of_c.is_directive s.line.line) m
@@ -83,29 +78,21 @@ module _ (texts : List (List ℕ)) (R : Judgement texts) where
   abbrev Leaves : List Token → Type 0
   Leaves ts = (l : LineOfC) (e : AtLineEnd) → Steps texts R l e ts l e
 
-  fault-leaves : (b : Bool) (kind : FaultKind) (n : ℕ)
-      → is_use_fault (token.Fault kind n) ≡ false → Leaves (fault_if b kind n)
-  fault-leaves true kind n h l e = fault-step texts R kind n l e h
-  fault-leaves false kind n h l e = no-steps texts R l e
-
   -- line ends inside white space
   outside-ends : (l : LineState) (ts : List Token) → AreLineEnds ts
       → Follows l (map (inner_end_in false) ts) (after_line_ends false ts l)
-  outside-ends l [] h = no-steps texts R l.line l.at_line_end
+  outside-ends l [] h = no-steps texts R
   outside-ends l (token.LineEnd n ∷ ts) h =
-      let m : LineState = after_line_end l in
-      let to : LineState = after_line_ends false ts m in
-      steps-append texts R l.line m.line to.line l.at_line_end m.at_line_end to.at_line_end
-      (token.LineEnd n ∷ []) (map (inner_end_in false) ts)
-      (line_end-step texts R n l.line l.at_line_end) (outside-ends m ts h)
+      steps-append texts R (token.LineEnd n ∷ []) (map (inner_end_in false) ts) (line_end-step texts R n)
+      (outside-ends (after_line_end l) ts h)
   outside-ends l (_ ∷ ts) h = absurd h
 
   inner-ends : (e : AtLineEnd) (ts : List Token) → AreLineEnds ts
       → Steps texts R line.Directive e (map (inner_end_in true) ts) line.Directive e
-  inner-ends e [] h = no-steps texts R line.Directive e
+  inner-ends e [] h = no-steps texts R
   inner-ends e (token.LineEnd n ∷ ts) h =
-      steps-append texts R line.Directive line.Directive line.Directive e e e
-      (token.InnerLineEnd n ∷ []) (map (inner_end_in true) ts) (inner-step texts R n e) (inner-ends e ts h)
+      steps-append texts R (token.InnerLineEnd n ∷ []) (map (inner_end_in true) ts) (inner-step texts R n)
+      (inner-ends e ts h)
   inner-ends e (_ ∷ ts) h = absurd h
 
   same-line : (ts : List Token) (l : LineState) → after_line_ends true ts l ≡ l
@@ -125,11 +112,8 @@ module _ (texts : List (List ℕ)) (R : Judgement texts) where
       go : (b : Bool) → Follows l (map (inner_end_in b) ends) (after_line_ends b ends l)
           → Follows l (token.White ∷ map (inner_end_in b) ends ++ faults) (after_line_ends b ends l)
       go b step =
-          let to : LineState = after_line_ends b ends l in
-          steps-append texts R l.line l.line to.line l.at_line_end l.at_line_end to.at_line_end
-          (token.White ∷ []) (map (inner_end_in b) ends ++ faults) (white-step texts R l.line l.at_line_end)
-          (steps-append texts R l.line to.line to.line l.at_line_end to.at_line_end to.at_line_end
-          (map (inner_end_in b) ends) faults step (leave to.line to.at_line_end))
+          steps-append texts R (token.White ∷ []) (map (inner_end_in b) ends ++ faults) (white-step texts R)
+          (steps-append texts R (map (inner_end_in b) ends) faults step (leave _ _))
 
       by : (b : Bool) → lines_of_c.is_directive l.line ≡ b
           → Follows l (token.White ∷ map (inner_end_in b) ends ++ faults) (after_line_ends b ends l)
@@ -145,25 +129,27 @@ module _ (texts : List (List ℕ)) (R : Judgement texts) where
       → Follows s.line (white_lexeme [] (token.Fault kind n ∷ []) 0 s).tokens
       (white_lexeme [] (token.Fault kind n ∷ []) 0 s).after.line
   white-alone s kind n m h =
-      white-follows s [] (token.Fault kind n ∷ []) m tt (λ l e. fault-step texts R kind n l e h)
+      white-follows s [] (token.Fault kind n ∷ []) m tt (λ l e. fault-step texts R kind n h)
 
   -- signs
-  sign-follows : (l : LineOfC) (e : AtLineEnd) (c : Cell) (cs : List Cell) (is_number is_backslash : Bool)
-      → IsByte c.byte → HasBytes texts (c ∷ cs)
+  sign-follows : (l : LineOfC) (e : AtLineEnd) (at : Point) (c : Cell) (cs : List Cell) (is_number is_backslash : Bool)
+      → IsByte c.byte → IsCellAt texts at c
       → holds number_sign c.byte ≡ is_number → holds backslash c.byte ≡ is_backslash
       → Steps texts R l e (token.Span span_kind.Sign (span_at 1 (c ∷ cs)) ∷ [])
       (with_item is_number l) (end_by is_backslash)
-  sign-follows l e c cs n b byte bytes number back =
+  sign-follows l e at c cs n b byte is number back =
       let t : Token = token.Span span_kind.Sign (span_at 1 (c ∷ cs)) in
-      subst (λ x. Steps texts R l e (t ∷ []) (with_item x l) (end_by b)) (byte-test texts number_sign c byte bytes.0 ∙ number)
-      (subst (λ x. Steps texts R l e (t ∷ []) (with_item (first_byte texts (span_at 1 (c ∷ cs)) == number_sign) l) (end_by x))
-      (byte-test texts backslash c byte bytes.0 ∙ back) (item-step texts R t l e refl))
+      subst (λ x. Steps texts R l e (t ∷ []) (with_item x l) (end_by b))
+      (byte-test texts number_sign at c byte is ∙ number)
+      (subst
+      (λ x. Steps texts R l e (t ∷ []) (with_item (first_byte texts (span_at 1 (c ∷ cs)) == number_sign) l) (end_by x))
+      (byte-test texts backslash at c byte is ∙ back) (item-step texts R t refl))
 
   constant-follows : (constant : Option AsciiConstant) (s : LexerState) (text : List Cell) → s.mode ≡ mode.CPart
       → Follows s.line (constant_lexeme constant s text).tokens (constant_lexeme constant s text).after.line
   constant-follows None s text m = white-alone s fault.AsciiBad _ m refl
   constant-follows (Some k) s text m =
-      item-step texts R (token.AsciiConstant k.value (front_line s.last_line text)) s.line.line s.line.at_line_end refl
+      item-step texts R (token.AsciiConstant k.value (front_line s.last_line text)) refl
 
   -- uses
   pub use-follows : (s : LexerState) (text : List Cell) → s.mode ≡ mode.CPart
@@ -175,63 +161,60 @@ module _ (texts : List (List ℕ)) (R : Judgement texts) where
       let equals : List Token = fault_if (has_single_equals (after_name text)) fault.NameEquals n in
       subst (λ b. Steps texts R s.line.line s.line.at_line_end
       (t ∷ fault_if b fault.UseInDirective n ++ names ++ equals) line.Empty Ends) (sym (in_directive s m))
-      (steps-append texts R s.line.line line.Empty line.Empty s.line.at_line_end Ends Ends
-      (t ∷ fault_if (lines_of_c.is_directive s.line.line) fault.UseInDirective n ++ names) equals
-      (steps-append texts R s.line.line line.Empty line.Empty s.line.at_line_end Ends Ends
-      (t ∷ fault_if (lines_of_c.is_directive s.line.line) fault.UseInDirective n) names
-      (use-step texts R t refl refl refl (λ us. refl) (λ l. refl) (λ before us. refl) n s.line.line s.line.at_line_end)
-      (fault-leaves _ fault.NameEnd _ refl line.Empty Ends))
-      (fault-leaves _ fault.NameEquals _ refl line.Empty Ends))
+      (steps-append texts R (t ∷ fault_if (lines_of_c.is_directive s.line.line) fault.UseInDirective n ++ names) equals
+      (steps-append texts R (t ∷ fault_if (lines_of_c.is_directive s.line.line) fault.UseInDirective n) names
+      (use-step texts R t refl refl refl (λ us. refl) (λ l. refl) (λ before us. refl) n)
+      (faults-step texts R _ fault.NameEnd _ refl))
+      (faults-step texts R _ fault.NameEquals _ refl))
 
-  module _ (width : ℕ → ℕ) (count : ℕ) where
-    pub kind-follows : (kind : LexemeKind) (s : LexerState) (at : Point) (c : Cell) (cs : List Cell)
-        → s.mode ≡ mode.CPart → IsPlainKind kind → OpensLexeme kind (c ∷ cs)
-        → IsTextAt width count at (c ∷ cs) → HasBytes texts (c ∷ cs)
-        → Follows s.line (c_lexeme kind s (c ∷ cs)).tokens (c_lexeme kind s (c ∷ cs)).after.line
-    kind-follows (lexeme_kind.Control code.SectionStart) s at c cs m plain o is bytes = absurd plain
-    kind-follows (lexeme_kind.Control code.Name) s at c cs m plain o is bytes = absurd plain
-    kind-follows (lexeme_kind.Control code.DoubleAt) s at c cs m plain o is bytes =
-        sign-follows s.line.line s.line.at_line_end c cs false false (holds-byte at_sign c.byte o.0) bytes
-        (other-byte at_sign number_sign c.byte refl o.0) (other-byte at_sign backslash c.byte refl o.0)
-    kind-follows (lexeme_kind.Control code.Macro) s at c cs m plain o is bytes = white-alone s fault.CodeInC _ m refl
-    kind-follows (lexeme_kind.Control code.Format) s at c cs m plain o is bytes = white-alone s fault.CodeInC _ m refl
-    kind-follows (lexeme_kind.Control code.UnnamedPart) s at c cs m plain o is bytes =
-        white-alone s fault.CodeInC _ m refl
-    kind-follows (lexeme_kind.Control code.ControlText) s at c cs m plain o is bytes =
-        white-follows s (line_ends region.ControlText (drop 1 cs)) _ m (line_ends-are region.ControlText (drop 1 cs))
-        (fault-leaves _ fault.ControlText _ refl)
-    kind-follows (lexeme_kind.Control code.Verbatim) s at c cs m plain o is bytes =
-        verbatim-steps texts R width count s.line.line s.line.at_line_end (after_cells at 2 (c ∷ cs)) (drop 1 cs)
-        (text-after_cells width count at 2 (c ∷ cs) is) (bytes-drop texts 2 (c ∷ cs) bytes)
-    kind-follows (lexeme_kind.Control code.Join) s at c cs m plain o is bytes =
-        join-step texts R s.line.line s.line.at_line_end
-    kind-follows (lexeme_kind.Control code.AllMacros) s at c cs m plain o is bytes =
-        subst (λ b. Steps texts R s.line.line s.line.at_line_end
-        (token.AllMacros c.line ∷ fault_if b fault.UseInDirective c.line) line.Empty Ends) (sym (in_directive s m))
-        (use-step texts R (token.AllMacros c.line) refl refl refl (λ us. refl) (λ l. refl) (λ before us. refl)
-        c.line s.line.line s.line.at_line_end)
-    kind-follows (lexeme_kind.Control code.AsciiConstant) s at c cs m plain o is bytes =
-        constant-follows (constant_at (drop 1 cs)) s (c ∷ cs) m
-    kind-follows (lexeme_kind.Control code.Other) s at c cs m plain o is bytes =
-        white-step texts R s.line.line s.line.at_line_end
-    kind-follows lexeme_kind.BlockComment s at c cs m plain o is bytes =
-        white-follows s (line_ends region.BlockComment (drop 1 cs)) _ m (line_ends-are region.BlockComment (drop 1 cs))
-        (fault-leaves _ fault.CommentEnd _ refl)
-    kind-follows lexeme_kind.LineComment s at c cs m plain o is bytes =
-        white-follows s [] _ m tt (fault-leaves _ fault.CommentEnd _ refl)
-    kind-follows lexeme_kind.DoubleQuote s at c cs m plain o is bytes =
-        quoted-steps texts R width count region.DoubleQuote double_quote-cut (λ s. refl) s.line.line s.line.at_line_end
-        double_quote s.last_line at c cs is (some-byte c.byte o.0)
-    kind-follows lexeme_kind.Apostrophe s at c cs m plain o is bytes =
-        quoted-steps texts R width count region.Apostrophe apostrophe-cut (λ s. refl) s.line.line s.line.at_line_end
-        apostrophe s.last_line at c cs is (some-byte c.byte o.0)
-    kind-follows lexeme_kind.HeaderName s at c cs m plain o is bytes =
-        quoted-steps texts R width count region.HeaderName header_name-cut (λ s. refl) s.line.line s.line.at_line_end
-        greater_sign s.last_line at c cs is (some-byte c.byte o.0)
-    kind-follows lexeme_kind.LineEnd s at c cs m plain o is bytes =
-        line_end-step texts R c.line s.line.line s.line.at_line_end
-    kind-follows lexeme_kind.White s at c cs m plain o is bytes = white-step texts R s.line.line s.line.at_line_end
-    kind-follows lexeme_kind.Word s at c cs m plain o is bytes = item-step texts R _ s.line.line s.line.at_line_end refl
-    kind-follows lexeme_kind.Other s at c cs m plain o is bytes =
-        sign-follows s.line.line s.line.at_line_end c cs (holds number_sign c.byte) (holds backslash c.byte)
-        (some-byte c.byte o.0) bytes refl refl
+  pub kind-follows : (kind : LexemeKind) (s : LexerState) (at : Point) (c : Cell) (cs : List Cell)
+      → s.mode ≡ mode.CPart → IsPlainKind kind → OpensLexeme kind (c ∷ cs)
+      → IsTextAt texts at (c ∷ cs)
+      → Follows s.line (c_lexeme kind s (c ∷ cs)).tokens (c_lexeme kind s (c ∷ cs)).after.line
+  kind-follows (lexeme_kind.Control code.SectionStart) s at c cs m plain o is = absurd plain
+  kind-follows (lexeme_kind.Control code.Name) s at c cs m plain o is = absurd plain
+  kind-follows (lexeme_kind.Control code.DoubleAt) s at c cs m plain o is =
+      sign-follows s.line.line s.line.at_line_end at c cs false false (holds-byte at_sign c.byte o.0) is.0
+      (other-byte at_sign number_sign c.byte refl o.0) (other-byte at_sign backslash c.byte refl o.0)
+  kind-follows (lexeme_kind.Control code.Macro) s at c cs m plain o is = white-alone s fault.CodeInC _ m refl
+  kind-follows (lexeme_kind.Control code.Format) s at c cs m plain o is = white-alone s fault.CodeInC _ m refl
+  kind-follows (lexeme_kind.Control code.UnnamedPart) s at c cs m plain o is =
+      white-alone s fault.CodeInC _ m refl
+  kind-follows (lexeme_kind.Control code.ControlText) s at c cs m plain o is =
+      white-follows s (line_ends region.ControlText (drop 1 cs)) _ m (line_ends-are region.ControlText (drop 1 cs))
+      (λ l e. faults-step texts R _ fault.ControlText _ refl)
+  kind-follows (lexeme_kind.Control code.Verbatim) s at c cs m plain o is =
+      verbatim-steps texts R s.line.line s.line.at_line_end _ (drop 1 cs)
+      (text-after texts 2 at (c ∷ cs) is (code-bytes code.Verbatim (c ∷ cs) (λ e. cc) o))
+  kind-follows (lexeme_kind.Control code.Join) s at c cs m plain o is =
+      join-step texts R
+  kind-follows (lexeme_kind.Control code.AllMacros) s at c cs m plain o is =
+      subst (λ b. Steps texts R s.line.line s.line.at_line_end
+      (token.AllMacros c.line ∷ fault_if b fault.UseInDirective c.line) line.Empty Ends) (sym (in_directive s m))
+      (use-step texts R (token.AllMacros c.line) refl refl refl (λ us. refl) (λ l. refl) (λ before us. refl)
+      c.line)
+  kind-follows (lexeme_kind.Control code.AsciiConstant) s at c cs m plain o is =
+      constant-follows (constant_at (drop 1 cs)) s (c ∷ cs) m
+  kind-follows (lexeme_kind.Control code.Other) s at c cs m plain o is =
+      white-step texts R
+  kind-follows lexeme_kind.BlockComment s at c cs m plain o is =
+      white-follows s (line_ends region.BlockComment (drop 1 cs)) _ m (line_ends-are region.BlockComment (drop 1 cs))
+      (λ l e. faults-step texts R _ fault.CommentEnd _ refl)
+  kind-follows lexeme_kind.LineComment s at c cs m plain o is =
+      white-follows s [] _ m tt (λ l e. faults-step texts R _ fault.CommentEnd _ refl)
+  kind-follows lexeme_kind.DoubleQuote s at c cs m plain o is =
+      quoted-steps texts R region.DoubleQuote double_quote-cut (λ s. refl) s.line.line s.line.at_line_end
+      double_quote s.last_line at c cs is (some-byte c.byte o.0)
+  kind-follows lexeme_kind.Apostrophe s at c cs m plain o is =
+      quoted-steps texts R region.Apostrophe apostrophe-cut (λ s. refl) s.line.line s.line.at_line_end
+      apostrophe s.last_line at c cs is (some-byte c.byte o.0)
+  kind-follows lexeme_kind.HeaderName s at c cs m plain o is =
+      quoted-steps texts R region.HeaderName header_name-cut (λ s. refl) s.line.line s.line.at_line_end
+      greater_sign s.last_line at c cs is (some-byte c.byte o.0)
+  kind-follows lexeme_kind.LineEnd s at c cs m plain o is =
+      line_end-step texts R c.line
+  kind-follows lexeme_kind.White s at c cs m plain o is = white-step texts R
+  kind-follows lexeme_kind.Word s at c cs m plain o is = item-step texts R _ refl
+  kind-follows lexeme_kind.Other s at c cs m plain o is =
+      sign-follows s.line.line s.line.at_line_end at c cs (holds number_sign c.byte) (holds backslash c.byte)
+      (some-byte c.byte o.0) is.0 refl refl

@@ -1,4 +1,5 @@
 -- What a token does to the open line of C, and that the lexer's state follows it.
+use Rattle.std.proofs.Common.{arith}
 use Rattle.std.proofs.Common.{◌≡◌, ℕ, Bool, true, false, ◌&&◌, ◌||◌, not, List, [], ◌∷◌, ◌++◌, refl, ap, sym, ◌∙◌}
 use Rattle.std.proofs.Common.{cond, if◌then◌else◌, append_assoc}
 use Rattle.std.specs.Prelude.{filter}
@@ -60,12 +61,12 @@ module _ (texts : List (List ℕ)) (R : Judgement texts) where
     pub none : (us : List Token) → begins_with_use_fault us ≡ false → begins_with_use_fault (ts ++ us) ≡ false
     pub holds : (us : List Token) → begins_with_use_fault us ≡ false → Holds m f us → Holds l e (ts ++ us)
 
-  pub no-steps : (l : LineOfC) (e : AtLineEnd) → Steps l e [] l e
-  no-steps l e = record { none = λ us h. h; holds = λ us h next. next }
+  pub no-steps : {l : LineOfC} {e : AtLineEnd} → Steps l e [] l e
+  no-steps = record { none = λ us h. h; holds = λ us h next. next }
 
-  pub steps-append : (l m n : LineOfC) (e f g : AtLineEnd) (ts us : List Token)
+  pub steps-append : {l m n : LineOfC} {e f g : AtLineEnd} (ts us : List Token)
       → Steps l e ts m f → Steps m f us n g → Steps l e (ts ++ us) n g
-  steps-append l m n e f g ts us first more = record {
+  steps-append ts us first more = record {
     none = λ vs h. rw (append_assoc ts us vs) (first.none (us ++ vs) (more.none vs h));
     holds = λ vs h next. rw (append_assoc ts us vs) (first.holds (us ++ vs) (more.none vs h) (more.holds vs h next));
   }
@@ -88,10 +89,10 @@ module _ (texts : List (List ℕ)) (R : Judgement texts) where
       by true = none
       by false = refl
 
-  one-step : (t : Token) (l m : LineOfC) (e f : AtLineEnd) → is_use t ≡ false → is_use_fault t ≡ false
+  one-step : {l m : LineOfC} {e f : AtLineEnd} (t : Token) → is_use t ≡ false → is_use_fault t ≡ false
       → ((before us : List Token) → IsOpen texts before l e (t ∷ us) → Goes (ends_line texts before t us) before t m f us)
       → Steps l e (t ∷ []) m f
-  one-step t l m e f no_use no_fault goes = record {
+  one-step {l} {m} {e} {f} t no_use no_fault goes = record {
     none = λ us h. no_fault;
     holds = λ us h next before is. by us h next before is (ends_line texts before t us) (goes before us is);
   }
@@ -107,12 +108,13 @@ module _ (texts : List (List ℕ)) (R : Judgement texts) where
           R.kept t us (parts.lines_of_c texts (before ++ t ∷ []) us) h (next (before ++ t ∷ []) goes)
 
   -- the open line with one more token
-  grown : (before : List Token) (t : Token) (l m : LineOfC) (e f : AtLineEnd) (us : List Token) → IsOpen texts before l e (t ∷ us)
+  grown : {l m : LineOfC} {e f : AtLineEnd} (before : List Token) (t : Token) (us : List Token)
+      → IsOpen texts before l e (t ∷ us)
       → is_use t ≡ false → (is_inner_line_end t ≡ true → is_directive texts before ≡ true)
       → kind_after texts t (kind_of texts before) ≡ settled m (join_ahead us)
       → end_after texts t e ≡ f
       → IsOpen texts (before ++ t ∷ []) m f us
-  grown before t l m e f us is no_use inner kind end = record {
+  grown before t us is no_use inner kind end = record {
     kind = kind-snoc texts before t ∙ kind;
     end = end-snoc texts before t ∙ ap (end_after texts t) is.end ∙ end;
     inner = inner-snoc texts before t is.inner inner;
@@ -120,27 +122,24 @@ module _ (texts : List (List ℕ)) (R : Judgement texts) where
   }
 
   -- white space and faults
-  pub white-step : (l : LineOfC) (e : AtLineEnd) → Steps l e (token.White ∷ []) l e
-  white-step l e =
-      one-step token.White l l e e refl refl
-      (λ before us is. grown before token.White l l e e us is refl (λ h. cc) is.kind refl)
+  pub white-step : {l : LineOfC} {e : AtLineEnd} → Steps l e (token.White ∷ []) l e
+  white-step =
+      one-step token.White refl refl (λ before us is. grown before token.White us is refl (λ h. cc) is.kind refl)
 
-  pub fault-step : (kind : FaultKind) (n : ℕ) (l : LineOfC) (e : AtLineEnd)
+  pub fault-step : {l : LineOfC} {e : AtLineEnd} (kind : FaultKind) (n : ℕ)
       → is_use_fault (token.Fault kind n) ≡ false → Steps l e (token.Fault kind n ∷ []) l e
-  fault-step kind n l e h =
-      one-step (token.Fault kind n) l l e e refl h
-      (λ before us is. grown before (token.Fault kind n) l l e e us is refl (λ h. cc) is.kind refl)
+  fault-step kind n h =
+      one-step (token.Fault kind n) refl h
+      (λ before us is. grown before (token.Fault kind n) us is refl (λ h. cc) is.kind refl)
+
+  pub faults-step : {l : LineOfC} {e : AtLineEnd} (b : Bool) (kind : FaultKind) (n : ℕ)
+      → is_use_fault (token.Fault kind n) ≡ false → Steps l e (fault_if b kind n) l e
+  faults-step true kind n h = fault-step kind n h
+  faults-step false kind n h = no-steps
 
   -- items
   item-settled : (n : Bool) (l : LineOfC) (j : Bool) → with_item n (settled l false) ≡ settled (with_item n l) j
-  item-settled n line.Directive j = refl
-  item-settled n line.Other j = refl
-  item-settled true line.Empty j = refl
-  item-settled false line.Empty j = refl
-  item-settled true line.AfterDirective j = refl
-  item-settled false line.AfterDirective j = refl
-  item-settled true line.AfterOther j = refl
-  item-settled false line.AfterOther j = refl
+  item-settled n l j = grind arith
 
   abbrev pub is_item : Token → Bool
   is_item (token.Span kind s) = true
@@ -148,57 +147,44 @@ module _ (texts : List (List ℕ)) (R : Judgement texts) where
   is_item token.QuoteBreak = true
   is_item t = false
 
-  pub item-step : (t : Token) (l : LineOfC) (e : AtLineEnd) → is_item t ≡ true
+  pub item-step : {l : LineOfC} {e : AtLineEnd} (t : Token) → is_item t ≡ true
       → Steps l e (t ∷ []) (with_item (is_number_sign texts t) l) (if ends_in_backslash texts t then GoesOn else Ends)
-  item-step (token.Span kind s) l e h =
+  item-step {l} (token.Span kind s) h =
       let t : Token = token.Span kind s in
-      one-step t l _ e _ refl refl
-      (λ before us is. grown before t l _ e _ us is refl (λ h. cc)
+      one-step t refl refl
+      (λ before us is. grown before t us is refl (λ h. cc)
       (ap (with_item (is_number_sign texts t)) is.kind ∙ item-settled (is_number_sign texts t) l (join_ahead us)) refl)
-  item-step (token.AsciiConstant value n) l e h =
+  item-step {l} (token.AsciiConstant value n) h =
       let t : Token = token.AsciiConstant value n in
-      one-step t l _ e _ refl refl
-      (λ before us is. grown before t l _ e _ us is refl (λ h. cc)
+      one-step t refl refl
+      (λ before us is. grown before t us is refl (λ h. cc)
       (ap (with_item false) is.kind ∙ item-settled false l (join_ahead us)) refl)
-  item-step token.QuoteBreak l e h =
+  item-step {l} token.QuoteBreak h =
       let t : Token = token.QuoteBreak in
-      one-step t l _ e _ refl refl
-      (λ before us is. grown before t l _ e _ us is refl (λ h. cc)
+      one-step t refl refl
+      (λ before us is. grown before t us is refl (λ h. cc)
       (ap (with_item false) is.kind ∙ item-settled false l (join_ahead us)) refl)
-  item-step _ l e h = cc
+  item-step _ h = cc
 
   -- joins
   join-settled : (l : LineOfC) (j : Bool) → settled l true ≡ settled (joined_line l) j
-  join-settled line.Empty j = refl
-  join-settled line.AfterDirective j = refl
-  join-settled line.AfterOther j = refl
-  join-settled line.Directive j = refl
-  join-settled line.Other j = refl
+  join-settled l j = grind arith
 
-  pub join-step : (l : LineOfC) (e : AtLineEnd) → Steps l e (token.Join ∷ []) (joined_line l) Removed
-  join-step l e =
-      one-step token.Join l (joined_line l) e Removed refl refl
-      (λ before us is. grown before token.Join l (joined_line l) e Removed us is refl (λ h. cc)
-      (is.kind ∙ join-settled l (join_ahead us)) refl)
+  pub join-step : {l : LineOfC} {e : AtLineEnd} → Steps l e (token.Join ∷ []) (joined_line l) Removed
+  join-step {l} =
+      one-step token.Join refl refl
+      (λ before us is. grown before token.Join us is refl (λ h. cc) (is.kind ∙ join-settled l (join_ahead us)) refl)
 
   -- line ends
   ended-settled : (l : LineOfC) → line.Empty ≡ settled (lines_of_c.next_line l) false
-  ended-settled line.Empty = refl
-  ended-settled line.AfterDirective = refl
-  ended-settled line.AfterOther = refl
-  ended-settled line.Directive = refl
-  ended-settled line.Other = refl
+  ended-settled l = grind arith
 
   kept-settled : (l : LineOfC) → settled l true ≡ settled (lines_of_c.next_line l) true
-  kept-settled line.Empty = refl
-  kept-settled line.AfterDirective = refl
-  kept-settled line.AfterOther = refl
-  kept-settled line.Directive = refl
-  kept-settled line.Other = refl
+  kept-settled l = grind arith
 
-  pub line_end-step : (n : ℕ) (l : LineOfC) (e : AtLineEnd)
+  pub line_end-step : {l : LineOfC} {e : AtLineEnd} (n : ℕ)
       → Steps l e (token.LineEnd n ∷ []) (line_after_end e l) (at_next_line_end e)
-  line_end-step n l e = one-step t l (line_after_end e l) e (at_next_line_end e) refl refl goes
+  line_end-step {l} {e} n = one-step t refl refl goes
     where
       t : Token
       t = token.LineEnd n
@@ -207,7 +193,7 @@ module _ (texts : List (List ℕ)) (R : Judgement texts) where
           → settled l (join_ahead us) ≡ settled (line_after_end e l) (join_ahead us)
           → Goes false before t (line_after_end e l) (at_next_line_end e) us
       stays before us is kind =
-          grown before t l (line_after_end e l) e (at_next_line_end e) us is refl (λ h. cc) (is.kind ∙ kind) refl
+          grown before t us is refl (λ h. cc) (is.kind ∙ kind) refl
 
       by : (before us : List Token) → IsOpen texts before l e (t ∷ us) → (a g j : Bool)
           → cond a Removed (cond g GoesOn Ends) ≡ e → join_ahead us ≡ j
@@ -235,10 +221,10 @@ module _ (texts : List (List ℕ)) (R : Judgement texts) where
       goes before us is = by before us is (join_behind before) (goes_on texts before) (join_ahead us) is.end refl
 
   -- a line end inside a comment or a control text of a directive
-  pub inner-step : (n : ℕ) (e : AtLineEnd) → Steps line.Directive e (token.InnerLineEnd n ∷ []) line.Directive e
-  inner-step n e =
-      one-step (token.InnerLineEnd n) line.Directive line.Directive e e refl refl
-      (λ before us is. grown before (token.InnerLineEnd n) line.Directive line.Directive e e us is refl
+  pub inner-step : {e : AtLineEnd} (n : ℕ) → Steps line.Directive e (token.InnerLineEnd n ∷ []) line.Directive e
+  inner-step n =
+      one-step (token.InnerLineEnd n) refl refl
+      (λ before us is. grown before (token.InnerLineEnd n) us is refl
       (λ h. directive-is texts before ∙ ap lines_of_c.is_directive is.kind) is.kind refl)
 
   -- uses
@@ -246,16 +232,8 @@ module _ (texts : List (List ℕ)) (R : Judgement texts) where
   abbrev pub use_fault : Bool → ℕ → List Token
   use_fault b n = fault_if b fault.UseInDirective n
 
-  -- after a use and its fault there is no item
-  fault-open : (n : ℕ) (us : List Token) → IsOpen texts (token.Fault fault.UseInDirective n ∷ []) line.Empty Ends us
-  fault-open n us = record { kind = refl; end = refl; inner = λ h. cc; uses = refl }
-
   use-kind : (l : LineOfC) → lines_of_c.is_directive (with_item false (settled l false)) ≡ lines_of_c.is_directive l
-  use-kind line.Empty = refl
-  use-kind line.AfterDirective = refl
-  use-kind line.AfterOther = refl
-  use-kind line.Directive = refl
-  use-kind line.Other = refl
+  use-kind l = grind arith
 
   module _ (t : Token) (is_used : is_use t ≡ true) (no_fault : is_use_fault t ≡ false)
       (no_inner : is_inner_line_end t ≡ false) (no_join : (us : List Token) → join_ahead (t ∷ us) ≡ false)
@@ -274,9 +252,9 @@ module _ (texts : List (List ℕ)) (R : Judgement texts) where
             ∙ ap (λ k. lines_of_c.is_directive (with_item false k)) (is.kind ∙ ap (settled l) (no_join us))
             ∙ use-kind l
 
-    pub use-step : (n : ℕ) (l : LineOfC) (e : AtLineEnd)
+    pub use-step : {l : LineOfC} {e : AtLineEnd} (n : ℕ)
         → Steps l e (t ∷ use_fault (lines_of_c.is_directive l) n) line.Empty Ends
-    use-step n l e = record {
+    use-step {l} {e} n = record {
       none = λ us h. no_fault;
       holds = λ us h next before is. rw (ends before (use_fault (lines_of_c.is_directive l) n ++ us))
           (by us h next before (lines_of_c.is_directive l)
@@ -289,8 +267,4 @@ module _ (texts : List (List ℕ)) (R : Judgement texts) where
             → uses_in_directive texts (before ++ t ∷ []) ≡ cond b (t ∷ []) []
             → R.holds (t ∷ (use_fault b n ++ us))
             ((before ++ t ∷ []) ∷ parts.lines_of_c texts [] (use_fault b n ++ us))
-        by us h next before true inner uses =
-            R.used t true n us (before ++ t ∷ []) _ h inner uses
-            (next (token.Fault fault.UseInDirective n ∷ []) (fault-open n us))
-        by us h next before false inner uses =
-            R.used t false n us (before ++ t ∷ []) _ h inner uses (next [] (front-open texts us))
+        by us h next before x inner uses = grind arith

@@ -1,4 +1,5 @@
 -- The open line of C, that is, the tokens since the last line of C ended, and what the lexer's state says of it.
+use Rattle.std.proofs.Common.{arith}
 use Rattle.std.proofs.Common.{◌≡◌, ℕ, Bool, true, false, ◌&&◌, ◌||◌, List, [], ◌∷◌, ◌++◌, refl, ap, sym, ◌∙◌}
 use Rattle.std.proofs.Common.{cond, if◌then◌else◌}
 use Rattle.std.specs.Prelude.{filter}
@@ -41,18 +42,12 @@ module _ (texts : List (List ℕ)) where
   kind-snoc (u ∷ us) t = by (is_between_items u) (is_number_sign texts u) (kind-snoc us t)
     where
       stays : (k : LineOfC) → ((n : Bool) → with_item n k ≡ k) → k ≡ kind_after t k
-      stays k fixed = go (is_between_items t)
-        where
-          go : (b : Bool) → k ≡ cond b k (with_item (is_number_sign texts t) k)
-          go true = refl
-          go false = sym (fixed (is_number_sign texts t))
+      stays k fixed = grind arith
 
       by : (b n : Bool) → kind_of (us ++ t ∷ []) ≡ kind_after t (kind_of us)
           → cond b (kind_of (us ++ t ∷ [])) (cond n line.Directive line.Other)
           ≡ kind_after t (cond b (kind_of us) (cond n line.Directive line.Other))
-      by true n h = h
-      by false true h = stays line.Directive (λ n. refl)
-      by false false h = stays line.Other (λ n. refl)
+      by x n h = grind arith
 
   pub directive-is : (ts : List Token) → is_directive texts ts ≡ lines_of_c.is_directive (kind_of ts)
   directive-is [] = refl
@@ -61,9 +56,7 @@ module _ (texts : List (List ℕ)) where
       by : (b n : Bool) → is_directive texts ts ≡ lines_of_c.is_directive (kind_of ts)
           → cond b (is_directive texts ts) n
           ≡ lines_of_c.is_directive (cond b (kind_of ts) (cond n line.Directive line.Other))
-      by true n h = h
-      by false true h = refl
-      by false false h = refl
+      by x n h = grind arith
 
   -- a directive stays one
   pub directive-append : (ts us : List Token) → is_directive texts ts ≡ true → is_directive texts (ts ++ us) ≡ true
@@ -73,8 +66,7 @@ module _ (texts : List (List ℕ)) where
       by : (b : Bool) → cond b (is_directive texts ts) (is_number_sign texts t) ≡ true
           → (is_directive texts ts ≡ true → is_directive texts (ts ++ us) ≡ true)
           → cond b (is_directive texts (ts ++ us)) (is_number_sign texts t) ≡ true
-      by true h rest = rest h
-      by false h rest = h
+      by x h rest = grind arith
 
   -- what a line end after a line does
   abbrev pub end_of : List Token → AtLineEnd
@@ -90,40 +82,26 @@ module _ (texts : List (List ℕ)) where
 
   join-snoc : (ts : List Token) (t : Token)
       → join_behind (ts ++ t ∷ []) ≡ (is_join t || is_between_items t && join_behind ts)
-  join-snoc [] t = by (is_join t) (is_between_items t)
-    where
-      by : (j b : Bool) → (j && true || false) ≡ (j || b && false)
-      by true b = refl
-      by false true = refl
-      by false false = refl
+  join-snoc [] t = grind arith
   join-snoc (u ∷ us) t =
       rw (list_all-append is_between_items us (t ∷ []), join-snoc us t)
       (by (is_join u) (list_all is_between_items us) (is_between_items t) (is_join t) (join_behind us))
     where
       by : (k a b j e : Bool) → (k && (a && (b && true)) || (j || b && e)) ≡ (j || b && (k && a || e))
-      by false a b j e = refl
-      by true false b j e = refl
-      by true true true true e = refl
-      by true true true false e = refl
-      by true true false true e = refl
-      by true true false false e = refl
+      by k a b j e = grind arith
 
   on-snoc : (ts : List Token) (t : Token)
       → goes_on texts (ts ++ t ∷ []) ≡ cond (is_white_space t) (goes_on texts ts) (ends_in_backslash texts t)
   on-snoc [] t = one t
     where
       one : (t : Token) → ends_in_backslash texts t ≡ cond (is_white_space t) false (ends_in_backslash texts t)
-      one token.White = refl
-      one _ = refl
+      one x = grind arith
   on-snoc (u ∷ us) t =
       rw (list_all-append is_white_space us (t ∷ []), on-snoc us t)
       (by (list_all is_white_space us) (is_white_space t) (ends_in_backslash texts u) (goes_on texts us) (ends_in_backslash texts t))
     where
       by : (a w x g y : Bool) → cond (a && (w && true)) x (cond w g y) ≡ cond w (cond a x g) y
-      by true true x g y = refl
-      by true false x g y = refl
-      by false true x g y = refl
-      by false false x g y = refl
+      by a w x g y = grind arith
 
   pub end-snoc : (ts : List Token) (t : Token) → end_of (ts ++ t ∷ []) ≡ end_after t (end_of ts)
   end-snoc ts t =
@@ -132,16 +110,13 @@ module _ (texts : List (List ℕ)) where
       ∙ by t (join_behind ts) (goes_on texts ts)
     where
       at_end : (j g : Bool) → cond j Removed Ends ≡ at_next_line_end (cond j Removed (cond g GoesOn Ends))
-      at_end true g = refl
-      at_end false true = refl
-      at_end false false = refl
+      at_end j g = grind arith
 
       by : (t : Token) (j g : Bool)
           → cond (is_join t || is_between_items t && j) Removed
           (cond (cond (is_white_space t) g (ends_in_backslash texts t)) GoesOn Ends)
           ≡ end_after t (cond j Removed (cond g GoesOn Ends))
-      by (token.LineEnd n) j g = at_end j g
-      by _ j g = refl
+      by x j g = grind arith
 
   -- inner line ends are in directives alone, also with one more token
   pub inner-snoc : (ts : List Token) (t : Token)
@@ -155,9 +130,7 @@ module _ (texts : List (List ℕ)) where
     where
       by : (a b : Bool) → (a ≡ true → is_directive texts ts ≡ true) → (b ≡ true → is_directive texts ts ≡ true)
           → (a || (b || false)) ≡ true → is_directive texts ts ≡ true
-      by true b f g h = f refl
-      by false true f g h = g refl
-      by false false f g h = cc
+      by a b f g h = grind arith
 
 -- the uses among tokens without uses and others are those of the others
 pub uses-append : (ts us : List Token) → list_any is_use ts ≡ false → filter is_use (ts ++ us) ≡ filter is_use us
@@ -167,8 +140,7 @@ uses-append (t ∷ ts) us h = by (is_use t) h (uses-append ts us)
     by : (b : Bool) → (b || list_any is_use ts) ≡ false
         → (list_any is_use ts ≡ false → filter is_use (ts ++ us) ≡ filter is_use us)
         → cond b (t ∷ filter is_use (ts ++ us)) (filter is_use (ts ++ us)) ≡ filter is_use us
-    by true h rest = cc
-    by false h rest = rest h
+    by x h rest = grind arith
 
 pub uses-snoc : (ts : List Token) (t : Token) → list_any is_use ts ≡ false → is_use t ≡ false
     → list_any is_use (ts ++ t ∷ []) ≡ false

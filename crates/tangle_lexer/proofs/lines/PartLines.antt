@@ -1,11 +1,12 @@
 -- Which lines of C of a part have inner line ends and which uses have the fault UseInDirective, lexeme by lexeme.
-use Rattle.std.proofs.Common.{◌≡◌, ℕ, zero, suc, ◌+◌, Bool, true, false, List, [], ◌∷◌, ◌++◌, flat_map, length}
-use Rattle.std.proofs.Common.{Option, Some, None, refl, ap, sym, ◌∙◌, arith, cond, get_or, drop}
+use Rattle.std.proofs.Common.{arith}
+use Rattle.std.proofs.Common.{◌≡◌, ℕ, zero, suc, Bool, true, false, List, [], ◌∷◌, ◌++◌, flat_map, length}
+use Rattle.std.proofs.Common.{Option, Some, None, refl, ap, sym, ◌∙◌, cond, drop}
 use Rattle.std.specs.Prelude.{filter}
 use Rattle.std.specs.List.{list_any, All}
 use Rattle.std.proofs.lemmas.Bool.{or_parts}
 use Rattle.std.proofs.lemmas.List.Elements.{All-cons, All-nil}
-use Rattle.tangle_lines.specs.Reading.{SourceLine, no_line}
+use Rattle.tangle_lines.specs.Reading.{SourceLine}
 use Rattle.tangle_faults.specs.declared.faults.FaultKind.TheVariants as fault
 use Rattle.tangle_text.specs.Text.{Cell, text_from, texts_of}
 use Rattle.tangle_lexer.specs.declared.tokens.Token.{Token}
@@ -29,7 +30,6 @@ use Rattle.tangle_lexer.proofs.lemmas.LexemeCases.{OpensLexeme, IsPlainKind, lex
 use Rattle.tangle_lexer.proofs.lemmas.PlainLexemes.{kind-plain, use-plain, mention-plain}
 use Rattle.tangle_lexer.proofs.lemmas.PlainTokens.{HasNone, none-by, is_not_plain, fault_if-plain}
 use Rattle.tangle_lexer.proofs.laws.Points.{Point, point_at, after_cell, IsTextAt, text-is}
-use Rattle.tangle_lexer.proofs.lines.SourceBytes.{HasBytes, source-bytes}
 use Rattle.tangle_lexer.proofs.lines.LineSteps.{Judgement, Holds, front-open}
 use Rattle.tangle_lexer.proofs.lines.KindSteps.{Follows, kind-follows, use-follows}
 
@@ -39,9 +39,7 @@ pub no-heads : (ts : List Token) → HasNone is_not_plain ts → HasNone is_head
 no-heads = none-by is_not_plain is_head one
   where
     one : (t : Token) → is_not_plain t ≡ false → is_head t ≡ false
-    one (token.UseOf n k) h = cc
-    one (token.Run s) h = cc
-    one _ h = h
+    one t h = grind arith
 
 body-append : (ts us : List Token) → HasNone is_head ts → body (ts ++ us) ≡ ts ++ body us
 body-append [] us h = refl
@@ -50,9 +48,7 @@ body-append (t ∷ ts) us h =
     ap (λ b. cond b [] (t ∷ body (ts ++ us))) both.0 ∙ ap (λ vs. t ∷ vs) (body-append ts us both.1)
 
 begins-head : (t : Token) → is_head t ≡ false → begins_c_part t ≡ false
-begins-head (token.UnnamedPart n) h = cc
-begins-head (token.NamedPart n k) h = cc
-begins-head _ h = refl
+begins-head t h = grind arith
 
 c_parts-append : (ts us : List Token) → HasNone is_head ts → c_parts (ts ++ us) ≡ c_parts us
 c_parts-append [] us h = refl
@@ -62,16 +58,10 @@ c_parts-append (t ∷ ts) us h =
     ∙ c_parts-append ts us both.1
 
 body-begins : (ts : List Token) → begins_with_use_fault ts ≡ false → begins_with_use_fault (body ts) ≡ false
-body-begins [] h = refl
-body-begins (t ∷ ts) h = by (is_head t)
-  where
-    by : (b : Bool) → begins_with_use_fault (cond b [] (t ∷ body ts)) ≡ false
-    by true = refl
-    by false = h
+body-begins x h = grind arith
 
 pub no-part : (m : Mode) → is_c_text m ≡ false → is_c_part m ≡ false
-no-part mode.CPart h = cc
-no-part _ h = refl
+no-part m h = grind arith
 
 module _ (texts : List (List ℕ)) where
   -- these lines of C are what the law says of them
@@ -97,8 +87,7 @@ module _ (texts : List (List ℕ)) where
           → with_use_fault us ≡ flat_map (uses_in_directive texts) lines
           → with_use_fault (t ∷ fault_if b fault.UseInDirective n ++ us)
           ≡ cond b (t ∷ []) [] ++ flat_map (uses_in_directive texts) lines
-      by t true n us lines h more = rw h (ap (λ ts. t ∷ ts) more)
-      by t false n us lines h more = rw h more
+      by t x n us lines h more = grind arith
 
   abbrev pub IsRightPart : List Token → Type 0
   IsRightPart part = AreRight part (parts.lines_of_c texts [] part)
@@ -127,8 +116,7 @@ module _ (texts : List (List ℕ)) where
           ap (λ b. cond b (t ∷ filter is_use ts) (filter is_use ts)) both.0 ∙ none ts both.1
 
       by : (b : Bool) → filter is_use before ≡ [] → [] ≡ cond b (filter is_use before) [] ++ []
-      by true h = ap (λ ts. ts ++ []) (sym h)
-      by false h = refl
+      by x h = grind arith
 
   head-law : (s after : LexerState) (t : Token) (ts : List Token) → is_head t ≡ true → begins_with_use_fault (t ∷ ts) ≡ false
       → AreRightFrom after ts → begins_c_part t ≡ false → AreRightFrom s (t ∷ ts)
@@ -169,68 +157,64 @@ module _ (texts : List (List ℕ)) where
         all = rw (c_parts-append here.tokens ts none) right.all;
       }
 
-  module _ (width : ℕ → ℕ) (count : ℕ) where
-    inside-by : (m : Mode) (s : LexerState) (at : Point) (c : Cell) (cs : List Cell) (kind : LexemeKind)
-        → s.mode ≡ m → is_c_text m ≡ true → IsPlainKind kind → OpensLexeme kind (c ∷ cs)
-        → IsTextAt width count at (c ∷ cs) → HasBytes texts (c ∷ cs) → Law s (c_lexeme kind s (c ∷ cs))
-    inside-by mode.CPart s at c cs kind m within p o is bytes =
-        let plain = kind-plain kind s (c ∷ cs) p in
-        inside-law s (c_lexeme kind s (c ∷ cs)) (plain.mode ∙ m)
-        (no-heads (c_lexeme kind s (c ∷ cs)).tokens plain.tokens.none)
-        (kind-follows texts are-right width count kind s at c cs m p o is bytes)
-    inside-by mode.Macro s at c cs kind m within p o is bytes =
-        let plain = kind-plain kind s (c ∷ cs) p in
-        outside-law s (c_lexeme kind s (c ∷ cs)) (ap is_c_part m)
-        (no-heads (c_lexeme kind s (c ∷ cs)).tokens plain.tokens.none)
-    inside-by mode.Limbo s at c cs kind m within p o is bytes = cc
-    inside-by mode.Documentation s at c cs kind m within p o is bytes = cc
+  inside-by : (m : Mode) (s : LexerState) (at : Point) (c : Cell) (cs : List Cell) (kind : LexemeKind)
+      → s.mode ≡ m → is_c_text m ≡ true → IsPlainKind kind → OpensLexeme kind (c ∷ cs)
+      → IsTextAt texts at (c ∷ cs) → Law s (c_lexeme kind s (c ∷ cs))
+  inside-by mode.CPart s at c cs kind m within p o is =
+      let plain = kind-plain kind s (c ∷ cs) p in
+      inside-law s (c_lexeme kind s (c ∷ cs)) (plain.mode ∙ m)
+      (no-heads (c_lexeme kind s (c ∷ cs)).tokens plain.tokens.none)
+      (kind-follows texts are-right kind s at c cs m p o is)
+  inside-by mode.Macro s at c cs kind m within p o is =
+      let plain = kind-plain kind s (c ∷ cs) p in
+      outside-law s (c_lexeme kind s (c ∷ cs)) (ap is_c_part m)
+      (no-heads (c_lexeme kind s (c ∷ cs)).tokens plain.tokens.none)
+  inside-by mode.Limbo s at c cs kind m within p o is = cc
+  inside-by mode.Documentation s at c cs kind m within p o is = cc
 
-    name-law : (o : Option ℕ) (s : LexerState) (text : List Cell) → is_c_part s.mode ≡ false
-        → Law s (definition_or_mention o s text)
-    name-law None s text out =
-        outside-law s (definition_or_mention None s text) out
-        (no-heads (mention_faults s text) (mention-plain s text).none)
-    name-law (Some k) s text out =
-        λ ts right. part-law s (definition_or_mention (Some k) s text).after _ ts refl refl refl refl refl right refl
+  name-law : (o : Option ℕ) (s : LexerState) (text : List Cell) → is_c_part s.mode ≡ false
+      → Law s (definition_or_mention o s text)
+  name-law None s text out =
+      outside-law s (definition_or_mention None s text) out
+      (no-heads (mention_faults s text) (mention-plain s text).none)
+  name-law (Some k) s text out =
+      λ ts right. part-law s (definition_or_mention (Some k) s text).after _ ts refl refl refl refl refl right refl
 
-    lexeme-law : (s : LexerState) (at : Point) (c : Cell) (cs : List Cell)
-        → IsTextAt width count at (c ∷ cs) → HasBytes texts (c ∷ cs) → Law s (lexeme s (c ∷ cs))
-    lexeme-law s at c cs is bytes =
-        let text : List Cell = c ∷ cs in
-        lexeme-by (Law s) s text (record {
-          section = λ ts right. head-law s _ token.Section ts refl refl right refl;
-          macro = λ o ts right. head-law s _ (token.MacroStart c.line) ts refl refl right refl;
-          part = λ o ts right. part-law s _ (token.UnnamedPart c.line) ts refl refl refl refl refl right refl;
-          used = λ m o.
-              inside-law s (use_of_name s text) m (no-heads (drop 1 (use_of_name s text).tokens) (use-plain s text).none)
-              (use-follows texts are-right s text m);
-          name = λ out. name-law (definition_count text) s text out;
-          limbo = λ m is_fault.
-              outside-law s (limbo_code is_fault s text) (ap is_c_part m)
-              (no-heads (limbo_code is_fault s text).tokens (fault_if-plain is_fault fault.LimboCode c.line).none);
-          skip = λ out n. outside-law s (lexeme_of [] n s) (no-part s.mode out) refl;
-          format = λ m. outside-law s (lexeme_of [] 1 (in_mode mode.Documentation s)) (ap is_c_part m) refl;
-          misplaced = λ m o. outside-law s (code_fault fault.MisplacedH s text) (ap is_c_part m) refl;
-          inside = λ within kind p o. inside-by s.mode s at c cs kind refl within p o is bytes;
-        })
+  lexeme-law : (s : LexerState) (at : Point) (c : Cell) (cs : List Cell)
+      → IsTextAt texts at (c ∷ cs) → Law s (lexeme s (c ∷ cs))
+  lexeme-law s at c cs is =
+      let text : List Cell = c ∷ cs in
+      lexeme-by (Law s) s text (record {
+        section = λ ts right. head-law s _ token.Section ts refl refl right refl;
+        macro = λ o ts right. head-law s _ (token.MacroStart c.line) ts refl refl right refl;
+        part = λ o ts right. part-law s _ (token.UnnamedPart c.line) ts refl refl refl refl refl right refl;
+        used = λ m o.
+            inside-law s (use_of_name s text) m (no-heads (drop 1 (use_of_name s text).tokens) (use-plain s text).none)
+            (use-follows texts are-right s text m);
+        name = λ out. name-law (definition_count text) s text out;
+        limbo = λ m is_fault.
+            outside-law s (limbo_code is_fault s text) (ap is_c_part m)
+            (no-heads (limbo_code is_fault s text).tokens (fault_if-plain is_fault fault.LimboCode c.line).none);
+        skip = λ out n. outside-law s (lexeme_of [] n s) (no-part s.mode out) refl;
+        format = λ m. outside-law s (lexeme_of [] 1 (in_mode mode.Documentation s)) (ap is_c_part m) refl;
+        misplaced = λ m o. outside-law s (code_fault fault.MisplacedH s text) (ap is_c_part m) refl;
+        inside = λ within kind p o. inside-by s.mode s at c cs kind refl within p o is;
+      })
 
-    from-right : (k : ℕ) (s : LexerState) (text : List Cell) (at : Point)
-        → IsTextAt width count at text → HasBytes texts text
-        → AreRightFrom s (flat_map (λ l. l.tokens) (lexemes k s text))
-    from-right k s [] at is bytes =
-        record { now = λ m. ended s.line.line s.line.at_line_end; begins = λ m. refl; all = All-nil IsRightPart }
-    from-right (suc k) s (c ∷ cs) at is bytes = from-right k s cs (after_cell c) is.1 bytes.1
-    from-right zero s (c ∷ cs) at is bytes =
-        let here : Lexeme = lexeme s (c ∷ cs) in
-        lexeme-law s at c cs is bytes (flat_map (λ l. l.tokens) (lexemes here.more here.after cs))
-        (from-right here.more here.after cs (after_cell c) is.1 bytes.1)
+  from-right : (k : ℕ) (s : LexerState) (text : List Cell) (at : Point)
+      → IsTextAt texts at text
+      → AreRightFrom s (flat_map (λ l. l.tokens) (lexemes k s text))
+  from-right k s [] at is =
+      record { now = λ m. ended s.line.line s.line.at_line_end; begins = λ m. refl; all = All-nil IsRightPart }
+  from-right (suc k) s (c ∷ cs) at is = from-right k s cs (after_cell c) is.1
+  from-right zero s (c ∷ cs) at is =
+      let here : Lexeme = lexeme s (c ∷ cs) in
+      lexeme-law s at c cs is (flat_map (λ l. l.tokens) (lexemes here.more here.after cs))
+      (from-right here.more here.after cs (after_cell c) is.1)
 
 -- the C parts of a source
 pub parts-right : (lines : List SourceLine) → All (IsRightPart (texts_of lines)) (c_parts (all_tokens lines))
 unfolding tokens_from
 parts-right lines =
-    let width : ℕ → ℕ = λ n. length (get_or lines n no_line).bytes in
-    let zero-add : (k : ℕ) → k ≡ 0 + k = λ k. omega arith in
-    (from-right (texts_of lines) width (length lines) 0 (first_state (length lines)) (text_from 0 lines) (point_at 0 0)
-    (text-is width (length lines) 0 lines (omega arith) (λ k lt. ap width (zero-add k)))
-    (source-bytes lines)).all
+    (from-right (texts_of lines) 0 (first_state (length lines)) (text_from 0 lines) (point_at 0 0)
+    (text-is lines)).all

@@ -1,9 +1,10 @@
 -- Where a lexeme of a C part begins, the lexer knows whether the open line of C is a directive.
-use Rattle.std.proofs.Common.{◌≡◌, ℕ, zero, suc, ◌+◌, Bool, true, false, ◌||◌, List, [], ◌∷◌, ◌++◌, length}
-use Rattle.std.proofs.Common.{Option, Some, None, refl, ap, sym, ◌∙◌, arith, subst, cond, get_or, drop, append_assoc, append-nil}
+use Rattle.std.proofs.Common.{arith}
+use Rattle.std.proofs.Common.{◌≡◌, ℕ, zero, suc, Bool, true, false, ◌||◌, List, [], ◌∷◌, ◌++◌, length}
+use Rattle.std.proofs.Common.{Option, Some, None, refl, ap, sym, ◌∙◌, subst, cond, drop, append_assoc, append-nil}
 use Rattle.std.specs.List.{list_any}
 use Rattle.std.proofs.lemmas.List.Folds.{list_any-append}
-use Rattle.tangle_lines.specs.Reading.{SourceLine, no_line}
+use Rattle.tangle_lines.specs.Reading.{SourceLine}
 use Rattle.tangle_text.specs.Text.{Cell, text_from, texts_of}
 use Rattle.tangle_lexer.specs.declared.tokens.Token.{Token}
 use Rattle.tangle_lexer.specs.declared.tokens.Token.TheVariants as token
@@ -28,7 +29,6 @@ use Rattle.tangle_lexer.proofs.lemmas.LexemeCases.{OpensLexeme, IsPlainKind, lex
 use Rattle.tangle_lexer.proofs.lemmas.PlainLexemes.{kind-plain, use-plain}
 use Rattle.tangle_lexer.proofs.lemmas.PlainTokens.{HasNone}
 use Rattle.tangle_lexer.proofs.laws.Points.{Point, point_at, after_cell, IsTextAt, text-is}
-use Rattle.tangle_lexer.proofs.lines.SourceBytes.{HasBytes, source-bytes}
 use Rattle.tangle_lexer.proofs.lines.OpenLines.{settled, directive-is}
 use Rattle.tangle_lexer.proofs.lines.LineSteps.{Judgement, Steps, no-steps, steps-append, front-open}
 use Rattle.tangle_lexer.proofs.lines.KindSteps.{Follows, kind-follows, use-follows, in_directive}
@@ -52,8 +52,7 @@ body-append (t ∷ ts) us h =
 
     by : (b : Bool) → last_body (ts ++ us) ≡ last_body ts ++ us
         → cond b (last_body (ts ++ us)) (t ∷ ts ++ us) ≡ cond b (last_body ts) (t ∷ ts) ++ us
-    by true h = h
-    by false h = refl
+    by x h = grind arith
 
 body-head : (ts : List Token) (t : Token) → is_head t ≡ true → last_body (ts ++ t ∷ []) ≡ []
 body-head [] t h = ap (λ b. cond (b || false) [] (t ∷ [])) h
@@ -61,8 +60,7 @@ body-head (u ∷ us) t h =
     ap (λ b. cond b (last_body (us ++ t ∷ [])) (u ∷ us ++ t ∷ [])) (by (is_head u) (list_any is_head us)) ∙ body-head us t h
   where
     last : (b : Bool) → (b || (is_head t || false)) ≡ true
-    last true = refl
-    last false = ap (λ x. x || false) h
+    last x = grind arith
 
     by : (a b : Bool) → (a || list_any is_head (us ++ t ∷ [])) ≡ true
     by true b = refl
@@ -89,15 +87,14 @@ module _ (texts : List (List ℕ)) where
 
   part-begins : (ts : List Token) (t : Token) → is_head t ≡ true → (b : Bool)
       → Steps texts (last-is b) line.Empty Ends (last_body (ts ++ t ∷ [])) line.Empty Ends
-  part-begins ts t head b = rw (body-head ts t head) (no-steps texts (last-is b) line.Empty Ends)
+  part-begins ts t head b = rw (body-head ts t head) (no-steps texts (last-is b))
 
   inside-law : (s : LexerState) (here : Lexeme) → s.mode ≡ mode.CPart → HasNone is_head here.tokens
       → ((b : Bool) → Follows texts (last-is b) s.line here.tokens here.after.line) → Law s here
   unfolding HasRead Law
   inside-law s here m none follows ts read n b =
       rw (body-append ts here.tokens none)
-      (steps-append texts (last-is b) line.Empty s.line.line here.after.line.line Ends s.line.at_line_end
-      here.after.line.at_line_end (last_body ts) here.tokens (read m b) (follows b))
+      (steps-append texts (last-is b) (last_body ts) here.tokens (read m b) (follows b))
 
   outside-law : (s : LexerState) (here : Lexeme) → is_c_part here.after.mode ≡ false → Law s here
   unfolding HasRead Law
@@ -108,88 +105,83 @@ module _ (texts : List (List ℕ)) where
   name-law None s text = outside-law s (definition_or_mention None s text) refl
   name-law (Some k) s text = λ ts read m. part-begins ts _ refl
 
-  module _ (width : ℕ → ℕ) (count : ℕ) where
-    inside-by : (m : Mode) (s : LexerState) (at : Point) (c : Cell) (cs : List Cell) (kind : LexemeKind)
-        → s.mode ≡ m → is_c_text m ≡ true → IsPlainKind kind → OpensLexeme kind (c ∷ cs)
-        → IsTextAt width count at (c ∷ cs) → HasBytes texts (c ∷ cs) → Law s (c_lexeme kind s (c ∷ cs))
-    inside-by mode.CPart s at c cs kind m within p o is bytes =
-        let plain = kind-plain kind s (c ∷ cs) p in
-        inside-law s (c_lexeme kind s (c ∷ cs)) m (no-heads (c_lexeme kind s (c ∷ cs)).tokens plain.tokens.none)
-        (λ b. kind-follows texts (last-is b) width count kind s at c cs m p o is bytes)
-    inside-by mode.Macro s at c cs kind m within p o is bytes =
-        let plain = kind-plain kind s (c ∷ cs) p in
-        outside-law s (c_lexeme kind s (c ∷ cs)) (ap is_c_part (plain.mode ∙ m))
-    inside-by mode.Limbo s at c cs kind m within p o is bytes = cc
-    inside-by mode.Documentation s at c cs kind m within p o is bytes = cc
+  inside-by : (m : Mode) (s : LexerState) (at : Point) (c : Cell) (cs : List Cell) (kind : LexemeKind)
+      → s.mode ≡ m → is_c_text m ≡ true → IsPlainKind kind → OpensLexeme kind (c ∷ cs)
+      → IsTextAt texts at (c ∷ cs) → Law s (c_lexeme kind s (c ∷ cs))
+  inside-by mode.CPart s at c cs kind m within p o is =
+      let plain = kind-plain kind s (c ∷ cs) p in
+      inside-law s (c_lexeme kind s (c ∷ cs)) m (no-heads (c_lexeme kind s (c ∷ cs)).tokens plain.tokens.none)
+      (λ b. kind-follows texts (last-is b) kind s at c cs m p o is)
+  inside-by mode.Macro s at c cs kind m within p o is =
+      let plain = kind-plain kind s (c ∷ cs) p in
+      outside-law s (c_lexeme kind s (c ∷ cs)) (ap is_c_part (plain.mode ∙ m))
+  inside-by mode.Limbo s at c cs kind m within p o is = cc
+  inside-by mode.Documentation s at c cs kind m within p o is = cc
 
-    lexeme-law : (s : LexerState) (at : Point) (c : Cell) (cs : List Cell)
-        → IsTextAt width count at (c ∷ cs) → HasBytes texts (c ∷ cs) → Law s (lexeme s (c ∷ cs))
-    unfolding HasRead Law
-    lexeme-law s at c cs is bytes =
-        let text : List Cell = c ∷ cs in
-        lexeme-by (Law s) s text (record {
-          section = outside-law s (section_start s) refl;
-          macro = λ o. outside-law s (documentation_code code.Macro s text) refl;
-          part = λ o ts read m. part-begins ts (token.UnnamedPart c.line) refl;
-          used = λ m o.
-              inside-law s (use_of_name s text) m
-              (no-heads (drop 1 (use_of_name s text).tokens) (use-plain s text).none)
-              (λ b. use-follows texts (last-is b) s text m);
-          name = λ out. name-law (definition_count text) s text;
-          limbo = λ m is_fault. outside-law s (limbo_code is_fault s text) (ap is_c_part m);
-          skip = λ out n. outside-law s (lexeme_of [] n s) (no-part s.mode out);
-          format = λ m. outside-law s (lexeme_of [] 1 (in_mode mode.Documentation s)) refl;
-          misplaced = λ m o. outside-law s (code_fault fault.MisplacedH s text) (ap is_c_part m);
-          inside = λ within kind p o. inside-by s.mode s at c cs kind refl within p o is bytes;
-        })
+  lexeme-law : (s : LexerState) (at : Point) (c : Cell) (cs : List Cell)
+      → IsTextAt texts at (c ∷ cs) → Law s (lexeme s (c ∷ cs))
+  unfolding HasRead Law
+  lexeme-law s at c cs is =
+      let text : List Cell = c ∷ cs in
+      lexeme-by (Law s) s text (record {
+        section = outside-law s (section_start s) refl;
+        macro = λ o. outside-law s (documentation_code code.Macro s text) refl;
+        part = λ o ts read m. part-begins ts (token.UnnamedPart c.line) refl;
+        used = λ m o.
+            inside-law s (use_of_name s text) m
+            (no-heads (drop 1 (use_of_name s text).tokens) (use-plain s text).none)
+            (λ b. use-follows texts (last-is b) s text m);
+        name = λ out. name-law (definition_count text) s text;
+        limbo = λ m is_fault. outside-law s (limbo_code is_fault s text) (ap is_c_part m);
+        skip = λ out n. outside-law s (lexeme_of [] n s) (no-part s.mode out);
+        format = λ m. outside-law s (lexeme_of [] 1 (in_mode mode.Documentation s)) refl;
+        misplaced = λ m o. outside-law s (code_fault fault.MisplacedH s text) (ap is_c_part m);
+        inside = λ within kind p o. inside-by s.mode s at c cs kind refl within p o is;
+      })
 
-    empty-kind : (l : LineOfC) → lines_of_c.is_directive (settled l false) ≡ lines_of_c.is_directive l
-    empty-kind line.Empty = refl
-    empty-kind line.AfterDirective = refl
-    empty-kind line.AfterOther = refl
-    empty-kind line.Directive = refl
-    empty-kind line.Other = refl
+  empty-kind : (l : LineOfC) → lines_of_c.is_directive (settled l false) ≡ lines_of_c.is_directive l
+  empty-kind l = grind arith
 
-    Knows : List Token → LexemeStart → Type 0
-    Knows ts here =
-        here.state.mode ≡ mode.CPart
-        → is_in_directive here.state ≡ is_directive texts (open_line texts (last_body ts))
+  Knows : List Token → LexemeStart → Type 0
+  Knows ts here =
+      here.state.mode ≡ mode.CPart
+      → is_in_directive here.state ≡ is_directive texts (open_line texts (last_body ts))
 
-    knows : (ts : List Token) (s : LexerState) (text : List Cell) → HasRead ts s
-        → Knows ts (record { state = s; text = text })
-    unfolding HasRead Knows last-is
-    knows ts s text read m =
-        let b : Bool = lines_of_c.is_directive s.line.line in
-        let last = (read m b).holds [] refl
-        (λ before is other. directive-is texts before ∙ ap lines_of_c.is_directive is.kind ∙ empty-kind s.line.line)
-        [] (front-open texts (last_body ts ++ [])) [] in
-        in_directive s m
-        ∙ sym (subst (λ us. is_directive texts (open_line texts us) ≡ b) (append-nil (last_body ts)) last)
+  knows : (ts : List Token) (s : LexerState) (text : List Cell) → HasRead ts s
+      → Knows ts (record { state = s; text = text })
+  unfolding HasRead Knows last-is
+  knows ts s text read m =
+      let b : Bool = lines_of_c.is_directive s.line.line in
+      let last = (read m b).holds [] refl
+      (λ before is other. directive-is texts before ∙ ap lines_of_c.is_directive is.kind ∙ empty-kind s.line.line)
+      [] (front-open texts (last_body ts ++ [])) [] in
+      in_directive s m
+      ∙ sym (subst (λ us. is_directive texts (open_line texts us) ≡ b) (append-nil (last_body ts)) last)
 
-    KnowsAll : List Token → List LexemeStart → Type 0
-    KnowsAll ts [] = Unit {0}
-    KnowsAll ts (here ∷ starts) = Knows ts here × KnowsAll (ts ++ (lexeme here.state here.text).tokens) starts
+  KnowsAll : List Token → List LexemeStart → Type 0
+  KnowsAll ts [] = Unit {0}
+  KnowsAll ts (here ∷ starts) = Knows ts here × KnowsAll (ts ++ (lexeme here.state here.text).tokens) starts
 
-    all-known : (k : ℕ) (s : LexerState) (text : List Cell) (at : Point) (ts : List Token)
-        → IsTextAt width count at text → HasBytes texts text → HasRead ts s
-        → KnowsAll ts (lexeme_starts k s text)
-    unfolding KnowsAll Law
-    all-known k s [] at ts is bytes read = tt
-    all-known (suc k) s (c ∷ cs) at ts is bytes read = all-known k s cs (after_cell c) ts is.1 bytes.1 read
-    all-known zero s (c ∷ cs) at ts is bytes read =
-        let here : Lexeme = lexeme s (c ∷ cs) in (
-          knows ts s (c ∷ cs) read,
-          all-known here.more here.after cs (after_cell c) (ts ++ here.tokens) is.1 bytes.1
-              (lexeme-law s at c cs is bytes ts read),
-        )
+  all-known : (k : ℕ) (s : LexerState) (text : List Cell) (at : Point) (ts : List Token)
+      → IsTextAt texts at text → HasRead ts s
+      → KnowsAll ts (lexeme_starts k s text)
+  unfolding KnowsAll Law
+  all-known k s [] at ts is read = tt
+  all-known (suc k) s (c ∷ cs) at ts is read = all-known k s cs (after_cell c) ts is.1 read
+  all-known zero s (c ∷ cs) at ts is read =
+      let here : Lexeme = lexeme s (c ∷ cs) in (
+        knows ts s (c ∷ cs) read,
+        all-known here.more here.after cs (after_cell c) (ts ++ here.tokens) is.1
+            (lexeme-law s at c cs is ts read),
+      )
 
-    known-at : (before after : List LexemeStart) (here : LexemeStart) (ts : List Token)
-        → KnowsAll ts (before ++ here ∷ after) → Knows (ts ++ tokens_of before) here
-    unfolding KnowsAll
-    known-at [] after here ts all = subst (λ us. Knows us here) (sym (append-nil ts)) all.0
-    known-at (b ∷ before) after here ts all =
-        subst (λ us. Knows us here) (append_assoc ts (lexeme b.state b.text).tokens (tokens_of before))
-        (known-at before after here (ts ++ (lexeme b.state b.text).tokens) all.1)
+  known-at : (before after : List LexemeStart) (here : LexemeStart) (ts : List Token)
+      → KnowsAll ts (before ++ here ∷ after) → Knows (ts ++ tokens_of before) here
+  unfolding KnowsAll
+  known-at [] after here ts all = subst (λ us. Knows us here) (sym (append-nil ts)) all.0
+  known-at (b ∷ before) after here ts all =
+      subst (λ us. Knows us here) (append_assoc ts (lexeme b.state b.text).tokens (tokens_of before))
+      (known-at before after here (ts ++ (lexeme b.state b.text).tokens) all.1)
 
 -- the lexemes of a source
 pub directives-known : (lines : List SourceLine) (before after : List LexemeStart) (here : LexemeStart)
@@ -199,10 +191,7 @@ pub directives-known : (lines : List SourceLine) (before after : List LexemeStar
     ≡ is_directive (texts_of lines) (open_line (texts_of lines) (last_body (tokens_of before)))
 unfolding HasRead Knows
 directives-known lines before after here split =
-    let width : ℕ → ℕ = λ n. length (get_or lines n no_line).bytes in
-    let zero-add : (k : ℕ) → k ≡ 0 + k = λ k. omega arith in
-    known-at (texts_of lines) width (length lines) before after here []
-    (subst (KnowsAll (texts_of lines) width (length lines) []) split
-    (all-known (texts_of lines) width (length lines) 0 (first_state (length lines)) (text_from 0 lines) (point_at 0 0) []
-    (text-is width (length lines) 0 lines (omega arith) (λ k lt. ap width (zero-add k)))
-    (source-bytes lines) (λ m. cc)))
+    known-at (texts_of lines) before after here []
+    (subst (KnowsAll (texts_of lines) []) split
+    (all-known (texts_of lines) 0 (first_state (length lines)) (text_from 0 lines) (point_at 0 0) []
+    (text-is lines) (λ m. cc)))

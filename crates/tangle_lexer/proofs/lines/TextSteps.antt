@@ -1,28 +1,28 @@
--- Quoted and verbatim texts are items of the open line of C, of which verbatim texts may end in a backslash.
-use Rattle.std.proofs.Common.{◌≡◌, ℕ, ◌+◌, ◌<◌, ◌≤◌, Bool, true, false, List, [], ◌∷◌, ◌++◌}
-use Rattle.std.proofs.Common.{refl, ap, sym, arith, subst, cond, if◌then◌else◌}
-use Rattle.std.specs.Prelude.{nat_lt}
-use Rattle.std.proofs.lemmas.Bool.Decides.{nat_tests}
+-- Texts that are cut are items of the open line of C: quoted texts, and verbatim texts, which may end in a backslash.
+use Rattle.std.proofs.Common.{◌≡◌, ℕ, zero, suc, ◌+◌, ◌-◌, ◌<◌, ◌≤◌, Bool, true, false, List, [], ◌∷◌, ◌++◌, ◌==◌, ◌⊎◌}
+use Rattle.std.proofs.Common.{inl, inr, refl, ap, sym, ◌∙◌, arith, subst, cond, if◌then◌else◌}
+use Rattle.std.specs.Prelude.{nat_lt, nat_le}
+use Rattle.std.proofs.lemmas.Bool.Decides.{nat_tests, eqb_tells}
 use Rattle.tangle_faults.specs.declared.faults.FaultKind.TheVariants as fault
-use Rattle.tangle_text.specs.declared.spans.Span.{Span}
 use Rattle.tangle_text.specs.declared.regions.Region.{Region}
-use Rattle.tangle_lines.specs.Bytes.{at_sign}
-use Rattle.tangle_text.specs.Bytes.{holds}
-use Rattle.tangle_text.specs.Text.{Cell}
+use Rattle.tangle_text.specs.declared.spans.Span.{Span}
+use Rattle.tangle_text.specs.Bytes.{backslash, holds}
 use Rattle.tangle_text.specs.Regions.{count_before}
-use Rattle.tangle_lexer.specs.declared.tokens.Token.{Token}
-use Rattle.tangle_lexer.specs.declared.tokens.SpanKind.TheVariants as span_kind
-use Rattle.tangle_lexer.specs.declared.tokens.Token.TheVariants as token
-use Rattle.tangle_lexer.specs.declared.modes.LineOfC.{LineOfC}
-use Rattle.tangle_lexer.specs.declared.modes.LineOfC.TheVariants as line
+use Rattle.tangle_text.specs.Text.{Cell}
+use Rattle.tangle_lines.specs.Bytes.{at_sign}
 use Rattle.tangle_lexer.specs.declared.modes.AtLineEnd.{AtLineEnd}
 use Rattle.tangle_lexer.specs.declared.modes.AtLineEnd.TheVariants.{Ends, GoesOn}
+use Rattle.tangle_lexer.specs.declared.modes.LineOfC.{LineOfC}
+use Rattle.tangle_lexer.specs.declared.tokens.SpanKind.TheVariants as span_kind
+use Rattle.tangle_lexer.specs.declared.tokens.Token.{Token}
+use Rattle.tangle_lexer.specs.declared.tokens.Token.TheVariants as token
 use Rattle.tangle_lexer.specs.LinesOfC.{with_item}
-use Rattle.tangle_lexer.specs.Lexemes.{fault_if}
 use Rattle.tangle_lexer.specs.Quoted.{range_token, cut_range, cut_tokens, quote_end}
-use Rattle.tangle_lexer.proofs.laws.Points.{Point, point_at, IsByte, IsTextAt, after-byte}
+use Rattle.tangle_lexer.specs.SpanBytes.{last_byte}
 use Rattle.tangle_lexer.proofs.laws.CutTexts.{IsCut, cut-by}
-use Rattle.tangle_lexer.proofs.lines.LineSteps.{Judgement, Steps, no-steps, steps-append, fault-step, item-step}
+use Rattle.tangle_lexer.proofs.laws.Points.{Point, point_at, source_byte, IsByte, IsCellAt, IsTextAt, text-next}
+use Rattle.tangle_lexer.proofs.laws.RegionOrder.{other-byte}
+use Rattle.tangle_lexer.proofs.lines.LineSteps.{Judgement, Steps, steps-append, fault-step, faults-step, item-step}
 
 less : (a b : ℕ) → a < b → nat_lt a b ≡ true
 less a b h = grind (arith, nat_tests)
@@ -31,130 +31,163 @@ not-less : (a b : ℕ) → b ≤ a → nat_lt a b ≡ false
 not-less a b h = grind (arith, nat_tests)
 
 -- a range that is not empty
-pub range-is : (r : Region) (l start end : ℕ) → start < end
+range-is : (r : Region) (l start end : ℕ) → start < end
     → cut_range r l start end ≡ range_token r (record { line = l; start = start; end = end }) ∷ []
 range-is r l start end h =
     ap (λ b. cond b (range_token r (record { line = l; start = start; end = end }) ∷ []) []) (less start end h)
 
-pub range-none : (r : Region) (l start end : ℕ) → end ≤ start → cut_range r l start end ≡ []
+range-none : (r : Region) (l start end : ℕ) → end ≤ start → cut_range r l start end ≡ []
 range-none r l start end h =
     ap (λ b. cond b (range_token r (record { line = l; start = start; end = end }) ∷ []) []) (not-less start end h)
 
-pub same-item : (l : LineOfC) → with_item false (with_item false l) ≡ with_item false l
-same-item line.Empty = refl
-same-item line.AfterDirective = refl
-same-item line.AfterOther = refl
-same-item line.Directive = refl
-same-item line.Other = refl
+same-item : (l : LineOfC) → with_item false (with_item false l) ≡ with_item false l
+same-item l = grind arith
 
 abbrev pub end_by : Bool → AtLineEnd
 end_by b = if b then GoesOn else Ends
 
+-- the last of the first `n` cells is a backslash; `last`: the cell before them is one
+abbrev pub last_cell : Bool → ℕ → List Cell → Bool
+last_cell last zero text = last
+last_cell last (suc n) [] = last
+last_cell last (suc n) (c ∷ cs) = last_cell (holds backslash c.byte) n cs
+
 module _ (texts : List (List ℕ)) (R : Judgement texts) where
-  pub faults-step : (b : Bool) (n : ℕ) (l : LineOfC) (e : AtLineEnd)
-      → Steps texts R l e (fault_if b fault.StringAt n) l e
-  faults-step true n l e = fault-step texts R fault.StringAt n l e refl
-  faults-step false n l e = no-steps texts R l e
+  -- the last byte of a range that is not empty
+  last-is : (l start end : ℕ) → start < end
+      → last_byte texts (record { line = l; start = start; end = end }) ≡ source_byte texts l (end - 1)
+  last-is l start end h =
+      let not_empty : nat_le end start ≡ false = grind (arith, nat_tests) in
+      ap (λ b. cond b 0 (source_byte texts l (end - 1))) not_empty
 
-  pub end-faults-step : (b : Bool) (n : ℕ) (l : LineOfC) (e : AtLineEnd)
-      → Steps texts R l e (fault_if b fault.VerbatimEnd n) l e
-  end-faults-step true n l e = fault-step texts R fault.VerbatimEnd n l e refl
-  end-faults-step false n l e = no-steps texts R l e
+  -- the byte before the column after a cell
+  after-byte-of : (at : Point) (c : Cell) → IsByte c.byte → IsCellAt texts at c
+      → (source_byte texts c.line (c.column + 1 - 1) == backslash) ≡ holds backslash c.byte
+  after-byte-of at c byte is = grind arith
 
-  -- a range of a quoted text is an item
-  module _ (width : ℕ → ℕ) (count : ℕ) (r : Region) (cut : IsCut r)
-      (quoted : (s : Span) → range_token r s ≡ token.Span span_kind.Quoted s) (l : LineOfC) (e : AtLineEnd) where
+  -- A text whose ranges are items. `ending` is what a line end after a range does, by whether the last byte of the
+  -- range is a backslash.
+  module _ (r : Region) (cut : IsCut r) (ending : Bool → AtLineEnd) (plain : Ends ≡ ending false)
+      (item : (s : Span) (x : LineOfC) (f : AtLineEnd)
+      → Steps texts R x f (range_token r s ∷ []) (with_item false x) (ending (last_byte texts s == backslash)))
+      (l : LineOfC) where
     abbrev m : LineOfC
     m = with_item false l
 
-    one-range : (x : LineOfC) (f : AtLineEnd) (s : Span) (ts : List Token) → with_item false x ≡ m
-        → Steps texts R m Ends ts m Ends → Steps texts R x f (range_token r s ∷ ts) m Ends
-    one-range x f s ts same more =
-        subst (λ t. Steps texts R x f (t ∷ ts) m Ends) (sym (quoted s))
-        (steps-append texts R x m m f Ends Ends (token.Span span_kind.Quoted s ∷ []) ts
-        (subst (λ y. Steps texts R x f (token.Span span_kind.Quoted s ∷ []) y Ends) same
-        (item-step texts R (token.Span span_kind.Quoted s) x f refl)) more)
+    -- a range that is not empty, which ends in a backslash or not
+    pub range-step : (x : LineOfC) (f : AtLineEnd) (line start end : ℕ) (b : Bool) → with_item false x ≡ m → start < end
+        → (source_byte texts line (end - 1) == backslash) ≡ b
+        → Steps texts R x f (cut_range r line start end) m (ending b)
+    range-step x f line start end b same h ends =
+        let s : Span = record { line = line; start = start; end = end } in
+        let is : (last_byte texts s == backslash) ≡ b = ap (λ n. n == backslash) (last-is line start end h) ∙ ends in
+        rw (range-is r line start end h)
+        (subst (λ y. Steps texts R x f (range_token r s ∷ []) y (ending b)) same
+        (subst (λ y. Steps texts R x f (range_token r s ∷ []) (with_item false x) (ending y)) is (item s x f)))
 
-    -- the tokens from the start of a range on
-    record AreQuoted (at : Point) (start : ℕ) (ts : List Token) (n : ℕ) (text : List Cell) : Type 0 where
-      pub after : Steps texts R m Ends ts m Ends
-      pub first : start < at.column → Steps texts R l e ts m Ends
+    -- The tokens from the start of a range on, before which the line is `x` and `f`, and `last` is whether a backslash
+    -- is before the text. If the range is empty so far, then there is more, or there is an item before it.
+    unfoldable pub IsCutFrom : Point → ℕ → List Token → ℕ → List Cell → Type 0
+    IsCutFrom at start ts n text =
+        (x : LineOfC) (f : AtLineEnd) (last : Bool) → with_item false x ≡ m
+        → (start < at.column → (source_byte texts at.line (at.column - 1) == backslash) ≡ last)
+        → (start ≡ at.column → (0 < n) ⊎ ((x ≡ m) × (f ≡ ending last)))
+        → Steps texts R x f ts m (ending (last_cell last n text))
 
-    full-range : (line start end : ℕ) (x : LineOfC) (f : AtLineEnd) (ts : List Token) → with_item false x ≡ m
-        → start < end → Steps texts R m Ends ts m Ends → Steps texts R x f (cut_range r line start end ++ ts) m Ends
-    full-range line start end x f ts same h more =
-        rw (range-is r line start end h) (one-range x f (record { line = line; start = start; end = end }) ts same more)
+    pub nothing-left : (x : LineOfC) (f : AtLineEnd) (last : Bool) → (0 < 0) ⊎ ((x ≡ m) × (f ≡ ending last))
+        → Steps texts R x f [] m (ending last)
+    nothing-left x f last y = grind arith
 
-    some-range : (line start end : ℕ) (ts : List Token)
-        → Steps texts R m Ends ts m Ends → Steps texts R m Ends (cut_range r line start end ++ ts) m Ends
-    some-range line start end ts more = by (nat_lt start end)
+    -- the range before a cell that ends the text, and a fault
+    pub stop-step : (at : Point) (start : ℕ) (c : Cell) (cs : List Cell) (faults : List Token)
+        → start ≤ at.column → IsCellAt texts at c → ((f : AtLineEnd) → Steps texts R m f faults m f)
+        → IsCutFrom at start (cut_range r c.line start c.column ++ faults) 0 (c ∷ cs)
+    unfolding IsCutFrom
+    stop-step at start c cs faults h is fault x f last same back done =
+        steps-append texts R (cut_range r c.line start c.column) faults
+        (elim (eqb_tells start at.column) [
+          | inl all ↦
+              rw (range-none r c.line start c.column (omega (arith, all.1, is.column)))
+              (nothing-left x f last (done all.1))
+          | inr some ↦
+              let more : start < at.column = omega (arith, h, some.1) in
+              range-step x f c.line start c.column last same (omega (arith, more, is.column))
+              (rw (is.line, is.column) (back more))
+        ])
+        (fault (ending last))
+
+    module _ (ends : ℕ → List Cell → List Token)
+        (stop : (at : Point) (start : ℕ) (text : List Cell) → start ≤ at.column → IsTextAt texts at text
+        → IsCutFrom at start (ends start text) 0 text) where
+      pub cut-from : (at : Point) (start : ℕ) (text : List Cell) → start ≤ at.column → IsTextAt texts at text
+          → IsCutFrom at start (cut_tokens ends r 0 start text) (count_before r text) text
+      unfolding IsCutFrom
+      cut-from =
+          cut-by texts r cut ends IsCutFrom stop
+          (λ at start c cs ts n h is byte alone next x f last same back done.
+          steps-append texts R _ ts (faults-step texts R (holds at_sign c.byte) fault.StringAt c.line refl)
+          (next x f (holds backslash c.byte) same (λ k. after-byte-of at c byte is)
+          (λ k. absurd (omega (arith, k, h, is.column)))))
+          (λ at start c d cs ts n h is cell byte second sign other next x f last same back done.
+          let no_end : holds backslash c.byte ≡ false = other-byte at_sign backslash c.byte refl sign in
+          let range : List Token = cut_range r c.line start (c.column + 1) in
+          subst (λ b. Steps texts R x f (range ++ ts) m (ending (last_cell b n cs)))
+          (sym (other-byte at_sign backslash d.byte refl other))
+          (steps-append texts R range ts
+          (range-step x f c.line start (c.column + 1) false same (omega (arith, h, is.column))
+          (after-byte-of at c byte is ∙ no_end))
+          (next m (ending false) false (same-item l) (λ k. absurd (omega (arith, k, cell.column)))
+          (λ k. inr (refl, refl)))))
+          (λ at start c d cs ts n h is cell byte second sign other next x f last same back done.
+          next x f (holds backslash d.byte) same (λ k. after-byte-of (point_at c.line (c.column + 1)) d second cell)
+          (λ k. absurd (omega (arith, k, h, is.column, cell.column))))
+          (λ at start c d cs ts n h is cell byte none other next x f last same back done.
+          let range : List Token = cut_range r c.line start (c.column + 1) in
+          let b : Bool = holds backslash c.byte in
+          subst (λ y. Steps texts R x f (range ++ token.QuoteBreak ∷ ts) m (ending (last_cell y n cs)))
+          (sym (ap (holds backslash) none))
+          (steps-append texts R range (token.QuoteBreak ∷ ts)
+          (range-step x f c.line start (c.column + 1) b same (omega (arith, h, is.column)) (after-byte-of at c byte is))
+          (steps-append texts R (token.QuoteBreak ∷ []) ts
+          (subst (λ y. Steps texts R m (ending b) (token.QuoteBreak ∷ []) y Ends) (same-item l)
+          (item-step texts R token.QuoteBreak refl))
+          (next m Ends false (same-item l) (λ k. absurd (omega (arith, k))) (λ k. inr (refl, plain))))))
+
+  -- quoted texts: no line end after one of their ranges goes on
+  module _ (r : Region) (cut : IsCut r) (quoted : (s : Span) → range_token r s ≡ token.Span span_kind.Quoted s)
+      (l : LineOfC) (e : AtLineEnd) where
+    quoted-item : (s : Span) (x : LineOfC) (f : AtLineEnd)
+        → Steps texts R x f (range_token r s ∷ []) (with_item false x) Ends
+    quoted-item s x f =
+        subst (λ t. Steps texts R x f (t ∷ []) (with_item false x) Ends) (sym (quoted s))
+        (item-step texts R (token.Span span_kind.Quoted s) refl)
+
+    quoted-stop : (close last : ℕ) (at : Point) (start : ℕ) (text : List Cell)
+        → start ≤ at.column → IsTextAt texts at text
+        → IsCutFrom r cut (λ b. Ends) refl quoted-item l at start (quote_end r close last start text) 0 text
+    unfolding IsCutFrom
+    quoted-stop close last at start [] h is x f before same back done =
+        steps-append texts R [] _
+        (nothing-left r cut (λ b. Ends) refl quoted-item l x f before (done (omega (arith, h, is))))
+        (fault-step texts R fault.StringEnd last refl)
+    quoted-stop close last at start (c ∷ cs) h is x f before same back done = by (holds close c.byte)
       where
-        by : (b : Bool)
-            → Steps texts R m Ends (cond b (range_token r (record { line = line; start = start; end = end }) ∷ []) [] ++ ts)
-            m Ends
-        by true = one-range m Ends (record { line = line; start = start; end = end }) ts (same-item l) more
-        by false = more
-
-    end-step : (n : ℕ) (x : LineOfC) (f : AtLineEnd) → Steps texts R x f (token.Fault fault.StringEnd n ∷ []) x f
-    end-step n x f = fault-step texts R fault.StringEnd n x f refl
-
-    break-step : (ts : List Token)
-        → Steps texts R m Ends ts m Ends → Steps texts R m Ends (token.QuoteBreak ∷ ts) m Ends
-    break-step ts more =
-        steps-append texts R m m m Ends Ends Ends (token.QuoteBreak ∷ []) ts
-        (subst (λ y. Steps texts R m Ends (token.QuoteBreak ∷ []) y Ends) (same-item l)
-        (item-step texts R token.QuoteBreak m Ends refl)) more
-
-    stop-quoted : (close last : ℕ) (at : Point) (start : ℕ) (text : List Cell)
-        → start ≤ at.column → IsTextAt width count at text
-        → AreQuoted at start (quote_end r close last start text) 0 text
-    stop-quoted close last at start [] h is = record {
-      after = end-step last m Ends;
-      first = λ k. absurd (omega (arith, is, k));
-    }
-    stop-quoted close last at start (c ∷ cs) h is = by (holds close c.byte)
-      where
-        by : (b : Bool) → AreQuoted at start
+        by : (b : Bool) → Steps texts R x f
             (cond b (cut_range r c.line start (c.column + 1))
-            (cut_range r c.line start c.column ++ token.Fault fault.StringEnd c.line ∷ [])) 0 (c ∷ cs)
-        by true = record {
-          after = rw (range-is r c.line start (c.column + 1) (omega (arith, h, is.0.column)))
-              (one-range m Ends _ [] (same-item l) (no-steps texts R m Ends));
-          first = λ k. rw (range-is r c.line start (c.column + 1) (omega (arith, h, is.0.column)))
-              (one-range l e _ [] refl (no-steps texts R m Ends));
-        }
-        by false = record {
-          after = some-range c.line start c.column _ (end-step c.line m Ends);
-          first = λ k. full-range c.line start c.column l e _ refl (omega (arith, k, is.0.column)) (end-step c.line m Ends);
-        }
-
-    cut-quoted : (close last : ℕ) (at : Point) (start : ℕ) (text : List Cell)
-        → start ≤ at.column → IsTextAt width count at text
-        → AreQuoted at start (cut_tokens (quote_end r close last) r 0 start text) (count_before r text) text
-    cut-quoted close last =
-        cut-by width count r cut (quote_end r close last) AreQuoted (stop-quoted close last)
-        (λ at start c cs ts n h is byte alone more. record {
-          after = steps-append texts R m m m Ends Ends Ends _ ts (faults-step (holds at_sign c.byte) c.line m Ends) more.after;
-          first = λ k. steps-append texts R l l m e e Ends _ ts (faults-step (holds at_sign c.byte) c.line l e)
-              (more.first (omega (arith, h, is.column)));
-        })
-        (λ at start c d cs ts n h is cell byte second sign same more. record {
-          after = some-range c.line start (c.column + 1) ts more.after;
-          first = λ k. full-range c.line start (c.column + 1) l e ts refl (omega (arith, h, is.column)) more.after;
-        })
-        (λ at start c d cs ts n h is cell byte second other same more. record {
-          after = more.after;
-          first = λ k. more.first (omega (arith, k, is.column, cell.column));
-        })
-        (λ at start c d cs ts n h is cell byte none other more. record {
-          after = some-range c.line start (c.column + 1) _ (break-step ts more.after);
-          first = λ k. full-range c.line start (c.column + 1) l e _ refl (omega (arith, h, is.column))
-              (break-step ts more.after);
-        })
+            (cut_range r c.line start c.column ++ token.Fault fault.StringEnd c.line ∷ [])) (with_item false l) Ends
+        by true =
+            range-step r cut (λ b. Ends) refl quoted-item l x f c.line start (c.column + 1) _ same
+            (omega (arith, h, is.0.column)) refl
+        by false =
+            stop-step r cut (λ b. Ends) refl quoted-item l at start c cs
+            (token.Fault fault.StringEnd c.line ∷ []) h is.0
+            (λ g. fault-step texts R fault.StringEnd c.line refl) x f before same back done
 
     pub quoted-steps : (close last : ℕ) (at : Point) (c : Cell) (cs : List Cell)
-        → IsTextAt width count at (c ∷ cs) → IsByte c.byte
-        → Steps texts R l e (cut_tokens (quote_end r close last) r 0 c.column cs) m Ends
+        → IsTextAt texts at (c ∷ cs) → IsByte c.byte
+        → Steps texts R l e (cut_tokens (quote_end r close last) r 0 c.column cs) (with_item false l) Ends
+    unfolding IsCutFrom
     quoted-steps close last at c cs is byte =
-        let text = subst (λ p. IsTextAt width count p cs) (after-byte c byte) is.1 in
-        (cut-quoted close last (point_at c.line (c.column + 1)) c.column cs (omega arith) text).first (omega arith)
+        cut-from r cut (λ b. Ends) refl quoted-item l (quote_end r close last) (quoted-stop close last)
+        (point_at c.line (c.column + 1)) c.column cs (omega arith) (text-next texts at c cs is byte) l e
+        (holds backslash c.byte) refl (λ k. after-byte-of at c byte is.0) (λ k. absurd (omega (arith, k)))

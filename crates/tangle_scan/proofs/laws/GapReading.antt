@@ -1,13 +1,13 @@
 -- What a C compiler reads of gaps that are written one after another.
-use Rattle.std.proofs.Common.{◌≡◌, ℕ, Bool, true, false, ◌&&◌, ◌==◌, not, List, [], ◌∷◌, ◌++◌, Option, Some, refl, ap}
-use Rattle.std.proofs.Common.{codes, ◌∙◌, sym, append_assoc, if◌then◌else◌}
+use Rattle.std.proofs.Common.{arith}
+use Rattle.std.proofs.Common.{◌≡◌, ℕ, Bool, false, ◌&&◌, ◌==◌, not, List, [], ◌∷◌, ◌++◌, Option, Some, refl, ap}
+use Rattle.std.proofs.Common.{◌∙◌, sym, append_assoc, if◌then◌else◌}
 use Rattle.std.proofs.lemmas.List.Elements.{filter-append}
 use Rattle.std.proofs.Math.Bool.{and-true, and-false}
 use Rattle.tangle_files.specs.Bytes.{space, line_feed}
 use Rattle.tangle_text.specs.Bytes.{backslash}
 use Rattle.tangle_lines.specs.declared.origin.Origin.{Origin}
 use Rattle.tangle_lexer.specs.declared.tokens.Token.{Token}
-use Rattle.tangle_lexer.specs.declared.tokens.Token.TheVariants as token
 use Rattle.tangle_scan.specs.Rules.{is_front_gap, is_name_part, is_continued}
 use Rattle.tangle_scan.specs.ReadAsMeant.{Gap, Space, LineFeed, TakenOut, Mark, gap_bytes, as_read, is_empty}
 use Rattle.tangle_scan.specs.ReadAsMeant.{without_spaces, IsReadAs}
@@ -25,11 +25,7 @@ read-append after (x ∷ gap) more = rw (and-false after) (by after x (read-appe
   where
     by : (after : Bool) (x : Gap) → as_read false (gap ++ more) ≡ as_read false gap ++ as_read false more
         → as_read after (x ∷ (gap ++ more)) ≡ as_read after (x ∷ gap) ++ as_read false more
-    by after Space h = ap (λ bytes. space ∷ bytes) h
-    by after TakenOut h = h
-    by true LineFeed h = h
-    by true (Mark origin) h = ap (λ bytes. codes "#line" ++ bytes) h
-    by false x h = ap (λ bytes. line_feed ∷ bytes) h
+    by after x h = grind arith
 
 pub spaces-append : (xs ys : List ℕ) → without_spaces (xs ++ ys) ≡ without_spaces xs ++ without_spaces ys
 spaces-append xs ys = filter-append (λ b. not (b == space)) xs ys
@@ -61,9 +57,4 @@ pub item-as-meant : (texts : List (List ℕ)) (mark : Origin → List ℕ) (used
     → IsReadAs meant (as_read (is_continued texts before) gap) (needs_white texts in_name meant before e)
     → AreReadAsMeant texts mark used line_end AtEnd (in_name && is_empty meant && is_name_part e) [] (Some e) es rest
     → AreReadAsMeant texts mark used line_end AtEnd in_name meant before (e ∷ es) bytes
-item-as-meant texts mark used line_end AtEnd in_name meant before token.White es gap rest bytes item is read next =
-    absurd cc
-item-as-meant texts mark used line_end AtEnd in_name meant before (token.LineEnd line) es gap rest bytes item is read next =
-    absurd cc
-item-as-meant texts mark used line_end AtEnd in_name meant before _ es gap rest bytes item is read next =
-    (gap, rest, is, read, next)
+item-as-meant texts mark used line_end x in_name meant before y es gap rest bytes item is read next = grind arith

@@ -1,16 +1,15 @@
 -- If tokens follow one another line by line, their items are at their own lines.
-use Rattle.std.proofs.Common.{◌≡◌, ℕ, ◌+◌, ◌<◌, Bool, true, false, not, ◌&&◌, ◌||◌, cond, if◌then◌else◌, Option, Some}
+use Rattle.std.proofs.Common.{◌≡◌, ℕ, ◌+◌, ◌<◌, Bool, true, false, not, ◌&&◌, ◌||◌, if◌then◌else◌, Option, Some}
 use Rattle.std.proofs.Common.{None, is_some}
 use Rattle.std.proofs.Common.{List, [], ◌∷◌, ◌++◌, length, refl, ap, sym, ◌∙◌, arith, subst, append_assoc, append-nil}
 use Rattle.std.proofs.Common.{inl, inr, map}
-use Rattle.std.proofs.lemmas.List.{map-append}
+use Rattle.std.proofs.lemmas.List.{map-append, length-map}
 use Rattle.std.specs.List.{AllZip, list_all}
 use Rattle.std.proofs.lemmas.List.Folds.{list_all-append}
 use Rattle.std.proofs.lemmas.Bool.Decides.{leb_tells}
 use Rattle.tangle_lines.specs.declared.origin.Origin.{Origin}
 use Rattle.tangle_lexer.specs.declared.tokens.Token.{Token}
 use Rattle.tangle_lexer.specs.declared.tokens.SpanKind.{SpanKind}
-use Rattle.tangle_lexer.specs.declared.tokens.SpanKind.TheVariants as span_kind
 use Rattle.tangle_text.specs.declared.spans.Span.{Span}
 use Rattle.tangle_lexer.specs.declared.tokens.Token.TheVariants as token
 use Rattle.tangle_scan.specs.declared.items.Item.{Item}
@@ -24,47 +23,43 @@ use Rattle.tangle_scan.specs.LineTruth.{is_expected, counted_after_line_end}
 use Rattle.tangle_scan.specs.LineTruth.{CountedItem, counted_items, has_line_end, left_or_join, locations}
 use Rattle.tangle_scan.specs.LineTruth.{part_locations, IsOwn, IsAtItsLine}
 use Rattle.tangle_scan.specs.Passes.{counted_after_token, items_by_origin}
-use Rattle.tangle_scan.proofs.laws.TokenSteps.{line_past, Flows}
+use Rattle.tangle_lexer.proofs.laws.TokenOrder.{line_past, AreByLine}
 use Rattle.tangle_scan.proofs.lemmas.ItemsByOrigin.{part_items-by_origin, same_origin-either}
 
 -- leaving out faults, or adding the white space of rule 1, does not change the lines
 
-without_faults-flows : (count : ℕ) (es : List Token) (line : ℕ)
-    → Flows count line es → Flows count line (without_faults es)
-without_faults-flows count [] line f = f
-without_faults-flows count (token.Fault kind at ∷ es) line f = without_faults-flows count es line f.1
-without_faults-flows count (e ∷ es) line f = (f.0, without_faults-flows count es (line_past line e) f.1)
+without_faults-by_line : (texts : List (List ℕ)) (es : List Token) (line : ℕ)
+    → AreByLine texts line es → AreByLine texts line (without_faults es)
+without_faults-by_line texts [] line h = h
+without_faults-by_line texts (token.Fault kind at ∷ es) line h = without_faults-by_line texts es line h.1
+without_faults-by_line texts (e ∷ es) line h = (h.0, without_faults-by_line texts es (line_past line e) h.1)
 
-white-flows : (count : ℕ) (b : Bool) (line : ℕ) (es : List Token) → Flows count line es
-    → Flows count line ((if b then token.White ∷ [] else []) ++ es)
-white-flows count true line es f = (tt, f)
-white-flows count false line es f = f
+white-by_line : (texts : List (List ℕ)) (b : Bool) (line : ℕ) (es : List Token) → AreByLine texts line es
+    → AreByLine texts line ((if b then token.White ∷ [] else []) ++ es)
+white-by_line texts x line es h = grind arith
 
-with_spaces-flows : (texts : List (List ℕ)) (count : ℕ) (es : List Token) (line : ℕ)
-    → Flows count line es → Flows count line (with_spaces texts es)
-with_spaces-flows texts count [] line f = f
-with_spaces-flows texts count (e ∷ []) line f = f
-with_spaces-flows texts count (e ∷ g ∷ es) line f = (
-  f.0,
-  white-flows count (would_merge texts e g) (line_past line e) (with_spaces texts (g ∷ es))
-      (with_spaces-flows texts count (g ∷ es) (line_past line e) f.1),
+with_spaces-by_line : (texts : List (List ℕ)) (es : List Token) (line : ℕ)
+    → AreByLine texts line es → AreByLine texts line (with_spaces texts es)
+with_spaces-by_line texts [] line h = h
+with_spaces-by_line texts (e ∷ []) line h = h
+with_spaces-by_line texts (e ∷ g ∷ es) line h = (
+  h.0,
+  white-by_line texts (would_merge texts e g) (line_past line e) (with_spaces texts (g ∷ es))
+      (with_spaces-by_line texts (g ∷ es) (line_past line e) h.1),
 )
 
 -- rule 1 puts the same white space where line ends of a directive are white space
 
 inner-constant : (e : Token) → is_constant (white_inner_end e) ≡ is_constant e
-inner-constant (token.InnerLineEnd line) = refl
-inner-constant _ = refl
+inner-constant x = grind arith
 
 inner-merges : (texts : List (List ℕ)) (e : Token) → may_merge texts (white_inner_end e) ≡ may_merge texts e
-inner-merges texts (token.InnerLineEnd line) = refl
-inner-merges texts _ = refl
+inner-merges texts x = grind arith
 
 inner-spaces : (b : Bool) (es : List Token)
     → map white_inner_end ((if b then token.White ∷ [] else []) ++ es)
     ≡ (if b then token.White ∷ [] else []) ++ map white_inner_end es
-inner-spaces true es = refl
-inner-spaces false es = refl
+inner-spaces x es = grind arith
 
 inner-spaced : (texts : List (List ℕ)) (es : List Token)
     → with_spaces texts (map white_inner_end es) ≡ map white_inner_end (with_spaces texts es)
@@ -102,10 +97,10 @@ line_after_tokens-same line (token.LineEnd at ∷ run) g h = cc
 line_after_tokens-same line (token.InnerLineEnd at ∷ run) g h = cc
 line_after_tokens-same line (_ ∷ run) g h = cc
 
-flows-after : (count line : ℕ) (run es : List Token)
-    → Flows count line (run ++ es) → Flows count (line_after_tokens line run) es
-flows-after count line [] es f = f
-flows-after count line (e ∷ run) es f = flows-after count (line_past line e) run es f.1
+by_line-after : (texts : List (List ℕ)) (line : ℕ) (run es : List Token)
+    → AreByLine texts line (run ++ es) → AreByLine texts (line_after_tokens line run) es
+by_line-after texts line [] es h = h
+by_line-after texts line (e ∷ run) es h = by_line-after texts (line_past line e) run es h.1
 
 -- after a line end that begins no stretch the counted origin is that of the next line, if there is one
 counted_after_line_end-next : (lines : List SourceLine) (continued : Bool) (counted : Origin) (line : ℕ)
@@ -124,15 +119,12 @@ counted_after_line_end-next lines continued counted line out inside =
     by : (b same : Bool) → (b && not same) ≡ false
         → (if same then next_line counted else origin_at lines (line + 1)) ≡ origin_at lines (line + 1)
         → (if b || same then next_line counted else origin_at lines (line + 1)) ≡ origin_at lines (line + 1)
-    by true true h e = e
-    by true false h e = cc
-    by false same h e = e
+    by x same h e = grind arith
 
 span-counted : (origin : Option Origin) (kind : SpanKind) (s : Span) (items : List Item)
     → counted_items origin (span_item kind s ∷ items)
     ≡ record { item = span_item kind s; origin = origin } ∷ counted_items origin items
-span-counted origin span_kind.Word s items = refl
-span-counted origin _ s items = refl
+span-counted origin x s items = grind arith
 
 module _ (lines : List SourceLine) where
   abbrev texts : List (List ℕ)
@@ -148,15 +140,7 @@ module _ (lines : List SourceLine) where
   seen-line_end : (before : Option Token) (counted : Origin) (line : ℕ) (es : List Token)
       → seen before counted (token.LineEnd line ∷ es)
       ≡ seen (at_line_front texts before line) (counted_after before counted line) es
-  seen-line_end before counted line es = by (is_continued texts before || is_expected lines counted line)
-    where
-      by : (b : Bool) → let after : Origin = cond b (next_line counted) (origin_at lines (line + 1)) in
-          counted_items (Some counted)
-          (cond b item.LineEnd (item.LineMark (origin_at lines (line + 1)))
-          ∷ items_by_origin lines (at_line_front texts before line) after es)
-          ≡ seen (at_line_front texts before line) after es
-      by true = refl
-      by false = refl
+  seen-line_end before counted line es = grind arith
 
   -- two lists of tokens have the same source items with the same counted origins, after any token and origin
   abbrev AreSeenAlike : List Token → List Token → Type 0
@@ -179,8 +163,7 @@ module _ (lines : List SourceLine) where
   blanks-seen left white [] before counted = end (is_open texts left)
     where
       end : (b : Bool) → seen before counted (if b then token.White ∷ [] else []) ≡ seen before counted []
-      end true = refl
-      end false = refl
+      end x = grind arith
   blanks-seen left white (token.White ∷ es) before counted = blanks-seen left true es before counted
   blanks-seen left white (token.LineEnd line ∷ es) before counted =
       let rest : List Token = blanks texts (at_line_front texts left line) false es in
@@ -191,8 +174,7 @@ module _ (lines : List SourceLine) where
     where
       blank : (b : Bool) → let rest : List Token = e ∷ blanks texts (Some e) false es in
           seen before counted ((if b then token.White ∷ [] else []) ++ rest) ≡ seen before counted rest
-      blank true = refl
-      blank false = refl
+      blank x = grind arith
 
   -- outside stretches the counted origin is that of this source line, if there is such a line
   abbrev IsCounted : Origin → Bool → ℕ → Type 0
@@ -203,71 +185,74 @@ module _ (lines : List SourceLine) where
   abbrev AreTrue : List Token → List Token → List Token → Type 0
   AreTrue es fs gs =
       (before : Option Token) (counted : Origin) (stretch : Bool) (line : ℕ)
-      → IsCounted counted stretch line → Flows (length lines) line es
+      → IsCounted counted stretch line → AreByLine texts line es
       → AllZip (IsOwn lines) (seen before counted fs) (locations lines before counted stretch gs)
 
   own : (counted : Origin) (stretch : Bool) (line at : ℕ) (i : Item)
-      → at ≡ line → IsCounted counted stretch line → line < length lines
+      → at ≡ line → IsCounted counted stretch line → line < length texts
       → IsOwn lines (record { item = i; origin = Some counted }) (record { item = i; line = at; in_stretch = stretch })
-  own counted stretch line at i e here inside = record {
-    item = refl;
-    line = omega (arith, e, inside);
-    origin = λ out. ap Some (here out inside ∙ ap (origin_at lines) (sym e));
-  }
+  own counted stretch line at i e here real =
+      let inside : line < length lines = omega (arith, real, length-map lines (λ l. l.bytes)) in
+      record {
+        item = refl;
+        line = omega (arith, e, inside);
+        origin = λ out. ap Some (here out inside ∙ ap (origin_at lines) (sym e));
+      }
 
   -- one token other than a join, white space and a line end, before others
   first-true : (e : Token) (es fs gs : List Token)
       → is_gap e ≡ false → AreTrue es fs gs → AreTrue (e ∷ es) (e ∷ fs) (e ∷ gs)
-  first-true token.Join es fs gs gap next before counted stretch line here flows = cc
-  first-true token.White es fs gs gap next before counted stretch line here flows = cc
-  first-true (token.LineEnd at) es fs gs gap next before counted stretch line here flows = cc
-  first-true (token.InnerLineEnd at) es fs gs gap next before counted stretch line here flows = cc
-  first-true token.QuoteBreak es fs gs gap next before counted stretch line here flows =
-      next (Some token.QuoteBreak) (next_line counted) true (line + 1) (λ e. absurd cc) flows.1
-  first-true (token.UseOf at occurrence) es fs gs gap next before counted stretch line here flows =
-      next (Some (token.UseOf at occurrence)) (origin_at lines at) false at (λ e i. refl) flows.1
-  first-true (token.AllMacros at) es fs gs gap next before counted stretch line here flows =
-      next (Some (token.AllMacros at)) (origin_at lines at) false line (λ e i. ap (origin_at lines) flows.0) flows.1
-  first-true (token.Span kind s) es fs gs gap next before counted stretch line here flows =
+  first-true token.Join es fs gs gap next before counted stretch line here ordered = cc
+  first-true token.White es fs gs gap next before counted stretch line here ordered = cc
+  first-true (token.LineEnd at) es fs gs gap next before counted stretch line here ordered = cc
+  first-true (token.InnerLineEnd at) es fs gs gap next before counted stretch line here ordered = cc
+  first-true token.QuoteBreak es fs gs gap next before counted stretch line here ordered =
+      next (Some token.QuoteBreak) (next_line counted) true (line + 1) (λ e. absurd cc) ordered.1
+  first-true (token.UseOf at occurrence) es fs gs gap next before counted stretch line here ordered =
+      next (Some (token.UseOf at occurrence)) (origin_at lines at) false at (λ e i. refl) ordered.1
+  first-true (token.AllMacros at) es fs gs gap next before counted stretch line here ordered =
+      next (Some (token.AllMacros at)) (origin_at lines at) false line (λ e i. ap (origin_at lines) ordered.0) ordered.1
+  first-true (token.Span kind s) es fs gs gap next before counted stretch line here ordered =
       rw span-counted (
-        own counted stretch line s.line (span_item kind s) flows.0.0 here flows.0.1,
-        next (Some (token.Span kind s)) counted stretch line here flows.1,
+        own counted stretch line s.line (span_item kind s) ordered.0.0 here
+            (subst (λ l. l < length texts) ordered.0.0 ordered.0.1.line),
+        next (Some (token.Span kind s)) counted stretch line here ordered.1,
       )
-  first-true (token.AsciiConstant b at) es fs gs gap next before counted stretch line here flows = (
-    own counted stretch line at (item.Code b) flows.0.0 here flows.0.1,
-    next (Some (token.AsciiConstant b at)) counted stretch line here flows.1,
+  first-true (token.AsciiConstant b at) es fs gs gap next before counted stretch line here ordered = (
+    own counted stretch line at (item.Code b) ordered.0.0 here ordered.0.1,
+    next (Some (token.AsciiConstant b at)) counted stretch line here ordered.1,
   )
-  first-true e es fs gs gap next before counted stretch line here flows =
-      next (Some e) counted stretch (line_past line e) here flows.1
+  first-true e es fs gs gap next before counted stretch line here ordered =
+      next (Some e) counted stretch (line_past line e) here ordered.1
 
   -- a run that rule 2 does not remove, before other tokens
   kept-true : (run es fs gs : List Token)
       → AreGaps run → has_join run ≡ false → AreTrue es fs gs
       → AreTrue (run ++ es) (map white_inner_end run ++ fs) (run ++ gs)
-  kept-true [] es fs gs gaps none next before counted stretch line here flows =
-      next before counted stretch line here flows
-  kept-true (token.Join ∷ run) es fs gs gaps none next before counted stretch line here flows = cc
-  kept-true (token.White ∷ run) es fs gs gaps none next before counted stretch line here flows =
-      kept-true run es fs gs gaps none next before counted stretch line here flows.1
-  kept-true (token.InnerLineEnd at ∷ run) es fs gs gaps none next before counted stretch line here flows =
-      kept-true run es fs gs gaps none next before counted true (line + 1) (λ e. absurd cc) flows.1
-  kept-true (token.LineEnd at ∷ run) es fs gs gaps none next before counted stretch line here flows =
+  kept-true [] es fs gs gaps none next before counted stretch line here ordered =
+      next before counted stretch line here ordered
+  kept-true (token.Join ∷ run) es fs gs gaps none next before counted stretch line here ordered = cc
+  kept-true (token.White ∷ run) es fs gs gaps none next before counted stretch line here ordered =
+      kept-true run es fs gs gaps none next before counted stretch line here ordered.1
+  kept-true (token.InnerLineEnd at ∷ run) es fs gs gaps none next before counted stretch line here ordered =
+      kept-true run es fs gs gaps none next before counted true (line + 1) (λ e. absurd cc) ordered.1
+  kept-true (token.LineEnd at ∷ run) es fs gs gaps none next before counted stretch line here ordered =
       let continued : Bool = is_continued texts before in
       let begins : Bool = continued && not (is_expected lines counted at) in
       let after : IsCounted (counted_after before counted at) begins (line + 1) =
       λ out inside.
-      counted_after_line_end-next lines continued counted at out (omega (arith, flows.0, inside))
-      ∙ ap (λ l. origin_at lines (l + 1)) flows.0 in
+      counted_after_line_end-next lines continued counted at out (omega (arith, ordered.0, inside))
+      ∙ ap (λ l. origin_at lines (l + 1)) ordered.0 in
       rw (seen-line_end before counted at (map white_inner_end run ++ fs))
       (kept-true run es fs gs gaps none next (at_line_front texts before at)
-      (counted_after before counted at) begins (line + 1) after flows.1)
-  kept-true (_ ∷ run) es fs gs gaps none next before counted stretch line here flows = absurd cc
+      (counted_after before counted at) begins (line + 1) after ordered.1)
+  kept-true (_ ∷ run) es fs gs gaps none next before counted stretch line here ordered = absurd cc
 
   -- what rule 2 leaves of a run, before other tokens
   run-true : (run es fs gs : List Token)
       → AreGaps run → AreTrue es fs gs
       → AreTrue (run ++ es) (left_of_run (map white_inner_end run) ++ fs) (left_or_join run ++ gs)
-  run-true run es fs gs gaps next before counted stretch line here flows =
+  run-true run es fs gs gaps next before counted stretch line here ordered =
       rw (inner-join run) (by (has_join run) refl (has_line_end run) refl)
     where
       by : (j : Bool) → has_join run ≡ j → (b : Bool) → has_line_end run ≡ b
@@ -275,12 +260,12 @@ module _ (lines : List SourceLine) where
           (locations lines before counted stretch ((if j then (if b then token.Join ∷ [] else []) else run) ++ gs))
       by true joined true ends =
           next before counted true (line_after_tokens line run)
-          (λ e. absurd cc) (flows-after (length lines) line run es flows)
+          (λ e. absurd cc) (by_line-after texts line run es ordered)
       by true joined false ends =
           next before counted stretch (line_after_tokens line run)
           (subst (IsCounted counted stretch) (sym (line_after_tokens-same line run gaps ends)) here)
-          (flows-after (length lines) line run es flows)
-      by false none b ends = kept-true run es fs gs gaps none next before counted stretch line here flows
+          (by_line-after texts line run es ordered)
+      by false none b ends = kept-true run es fs gs gaps none next before counted stretch line here ordered
 
   -- rule 2 for all tokens of a part
   abbrev RunsAreTrue : List Token → List Token → Type 0
@@ -300,36 +285,30 @@ module _ (lines : List SourceLine) where
       (subst (λ r. AreTrue ((run ++ e ∷ []) ++ es) (left r) right) (map-append white_inner_end run (e ∷ [])) h)
 
   map_runs-true : (run es : List Token) → AreGaps run → RunsAreTrue run es
-  map_runs-true run [] gaps before counted stretch line here flows =
+  map_runs-true run [] gaps = λ before counted stretch line here ordered.
       rw (← append-nil (left_of_run (map white_inner_end run)), ← append-nil (left_or_join run))
-      (run-true run [] [] [] gaps (λ b c s l h f. tt) before counted stretch line here flows)
-  map_runs-true run (token.Join ∷ es) gaps before counted stretch line here flows =
+      (run-true run [] [] [] gaps (λ b c s l h f. tt) before counted stretch line here ordered)
+  map_runs-true run (token.Join ∷ es) gaps =
       run-pushed run token.Join es (map_runs-true (run ++ token.Join ∷ []) es (gaps-push run token.Join gaps refl))
-      before counted stretch line here flows
-  map_runs-true run (token.White ∷ es) gaps before counted stretch line here flows =
+  map_runs-true run (token.White ∷ es) gaps =
       run-pushed run token.White es (map_runs-true (run ++ token.White ∷ []) es (gaps-push run token.White gaps refl))
-      before counted stretch line here flows
-  map_runs-true run (token.LineEnd at ∷ es) gaps before counted stretch line here flows =
+  map_runs-true run (token.LineEnd at ∷ es) gaps =
       run-pushed run (token.LineEnd at) es
       (map_runs-true (run ++ token.LineEnd at ∷ []) es (gaps-push run (token.LineEnd at) gaps refl))
-      before counted stretch line here flows
-  map_runs-true run (token.InnerLineEnd at ∷ es) gaps before counted stretch line here flows =
+  map_runs-true run (token.InnerLineEnd at ∷ es) gaps =
       run-pushed run (token.InnerLineEnd at) es
       (map_runs-true (run ++ token.InnerLineEnd at ∷ []) es (gaps-push run (token.InnerLineEnd at) gaps refl))
-      before counted stretch line here flows
-  map_runs-true run (e ∷ es) gaps before counted stretch line here flows =
+  map_runs-true run (e ∷ es) gaps =
       let left : List Token = map_runs left_of_run [] (map white_inner_end es) in
       let right : List Token = map_runs left_or_join [] es in
       run-true run (e ∷ es) (e ∷ left) (e ∷ right) gaps (first-true e es left right refl (map_runs-true [] es refl))
-      before counted stretch line here flows
 
   -- the items of a part are at their own lines if its tokens follow line by line from the opening mark on
-  pub part-true : (line : ℕ) (es : List Token) → Flows (length lines) line es
+  pub part-true : (line : ℕ) (es : List Token) → AreByLine texts line es
       → IsAtItsLine lines (origin_at lines line) (part_items lines line es) (part_locations lines line es)
-  part-true line es flows =
+  part-true line es ordered =
       let clean : List Token = without_faults es in
-      let spaced : Flows (length lines) line (with_spaces (texts_of lines) clean) =
-      with_spaces-flows (texts_of lines) (length lines) clean line (without_faults-flows (length lines) es line flows) in
+      let spaced = with_spaces-by_line texts clean line (without_faults-by_line texts es line ordered) in
       rw (
         part_items-by_origin lines line es,
         blanks-seen None false (part_tokens (texts_of lines) es) None (origin_at lines line),

@@ -1,18 +1,17 @@
 -- A C compiler reads the items of a macro as the author means them.
+use Rattle.std.proofs.Common.{arith}
 use Rattle.std.proofs.Common.{◌≡◌, ℕ, Bool, true, false, ◌&&◌, not, if◌then◌else◌, List, [], ◌∷◌, ◌++◌, flat_map}
 use Rattle.std.proofs.Common.{append_assoc, append-nil, Option, Some, None, is_some, inl, inr, ◌⊎◌, refl, ap, sym, ◌∙◌, subst}
 use Rattle.std.proofs.Math.Bool.{and-false}
 use Rattle.tangle_files.specs.Bytes.{space, line_feed}
 use Rattle.tangle_lexer.specs.declared.tokens.Token.{Token}
 use Rattle.tangle_lexer.specs.declared.tokens.Token.TheVariants as token
-use Rattle.tangle_lexer.specs.declared.tokens.SpanKind.TheVariants as span_kind
 use Rattle.tangle_scan.specs.Rules.{next_item, has_blank_at_line_end, is_name_part, macro_blanks, unmarked_items}
 use Rattle.tangle_scan.specs.Rules.{is_front_gap, is_continued}
 use Rattle.tangle_scan.specs.MacroBytes.{without_end, macro_item_bytes, macro_bytes}
 use Rattle.tangle_scan.specs.ReadAsMeant.{Gap, Space, TakenOut, gap_bytes, as_read, is_empty, without_spaces, IsReadAs}
 use Rattle.tangle_scan.specs.ReadAsMeant.{needs_white, written_tokens, token_bytes, AreReadAsMeant}
 use Rattle.tangle_scan.specs.ReadAsMeant.{EndsMacro, IsMacroReadAsMeant}
-use Rattle.tangle_scan.proofs.lemmas.RuleLemmas.{macro_blanks-item}
 use Rattle.tangle_scan.proofs.laws.MacroEnds.{items_from, end-items, EndsInItem, ends-before, written-ends}
 use Rattle.tangle_scan.proofs.laws.GapReading.{some-append, read-append, spaces-append, bytes-append}
 use Rattle.tangle_scan.proofs.laws.GapReading.{blank_before, item-as-meant}
@@ -32,14 +31,12 @@ module _ (texts : List (List ℕ)) where
   text-blank : (blank : Bool) (es : List Token) →
       flat_map (macro_item_bytes texts) (unmarked_items ((if blank then token.White ∷ [] else []) ++ es))
       ≡ bytes_in_gap (blank_before blank []) ++ flat_map (macro_item_bytes texts) (unmarked_items es)
-  text-blank true es = refl
-  text-blank false es = refl
+  text-blank x es = grind arith
 
   item-text : (e : Token) (es : List Token) → is_front_gap e ≡ false
       → flat_map (macro_item_bytes texts) (unmarked_items (e ∷ es))
       ≡ bytes_of e ++ flat_map (macro_item_bytes texts) (unmarked_items es)
-  item-text (token.Span span_kind.Word s) es item = refl
-  item-text _ es item = cc
+  item-text x es item = grind arith
 
   -- the bytes of an item, and of a blank before it
   text-item : (in_name : Bool) (before : Option Token) (white : Bool) (e : Token) (es : List Token)
@@ -47,11 +44,7 @@ module _ (texts : List (List ℕ)) where
       → text_from in_name before white (e ∷ es)
       ≡ bytes_in_gap (blank_before (is_some before && white) [])
       ++ (bytes_of e ++ text_from (in_name && not white && is_name_part e) (Some e) false es)
-  text-item in_name before white e es item =
-      let rest = macro_blanks texts (in_name && not white && is_name_part e) (Some e) false es in
-      rw (macro_blanks-item texts in_name before white e es item)
-      (text-blank (is_some before && white) (e ∷ rest)
-      ∙ ap (λ bs. bytes_in_gap (blank_before (is_some before && white) []) ++ bs) (item-text e rest item))
+  text-item in_name before white e es item = grind arith
 
   -- The items of the tokens that follow are read as meant, and the line feed at the end of the macro is read.
 
@@ -152,9 +145,7 @@ module _ (texts : List (List ℕ)) where
       apart : (is_empty (as_read (is_continued texts before) gap) ≡ false)
           ⊎ (has_blank_at_line_end texts in_name before (next_item (e ∷ es)) ≡ false)
           → needs_white texts in_name meant before e ≡ true → is_empty (as_read (is_continued texts before) gap) ≡ false
-      apart (inl some) needed = some
-      apart (inr none) needed =
-          let no_blank = rw first at none in let wrong = rw (no_blank, are.1) at needed in absurd cc
+      apart x needed = grind arith
 
   reads-after_line_ends : (e : Token) (es : List Token)
       → is_front_gap e ≡ false → next_item (e ∷ es) ≡ Some e → ReadsOnLine es

@@ -1,29 +1,34 @@
 -- The bytes in the spans of the pieces are the bytes that the segments of C parts keep.
-use Rattle.std.proofs.Common.{◌≡◌, ◌≤◌, ℕ, zero, suc, ◌+◌, ◌-◌, Option, subst, true, false, List, [], ◌∷◌, ◌++◌, length}
-use Rattle.std.proofs.Common.{flat_map, refl, ap, sym, ◌∙◌, arith, append_assoc, append-nil, zero-add, Some, None}
+use Rattle.std.proofs.Common.{◌≡◌, ◌≤◌, ℕ, ◌+◌, Option, subst, true, false, List, [], ◌∷◌, ◌++◌, length}
+use Rattle.std.proofs.Common.{flat_map, refl, ap, sym, ◌∙◌, arith, append_assoc, append-nil, Some, None}
 use Rattle.std.specs.List.{All, AllPairs}
-use Rattle.std.proofs.lemmas.List.Elements.{All-nil, All-cons, All-weaker}
-use Rattle.std.proofs.lemmas.List.Kept.{AllPairs-cons}
+use Rattle.std.proofs.lemmas.List.Elements.{All-nil}
 use Rattle.tangle_lines.specs.Reading.{SourceLine, SourceRead}
 use Rattle.tangle_lexer.specs.declared.tokens.Token.{Token}
 use Rattle.tangle_lexer.specs.declared.tokens.Token.TheVariants as token
+use Rattle.std.proofs.lemmas.Grind.{flat_map-append}
 use Rattle.tangle_text.specs.declared.spans.Span.{Span}
-use Rattle.tangle_text.specs.Text.{text_from}
+use Rattle.tangle_text.specs.Text.{Cell, text_from, texts_of}
 use Rattle.tangle_lexer.specs.Steps.{first_state, tokens_from, all_tokens}
-use Rattle.tangle_lexer.specs.Segments.{columns_from, span_points, kept_points, all_segments}
+use Rattle.tangle_lexer.specs.Segments.{SegmentKind, Segment, span_points, cell_point, byte_points, points_by, kept_points}
+use Rattle.tangle_lexer.specs.Segments.{all_segments}
+use Rattle.tangle_lexer.specs.Segments.SegmentKind.{Kept}
 use Rattle.tangle_scan.specs.Web.{web_of, Block, blocks, piece_of}
 use Rattle.tangle_lexer.specs.LinesOfParts.{body}
 use Rattle.tangle_scan.specs.Web.BlockKind.{OfPiece}
 use Rattle.tangle_scan.specs.Rules.{part_items}
 use Rattle.tangle_scan.specs.ItemSpans.{item_spans}
 use Rattle.tangle_scan.specs.KeptBytes.{IsEarlier, KeepsEachByte}
-use Rattle.tangle_lexer.proofs.laws.Points.{Point, point_at, text-is}
-use Rattle.tangle_lexer.proofs.laws.TokenOrder.{span_end}
+use Rattle.tangle_lexer.proofs.laws.Points.{Point, point_at, after_cell, IsCellAt, IsTextAt, text-is}
 use Rattle.tangle_lexer.proofs.laws.KeptBytes.{part_points, segments-keep}
 use Rattle.tangle_lexer.proofs.laws.SegmentKinds.{segments-fill, segments-shows}
 use Rattle.tangle_scan.proofs.laws.ItemSpans.{token_spans, part-spans}
-use Rattle.tangle_scan.proofs.laws.WebLaws.{width, flat_map-twice, pieces-ordered}
-use Rattle.tangle_scan.proofs.laws.SpanOrder.{AreAfter, AreOrdered}
+
+flat_map-twice : {A B C : Type 0} (f : B → List C) (g : A → List B) (xs : List A)
+    → flat_map f (flat_map g xs) ≡ flat_map (λ x. flat_map f (g x)) xs
+flat_map-twice f g [] = refl
+flat_map-twice f g (x ∷ xs) =
+    flat_map-append f (g x) (flat_map g xs) ∙ ap (λ zs. flat_map f (g x) ++ zs) (flat_map-twice f g xs)
 
 abbrev points_of : List Span → List (ℕ × ℕ)
 points_of ss = flat_map span_points ss
@@ -79,61 +84,59 @@ pieces-kept : (source : SourceRead)
 unfolding tokens_from
 pieces-kept source =
     let lines : List SourceLine = source.lines in
-    let is = text-is (width lines) (length lines) 0 lines (omega arith) (λ k lt. ap (width lines) (sym (zero-add k))) in
     ap points_of (flat_map-twice (λ p. item_spans p.items) (piece_of lines) (blocks 0 (all_tokens lines)))
     ∙ flat_map-twice span_points (λ b. flat_map (λ p. item_spans p.items) (piece_of lines b))
     (blocks 0 (all_tokens lines))
     ∙ sym (split-blocks lines 0 (all_tokens lines)).outside
-    ∙ segments-keep (width lines) (length lines) 0 (first_state (length lines)) (text_from 0 lines) (point_at 0 0) is
+    ∙ segments-keep (texts_of lines) 0 (first_state (length lines)) (text_from 0 lines) (point_at 0 0) (text-is lines)
 
--- the bytes of spans that are in order are in order
+-- Since segments are side by side and fill the text, the bytes that they keep are in order.
 
 -- a byte is at a point or after it
 abbrev IsFromOn : Point → ℕ × ℕ → Type 0
 IsFromOn a q = (a.line ≤ q.0) × (a.line ≡ q.0 → a.column ≤ q.1)
 
-columns-from-on : (a : Point) (line column n : ℕ) (qs : List (ℕ × ℕ))
-    → IsFromOn a (line, column) → All (IsFromOn a) qs → All (IsFromOn a) (columns_from line column n ++ qs)
-columns-from-on a line column zero qs h k = k
-columns-from-on a line column (suc n) qs h k =
-    All-cons (IsFromOn a) (line, column) (columns_from line (column + 1) n ++ qs) h
-    (columns-from-on a line (column + 1) n qs (h.0, λ e. let l = h.1 e in omega (arith, l)) k)
+-- bytes are in order from a point on
+abbrev AreFrom : Point → List (ℕ × ℕ) → Type 0
+AreFrom a qs = All (IsFromOn a) qs × AllPairs IsEarlier qs
 
-spans-from-on : (a : Point) (ss : List Span) → AreAfter a ss → All (IsFromOn a) (points_of ss)
-spans-from-on a [] h = All-nil (IsFromOn a)
-spans-from-on a (s ∷ ss) h =
-    columns-from-on a s.line s.start (s.end - s.start) (points_of ss) h.0 (spans-from-on a ss h.1)
+module _ (texts : List (List ℕ)) where
+  -- from a cell on, which is dropped or kept
 
-columns-once : (line column n : ℕ) (qs : List (ℕ × ℕ)) → All (IsFromOn (point_at line (column + n))) qs
-    → AllPairs IsEarlier qs → AllPairs IsEarlier (columns_from line column n ++ qs)
-columns-once line column zero qs h k = k
-columns-once line column (suc n) qs h k =
-    let sum : column + suc n ≡ column + 1 + n = omega arith in
-    let after : All (IsFromOn (point_at line (column + 1))) qs =
-    All-weaker (IsFromOn (point_at line (column + suc n))) (IsFromOn (point_at line (column + 1)))
-    (λ q l. (l.0, λ e. let m = l.1 e in omega (arith, m))) qs h in
-    let later : All (IsFromOn (point_at line (column + 1))) (columns_from line (column + 1) n ++ qs) =
-    columns-from-on (point_at line (column + 1)) line (column + 1) n qs (omega arith, λ e. omega arith) after in
-    AllPairs-cons IsEarlier (line, column) (columns_from line (column + 1) n ++ qs)
-    (All-weaker (IsFromOn (point_at line (column + 1))) (IsEarlier (line, column))
-    (λ q l. (l.0, λ e. let m = l.1 e in omega (arith, m))) (columns_from line (column + 1) n ++ qs) later)
-    (columns-once line (column + 1) n qs (subst (λ x. All (IsFromOn (point_at line x)) qs) sum h) k)
+  cell-dropped : (a : Point) (c : Cell) (qs : List (ℕ × ℕ))
+      → IsCellAt texts a c → AreFrom (after_cell c) qs → AreFrom a qs
+  cell-dropped a c qs is h = grind arith
 
-spans-once : (width : ℕ → ℕ) (count : ℕ) (ss : List Span)
-    → AreOrdered width count ss → AllPairs IsEarlier (points_of ss)
-spans-once width count [] h = λ i j d k l. absurd (omega (arith, l))
-spans-once width count (s ∷ ss) h =
-    let end : s.end ≡ s.start + (s.end - s.start) = omega (arith, h.0.1.0) in
-    columns-once s.line s.start (s.end - s.start) (points_of ss)
-    (subst (λ x. All (IsFromOn (point_at s.line x)) (points_of ss)) end (spans-from-on (span_end s) ss h.1.0))
-    (spans-once width count ss h.1.1)
+  cell-kept : (a : Point) (c : Cell) (qs : List (ℕ × ℕ))
+      → IsCellAt texts a c → AreFrom (after_cell c) qs → AreFrom a (cell_point c.byte c ++ qs)
+  cell-kept a c qs is h = grind arith
+
+  cells-from : (kind : SegmentKind) (a : Point) (cells text : List Cell) (qs : List (ℕ × ℕ))
+      → IsTextAt texts a (cells ++ text) → ((p : Point) → IsTextAt texts p text → AreFrom p qs)
+      → AreFrom a (points_by kind cells ++ qs)
+  cells-from Kept a [] text qs is rest = rest a is
+  cells-from Kept a (c ∷ cs) text qs is rest =
+      rw (append_assoc (cell_point c.byte c) (byte_points cs) qs)
+      (cell-kept a c (byte_points cs ++ qs) is.0 (cells-from Kept (after_cell c) cs text qs is.1 rest))
+  cells-from kind a [] text qs is rest = rest a is
+  cells-from kind a (c ∷ cs) text qs is rest =
+      cell-dropped a c qs is.0 (cells-from kind (after_cell c) cs text qs is.1 rest)
+
+  segments-from : (ss : List Segment) (a : Point)
+      → IsTextAt texts a (flat_map (λ s. s.cells) ss) → AreFrom a (flat_map kept_points ss)
+  segments-from [] a is = (All-nil (IsFromOn a), λ i j d k l. absurd (omega (arith, l)))
+  segments-from (s ∷ ss) a is =
+      cells-from s.kind a s.cells (flat_map (λ t. t.cells) ss) (flat_map kept_points ss) is (segments-from ss)
 
 -- No byte of a C part is lost: the law.
 pub web-keeps-bytes : (source : SourceRead) → KeepsEachByte source (web_of source)
-web-keeps-bytes source = record {
-  filled = segments-fill 0 (first_state (length source.lines)) (text_from 0 source.lines);
-  kinds = segments-shows 0 (first_state (length source.lines)) (text_from 0 source.lines);
-  kept = pieces-kept source;
-  once = spans-once (width source.lines) (length source.lines)
-      (flat_map (λ p. item_spans p.items) (web_of source).pieces) (pieces-ordered source.lines);
-}
+web-keeps-bytes source =
+    let lines : List SourceLine = source.lines in
+    let filled = segments-fill 0 (first_state (length lines)) (text_from 0 lines) in
+    record {
+      filled = filled;
+      kinds = segments-shows 0 (first_state (length lines)) (text_from 0 lines);
+      kept = pieces-kept source;
+      once = rw (pieces-kept source) (segments-from (texts_of lines) (all_segments lines) (point_at 0 0)
+          (subst (IsTextAt (texts_of lines) (point_at 0 0)) (sym filled) (text-is lines))).1;
+    }

@@ -1,5 +1,6 @@
 -- A C compiler reads the items of a piece as the author means them.
-use Rattle.std.proofs.Common.{◌≡◌, ℕ, ◌+◌, Bool, true, false, ◌&&◌, not, if◌then◌else◌, List, [], ◌∷◌, ◌++◌, flat_map}
+use Rattle.std.proofs.Common.{arith}
+use Rattle.std.proofs.Common.{◌≡◌, ℕ, ◌+◌, Bool, true, false, ◌&&◌, if◌then◌else◌, List, [], ◌∷◌, ◌++◌, flat_map}
 use Rattle.std.proofs.Common.{append_assoc, append-nil, Option, Some, None, is_some, refl, ap, sym, ◌∙◌, subst}
 use Rattle.std.proofs.lemmas.Slice.Eq.{bytes_eq-Decides}
 use Rattle.std.proofs.lemmas.Bool.{and_parts}
@@ -47,8 +48,7 @@ module _ (lines : List SourceLine) (used : ℕ → List ℕ) (mark : Origin → 
   text-blank : (before : Option Token) (counted : Origin) (blank : Bool) (es : List Token) →
       flat_map item_bytes (items_by_origin lines before counted ((if blank then token.White ∷ [] else []) ++ es))
       ≡ blank_bytes blank ++ flat_map item_bytes (items_by_origin lines before counted es)
-  text-blank before counted true es = refl
-  text-blank before counted false es = refl
+  text-blank before counted x es = grind arith
 
   item-text : (before : Option Token) (counted : Origin) (e : Token) (es : List Token) → is_front_gap e ≡ false →
       flat_map item_bytes (items_by_origin lines before counted (e ∷ es))
@@ -77,8 +77,7 @@ module _ (lines : List SourceLine) (used : ℕ → List ℕ) (mark : Origin → 
       let continues : Bool = ends_in_backslash texts e && ends_line es in
       read_tokens texts continued (e ∷ es)
       ≡ (if continues && is_backslash texts e then [] else e ∷ []) ++ read_tokens texts continues es
-  read-item continued token.White es item = cc
-  read-item continued _ es item = cc
+  read-item continued x es item = grind arith
 
   -- what the compiler reads since the last item
   abbrev read_since : Option Token → List Gap → List ℕ
@@ -111,8 +110,7 @@ module _ (lines : List SourceLine) (used : ℕ → List ℕ) (mark : Origin → 
   }
     where
       front : (last : Option Token) → is_some last ≡ false → (all : List ℕ) → Serves all last []
-      front None h all f needed = let wrong = rw (and-false (not (is_empty all))) at needed in absurd cc
-      front (Some e) h all f needed = absurd cc
+      front x h all f needed = grind arith
 
   white-gap : (meant : List ℕ) (white : Bool) (last before : Option Token) (gap : List Gap)
       → IsGap meant white last before gap → IsGap (meant ++ space ∷ []) true last before gap
@@ -289,8 +287,7 @@ module _ (lines : List SourceLine) (used : ℕ → List ℕ) (mark : Origin → 
           ∙ ap (λ bytes. gap_bytes mark gap ++ bytes) (blank-bytes blank)
         where
           blank-bytes : (b : Bool) → gap_bytes mark (blank_before b more) ≡ blank_bytes b ++ gap_bytes mark more
-          blank-bytes true = refl
-          blank-bytes false = refl
+          blank-bytes x = grind arith
 
       -- the case in which the compiler reads the item
       kept : (fs : List Token) → AreRead [] (Some e) fs rest →
@@ -318,8 +315,7 @@ module _ (lines : List SourceLine) (used : ℕ → List ℕ) (mark : Origin → 
           joined is_last line_ends))
         where
           not_empty : (b : Bool) → is_empty (gap ++ blank_before b (TakenOut ∷ [])) ≡ false
-          not_empty true = some-append gap Space (TakenOut ∷ [])
-          not_empty false = some-append gap TakenOut []
+          not_empty x = grind arith
 
           joined : (line : ℕ) → IsGap meant false last (Some (token.LineEnd line)) (gap ++ blank_before blank (TakenOut ∷ []))
           joined line =

@@ -38,8 +38,7 @@ pub items_by_origin-blank : (lines : List SourceLine) (before : Option Token)
     (counted : Origin) (blank : Bool) (es : List Token)
     → items_by_origin lines before counted ((if blank then token.White ∷ [] else []) ++ es)
     ≡ (if blank then item.Blank ∷ [] else []) ++ items_by_origin lines before counted es
-items_by_origin-blank lines before counted true es = refl
-items_by_origin-blank lines before counted false es = refl
+items_by_origin-blank lines before counted x es = grind arith
 
 -- the items of entries that were added
 
@@ -80,8 +79,7 @@ last-ends b texts entries x = ap (last_ends_in b texts) (last-of-push entries x)
 
 pub span-ends : (b : ℕ) (texts : List (List ℕ)) (kind : SpanKind) (s : Span)
     → item_ends_in b texts (span_item kind s) ≡ ends_in b texts (token.Span kind s)
-span-ends b texts span_kind.Word s = refl
-span-ends b texts _ s = refl
+span-ends b texts x s = grind arith
 
 -- an entry and another one, or no other
 pub item-ends : (b : ℕ) (lines : List SourceLine) (entries : List Entry) (e : Token)
@@ -139,8 +137,7 @@ marks-of-entries texts (entry.Run s ∷ entries) =
 
 -- a blank is no mark
 pub blank-unmarked : (b : Bool) → list_any entry_is_mark (map entry.Item (if b then item.Blank ∷ [] else [])) ≡ false
-blank-unmarked true = refl
-blank-unmarked false = refl
+blank-unmarked x = grind arith
 
 -- the start of the gap
 
@@ -150,8 +147,7 @@ start-within entries at within = by (is_after_line_end at.last)
   where
     by : (b : Bool) → (if b then at.start else record { entries = length entries; counted = at.counted }).entries
         ≤ length entries
-    by true = within
-    by false = omega arith
+    by x = grind arith
 
 -- the marks among the entries, and among those before the gap
 

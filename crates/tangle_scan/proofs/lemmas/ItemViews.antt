@@ -1,6 +1,7 @@
 -- The items of entries, one by one.
-use Rattle.std.proofs.Common.{◌≡◌, ℕ, false, List, [], ◌∷◌, ◌++◌, map, drop, refl, ap, sym, ◌∙◌, append_assoc}
-use Rattle.std.proofs.Common.{Option, None, Some, option_to_list}
+use Rattle.std.proofs.Common.{arith}
+use Rattle.std.proofs.Common.{◌≡◌, ℕ, false, List, [], ◌∷◌, ◌++◌, map, drop}
+use Rattle.std.proofs.Common.{Option, option_to_list}
 use Rattle.std.specs.List.{slice_get}
 use Rattle.std.specs.Option.{IfNone, is_some}
 use Rattle.tangle_text.specs.declared.spans.Span.{Span}
@@ -15,27 +16,16 @@ use Rattle.tangle_scan.specs.Entries.{part_item, items_of}
 pub none-begun : (part : Option RunPart) (parts : List RunPart) (items all : List Item) → is_some part ≡ false
     → IfNone part (parts ≡ [])
     → map part_item (option_to_list part) ++ (map part_item parts ++ items) ≡ all → items ≡ all
-none-begun None parts items all none end whole = sym (ap (λ xs. map part_item xs ++ items) end) ∙ whole
-none-begun (Some x) parts items all none end whole = cc
-
-parts-front : (xs : List RunPart)
-    → map part_item (option_to_list (slice_get xs 0)) ++ map part_item (drop 1 xs) ≡ map part_item xs
-parts-front [] = refl
-parts-front (x ∷ xs) = refl
+none-begun x parts items all none end whole = grind arith
 
 -- the first part of the next run was taken
 pub run-begun : (texts : List (List ℕ)) (s : Span) (entries rest : List Entry) (part : Option RunPart)
     (parts left : List RunPart)
     → parts ≡ run_parts texts s → part ≡ slice_get parts 0 → left ≡ drop 1 parts → entries ≡ entry.Run s ∷ rest
     → map part_item (option_to_list part) ++ (map part_item left ++ items_of texts rest) ≡ items_of texts entries
-run-begun texts s entries rest part parts left run first more front =
-    rw (first, more, run, front)
-    (sym (append_assoc (map part_item (option_to_list (slice_get (run_parts texts s) 0)))
-    (map part_item (drop 1 (run_parts texts s))) (items_of texts rest))
-    ∙ ap (λ xs. xs ++ items_of texts rest) (parts-front (run_parts texts s)))
+run-begun texts s entries rest part parts left run first more front = grind arith
 
 -- where no first part is left, no part is
 pub none-left : (part : Option RunPart) (parts left : List RunPart)
     → part ≡ slice_get parts 0 → left ≡ drop 1 parts → IfNone part (left ≡ [])
-none-left part [] left first more = rw first more
-none-left part (x ∷ xs) left first more = rw first tt
+none-left part x left first more = grind arith

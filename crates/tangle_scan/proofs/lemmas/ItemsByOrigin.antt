@@ -1,37 +1,31 @@
 -- Rules 4 and 5 in one pass over the tokens.
+use Rattle.std.proofs.Common.{arith}
 use Rattle.std.proofs.Common.{◌≡◌, ℕ, ◌+◌, nat_le, length, Bool, true, false, ◌&&◌, ◌||◌, if◌then◌else◌}
 use Rattle.std.proofs.Common.{Option, Some, None, is_some, List, [], ◌∷◌, ◌++◌, refl, ap, sym, ◌∙◌, inl, inr}
 use Rattle.std.proofs.lemmas.Bool.Decides.{eqb_tells}
 use Rattle.tangle_lines.specs.declared.origin.Origin.{Origin}
 use Rattle.tangle_lexer.specs.declared.tokens.Token.{Token}
 use Rattle.tangle_lexer.specs.declared.tokens.Token.TheVariants as token
-use Rattle.tangle_lexer.specs.declared.tokens.SpanKind.{SpanKind}
 use Rattle.tangle_lexer.specs.declared.tokens.SpanKind.TheVariants as span_kind
-use Rattle.tangle_text.specs.declared.spans.Span.{Span}
 use Rattle.tangle_lines.specs.Reading.{SourceLine, origin_at}
 use Rattle.tangle_scan.specs.declared.items.Item.{Item}
 use Rattle.tangle_scan.specs.declared.items.Item.TheVariants as item
 use Rattle.tangle_scan.specs.Rules.{is_open}
-use Rattle.tangle_scan.specs.Rules.{texts_of, is_continued, at_line_front, blanks, span_item, next_line, same_origin}
+use Rattle.tangle_scan.specs.Rules.{texts_of, is_continued, at_line_front, blanks, next_line, same_origin}
 use Rattle.tangle_scan.specs.Rules.{with_all_marks, with_needed_marks, is_front_gap, part_tokens, part_items}
-use Rattle.tangle_scan.specs.LineTruth.{is_expected, counted_after_line_end}
+use Rattle.tangle_scan.specs.LineTruth.{counted_after_line_end}
 use Rattle.tangle_scan.specs.Passes.{line_item, items_at, counted_after_token, items_by_origin}
 
 pub items_by_origin-item : (lines : List SourceLine) (before : Option Token) (counted : Origin) (e : Token)
     (es : List Token) → is_front_gap e ≡ false
     → items_by_origin lines before counted (e ∷ es)
     ≡ items_at lines e ++ items_by_origin lines (Some e) (counted_after_token lines counted e) es
-items_by_origin-item lines before counted token.White es item = cc
-items_by_origin-item lines before counted _ es item = cc
+items_by_origin-item lines before counted x es item = grind arith
 
 -- what is true of a line end and of each mark is true of the item for the end of a line
 pub by-line_item : (P : Item → Type 0) (lines : List SourceLine) (continued : Bool) (counted : Origin) (line : ℕ)
     → P item.LineEnd → ((p : Origin) → P (item.LineMark p)) → P (line_item lines continued counted line)
-by-line_item P lines continued counted line end mark = by (continued || is_expected lines counted line)
-  where
-    by : (b : Bool) → P (if b then item.LineEnd else item.LineMark (origin_at lines (line + 1)))
-    by true = end
-    by false = mark (origin_at lines (line + 1))
+by-line_item x lines continued counted line end mark = grind arith
 
 -- the choice between two origins that are the same makes no difference
 pub same_origin-either : (p q : Origin) → (if same_origin p q then q else p) ≡ p
@@ -85,22 +79,6 @@ module _ (lines : List SourceLine) where
       by false true = line_end-alone (Some (token.LineEnd line)) counted es
       by false false = rw (same_origin-either next (next_line counted)) refl
 
-  span-needed : (counted : Origin) (kind : SpanKind) (s : Span) (items : List Item)
-      → with_needed_marks counted (span_item kind s ∷ items) ≡ span_item kind s ∷ with_needed_marks counted items
-  span-needed counted span_kind.Word s items = refl
-  span-needed counted _ s items = refl
-
-  -- a token other than white space and a line end, before others
-  made-token : (left before : Option Token) (counted : Origin) (e : Token) (es : List Token) → is_front_gap e ≡ false
-      → ((after : Origin) → made (Some e) after es ≡ items_by_origin lines (Some e) after es)
-      → made left counted (e ∷ es) ≡ items_by_origin lines before counted (e ∷ es)
-  made-token left before counted token.White es gap h = cc
-  made-token left before counted (token.LineEnd line) es gap h = cc
-  made-token left before counted (token.Span kind s) es gap h =
-      span-needed counted kind s _ ∙ ap (λ t. span_item kind s ∷ t) (h counted)
-  made-token left before counted e es gap h =
-      ap (λ t. items_at lines e ++ t) (h (counted_after_token lines counted e))
-
   -- Rule 3 leaves no white space before a line end, so the token
   -- directly before a line end is the last one on the line.
   made-blanks : (left before : Option Token) (white : Bool) (counted : Origin) (es : List Token)
@@ -111,8 +89,7 @@ module _ (lines : List SourceLine) where
     where
       end : (b : Bool) → let last : List Token = if b then token.White ∷ [] else [] in
           made left counted last ≡ items_by_origin lines before counted last
-      end true = refl
-      end false = refl
+      end x = grind arith
   made-blanks left before white counted (token.White ∷ es) alike = made-blanks left before true counted es alike
   made-blanks left before white counted (token.LineEnd line ∷ es) alike =
       let front : Option Token = at_line_front texts before line in
@@ -122,8 +99,7 @@ module _ (lines : List SourceLine) where
       (made-blanks (Some (token.LineEnd line)) front false after es (ends (is_continued texts before))))
     where
       ends : (b : Bool) → false ≡ is_continued texts (if b then Some (token.LineEnd line) else None)
-      ends true = refl
-      ends false = refl
+      ends x = grind arith
   made-blanks left before white counted (e ∷ es) alike =
       by (is_some before && white) (λ after. made-blanks (Some e) (Some e) false after es refl)
     where
@@ -133,8 +109,7 @@ module _ (lines : List SourceLine) where
       by : (blank : Bool) → ((after : Origin) → made (Some e) after rest ≡ items_by_origin lines (Some e) after rest) →
           let tokens : List Token = (if blank then token.White ∷ [] else []) ++ e ∷ rest in
           made left counted tokens ≡ items_by_origin lines before counted tokens
-      by true h = ap (λ t. item.Blank ∷ t) (made-token (Some token.White) before counted e rest refl h)
-      by false h = made-token left before counted e rest refl h
+      by x h = grind arith
 
   -- rules 4 and 5, one after the other, give the same items of a C part as the one pass
   pub part_items-by_origin : (line : ℕ) (es : List Token)

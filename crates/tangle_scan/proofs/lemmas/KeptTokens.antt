@@ -1,4 +1,5 @@
 -- Rules 1 to 3 keep all tokens other than white space, line ends, joins and faults, in their order.
+use Rattle.std.proofs.Common.{arith}
 use Rattle.std.proofs.Common.{◌≡◌, ℕ, Bool, true, false, ◌&&◌, not, if◌then◌else◌, Option, Some, None, is_some}
 use Rattle.std.proofs.Common.{List, [], ◌∷◌, ◌++◌, map, flat_map, refl, ap, ◌∙◌}
 use Rattle.std.proofs.lemmas.Grind.{flat_map-append}
@@ -6,8 +7,8 @@ use Rattle.tangle_lexer.specs.declared.tokens.Token.{Token}
 use Rattle.tangle_lexer.specs.declared.tokens.Token.TheVariants as token
 use Rattle.tangle_scan.specs.Rules.{is_open}
 use Rattle.tangle_scan.specs.Rules.{white_inner_end, clean_tokens}
-use Rattle.tangle_scan.specs.Rules.{without_faults, would_merge, with_spaces, may_follow_name, with_space_after}
-use Rattle.tangle_scan.specs.Rules.{with_name_space, is_gap, has_join, left_of_run, without_joins, part_tokens}
+use Rattle.tangle_scan.specs.Rules.{without_faults, would_merge, with_spaces, with_space_after}
+use Rattle.tangle_scan.specs.Rules.{with_name_space, is_gap, left_of_run, without_joins, part_tokens}
 use Rattle.tangle_scan.specs.Rules.{at_line_front, blanks, next_item, has_blank_at_line_end, is_name_part}
 use Rattle.tangle_scan.specs.Rules.{macro_blanks, without_front_gaps, macro_tokens}
 
@@ -20,8 +21,7 @@ abbrev pub kept : List Token → List Token
 kept es = flat_map keep es
 
 white-kept : (b : Bool) (es : List Token) → kept ((if b then token.White ∷ [] else []) ++ es) ≡ kept es
-white-kept true es = refl
-white-kept false es = refl
+white-kept x es = grind arith
 
 without_faults-kept : (es : List Token) → kept (without_faults es) ≡ kept es
 without_faults-kept [] = refl
@@ -44,12 +44,7 @@ with_spaces-kept texts (e ∷ f ∷ es) =
 
 with_space_after-kept : (texts : List (List ℕ)) (e : Token) (es : List Token)
     → kept (with_space_after texts e es) ≡ kept (e ∷ es)
-with_space_after-kept texts e [] = refl
-with_space_after-kept texts e (f ∷ es) = ap (λ ts. keep e ++ ts) (by (may_follow_name texts f))
-  where
-    by : (b : Bool) → kept ((if b then [] else token.White ∷ []) ++ f ∷ es) ≡ kept (f ∷ es)
-    by true = refl
-    by false = refl
+with_space_after-kept texts e x = grind arith
 
 with_name_space-kept : (texts : List (List ℕ)) (es : List Token) → kept (with_name_space texts es) ≡ kept es
 with_name_space-kept texts [] = refl
@@ -59,15 +54,10 @@ with_name_space-kept texts (token.Join ∷ es) = with_name_space-kept texts es
 with_name_space-kept texts (e ∷ es) = with_space_after-kept texts e es
 
 gap-gone : (e : Token) → is_gap e ≡ true → keep e ≡ []
-gap-gone (token.Fault kind line) h = refl
-gap-gone _ h = cc
+gap-gone x h = grind arith
 
 left-kept : (run : List Token) → kept run ≡ [] → kept (left_of_run run) ≡ []
-left-kept run none = by (has_join run)
-  where
-    by : (b : Bool) → kept (if b then [] else run) ≡ []
-    by true = refl
-    by false = none
+left-kept run none = grind arith
 
 -- `run` is the part of the first run that is before the tokens
 without_joins-kept : (run es : List Token) → kept run ≡ [] → kept (without_joins run es) ≡ kept es
@@ -85,8 +75,7 @@ without_joins-kept run (e ∷ es) none =
     by false gap more rest = rw (flat_map-append, left-kept run none) (ap (λ ts. keep e ++ ts) rest)
 
 last-kept : (b : Bool) → kept (if b then token.White ∷ [] else []) ≡ []
-last-kept true = refl
-last-kept false = refl
+last-kept x = grind arith
 
 blanks-kept : (texts : List (List ℕ)) (before : Option Token) (white : Bool) (es : List Token)
     → kept (blanks texts before white es) ≡ kept es

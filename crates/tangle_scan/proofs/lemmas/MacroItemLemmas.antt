@@ -21,14 +21,12 @@ use Rattle.tangle_scan.proofs.lemmas.SpacingLemmas.{item-ahead, macro-begin, lef
 -- the item of a token other than white space and line ends
 unmarked-step : (e : Token) (es : List Token) → is_front_gap e ≡ false
     → unmarked_items (e ∷ es) ≡ option_to_list (item_of e) ++ unmarked_items es
-unmarked-step token.White es item = cc
-unmarked-step _ es item = cc
+unmarked-step x es item = grind arith
 
 pub unmarked-blank : (blank : Bool) (es : List Token)
     → unmarked_items ((if blank then token.White ∷ [] else []) ++ es)
     ≡ (if blank then item.Blank ∷ [] else []) ++ unmarked_items es
-unmarked-blank true es = refl
-unmarked-blank false es = refl
+unmarked-blank x es = grind arith
 
 -- the items after a gap, of which a part was read
 
@@ -100,12 +98,10 @@ gap-items texts in_name before white (suc n) gap es h =
 -- the items after a gap, at an item and at the end
 
 solid-front : (e : Token) → is_solid e ≡ true → is_front_gap e ≡ false
-solid-front token.White h = cc
-solid-front _ h = cc
+solid-front x h = grind arith
 
 next-solid : (e : Token) (es : List Token) → is_solid e ≡ true → next_item (e ∷ es) ≡ Some e
-next-solid token.White es h = cc
-next-solid _ es h = cc
+next-solid x es h = grind arith
 
 solid-items : (texts : List (List ℕ)) (in_name : Bool) (before : Option Token) (white : Bool) (ends : ℕ) (e : Token)
     (es : List Token) → is_solid e ≡ true → items_from texts in_name before (gap_with white ends) (e ∷ es)

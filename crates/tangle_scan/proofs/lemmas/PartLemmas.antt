@@ -40,7 +40,7 @@ use Rattle.tangle_scan.specs.Passes.{is_joined, is_item, is_touching, is_after_l
 use Rattle.tangle_scan.specs.Passes.{line_item, items_at, counted_after_token, items_by_origin, blank_if}
 use Rattle.tangle_scan.specs.Passes.{item_ends_in, entries_end_in, entries_continue, are_open, entries_merge, is_code, last_entry, origin_of}
 use Rattle.tangle_scan.proofs.lemmas.ItemsByOrigin.{items_by_origin-item, part_items-by_origin, by-line_item}
-use Rattle.tangle_scan.proofs.lemmas.RuleLemmas.{without_joins-item, has_join-push, blanks-item, is_solid}
+use Rattle.tangle_scan.proofs.lemmas.RuleLemmas.{without_joins-item, has_join-push, is_solid}
 use Rattle.tangle_scan.proofs.lemmas.SpacingLemmas.{spaced-inside}
 use Rattle.tangle_scan.proofs.lemmas.EntryLemmas.{items_by_origin-blank, items-push, items-more, last-ends}
 use Rattle.tangle_scan.proofs.lemmas.EntryLemmas.{last-of-push, item-ends, item-merges, start-within}
@@ -57,11 +57,7 @@ apart a b = rw (and-false a, and-false b) refl
 spaced-gap : (texts : List (List ℕ)) (gap : List Token) (prev e : Token) (es : List Token)
     → is_gap e ≡ true → white_inner_end e ≡ e
     → without_joins gap (spaced_after texts prev (e ∷ es)) ≡ without_joins (gap ++ e ∷ []) (spaced_after texts e es)
-spaced-gap texts gap prev token.Join es h same = rw (apart (is_constant prev) (may_merge texts prev)) refl
-spaced-gap texts gap prev token.White es h same = rw (apart (is_constant prev) (may_merge texts prev)) refl
-spaced-gap texts gap prev (token.LineEnd line) es h same = rw (apart (is_constant prev) (may_merge texts prev)) refl
-spaced-gap texts gap prev (token.InnerLineEnd line) es h same = cc
-spaced-gap texts gap prev _ es h same = cc
+spaced-gap texts gap prev x es h same = grind arith
 
 -- faults are left out
 pub passed-fault : (lines : List SourceLine) (whole : List Item) (entries : List Entry) (at : PartState)
@@ -156,37 +152,30 @@ passed-joined-end lines whole entries at line es is h =
     }
 
 after-end : (continued : Bool) → is_after_line_end (last_after_line_end continued) ≡ true
-after-end true = refl
-after-end false = refl
+after-end x = grind arith
 
 unjoined-end : (continued : Bool) → is_joined (last_after_line_end continued) ≡ false
-unjoined-end true = refl
-unjoined-end false = refl
+unjoined-end x = grind arith
 
 item-end : (continued : Bool) → is_item (last_after_line_end continued) ≡ false
-item-end true = refl
-item-end false = refl
+item-end x = grind arith
 
 front-keeps : (line : ℕ) (continued : Bool)
     → is_some (if continued then Some (token.LineEnd line) else None) ≡ keeps_white (last_after_line_end continued)
-front-keeps line true = refl
-front-keeps line false = refl
+front-keeps line x = grind arith
 
 front-continues : (texts : List (List ℕ)) (line : ℕ) (continued : Bool)
     → is_continued texts (if continued then Some (token.LineEnd line) else None) ≡ false
-front-continues texts line true = refl
-front-continues texts line false = refl
+front-continues texts line x = grind arith
 
 unjoined : (at : Last) → (at ≡ last.Joined → ⊥) → is_joined at ≡ false
-unjoined last.Joined h = absurd (h refl)
-unjoined _ h = refl
+unjoined x h = grind arith
 
 end-open : (texts : List (List ℕ)) (line : ℕ) (continued : Bool) (new : List Entry)
     → entries_end_in slash texts new ≡ false
     → is_open texts (if continued then Some (token.LineEnd line) else None)
     ≡ are_open texts new (last_after_line_end continued)
-end-open texts line true new h = refl
-end-open texts line false new h = sym h
+end-open texts line x new h = grind arith
 
 -- the entries so far with one more, and the state, after a line end
 pub passed-end : (lines : List SourceLine) (whole : List Item) (entries : List Entry) (at : PartState)
@@ -323,25 +312,20 @@ ahead lines e counted es = items_after lines (Some e) counted false (without_joi
 
 solid-spaced : (texts : List (List ℕ)) (prev e : Token) (es : List Token) → is_solid e ≡ true
     → spaced_after texts prev (e ∷ es) ≡ white_if (would_merge texts prev e) ++ e ∷ spaced_after texts e es
-solid-spaced texts prev (token.Fault kind line) es h = cc
-solid-spaced texts prev (token.InnerLineEnd line) es h = cc
-solid-spaced texts prev _ es h = refl
+solid-spaced texts prev x es h = grind arith
 
 solid-gap : (e : Token) → is_solid e ≡ true → is_gap e ≡ false
-solid-gap token.White h = cc
-solid-gap _ h = cc
+solid-gap x h = grind arith
 
 abbrev is_end : Token → Bool
 is_end (token.LineEnd line) = true
 is_end _ = false
 
 solid-end : (e : Token) → is_solid e ≡ true → is_end e ≡ false
-solid-end (token.LineEnd line) h = cc
-solid-end _ h = refl
+solid-end x h = grind arith
 
 solid-front : (e : Token) → is_solid e ≡ true → is_front_gap e ≡ false
-solid-front token.White h = cc
-solid-front _ h = cc
+solid-front x h = grind arith
 
 -- rule 2 at an item, perhaps after white space that rule 1 puts before it
 item-joins : (gap : List Token) (merges : Bool) (e : Token) (es : List Token) → is_gap e ≡ false
@@ -353,12 +337,10 @@ item-joins gap true e es solid none =
     ∙ rw (has_join-push gap token.White, none refl) (append_assoc gap (token.White ∷ []) (e ∷ without_joins [] es))
 
 touching-item : (at : Last) (white merges : Bool) → (is_item at && not white && merges) ≡ true → is_item at ≡ true
-touching-item last.Item white merges h = refl
-touching-item _ white merges h = h
+touching-item x white merges h = grind arith
 
 item-unjoined : (at : Last) → is_item at ≡ true → is_joined at ≡ false
-item-unjoined last.Item h = refl
-item-unjoined _ h = cc
+item-unjoined x h = grind arith
 
 -- rule 3 at an item
 item-blanks : (texts : List (List ℕ)) (at : Last) (white merges : Bool) (before : Option Token) (e : Token)
@@ -366,15 +348,7 @@ item-blanks : (texts : List (List ℕ)) (at : Last) (white merges : Bool) (befor
     → (merges ≡ true → is_item at ≡ true)
     → blanks texts before (keeps_white at && white) (white_if merges ++ e ∷ es)
     ≡ white_if (merges || keeps_white at && white) ++ e ∷ blanks texts (Some e) false es
-item-blanks texts last.Item white true before e es solid keeps item =
-    blanks-item texts before true e es solid ∙ rw (keeps refl) refl
-item-blanks texts _ white true before e es solid keeps item = cc (item refl)
-item-blanks texts last.Item white false before e es solid keeps item =
-    blanks-item texts before white e es solid ∙ rw (keeps refl) refl
-item-blanks texts last.Continued white false before e es solid keeps item =
-    blanks-item texts before white e es solid ∙ rw (keeps refl) refl
-item-blanks texts _ white false before e es solid keeps item =
-    blanks-item texts before false e es solid ∙ rw (and-false (is_some before)) refl
+item-blanks texts x white y before e es solid keeps item = grind arith
 
 item-ahead : (lines : List SourceLine) (whole : List Item) (entries : List Entry) (at : PartState) (e : Token)
     (es : List Token) → is_solid e ≡ true → IsPassed lines whole entries at (e ∷ es)
@@ -404,8 +378,7 @@ item-ahead lines whole entries at e es solid h =
     item is = touching-item at.last at.has_white (entries_merge (texts_of lines) entries e) is
 
 open-item : (texts : List (List ℕ)) (e : Token) → is_end e ≡ false → is_open texts (Some e) ≡ ends_in slash texts e
-open-item texts (token.LineEnd line) h = cc
-open-item texts _ h = refl
+open-item texts x h = grind arith
 
 -- after an item, with which the entries end
 item-passed : (lines : List SourceLine) (whole : List Item) (new : List Entry) (next : PartState)
@@ -468,12 +441,10 @@ passed-item lines whole entries new at next e es solid head run is_new item whit
 -- a run
 
 plain-part : (p : RunPart) → is_constant (part_token p) ≡ false
-plain-part part.Space = refl
-plain-part _ = refl
+plain-part x = grind arith
 
 part-solid : (p : RunPart) → is_end (part_token p) ≡ false
-part-solid part.Space = refl
-part-solid _ = refl
+part-solid x = grind arith
 
 last-solid : (e : Token) (ps : List RunPart) → is_end e ≡ false → is_end (last_token e ps) ≡ false
 last-solid e [] solid = solid
@@ -524,8 +495,7 @@ part-ahead lines whole entries at (part.Sign s) ps es spaces h =
 -- an item after which no run is written as one with it, and a word or a sign before
 front-merges : (texts : List (List ℕ)) (entries : List Entry) (p : RunPart)
     → entries_merge texts entries (part_token p) ≡ (is_code (last_entry entries) && may_merge texts (part_token p))
-front-merges texts entries p =
-    rw (plain-part p, and-false, or-false) refl
+front-merges texts entries p = grind arith
 
 run-passed : (lines : List SourceLine) (whole : List Item) (entries : List Entry) (at : PartState) (s : Span)
     (parts : List RunPart) (es : List Token) → run_parts (texts_of lines) s ≡ parts → IsRunOf (texts_of lines) s
@@ -583,8 +553,7 @@ passed-begin lines line at es front start is_start is = record {
 
 last-blank : (lines : List SourceLine) (before : Option Token) (counted : Origin) (b : Bool)
     → items_by_origin lines before counted (white_if b) ≡ blank_if b
-last-blank lines before counted true = refl
-last-blank lines before counted false = refl
+last-blank lines before counted x = grind arith
 
 pub passed-whole : (lines : List SourceLine) (whole : List Item) (entries : List Entry) (at : PartState) (es : List Token)
     → es ≡ [] → IsPassed lines whole entries at es

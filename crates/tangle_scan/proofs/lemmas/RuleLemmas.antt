@@ -1,3 +1,4 @@
+use Rattle.std.proofs.Common.{arith}
 use Rattle.std.proofs.Common.{◌≡◌, ℕ, Bool, true, false, ◌||◌, List, [], ◌∷◌, ◌++◌, refl}
 use Rattle.std.proofs.Common.{◌&&◌, not, Option, Some, is_some, if◌then◌else◌}
 use Rattle.tangle_faults.specs.declared.faults.FaultKind.{FaultKind}
@@ -11,12 +12,7 @@ pub use Rattle.tangle_scan.specs.Passes.{is_solid}
 pub solid : (e : Token) → (e ≡ token.White → ⊥) → ((line : ℕ) → e ≡ token.LineEnd line → ⊥) →
     ((line : ℕ) → e ≡ token.InnerLineEnd line → ⊥) → (e ≡ token.Join → ⊥)
     → ((kind : FaultKind) (line : ℕ) → e ≡ token.Fault kind line → ⊥) → is_solid e ≡ true
-solid token.White white end inner join fault = absurd (white refl)
-solid (token.LineEnd line) white end inner join fault = absurd (end line refl)
-solid (token.InnerLineEnd line) white end inner join fault = absurd (inner line refl)
-solid token.Join white end inner join fault = absurd (join refl)
-solid (token.Fault kind line) white end inner join fault = absurd (fault kind line refl)
-solid _ white end inner join fault = refl
+solid x white end inner join fault = grind arith
 
 -- a token other than white space and a line end, and rule 3 at such a token, in a C part and in a macro
 
@@ -24,28 +20,24 @@ pub blanks-item : (texts : List (List ℕ)) (before : Option Token) (white : Boo
     → is_front_gap e ≡ false
     → blanks texts before white (e ∷ es)
     ≡ (if is_some before && white then token.White ∷ [] else []) ++ e ∷ blanks texts (Some e) false es
-blanks-item texts before white token.White es item = cc
-blanks-item texts before white _ es item = cc
+blanks-item texts before white x es item = grind arith
 
 pub macro_blanks-item : (texts : List (List ℕ)) (in_name : Bool) (before : Option Token) (white : Bool) (e : Token)
     (es : List Token) → is_front_gap e ≡ false
     → macro_blanks texts in_name before white (e ∷ es)
     ≡ (if is_some before && white then token.White ∷ [] else [])
     ++ e ∷ macro_blanks texts (in_name && not white && is_name_part e) (Some e) false es
-macro_blanks-item texts in_name before white token.White es item = cc
-macro_blanks-item texts in_name before white _ es item = cc
+macro_blanks-item texts in_name before white x es item = grind arith
 
 -- rule 2 at a gap and at another token
 
 pub without_joins-gap : (run : List Token) (e : Token) (es : List Token)
     → is_gap e ≡ true → without_joins run (e ∷ es) ≡ without_joins (run ++ e ∷ []) es
-without_joins-gap run token.Join es h = refl
-without_joins-gap run _ es h = cc
+without_joins-gap run x es h = grind arith
 
 pub without_joins-item : (run : List Token) (e : Token) (es : List Token)
     → is_gap e ≡ false → without_joins run (e ∷ es) ≡ left_of_run run ++ e ∷ without_joins [] es
-without_joins-item run token.Join es h = cc
-without_joins-item run _ es h = cc
+without_joins-item run x es h = grind arith
 
 pub has_join-push : (run : List Token) (e : Token) → has_join (run ++ e ∷ []) ≡ (has_join run || is_join e)
 has_join-push [] token.Join = refl

@@ -21,8 +21,7 @@ use Rattle.tangle_scan.specs.Passes.{is_merging_byte}
 -- a token other than a run stands for itself
 pub unfolded-one : (texts : List (List ℕ)) (e : Token) → ((s : Span) → e ≡ token.Run s → ⊥)
     → unfolded_token texts e ≡ e ∷ []
-unfolded-one texts (token.Run s) other = absurd (other s refl)
-unfolded-one texts _ other = refl
+unfolded-one texts x other = grind arith
 
 -- The first and the last part of a run, by its bytes. A test of parts stands for one of bytes: it gives for each chunk
 -- what that gives for the chunk's last byte.
@@ -53,22 +52,12 @@ words-end : (test : ℕ → Bool) (is : Bool) → ((b : ℕ) → is_word_byte b 
 words-end test is all [] h = refl
 words-end test is all (b ∷ bs) h = ap (λ k. bytes_end test k bs) (all b h.0) ∙ words-end test is all bs h.1
 
-no-merge : (b : ℕ) → (b == space) ≡ true → is_merging_byte b ≡ false
-no-merge b white = by (is_merging_byte b) refl
-  where
-    by : (w : Bool) → is_merging_byte b ≡ w → w ≡ false
-    by true merging = sym white ∙ differs is_merging_byte b space merging refl
-    by false merging = refl
-
 word-merges : (b : ℕ) → is_word_byte b ≡ true → is_merging_byte b ≡ true
 word-merges b word = rw word refl
 
 first-merges : (texts : List (List ℕ)) (line column b : ℕ) (bs : List ℕ)
     → get_or (get_or texts line []) column 0 ≡ b → merges texts (part_of line column (b ∷ bs)) ≡ is_merging_byte b
-first-merges texts line column b bs is =
-    part-by (λ p. merges texts p ≡ is_merging_byte b) line column b bs
-    (λ white. sym (no-merge b white)) (λ _ word. sym (word-merges b word))
-    (λ _ sign. rw (sign, is) refl)
+first-merges texts line column b bs is = grind arith
 
 -- a test of parts that stands for one of bytes
 abbrev StandsFor : List (List ℕ) → (RunPart → Bool) → (ℕ → Bool) → Type 0

@@ -58,8 +58,7 @@ front-builder source before s after text rest block next_head all some end =
 pub block-shorter : (text rest : List Cell) (next_head : Option Token)
     → IfSome next_head (λ head. length rest < length text) → IfNone next_head (rest ≡ [])
     → length (option_to_list next_head) + length rest ≤ length text
-block-shorter text rest None some end = omega (arith, ap length end)
-block-shorter text rest (Some head) some end = omega (arith, some)
+block-shorter text rest x some end = grind arith
 
 -- the web of all that was gathered is the web of the source
 pub web-whole : (source : SourceRead) (all : WebBuilderRead) (occurrences : List OccurrenceRead)

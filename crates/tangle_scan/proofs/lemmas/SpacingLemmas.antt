@@ -1,4 +1,5 @@
 -- Rules 1 and 2 for the tokens of a macro, from item to item.
+use Rattle.std.proofs.Common.{arith}
 use Rattle.std.proofs.Common.{◌≡◌, ℕ, Bool, true, false, ◌||◌, not, List, [], ◌∷◌, ◌++◌, refl, ap, sym, ◌∙◌}
 use Rattle.std.proofs.Common.{if◌then◌else◌, append_assoc, append-nil}
 use Rattle.std.specs.List.{list_all}
@@ -39,10 +40,7 @@ after-name : (texts : List (List ℕ)) (e f : Token) (es : List Token) (touching
     → may_follow_name texts f ≡ following
     → with_space_after texts e ((if touching then token.White ∷ [] else []) ++ f ∷ es)
     ≡ e ∷ (if not following || touching then token.White ∷ [] else []) ++ f ∷ es
-after-name texts e f es true true is = refl
-after-name texts e f es true false is = refl
-after-name texts e f es false true is = rw is refl
-after-name texts e f es false false is = rw is refl
+after-name texts e f es x y is = grind arith
 
 name-after : (texts : List (List ℕ)) (e : Token) (es : List Token)
     → with_space_after texts e (with_white_space texts false e es) ≡ e ∷ with_white_space texts true e es
@@ -52,21 +50,10 @@ name-after texts e (f ∷ es) =
 
 -- rule 1 at a gap and at an item
 
-gap-inside : (texts : List (List ℕ)) (e : Token) (es : List Token) → is_gap e ≡ true
-    → with_spaces texts (e ∷ es) ≡ e ∷ with_spaces texts es
-gap-inside texts e es h = inside-spaced texts e es ∙ ap (λ t. e ∷ t) (after-gap texts e es h)
-
 gap-spaced : (texts : List (List ℕ)) (first : Bool) (e : Token) (es : List Token)
     → is_gap e ≡ true → white_inner_end e ≡ e
     → spaced_from texts first (e ∷ es) ≡ e ∷ spaced_from texts first es
-gap-spaced texts first (token.Fault kind line) es h same = cc
-gap-spaced texts first (token.InnerLineEnd line) es h same = cc
-gap-spaced texts false e es h same = gap-inside texts e (clean_tokens es) h
-gap-spaced texts true token.Join es h same = ap (with_name_space texts) (gap-inside texts token.Join (clean_tokens es) h)
-gap-spaced texts true token.White es h same = ap (with_name_space texts) (gap-inside texts token.White (clean_tokens es) h)
-gap-spaced texts true (token.LineEnd line) es h same =
-    ap (with_name_space texts) (gap-inside texts (token.LineEnd line) (clean_tokens es) h)
-gap-spaced texts true _ es h same = cc
+gap-spaced texts first e es h same = grind arith
 
 item-spaced : (texts : List (List ℕ)) (first : Bool) (e : Token) (es : List Token) → is_solid e ≡ true
     → spaced_from texts first (e ∷ es) ≡ e ∷ with_white_space texts first e (clean_tokens es)
@@ -135,8 +122,7 @@ left-ahead texts first before es =
 
     opened : (b : Bool) → without_joins [] ((if b then token.White ∷ [] else []) ++ with_spaces texts (clean_tokens es))
         ≡ without_joins (if b then token.White ∷ [] else []) (with_spaces texts (clean_tokens es))
-    opened true = refl
-    opened false = refl
+    opened x = grind arith
 
 pub item-ahead : (texts : List (List ℕ)) (first : Bool) (e : Token) (es : List Token) → is_solid e ≡ true
     → joined_from texts first (e ∷ es) ≡ e ∷ (left_gap texts first e es ++ joined_from texts false (from_item es))

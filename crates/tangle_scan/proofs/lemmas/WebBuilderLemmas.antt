@@ -1,3 +1,4 @@
+use Rattle.std.proofs.Common.{arith}
 use Rattle.std.proofs.Common.{◌≡◌, ℕ, ◌+◌, true, false, List, [], ◌∷◌, ◌++◌, refl, ap, sym, ◌∙◌, if◌then◌else◌}
 use Rattle.std.proofs.Common.{append_assoc, append-nil, ◌||◌, Option, None, Some}
 use Rattle.std.specs.List.{list_any, flat_map}
@@ -121,11 +122,7 @@ pub no-other-head : (e : Token)
     → is_head e ≡ true → (e ≡ token.Section → ⊥) → ((line : ℕ) → e ≡ token.MacroStart line → ⊥)
     → ((line : ℕ) → e ≡ token.UnnamedPart line → ⊥) → ((line occurrence : ℕ) → e ≡ token.NamedPart line occurrence → ⊥)
     → ⊥
-no-other-head token.Section h a b c d = a refl
-no-other-head (token.MacroStart line) h a b c d = b line refl
-no-other-head (token.UnnamedPart line) h a b c d = c line refl
-no-other-head (token.NamedPart line occurrence) h a b c d = d line occurrence refl
-no-other-head _ h a b c d = cc
+no-other-head x h a b c d = grind arith
 
 -- Gathering a list of tokens is gathering the tokens before a head, and then those from that head on.
 

@@ -9,19 +9,13 @@ use Rattle.tangle_graph.proofs.ExpandLemmas.{expandable_at}
 use Rattle.tangle_affected.specs.Affected.{EditedShapes}
 use Rattle.tangle_affected.specs.Flags.{AreFlagged, is_expandable_and_flagged}
 use Rattle.tangle_affected.specs.Keeping.{IsUnaffected}
-use Rattle.tangle_affected.proofs.KeepLemmas.{kept_all, kept_more, kept_none, kept_same, listed_more, used_kept}
+use Rattle.tangle_affected.proofs.KeepLemmas.{kept_all, kept_more, kept_same, listed_more, used_kept}
 use Rattle.tangle_affected.proofs.ListLemmas.{lists_affected}
 use Rattle.tangle_affected.proofs.keeping.expand_again.Goals as goal
 use Rattle.tangle_affected.proofs.keeping.expand_again.Goals.{
   then-expandable+then-is_flagged+in_ok-expand_next,
   then-expandable+else-is_flagged+in_ok-share+in_ok-put,
   else-expandable,
-}
-
-pub loop-node-init : goal.loop-node-init
-loop-node-init c = record {
-  kept = λ shapes is. kept_none shapes.new c.args.new.now c.new-kept.result c.new-kept.ensures;
-  work = sym (append-nil c.args.work.now);
 }
 
 -- an expandable node without a flag is not affected

@@ -1,16 +1,10 @@
 use Rattle.std.proofs.Common.{◌∙◌, append-nil, arith, false, sym, true}
 use Rattle.std.proofs.lemmas.List.{take_all}
 use Rattle.tangle_graph.specs.Stores.{is_expandable_at}
-use Rattle.tangle_affected.proofs.KeepLemmas.{kept_all, kept_more, kept_none, kept_same, listed_more, used_kept}
+use Rattle.tangle_affected.proofs.KeepLemmas.{kept_all, kept_more, kept_same, listed_more, used_kept}
 use Rattle.tangle_affected.proofs.ListLemmas.{lists_expandable}
 use Rattle.tangle_affected.proofs.keeping.expand_all.Goals as goal
 use Rattle.tangle_affected.proofs.keeping.expand_all.Goals.{then-expandable+in_ok-expand_next, else-expandable}
-
-pub loop-node-init : goal.loop-node-init
-loop-node-init c = record {
-  kept = λ shapes is. kept_none shapes c.args.store.now c.new-kept.result c.new-kept.ensures;
-  work = sym (append-nil c.args.work.now);
-}
 
 pub loop-node-preserved : goal.loop-node-preserved
 loop-node-preserved c =

@@ -1,16 +1,9 @@
-use Rattle.std.proofs.Common.{append_assoc, append-nil, arith}
+use Rattle.std.proofs.Common.{append_assoc}
 use Rattle.std.specs.Prelude.{Ok}
 use Rattle.tangle_expansion.specs.Outputs.{node_symbols}
 use Rattle.tangle_expansion.proofs.WriteLemmas.{writes_then, written_whole}
-use Rattle.tangle_expansion.proofs.ShortLemmas.{front_fits, file_fits}
+use Rattle.tangle_expansion.proofs.ShortLemmas.{file_fits}
 use Rattle.tangle_expansion.proofs.outputs.write_file.Goals as goal
-
-pub returns-then-not-has_piece : goal.returns-then-not-has_piece
-returns-then-not-has_piece g c =
-    let output = c.args.output.now in
-    rw (← c.has_piece.ensures, c.if-not-has_piece.true, append-nil)
-    (written_whole _ _ _ _ (omega (arith, front_fits c.args.numbers.now c.macros.ensures.short output.has_macros))
-    (rw (c.front_of.ensures, c.macros.ensures.macros) at c.write_after-begun.ensures))
 
 pub returns : goal.returns
 returns g c =

@@ -1,18 +1,19 @@
 use Rattle.std.proofs.Common.{◌∙◌, sym, arith}
-use Rattle.tangle_expansion.proofs.CursorLemmas.{passes_more}
+use Rattle.tangle_expansion.proofs.CursorLemmas.{passes_bytes}
 use Rattle.tangle_expansion.proofs.passing.after_bytes.Goals as goal
 
 pub loop-at-preserved : goal.loop-at-preserved
 loop-at-preserved c =
     let body = c.args.body.now in
     let at = c.loop-at.at in
-    let next = c.after_bytes_of-at in
+    let next = c.cursor_after-at in
     let inv = c.loop-at.invariant in
     let alone = sym c.has_bytes_alone.ensures ∙ c.if-not-has_bytes_alone.false in
     record {
       tag = omega (arith, inv.tag, next.ensures.tag);
       start = omega (arith, inv.start, next.ensures.start);
       text = λ numbers used.
-          passes_more numbers body at next.result c.index-tag.result.now (omega arith) c.index-tag.ensures next.ensures
-          alone _ c.args.from.start used inv.start (inv.text numbers used);
+          inv.text numbers used
+          ∙ passes_bytes numbers body at next.result c.index-tag.result.now (omega arith) c.index-tag.ensures next.ensures
+          c.args.from.start inv.start alone used;
     }

@@ -1,6 +1,6 @@
-use Rattle.std.proofs.Common.{◌≤◌, ◌-◌, length}
-use Rattle.tangle_expansion.specs.Writing.{bytes_between, bytes_from}
-use Rattle.tangle_expansion.proofs.CursorLemmas.{WroteTo}
+use Rattle.std.proofs.Common.{◌≤◌, ◌-◌, ◌++◌, List, length}
+use Rattle.tangle_plans.specs.Flat.{Symbol}
+use Rattle.tangle_expansion.specs.Writing.{Wrote, bytes_between, bytes_from}
 use Rattle.tangle_expansion.proofs.writing.write_to_use.Given as goal
 
 abbrev pub invariant-loop-end : goal.invariant-loop-end
@@ -8,10 +8,10 @@ invariant-loop-end g l =
     let t = g.S.Sink.stream in
     record {
       low : l.at.start ≤ l.end.start;
-      wrote : WroteTo (t l.fn.sink) (t l.sink) l.fn.so_far l.so_far
-          (bytes_between l.text.body.now.bytes.items l.at.start l.end.start)
-          (bytes_from l.text.body.now l.end l.text.numbers.now)
-          (bytes_from l.text.body.now l.fn.from l.text.numbers.now);
+      wrote : (used : List (List Symbol)) → Wrote (t l.fn.sink) (t l.sink) l.fn.so_far l.so_far
+          (bytes_between l.text.body.now.bytes.items l.at.start l.end.start
+          ++ bytes_from l.text.body.now l.end l.text.numbers.now used)
+          (bytes_from l.text.body.now l.fn.from l.text.numbers.now used);
     }
 
 abbrev pub decreases-loop-end : goal.decreases-loop-end

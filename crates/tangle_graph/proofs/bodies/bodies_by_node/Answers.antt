@@ -1,10 +1,10 @@
-use Rattle.std.proofs.Common.{◌≡◌, ◌∙◌, ◌+◌, ◌∷◌, [], ap, length, length-append, arith}
+use Rattle.std.proofs.Common.{◌∙◌, ◌∷◌, [], ap, length, length-append, arith}
 use Rattle.std.specs.Global.{Global}
 use Rattle.std.specs.declared.rc.Rc.{Rc}
 use Rattle.std.proofs.lemmas.List.{length-map}
 use Rattle.tangle_plans.specs.declared.nodes.NodeBody.{NodeBody}
 use Rattle.tangle_graph.specs.Bodies.{node_bodies}
-use Rattle.tangle_graph.proofs.PushLemmas.{IsBodyMade, bodies_push, new_of_old, some_at}
+use Rattle.tangle_graph.proofs.PushLemmas.{IsBodyMade, bodies_push, new_of_old}
 use Rattle.tangle_graph.proofs.bodies.bodies_by_node.Goals as goal
 
 pub loop-n-preserved : goal.loop-n-preserved
@@ -28,12 +28,15 @@ pub returns-clause-bodies : goal.returns-clause-bodies
 returns-clause-bodies c =
     let bodies = c.loop-n.bodies.items in
     let count = length-map bodies (λ (t : Rc NodeBody Global). t.value) in
-    let size : length (node_bodies bodies) ≡ length c.args.grouped.names.now + 1 =
-    omega (arith, count, c.loop-n.invariant.size, c.requires.grouped.pieces.size, ap length c.requires.grouped.names) in
     record {
-      size = size;
-      each = λ node low. (let some = some_at (node_bodies bodies) node (omega (arith, low, size)) in
-          (some.0, some.1, (c.loop-n.invariant.each node some.0 some.1).0));
+      size = omega (
+        arith,
+        count,
+        c.loop-n.invariant.size,
+        c.requires.grouped.pieces.size,
+        ap length c.requires.grouped.names,
+      );
+      each = λ node body at. (c.loop-n.invariant.each node body at).0;
     }
 
 pub returns-clause-new_shapes : goal.returns-clause-new_shapes

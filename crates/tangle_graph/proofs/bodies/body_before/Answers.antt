@@ -1,7 +1,6 @@
 use Rattle.std.proofs.Common.{refl, subst}
 use Rattle.tangle_plans.specs.NodeBodies.{HoldsShape}
 use Rattle.tangle_plans.specs.Nodes.{title_at}
-use Rattle.tangle_graph.proofs.BodyLemmas.{body_of}
 use Rattle.tangle_graph.proofs.NameLemmas.{no_shape}
 use Rattle.tangle_graph.proofs.bodies.body_before.Goals as goal
 
@@ -14,5 +13,4 @@ pub returns-clause-shape : goal.returns-clause-shape
 returns-clause-shape c = rw (c.in_ok-old.was, c.names-2.ensures) (λ shapes is.
     subst (λ t. HoldsShape c.in_ok-old.old.now.names (shapes t) c.body.result.now.value)
     (rw c.names.ensures at c.in_ok-before.ensures.title)
-    (body_of shapes c.in_ok-old.old.now.names c.in_ok-old.old.now.bodies c.in_ok-before.before c.body.result.now.value
-    is.bodies (rw c.names.ensures at c.in_ok-before.ensures.inside) c.body.ensures.body).shape)
+    (is.bodies.each c.in_ok-before.before c.body.result.now.value c.body.ensures.body).shape)

@@ -1,17 +1,17 @@
 use Rattle.std.proofs.Common.{◌≡◌, ◌≤◌, true, [], ◌∷◌, arith, min, refl}
 use Rattle.tangle_expansion.specs.Limits.{levels, weight_cap}
-use Rattle.tangle_plans.specs.Flat.{pieces_weight}
+use Rattle.tangle_plans.specs.Flat.{own_weight}
 use Rattle.tangle_plans.specs.Shapes.{Shape}
 use Rattle.tangle_graph.specs.Outputs.{shape_has_piece}
 use Rattle.tangle_graph.proofs.StepLemmas.{measure_with, measure_without}
 use Rattle.tangle_graph.proofs.measures.measure_of_node.Goals as goal
 
-weightless : (s : Shape) → 0 ≡ min weight_cap (pieces_weight (λ name. 0) s) → s ≡ []
+weightless : (s : Shape) → 0 ≡ min weight_cap (own_weight s) → s ≡ []
 unfolding weight_cap
 weightless [] e = refl
 weightless (x ∷ s) e = absurd (omega arith)
 
-weighty : (s : Shape) → 1 ≤ min weight_cap (pieces_weight (λ name. 0) s) → shape_has_piece s ≡ true
+weighty : (s : Shape) → 1 ≤ min weight_cap (own_weight s) → shape_has_piece s ≡ true
 unfolding weight_cap
 weighty [] h = absurd (omega arith)
 weighty (x ∷ s) h = refl
@@ -25,7 +25,7 @@ returns-then-own-eq0 c = λ shapes names title held known.
 pub returns : goal.returns
 unfolding weight_cap levels
 returns c = λ shapes names title held known.
-    let counted : c.min-own.result ≡ min weight_cap (pieces_weight (λ name. 0) (shapes title)) =
+    let counted : c.min-own.result ≡ min weight_cap (own_weight (shapes title)) =
     omega (arith, c.symbol_count.ensures names (shapes title) held weight_cap (omega arith)) in
     measure_with shapes title names c.args.measures.now c.args.body.now held known _ _ _ _
     (weighty (shapes title) (omega (arith, counted))) counted

@@ -1,23 +1,22 @@
-use Rattle.std.proofs.Common.{◌≡◌, ◌∙◌, ◌<◌, ◌≤◌, ap, arith, get_or, length, length-set, subst, suc}
-use Rattle.std.specs.Global.{Global}
-use Rattle.std.specs.declared.rc.Rc.{Rc}
-use Rattle.std.proofs.lemmas.List.{get_or-replicate, get_or_read, length-map, length-replicate}
+use Rattle.std.proofs.Common.{◌≡◌, ◌∙◌, ◌<◌, ◌≤◌, Contains, inl, inr, ap, arith, get_or, length, length-set, subst, suc}
+use Rattle.std.proofs.lemmas.List.{get_or-replicate, get_or_read, length-replicate, take_all}
 use Rattle.std.proofs.lemmas.List.Elements.{All-contains}
 use Rattle.digraph.specs.Graph.{HasUse}
+use Rattle.digraph.proofs.GraphLemmas.{use_in}
+use Rattle.digraph.proofs.OrderLemmas.{left_out_deep}
 use Rattle.tangle_expansion.specs.Limits.{levels, weight_cap}
 use Rattle.tangle_plans.specs.Flat.{depth, weight}
 use Rattle.tangle_plans.specs.NodeBodies.{body_uses}
 use Rattle.tangle_plans.specs.Nodes.{title_at}
-use Rattle.tangle_plans.specs.declared.nodes.NodeBody.{NodeBody}
 use Rattle.tangle_names.proofs.ContainsLemmas.{no_item}
 use Rattle.tangle_graph.specs.Bodies.{node_bodies}
 use Rattle.tangle_graph.specs.Measures.{measure_of, no_piece_measure}
 use Rattle.tangle_graph.specs.declared.measures.Measure.{Measure}
-use Rattle.tangle_graph.proofs.BodyLemmas.{body_of, read}
+use Rattle.tangle_graph.proofs.BodyLemmas.{read}
 use Rattle.tangle_graph.proofs.GraphLemmas.{sound, use_up, uses_count}
 use Rattle.tangle_graph.proofs.NodeLemmas.{title_inside}
 use Rattle.tangle_expansion.proofs.UsedLemmas.{deeper, heavier}
-use Rattle.tangle_graph.proofs.OrderLemmas.{left_out, measured_all, measured_next}
+use Rattle.tangle_graph.proofs.OrderLemmas.{measured_next}
 use Rattle.tangle_graph.proofs.StepLemmas.{measure_beyond}
 use Rattle.tangle_graph.proofs.measures.measures_of_nodes.Goals as goal
 
@@ -28,11 +27,11 @@ loop-node-init c =
     let count = ap length all in
     record {
       size = omega (arith, count, length-replicate {A = Measure}, c.len.ensures);
-      measured = λ shapes names bodies. record {
-        listed = λ n none. absurd (no_item n none);
-        unlisted = λ n low none. rw all (get_or-replicate c.len.result n _ no_piece_measure
-            (omega (arith, low, count, length-replicate {A = Measure})));
-      };
+      measured = λ shapes names bodies n low. inr (
+        no_item n,
+        rw all (get_or-replicate c.len.result n _ no_piece_measure
+            (omega (arith, low, c.len.ensures))),
+      );
     }
 
 pub loop-node-preserved : goal.loop-node-preserved
@@ -47,25 +46,23 @@ loop-node-preserved c =
     let low : n < length uses = omega (arith, number, after_uses.nodes i h) in
     record {
       size = length-set c.loop-node.measures.items n c.measure_of_node.result ∙ c.loop-node.invariant.size;
-      measured = λ shapes names bodies. (
+      measured = λ shapes names bodies m room. (
           let all = node_bodies c.args.bodies.now in
-          let there : n ≤ length names = omega (arith, low, uses_count shapes names all uses bodies c.requires.uses) in
           let body = c.index-bodies-n.result in
-          let at = read c.args.bodies.now n body
-          (omega (arith, there, bodies.size, length-map c.args.bodies.now (λ (t : Rc NodeBody Global). t.value)))
-          c.index-bodies-n.is in
-          let is = body_of shapes names all n body.value bodies there at in
+          let at = read c.args.bodies.now n body (omega (arith, low, c.requires.size)) c.index-bodies-n.is in
+          let is = bodies.each n body.value at in
           let measured = c.loop-node.invariant.measured shapes names bodies in
-          (measured_next uses (λ k. measure_of shapes (title_at names k)) _ c.loop-node.measures.items order i n
-          c.measure_of_node.result h number low (c.loop-node.invariant.size, measured)
+          measured_next (λ k. measure_of shapes (title_at names k)) _ c.loop-node.measures.items order i n
+          c.measure_of_node.result h number (omega (arith, low, c.loop-node.invariant.size))
           (c.measure_of_node.ensures shapes names (title_at names n) (rw c.deref-in-loop-node.ensures is.shape)
           (λ id used. (
           let c_used = rw c.deref-in-loop-node.ensures at used in
           let within = All-contains (λ k. k < length names) (body_uses body.value) id is.inside c_used in
-          let u = use_up shapes names all uses bodies c.requires.uses n id body.value there at c_used in
-          rw c.deref.ensures.value (measured.listed (suc id)
-          (after_uses.after i (suc id) h (subst (λ k. HasUse uses k (suc id)) number u))
-          ∙ ap (measure_of shapes) (title_inside names id within)))))).1);
+          let u = use_up shapes names all uses bodies c.requires.uses n id body.value at c_used in
+          rw c.deref.ensures.value (elim (measured (suc id) (use_in uses c.requires.range n (suc id) u)) [
+            | inl known ↦ known.1 ∙ ap (measure_of shapes) (title_inside names id within)
+            | inr none ↦ absurd (none.0 (after_uses.after i (suc id) h (subst (λ k. HasUse uses k (suc id)) number u)))
+          ])))) m (measured m room));
     }
 
 pub returns-clause-measures : goal.returns-clause-measures
@@ -74,10 +71,15 @@ returns-clause-measures c = λ shapes names bodies n low.
     let all = node_bodies c.args.bodies.now in
     let h : n < length uses = omega (arith, low, uses_count shapes names all uses bodies c.requires.uses) in
     let out = sound shapes names all uses bodies c.requires.uses in
-    measured_all (λ k. measure_of shapes (title_at names k)) _ c.loop-node.measures.items c.args.order.now
-    c.loop-node.node-index n (omega (arith, c.loop-node-test.false)) (c.loop-node.invariant.measured shapes names bodies)
-    (omega (arith, h, c.loop-node.invariant.size))
-    (λ none. measure_beyond shapes (title_at names n)
-    (left_out depth deeper uses shapes (title_at names) c.args.order.now levels n out c.requires.range c.requires.order h none)
-    (left_out weight heavier uses shapes (title_at names) c.args.order.now weight_cap n out c.requires.range
-    c.requires.order h none))
+    elim (c.loop-node.invariant.measured shapes names bodies n h) [
+      | inl known ↦ known.1
+      | inr left ↦ (let none = subst (λ l. Contains l n → ⊥)
+          (take_all c.loop-node.node-index c.args.order.now c.loop-node-test.false) left.0 in
+          left.1 ∙ measure_beyond shapes (title_at names n)
+          (left_out_deep uses c.args.order.now c.requires.order c.requires.range
+          (λ k m. k ≤ depth k shapes (title_at names m)) (λ m. omega arith)
+          (λ k a b u. deeper k shapes (title_at names a) (title_at names b) (out a b u)) levels n h none)
+          (left_out_deep uses c.args.order.now c.requires.order c.requires.range
+          (λ k m. k ≤ weight k shapes (title_at names m)) (λ m. omega arith)
+          (λ k a b u. heavier k shapes (title_at names a) (title_at names b) (out a b u)) weight_cap n h none))
+    ]

@@ -4,11 +4,11 @@ use Rattle.std.specs.Prelude.{All, not, if◌then◌else◌}
 use Rattle.std.specs.Str.{bytes_eq}
 use Rattle.digraph.specs.Nodes.{program}
 use Rattle.tangle_plans.specs.Shapes.{Named, Program}
-use Rattle.tangle_plans.specs.WebShapes.{shapes}
+use Rattle.tangle_plans.specs.WebShapes.{name_at, shapes}
 use Rattle.tangle_graph.specs.Measures.{measure_at, measure_of}
-use Rattle.tangle_graph.specs.Outputs.{main_file, named_file, name_with_number, is_written, is_expandable}
+use Rattle.tangle_graph.specs.Outputs.{main_file, named_file, is_written, is_expandable}
 use Rattle.tangle_graph.specs.declared.measures.Measure.{Measure}
-use Rattle.tangle_graph.proofs.FirstLemmas.{mapped_more}
+use Rattle.tangle_graph.proofs.ListLemmas.{mapped_more}
 use Rattle.tangle_graph.proofs.NodeLemmas.{title_inside}
 use Rattle.tangle_graph.proofs.StoreLemmas.{piece_by_measure}
 use Rattle.tangle_graph.proofs.outputs.outputs.Goals as goal
@@ -44,7 +44,7 @@ loop-id-preserved c =
     let room : suc id < length c.args.measures.now = omega (arith, low, c.requires.size) in
     let node : c.name-node.result ≡ suc id = omega (arith, c.name-node.ensures, room) in
     let flag : c.entry-measure.result.is_expandable
-    ≡ is_expandable (shapes web table) (Named (name_with_number table id)) =
+    ≡ is_expandable (shapes web table) (Named (name_at table id)) =
     ap (λ (m : Measure). m.is_expandable) (c.entry-measure.ensures ∙ ap (measure_at c.args.measures.now) node
     ∙ c.requires.measures (suc id) low ∙ ap (measure_of (shapes web table)) (title_inside table.names id low)) in
     c.in_ok-add_named_file.ensures

@@ -26,4 +26,4 @@ returns-clause-next c =
     let low : c.args.i < length stored =
     omega (arith, c.requires.piece, ap length is, length-map stored (piece_read web.texts)) in
     next_position web c.args.table.now stored c.args.i c.index-pieces-i.result is low c.index-pieces-i.is
-    c.occurrence.result c.occurrence.ensures c.node_of_piece.result c.node_of_piece.ensures.node
+    c.requires.table c.occurrence.result c.occurrence.ensures c.node_of_piece.result c.node_of_piece.ensures.node

@@ -14,10 +14,10 @@ loop-i-preserved c =
       | in-Some+in_ok-push_to w ↦ rw w.rows-is
           (rows_grow (length table.names + 1) (positions_of table (take i pieces)) _
           (positions_of table (take (i + 1) pieces)) c.loop-i.rows w.push_to.new.self c.loop-i.invariant
-          (rw w.number.ensures at w.in_ok-push_to.ensures) (λ n _. rw w.in-Some.is at (next n)))
+          (rw w.number.ensures at w.in_ok-push_to.ensures) (λ n low. rw w.in-Some.is at (next n low)))
       | in_default w ↦ rw w.rows-is (record {
         size = c.loop-i.invariant.size;
         row = λ n low. c.loop-i.invariant.row n low
-            ∙ sym (rw w.in_default.is at (next n) ∙ append-nil _);
+            ∙ sym (rw w.in_default.is at (next n low) ∙ append-nil _);
       })
     ]

@@ -1,4 +1,5 @@
 use Rattle.std.proofs.Common.{◌∙◌, subst, sym}
+use Rattle.std.proofs.lemmas.Bool.Decides.{Decides-like}
 use Rattle.tangle_plans.specs.NodeBodies.{HoldsShape}
 use Rattle.tangle_plans.proofs.ShapeLemmas.{bodies_decide}
 use Rattle.tangle_graph.specs.Stores.{shape_in_store}
@@ -19,10 +20,11 @@ returns-in-Some-body_in c = λ old_shapes new_shapes old_is new_is.
 
 pub returns-in-None-body_in : goal.returns-in-None-body_in
 returns-in-None-body_in c = λ old_shapes new_shapes old_is new_is.
-    (without_piece _ _ c.has_piece.result (c.in-None-body_in.ensures.shape new_shapes new_is)
-    (c.has_piece.ensures ∙ has_piece_in old_shapes c.args.old.now old_is c.args.old_node)).0
+    rw (c.in-None-body_in.ensures.shape new_shapes new_is)
+    (without_piece _ c.has_piece.result
+    (c.has_piece.ensures ∙ has_piece_in old_shapes c.args.old.now old_is c.args.old_node))
 
 pub returns-in-None : goal.returns-in-None
 returns-in-None c = λ old_shapes new_shapes old_is new_is.
-    (without_piece _ _ c.has_piece-in-None.result (c.in-None.ensures.shape old_shapes old_is)
-    (c.has_piece-in-None.ensures ∙ has_piece_in new_shapes c.args.new.now new_is c.args.new_node)).1
+    rw (c.in-None.ensures.shape old_shapes old_is) (Decides-like _ sym sym (without_piece _ c.has_piece-in-None.result
+    (c.has_piece-in-None.ensures ∙ has_piece_in new_shapes c.args.new.now new_is c.args.new_node)))

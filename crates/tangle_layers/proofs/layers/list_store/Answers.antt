@@ -2,7 +2,6 @@ use Rattle.std.proofs.Common.{◌∙◌, ap, subst, sym}
 use Rattle.std.specs.Prelude.{All}
 use Rattle.tangle_names.specs.NameTable.{TableRead, table_of}
 use Rattle.tangle_expansion.specs.Outputs.{OutputRead, IsReady}
-use Rattle.tangle_expansion.proofs.Weights.{expandable_light}
 use Rattle.tangle_plans.specs.Nodes.{IsGroupedBy}
 use Rattle.tangle_plans.specs.WebShapes.{shapes, ResolvesInside}
 use Rattle.tangle_plans.proofs.InsideLemmas.{table_inside}
@@ -27,6 +26,6 @@ list_outputs-requires g c =
     let kept = c.in_ok-kept.ensures.kept (shapes web table) store.store in
     let inside = subst (λ (t : TableRead). ResolvesInside t) (sym c.requires) (table_inside web) in
     let ready = outputs_ready web table c.out.result.now c.in_ok-store.field-0.store
-    c.in_ok-kept.kept store kept inside expandable_light in
+    c.in_ok-kept.kept store kept inside (λ shapes node e. e.light) in
     subst (λ outputs. All (λ (output : OutputRead). IsReady output c.in_ok-kept.kept) outputs)
     (sym c.outputs.ensures) ready

@@ -1,15 +1,9 @@
 use Rattle.std.proofs.Common.{◌∙◌}
-use Rattle.tangle_lines.specs.Reading.{SourceRead}
-use Rattle.tangle_scan.specs.Web.{web_of}
-use Rattle.tangle_scan.specs.WellFormed.{IsWellFormed}
 use Rattle.tangle_scan.proofs.lemmas.ScanLemmas.{web-whole}
-use Rattle.tangle_scan.proofs.laws.WebLaws.{web-in-range, web-line-truth}
+use Rattle.tangle_scan.proofs.laws.WebLaws.{web-line-truth}
 use Rattle.tangle_scan.proofs.laws.WebsAsMeant.{web-as-meant}
-use Rattle.tangle_scan.proofs.laws.OccurrenceRange.{occurrences-in-range}
+use Rattle.tangle_scan.proofs.laws.WellFormedWebs.{web-well-formed}
 use Rattle.tangle_scan.proofs.scanning.scan.Goals as goal
-
-web-well-formed : (source : SourceRead) → IsWellFormed (web_of source)
-web-well-formed source = record { spans = web-in-range source; occurrences = occurrences-in-range source }
 
 pub new-requires-clause-well_formed : goal.new-requires-clause-well_formed
 new-requires-clause-well_formed c =

@@ -1,4 +1,4 @@
-use Rattle.std.proofs.Common.{◌+◌, ◌++◌, ◌∙◌, List, [], ap, drop, refl, arith}
+use Rattle.std.proofs.Common.{◌+◌, ◌∷◌, ◌++◌, List, [], ap, drop, refl, arith}
 use Rattle.std.specs.Prelude.{Option, unwrap_or}
 use Rattle.std.proofs.lemmas.List.{drop_all}
 use Rattle.tangle_plans.specs.Flat.{Symbol}
@@ -6,7 +6,7 @@ use Rattle.tangle_plans.proofs.DropLemmas.{drop_at}
 use Rattle.tangle_expansion.specs.Expanded.{shared_symbols}
 use Rattle.tangle_expansion.specs.Numbers.{expansion_bytes}
 use Rattle.tangle_expansion.specs.Writing.{bytes_from}
-use Rattle.tangle_expansion.proofs.WriteLemmas.{wrote_at_first, wrote_more, wrote_same, wrote_all}
+use Rattle.tangle_expansion.proofs.WriteLemmas.{wrote_at_first, wrote_then, wrote_more, wrote_same, wrote_all}
 use Rattle.tangle_expansion.proofs.expansion.Expansion.+write_text_after.Goals as goal
 use Rattle.tangle_expansion.proofs.expansion.Expansion.+write_text_after.Goals.{in-Some, in_default}
 
@@ -31,14 +31,11 @@ loop-used-preserved g t c =
     let used = c.deref-used-items.result.now in
     let i = c.loop-used.used-index in
     let o = c.used-item.result in
-    let text = c.write_to_use-before.ensures in
     let rest = bytes_from body c.write_to_use-before.result.0 numbers (shared_symbols (drop (i + 1) used)) in
-    let left =
-    ap (λ us. bytes_from body c.loop-used.at numbers (shared_symbols us))
-    (drop_at used i o c.loop-used-test.true c.used-item.is)
-    ∙ text.next (unwrap_or o []) (shared_symbols (drop (i + 1) used)) in
+    let here = rw (drop_at used i o c.loop-used-test.true c.used-item.is) at c.loop-used.invariant in
     let spaced = wrote_more _ _ _ _ _ _ _ _ _ _
-    (wrote_more _ _ _ _ _ _ _ _ _ _ c.loop-used.invariant left text.writes)
+    (wrote_then _ _ _ _ _ _ _ _ _ here
+    (c.write_to_use-before.ensures (unwrap_or o [] ∷ shared_symbols (drop (i + 1) used))))
     refl c.write_after-so_far.ensures in
     let shared = λ (o : Option (List Symbol)). expansion_bytes numbers (unwrap_or o []) ++ rest in
     elim c.match-used.branch [
@@ -50,9 +47,5 @@ loop-used-preserved g t c =
 
 pub returns-clause-writes : goal.returns-clause-writes
 returns-clause-writes g t c =
-    let text = c.write_to_use-all.ensures in
-    let left =
-    ap (λ us. bytes_from c.deref-body.result.now c.loop-used.at c.args.numbers.now (shared_symbols us))
-    (drop_all c.loop-used.used-index c.deref-used-items.result.now (omega arith))
-    ∙ text.none in
-    wrote_all _ _ _ _ _ _ _ _ _ c.loop-used.invariant left text.writes
+    let done = drop_all c.loop-used.used-index c.deref-used-items.result.now (omega arith) in
+    wrote_all _ _ _ _ _ (wrote_then _ _ _ _ _ _ _ _ _ (rw done at c.loop-used.invariant) (c.write_to_use-all.ensures []))

@@ -1,8 +1,7 @@
 use Rattle.std.proofs.Common.{drop}
 use Rattle.tangle_expansion.specs.Expanded.{shared_symbols}
 use Rattle.tangle_expansion.specs.Numbers.{expansion_bytes}
-use Rattle.tangle_expansion.specs.Writing.{bytes_from}
-use Rattle.tangle_expansion.proofs.WriteLemmas.{Wrote}
+use Rattle.tangle_expansion.specs.Writing.{Wrote, bytes_from}
 use Rattle.tangle_expansion.proofs.expansion.Expansion.+write_text_after.Given as goal
 
 abbrev pub decreases-write_text_after : goal.decreases-write_text_after

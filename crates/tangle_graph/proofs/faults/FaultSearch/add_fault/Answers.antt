@@ -5,7 +5,7 @@ use Rattle.tangle_lexer.specs.Occurrences.{OccurrenceRead}
 use Rattle.tangle_faults.specs.Faults.{fault_about}
 use Rattle.tangle_names.specs.Faults.{named_place_of}
 use Rattle.tangle_graph.specs.Faults.{fault_of}
-use Rattle.tangle_graph.specs.Outputs.{name_with_number}
+use Rattle.tangle_plans.specs.WebShapes.{name_at}
 use Rattle.tangle_graph.proofs.faults.FaultSearch.add_fault.Goals as goal
 
 pub returns-in_default-get : goal.returns-in_default-get
@@ -21,6 +21,6 @@ returns-in_default-get c =
     ∙ ap
     (λ (found : Option OccurrenceRead). before ++ map
     (λ (o : OccurrenceRead). fault_about c.args.kind (named_place_of web.file_names o.origin)
-    (name_with_number table c.args.id)) (option_to_list found))
+    (name_at table c.args.id)) (option_to_list found))
     (slice_get_past web.occurrences c.in-Some.number past)
     ∙ append-nil before)

@@ -1,10 +1,9 @@
-use Rattle.std.proofs.Common.{◌≡◌, ◌∙◌, ◌<◌, arith, ◌∷◌, [], ap, cond, flat_map, length}
-use Rattle.std.specs.List.{range_with_len}
+use Rattle.std.proofs.Common.{◌∙◌, ◌<◌, arith, ◌∷◌, [], ap, cond, flat_map, length}
 use Rattle.std.proofs.lemmas.List.Elements.{All-append}
 use Rattle.tangle_graph.specs.FaultSearches.{fault_of_name}
 use Rattle.tangle_graph.specs.Faults.{fault_of}
 use Rattle.tangle_graph.proofs.FaultLemmas.{candidates_step}
-use Rattle.tangle_graph.proofs.FirstLemmas.{all_where}
+use Rattle.tangle_graph.proofs.ListLemmas.{all_where}
 use Rattle.tangle_graph.proofs.faults.FaultSearch.candidates.Goals as goal
 
 pub loop-id-preserved : goal.loop-id-preserved
@@ -23,10 +22,3 @@ loop-id-preserved c =
           (λ e. ap (fault_of search.web.now search.table.now kind id) (c.may_have_fault-needed.ensures e kind))
           (c.loop-id.invariant.faults kind);
     }
-
-pub returns-clause-faults : goal.returns-clause-faults
-returns-clause-faults c = λ kind.
-    let search = c.args.self.now in
-    let end : c.loop-id.id ≡ length search.table.now.names = omega arith in
-    c.loop-id.invariant.faults kind
-    ∙ ap (λ n. flat_map (fault_of_name search kind) (range_with_len 0 n)) end

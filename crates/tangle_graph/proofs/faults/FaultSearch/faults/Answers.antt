@@ -1,10 +1,7 @@
-use Rattle.std.proofs.Common.{◌∙◌, ◌++◌, ◌∷◌, [], not, cond, ap}
-use Rattle.digraph.specs.Nodes.{program}
-use Rattle.tangle_faults.specs.declared.faults.FaultKind.TheVariants as kind
-use Rattle.tangle_faults.specs.Faults.{fault_unplaced}
+use Rattle.std.proofs.Common.{◌∙◌, ap}
 use Rattle.tangle_graph.specs.Faults.{has_piece_of_node, is_too_large}
 use Rattle.tangle_graph.specs.Stores.{contains_itself_at, flag_at}
-use Rattle.tangle_graph.proofs.FaultLemmas.{joined, unless}
+use Rattle.tangle_graph.proofs.FaultLemmas.{one_after_another}
 use Rattle.tangle_graph.proofs.faults.FaultSearch.faults.Goals as goal
 
 pub returns : goal.returns
@@ -20,13 +17,17 @@ returns c =
       reaches_cycle = flag_at search.store.now.reaching_cycles;
       self_containing = c.requires.containing;
       reaching_cycles = c.requires.reaching;
-      list = joined _ _ _ _ _ _ _ _ _ _ _ _ _ _ _ c.new-faults.ensures.items c.in_ok-add_faults.ensures c.in_ok-add_faults-2.ensures
-          c.in_ok-add_faults-3.ensures c.in_ok-add_faults-4.ensures
-          (c.in_ok-add_unplaced.ensures
-          ∙ ap (λ b. c.add_faults-4.new.faults.items ++ cond b (fault_unplaced kind.TooLarge ∷ []) []) is_large)
-          c.in_ok-add_faults-5.ensures
-          (c.in_ok-add_unplaced-2.ensures
-          ∙ ap (λ b. c.add_faults-5.new.faults.items ++ cond (not b) (fault_unplaced kind.NoProgram ∷ []) []) has_piece
-          ∙ ap (λ l. c.add_faults-5.new.faults.items ++ l)
-          (unless (has_piece_of_node web table program) (fault_unplaced kind.NoProgram ∷ [])));
+      list = rw (
+        c.in_ok-add_unplaced-2.ensures,
+        c.in_ok-add_faults-5.ensures,
+        c.in_ok-add_unplaced.ensures,
+        c.in_ok-add_faults-4.ensures,
+        c.in_ok-add_faults-3.ensures,
+        c.in_ok-add_faults-2.ensures,
+        c.in_ok-add_faults.ensures,
+        c.new-faults.ensures.items,
+        is_large,
+        has_piece,
+        one_after_another,
+      );
     }

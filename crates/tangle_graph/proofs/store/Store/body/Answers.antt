@@ -4,16 +4,16 @@ use Rattle.tangle_graph.proofs.store.Store.body.Goals as goal
 
 pub index-requires : goal.index-requires
 index-requires c =
-    let below = low c.self.inside c.args.self.now c.args.node c.number.result c.self.view_is c.self.invariant
+    let below = low c.self.inside c.args.self.now c.args.node c.self.view_is c.self.invariant c.number.result
     c.number.ensures c.requires in
     omega (arith, below, c.self.inside.bodies.ok)
 
 pub returns : goal.returns
 returns c =
-    let is = given c.self.inside c.args.self.now c.args.node c.number.result c.self.view_is c.self.invariant
+    let is = given c.self.inside c.args.self.now c.args.node c.self.view_is c.self.invariant c.number.result
     c.number.ensures c.requires c.index.result.now c.index.ensures in
     record {
-      body = had c.self.inside c.args.self.now c.args.node c.number.result c.self.view_is c.self.invariant
+      body = had c.self.inside c.args.self.now c.args.node c.self.view_is c.self.invariant c.number.result
           c.number.ensures c.requires c.index.result.now c.index.ensures;
       title = is.title;
       uses = is.inside;

@@ -17,11 +17,11 @@ use Rattle.tangle_graph.specs.Measures.{AreMeasures}
 use Rattle.tangle_graph.specs.NameGraphs.{IsNameGraphOf}
 use Rattle.tangle_graph.specs.Stores.{flag_at}
 use Rattle.tangle_graph.specs.declared.name_graph.NameGraph.{NameGraph}
-use Rattle.tangle_graph.proofs.GraphLemmas.{distinct_names, resolves_inside, sound, uses_count}
+use Rattle.tangle_graph.proofs.GraphLemmas.{distinct_names, resolves_inside, uses_count}
 use Rattle.tangle_graph.proofs.NameGraphLemmas.{uses_inside}
 use Rattle.tangle_graph.proofs.NameLemmas.{new_shapes_of}
-use Rattle.tangle_graph.proofs.OrderingLemmas.{grouped_by, order_is}
-use Rattle.tangle_graph.proofs.StoreIs.{known_name, reaching_is, store_is}
+use Rattle.tangle_graph.proofs.OrderingLemmas.{grouped_by}
+use Rattle.tangle_graph.proofs.StoreIs.{known_name, order_is, reaching_is, store_is}
 use Rattle.tangle_graph.proofs.store.Store.build.Goals as goal
 use Rattle.digraph.specs.Reach.{ReachesCycle}
 
@@ -88,12 +88,12 @@ returns-clause-store c =
     c.in_ok-measures.ensures.measures all name_graph.names (rw c.deref-3.ensures.value bodies) in
     let sized = c.in_ok-measures.ensures.size ∙ ap (λ (g : NameGraph). length g.uses) c.deref-shared.ensures in
     record {
-      store = store_is all name_graph.names stored name_graph distinct bodies graph _ _ _ sized measured
+      store = store_is all stored name_graph distinct bodies graph _ _ _ sized measured
           (rw named (known_name web table (resolves_inside web table c.requires)));
       names = named;
       reaching_cycles = subst (λ ns. (n : ℕ) → n ≤ length ns
           → (flag_at name_graph.reaching_cycles.items n ≡ true) ↔ ReachesCycle (Uses all) (title_at ns n)) named
-          (reaching_is all name_graph.names stored name_graph distinct bodies graph);
+          (reaching_is all stored name_graph distinct bodies graph);
       outputs = c.in_ok-outputs.ensures;
       grouped = grouped_by web table c.in_ok-pieces.pieces.value c.requires
           (rw c.in_ok-pieces.ensures.ok c.in_ok-pieces_by_node.ensures);
@@ -105,22 +105,22 @@ invariant_of-store c =
     let table = c.args.table.now in
     let all = shapes web table in
     let name_graph = c.in_ok-name_graph.name_graph.value in
-    let items = c.in_ok-made.made.bodies.items in
-    let graph : IsNameGraphOf (map body_uses (node_bodies items)) name_graph =
+    let stored = node_bodies c.in_ok-made.made.bodies.items in
+    let graph : IsNameGraphOf (map body_uses stored) name_graph =
     rw c.deref.ensures.value at c.in_ok-name_graph.ensures.name_graph in
-    let bodies : AreBodiesOf all name_graph.names (node_bodies items) =
+    let named = c.in_ok-name_graph.ensures.names ∙ c.in_ok-names.ensures in
+    let bodies : AreBodiesOf all name_graph.names stored =
     rw c.in_ok-name_graph.ensures.names c.in_ok-made.ensures.bodies in
-    let count = uses_count all name_graph.names (node_bodies items) name_graph.uses bodies graph.uses in
+    let distinct : IsDistinct bytes_eq name_graph.names = rw named (distinct_names web table c.requires) in
     let measured : AreMeasures all name_graph.names c.in_ok-measures.measures.items =
     c.in_ok-measures.ensures.measures all name_graph.names (rw c.deref-3.ensures.value bodies) in
     let sized = c.in_ok-measures.ensures.size ∙ ap (λ (g : NameGraph). length g.uses) c.deref-shared.ensures in
     record {
       shapes = all;
-      bodies = bodies;
-      measures_size = sized ∙ count ∙ sym bodies.size ∙ length-map items (λ (t : Rc NodeBody Global). t.value);
+      store = store_is all stored name_graph distinct bodies graph _ _ _ sized measured
+          (rw named (known_name web table (resolves_inside web table c.requires)));
       name_graph = graph;
-      order = order_is all _ name_graph.order.items graph.order graph.range count
-          (sound all name_graph.names (node_bodies items) name_graph.uses bodies graph.uses) measured;
+      order = order_is all stored name_graph distinct bodies graph _ _ _ sized measured;
     }
 
 pub returns-clause-new_shapes : goal.returns-clause-new_shapes

@@ -1,19 +1,27 @@
-use Rattle.tangle_graph.proofs.FaultLemmas.{containing_flag, expandable_flag, has_piece_flag, uses_of_web}
+use Rattle.std.proofs.Common.{◌∙◌, ap, map, sym}
+use Rattle.tangle_names.specs.NameTable.{TableRead}
+use Rattle.tangle_names.specs.Resolving.{resolve}
+use Rattle.tangle_plans.specs.Nodes.{title_at}
+use Rattle.tangle_plans.specs.WebShapes.{shapes}
+use Rattle.tangle_graph.specs.Measures.{AreMeasures}
+use Rattle.tangle_graph.specs.declared.measures.Measure.{Measure}
+use Rattle.tangle_graph.proofs.StoreLemmas.{piece_by_measure}
 use Rattle.tangle_graph.proofs.store.Store.faults.Goals as goal
 
 pub faults-requires : goal.faults-requires
 faults-requires c =
     let web = c.args.web.now in
     let table = c.args.table.now in
-    let out = c.args.out.now in
-    let made = c.args.self.now in
     let is = c.requires.store in
+    let read = c.occurrences.ensures.occurrences in
+    let measured : AreMeasures (shapes web table) table.names c.args.self.now.measures =
+    rw is.names at is.store.measures in
     record {
-      has_piece = has_piece_flag web table out made is;
-      containing = containing_flag web table out made is;
+      has_piece = λ n low. piece_by_measure (shapes web table) (title_at table.names n) _ (measured n low);
+      containing = rw is.names at is.store.contains_itself;
       reaching = is.reaching_cycles;
-      expandable = expandable_flag web table out made is;
+      expandable = λ n low. ap (λ (m : Measure). m.is_expandable) (measured n low);
       uses_size = c.in_ok-first_numbers.ensures.size;
-      first_uses = uses_of_web web table c.occurrences.result.now c.in_ok-first_numbers.field-0.items
-          c.requires.table c.occurrences.ensures.occurrences c.in_ok-first_numbers.ensures.numbers;
+      first_uses = rw read at (c.in_ok-first_numbers.ensures.numbers (resolve web.occurrences)
+          (ap (λ (t : TableRead). t.resolved) c.requires.table ∙ ap (map (resolve web.occurrences)) (sym read)));
     }

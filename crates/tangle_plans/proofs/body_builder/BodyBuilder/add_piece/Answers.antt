@@ -1,23 +1,22 @@
-use Rattle.std.proofs.Common.{◌∙◌, fold, ap, sym}
+use Rattle.std.proofs.Common.{◌∙◌, ◌∷◌, ◌++◌, [], map, append_assoc, append-nil}
 use Rattle.std.proofs.lemmas.List.{drop_all}
 use Rattle.std.proofs.lemmas.Result.{on_ok_weaker}
-use Rattle.tangle_plans.specs.MakingBodies.{with_entry}
-use Rattle.tangle_plans.proofs.AddingEntries.{ended, piece_made}
-use Rattle.tangle_plans.proofs.DropLemmas.{drop_at}
+use Rattle.tangle_plans.specs.Entries.{entry_tag}
+use Rattle.tangle_plans.specs.Tags.{piece_end, piece_start}
 use Rattle.tangle_plans.proofs.body_builder.BodyBuilder.add_piece.Goals as goal
-
-pub loop-entry-preserved : goal.loop-entry-preserved
-loop-entry-preserved c =
-    let add = with_entry c.args.web.now.texts c.args.table.now in
-    let next = drop_at c.args.entries.now c.loop-entry.entry-index c.entry-item.result
-    c.loop-entry-test.true c.entry-item.is in
-    rw c.in_ok-add_entry.ensures (sym (ap (fold add c.loop-entry.self) next) ∙ c.loop-entry.invariant)
 
 pub returns : goal.returns
 returns c =
-    let texts = c.args.web.now.texts in
-    let add = with_entry texts c.args.table.now in
+    let inv = c.loop-entry.invariant in
     let none = drop_all c.loop-entry.entry-index c.args.entries.now c.loop-entry-test.false in
-    let all = sym (ap (fold add c.loop-entry.self) none) ∙ c.loop-entry.invariant in
+    let tags = map (entry_tag c.args.table.now) c.args.entries.now in
+    let front = c.args.self.now.tags in
     on_ok_weaker c.add_empty-2.result
-    (λ e. e ∙ ap ended all ∙ piece_made texts c.args.table.now c.args.self.now c.args.entries.now) c.add_empty-2.ensures
+    (λ e. e ∙ (λ i. record {
+      tags =
+          ((λ j. (rw (none, append-nil) at inv.tags) j ++ piece_end ∷ [])
+          ∙ append_assoc (front ++ piece_start ∷ []) tags (piece_end ∷ [])
+          ∙ append_assoc front (piece_start ∷ []) (tags ++ piece_end ∷ [])) i;
+      bytes = (rw (none, append-nil) at inv.bytes) i;
+      uses = (rw (none, append-nil) at inv.uses) i;
+    })) c.add_empty-2.ensures

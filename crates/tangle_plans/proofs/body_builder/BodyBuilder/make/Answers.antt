@@ -1,12 +1,26 @@
-use Rattle.std.proofs.lemmas.Result.{on_ok_weaker}
+use Rattle.std.proofs.Common.{drop, ◌+◌}
+use Rattle.std.proofs.lemmas.List.{drop_all, drop_more}
 use Rattle.tangle_plans.specs.Nodes.{pieces_at}
-use Rattle.tangle_plans.proofs.AddingEntries.{pieces_made}
+use Rattle.tangle_plans.proofs.AddingEntries.{no_pieces_added, piece_added, pieces_made}
 use Rattle.tangle_plans.proofs.body_builder.BodyBuilder.make.Goals as goal
+
+pub loop-number-init : goal.loop-number-init
+loop-number-init c = λ new added.
+    pieces_made c.args.web.now.texts c.args.table.now new (pieces_at c.args.web.now.pieces c.args.numbers.now)
+    (rw c.clear.ensures at added)
+
+pub loop-number-preserved : goal.loop-number-preserved
+loop-number-preserved c = λ new rest.
+    let web = c.args.web.now in
+    let numbers = c.args.numbers.now in
+    let i = c.loop-number.number-index in
+    c.loop-number.invariant new (rw (drop_more numbers i 0 c.loop-number-test.true)
+    (piece_added web c.args.table.now c.loop-number.self c.add_piece.new.self new
+    _ c.entries_at.result.now (pieces_at web.pieces (drop (i + 1) numbers)) c.requires.ours
+    c.entries_at.ensures c.in_ok-add_piece.ensures rest))
 
 pub returns : goal.returns
 returns c =
-    let web = c.args.web.now in
-    let pieces = pieces_at web.pieces c.args.numbers.now in
-    on_ok_weaker c.add_pieces.result
-    (λ added. pieces_made web.texts c.args.table.now c.add_pieces.new.self pieces (rw c.clear.ensures at added))
-    c.add_pieces.ensures
+    c.loop-number.invariant c.loop-number.self
+    (rw (drop_all c.loop-number.number-index c.args.numbers.now c.loop-number-test.false)
+    (no_pieces_added c.args.web.now.texts c.args.table.now c.loop-number.self))

@@ -1,5 +1,5 @@
 use Rattle.std.proofs.Common.{◌≡◌, ◌+◌, ◌<◌, ◌^◌, ℕ, min, drop, length}
-use Rattle.tangle_plans.proofs.CountLemmas.{own_counts}
+use Rattle.tangle_plans.specs.Flat.{own_counts}
 use Rattle.tangle_plans.proofs.nodes.NodeBody.symbol_count.Given as goal
 
 abbrev pub invariant-loop-tag : goal.invariant-loop-tag

@@ -1,12 +1,12 @@
 use Rattle.std.proofs.Common.{drop}
 use Rattle.tangle_plans.specs.MakingBodies.{AddsPieces}
-use Rattle.tangle_plans.specs.NodeBodies.{ItemsRead}
+use Rattle.tangle_plans.specs.NodeBodies.{AreItemsOf, ItemsRead}
 use Rattle.tangle_plans.specs.Nodes.{pieces_at}
-use Rattle.tangle_plans.proofs.body_builder.BodyBuilder.add_pieces.Given as goal
+use Rattle.tangle_plans.proofs.body_builder.BodyBuilder.make.Given as goal
 
 abbrev pub invariant-loop-number : goal.invariant-loop-number
 invariant-loop-number l =
     (new : ItemsRead)
     → AddsPieces l.web.texts l.table l.self new
     (pieces_at l.web.pieces (drop l.number-index l.numbers))
-    → AddsPieces l.web.texts l.table l.fn.self new (pieces_at l.web.pieces l.numbers)
+    → AreItemsOf l.web.texts l.table (pieces_at l.web.pieces l.numbers) new
