@@ -93,6 +93,9 @@ fn share_lines(alloc: Global, text: &Rc<Vec<u8>>) -> Option<Vec<Line>>
     ensures within { IfSome result (λ lines. cut_refusal text.now.value.items ≡ None) }
 {
     let bytes = bytes_of(text);
+    if bytes.len() >= MOST_POSITIONS {
+        return None;
+    }
     // Most lines are longer, so the list seldom grows. Memory that is not used costs nothing.
     let mut lines = Vec::with_capacity(alloc, bytes.len() / 32 + 1).ok()?;
     let mut start = 0;
@@ -120,12 +123,13 @@ fn bytes_of(text: &Rc<Vec<u8>>) -> &[u8]
 fn add_line(lines: &mut Vec<Line>, text: &Rc<Vec<u8>>, start: usize, end: usize) -> Option<()>
     requires low { start ≤ end }
     requires high { end ≤ length text.now.value.items }
+    requires near { length text.now.value.items < 2 ^ 48 }
     ensures { let line = trimmed (take (end - start) (drop start text.now.value.items)) in
         OnSome result ((lines.new.items ≡ lines.old.items ++ line ∷ [])
         × (length line ≤ longest_line) × (length lines.old.items < most_lines)) }
 {
     let line = without_trailing_spaces(&bytes_of(text)[start..end]);
-    if line.len() > LONGEST_LINE || lines.len() >= MOST_LINES || start >= MOST_POSITIONS {
+    if line.len() > LONGEST_LINE || lines.len() >= MOST_LINES {
         return None;
     }
     match push_line(lines, text, start, line.len() as u16) {

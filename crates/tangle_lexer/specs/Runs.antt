@@ -1,6 +1,6 @@
 -- The tokens of runs. A run of words, signs and single spaces of one line is one token while a C
 -- part is read.
-use Rattle.std.specs.Prelude.{◌≡◌, ℕ, Bool, true, false, List, [], ◌∷◌, map, flat_map}
+use Rattle.std.specs.Prelude.{◌≡◌, ◌==◌, ℕ, Bool, true, false, List, [], ◌∷◌, map, flat_map}
 use Rattle.std.specs.List.{list_any}
 use Rattle.tangle_lexer.specs.declared.tokens.SpanKind.TheVariants as span_kind
 use Rattle.tangle_lexer.specs.declared.tokens.Token.{Token}
@@ -9,7 +9,9 @@ use Rattle.tangle_text.specs.declared.runs.RunPart.{RunPart}
 use Rattle.tangle_text.specs.declared.runs.RunPart.TheVariants as part
 use Rattle.tangle_text.specs.declared.spans.Span.{Span}
 use Rattle.tangle_text.specs.Runs.{run_parts, has_single_spaces}
+use Rattle.tangle_text.specs.Bytes.{backslash}
 use Rattle.tangle_text.specs.Text.{IsSpan}
+use Rattle.tangle_lexer.specs.SpanBytes.{last_byte}
 
 -- the token of a part of a run
 abbrev pub part_token : RunPart → Token
@@ -33,10 +35,12 @@ is_run _ = false
 abbrev pub HasNoRun : List Token → Type 0
 HasNoRun tokens = list_any is_run tokens ≡ false
 
--- a range of a line whose spaces each have another part directly before and after them
+-- a range of a line whose spaces each have another part directly before and after them, and that
+-- does not end in a backslash
 pub record IsRunOf (texts : List (List ℕ)) (s : Span) : Type 0 where
   pub span : IsSpan texts s
   pub spaces : has_single_spaces true (run_parts texts s) ≡ true
+  pub ends : (last_byte texts s == backslash) ≡ false
 
 -- the token is no run, or the run is one of these lines
 abbrev pub IsRunIn : List (List ℕ) → Token → Type 0

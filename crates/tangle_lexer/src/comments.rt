@@ -41,6 +41,7 @@ fn push_line_end(
 ///
 /// These are line ends of the part, except in a directive. So the C has as many lines there as the
 /// web, and the text after the comment needs no line mark.
+#[inline(always)]
 fn pass_line_ends(
     tokens: &mut Vec<Token>,
     reader: &mut Reader,

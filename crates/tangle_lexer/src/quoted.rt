@@ -62,6 +62,7 @@ struct NextUnit {
 
 /// Adds the tokens of a unit inside a region, whose current range starts at column `start`. Returns
 /// the column at which the range after the unit starts: `start` itself, unless the text is cut.
+#[inline(always)]
 fn push_quoted_unit(
     tokens: &mut Vec<Token>,
     reader: &Reader,
@@ -97,6 +98,7 @@ fn push_quoted_unit(
 
 /// Advances to the end of a region and adds its ranges except the last one. Returns the column at
 /// which the last range starts; the first one starts at column `first`.
+#[inline(always)]
 fn cut(
     tokens: &mut Vec<Token>,
     reader: &mut Reader,

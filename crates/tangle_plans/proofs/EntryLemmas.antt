@@ -130,7 +130,7 @@ entry_is : (texts : List (List ℕ)) (table : TableRead) (e : Entry) (rest : Lis
     → IsEntryInRange texts e → IsEntryOf texts table e
 entry_is texts table (entry.Item x) rest spans names run =
     (spans zero x (omega arith), names zero x (omega arith))
-entry_is texts table (entry.Run s) rest spans names run = run
+entry_is texts table (entry.Run s) rest spans names run = run.span
 
 entries_are : (texts : List (List ℕ)) (table : TableRead) (entries : List Entry)
     → All (IsInRange texts) (items_of texts entries)

@@ -1,5 +1,5 @@
 //! Counts the symbols of a body without those of used names.
-ghost use Rattle.std.specs.Prelude.{◌≡◌, ◌<◌, ◌^◌, ℕ, List, length, min};
+ghost use Rattle.std.specs.Prelude.{◌≡◌, ◌≤◌, ◌<◌, ◌^◌, ℕ, List, length, min};
 ghost use Rattle.tangle_plans.specs.Flat.{own_weight};
 ghost use Rattle.tangle_plans.specs.Flat.{own_symbols};
 ghost use Rattle.tangle_plans.specs.NodeBodies.{HoldsShape};
@@ -10,7 +10,8 @@ use crate::tags::ItemKind;
 
 /// The number of symbols that a tag of this kind gives besides its bytes.
 fn symbols_of_kind(kind: ItemKind) -> usize
-    ensures { result ≡ length (own_symbols Program 0 0 kind) }
+    ensures count { result ≡ length (own_symbols Program 0 0 kind) }
+    ensures small { result ≤ 2 }
 {
     match kind {
         ItemKind::PieceStart => 2,
@@ -31,10 +32,10 @@ impl NodeBody {
             → (cap : ℕ) → cap < 2 ^ 64
             → min cap result ≡ min cap (own_weight shape) }
     {
-        let mut count = self.bytes.len();
+        let mut count = 0;
         for tag in self.tags.as_slice() {
-            count = count.saturating_add(symbols_of_kind(tag.kind));
+            count += symbols_of_kind(tag.kind);
         }
-        count
+        self.bytes.len().saturating_add(count)
     }
 }

@@ -5,7 +5,7 @@ use Rattle.tangle_lines.specs.declared.origin.Origin.{Origin}
 use Rattle.tangle_text.specs.declared.runs.RunPart.{RunPart}
 use Rattle.tangle_text.specs.declared.runs.RunPart.TheVariants as part
 use Rattle.tangle_text.specs.Runs.{run_parts}
-use Rattle.tangle_text.specs.Text.{IsSpan}
+use Rattle.tangle_lexer.specs.Runs.{IsRunOf}
 use Rattle.tangle_scan.specs.declared.items.Item.{Item}
 use Rattle.tangle_scan.specs.declared.items.Item.TheVariants as item
 use Rattle.tangle_scan.specs.declared.items.Entry.{Entry}
@@ -32,10 +32,10 @@ abbrev pub entry_is_mark : Entry → Bool
 entry_is_mark (entry.Item x) = is_line_mark x
 entry_is_mark (entry.Run s) = false
 
--- a run is a range of a source line
+-- a run is one of a source line
 abbrev pub IsEntryInRange : List (List ℕ) → Entry → Type 0
 IsEntryInRange texts (entry.Item x) = Unit {0}
-IsEntryInRange texts (entry.Run s) = IsSpan texts s
+IsEntryInRange texts (entry.Run s) = IsRunOf texts s
 
 -- a piece as it is stored, with entries in place of items
 pub record StoredPiece : Type 0 where
@@ -53,6 +53,6 @@ piece_read texts p = record {
   items = items_of texts p.entries;
 }
 
--- the runs of these pieces are ranges of source lines
+-- the runs of these pieces are those of source lines
 abbrev pub RunsAreInRange : List (List ℕ) → List StoredPiece → Type 0
 RunsAreInRange texts pieces = All (λ p. All (IsEntryInRange texts) p.entries) pieces

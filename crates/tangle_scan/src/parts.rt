@@ -320,6 +320,19 @@ fn end_in(source: &Source, entries: &[Entry], byte: u8) -> bool
     }
 }
 
+/// Whether the next line continues the one that these entries end.
+// No run ends in a backslash, so that its last byte need not be looked up.
+#[inline(always)]
+fn continue_line(source: &Source, entries: &[Entry]) -> bool
+    requires { All (IsEntryInRange (texts_of source.now.lines)) entries.now }
+    ensures { result ≡ entries_continue (texts_of source.now.lines) entries.now }
+{
+    match entries.last() {
+        Some(Entry::Item(item)) => item_ends_in(source, *item, b'\\'),
+        _ => false,
+    }
+}
+
 /// Whether the last entry is an ASCII constant.
 #[inline(always)]
 fn ends_in_constant(entries: &[Entry]) -> bool
@@ -488,7 +501,8 @@ fn add_line_end(
     at: &mut PartState,
     line: u32,
 ) -> Result<(), NoMemory>
-    requires { at.old.counted.line < 2 ^ 63 }
+    requires line { at.old.counted.line < 2 ^ 63 }
+    requires runs { All (IsEntryInRange (texts_of source.now.lines)) entries.old.items }
     ensures entries { OnOk result (entries.new.items
         ≡ entries.old.items ++ entry.Item (passes.line_item source.now.lines
         (entries_continue (texts_of source.now.lines) entries.old.items)
@@ -511,7 +525,7 @@ fn add_line_end(
         (origin_of at.old.counted) line) || at.old.counted.has_mark)) }
 {
     note_gap(entries, at);
-    let is_continued = end_in(source, entries, b'\\');
+    let is_continued = continue_line(source, entries);
     let (item, counted) = line_end_item(source, at.counted, line, is_continued);
     entries.push(Entry::Item(item))?;
     at.last = last_after_line_end(is_continued);
@@ -557,6 +571,7 @@ fn add_token(
     requires no_head { is_head token.now ≡ false }
     requires line { highest at.old < 2 ^ 63 }
     requires run { IsRunIn (texts_of source.now.lines) token.now }
+    requires runs { All (IsEntryInRange (texts_of source.now.lines)) entries.old.items }
     ensures passed { OnOk result ((whole : List ItemRead) (rest : List TokenRead) →
         IsPassed source.now.lines whole entries.old.items at.old
         (unfolded_token (texts_of source.now.lines) token.now ++ rest)
@@ -565,8 +580,7 @@ fn add_token(
     ensures mark { OnOk result
         (IsMarked entries.old.items at.old → IsMarked entries.new.items at.new) }
     ensures runs { OnOk result
-        (All (IsEntryInRange (texts_of source.now.lines)) entries.old.items
-        → All (IsEntryInRange (texts_of source.now.lines)) entries.new.items) }
+        (All (IsEntryInRange (texts_of source.now.lines)) entries.new.items) }
     ensures all_macros { OnOk result
         (at.new.has_all_macros ≡ (at.old.has_all_macros || web.is_all_macros token.now)) }
     ensures faults { OnOk result (faults.new.items ≡ faults.old.items

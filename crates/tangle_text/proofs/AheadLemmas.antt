@@ -1,6 +1,7 @@
 -- The text ahead at a position of a line.
+use Rattle.std.proofs.lemmas.Bool.Decides.{nat_tests}
 use Rattle.std.proofs.Common.{◌≡◌, ℕ, ◌+◌, ◌<◌, ◌≤◌, ◌^◌, ◌*◌, suc, Bool, List, [], ◌∷◌, None, zero}
-use Rattle.std.proofs.Common.{false, true, IsSome, length, get_or, slice_get, drop, inl, inr, refl, arith, drop-cons}
+use Rattle.std.proofs.Common.{false, IsSome, length, get_or, slice_get, drop, refl, arith, drop-cons}
 use Rattle.std.specs.List.{All}
 use Rattle.std.proofs.Math.ListN.{drop_of_length-le}
 use Rattle.std.proofs.lemmas.List.{length-append}
@@ -35,9 +36,7 @@ text_is_short ls few short = omega (arith, length-text_from 0 ls short)
 -- at the beginning of a line
 pub text_from-line : (lines : List SourceLine) (n : ℕ) → n < length lines →
     text_from n (drop n lines) ≡ rest_of lines (get_or lines n no_line).bytes n 0 false
-text_from-line lines n h =
-    let next : n + 1 ≡ suc n = omega arith in
-    rw (drop-cons lines n no_line h, next) refl
+text_from-line lines n h = grind (arith, nat_tests, drop-cons)
 
 module _ (lines : List SourceLine) (bytes : List ℕ) (line column : ℕ) where
   -- at a byte
@@ -59,34 +58,25 @@ module _ (lines : List SourceLine) (bytes : List ℕ) (line column : ℕ) where
   pub rest_of-cell : rest_of lines bytes line column false
       ≡ record { line = line; column = column; byte = slice_get bytes column }
       ∷ drop 1 (rest_of lines bytes line column false)
-  rest_of-cell =
-      elim ((slice_get_cases bytes column).1) [
-        | inl here ↦ rw (rest_of-byte here.1) refl
-        | inr past ↦ rw (rest_of-line_end past.0, past.1) refl
-      ]
+  rest_of-cell = grind (arith, nat_tests, slice_get_cases, rest_of-byte, rest_of-line_end)
 
   -- advancing over a byte
   pub advance-byte : (done : Bool) → column < length bytes
       → rest_of lines bytes line (column + 1) done ≡ drop 1 (rest_of lines bytes line column done)
-  advance-byte true h = refl
-  advance-byte false h = rw (rest_of-byte h) refl
+  advance-byte done h = grind (arith, nat_tests, rest_of-byte)
 
   -- the front at a line end
   pub front-line_end : (done : Bool) → done ≡ false → length bytes ≤ column
       → IsFront (rest_of lines bytes line column done)
       (record { byte = slice_get bytes column; next = byte_at 0 (text_from (line + 1) (drop (line + 1) lines)) })
-  front-line_end done is h =
-      rw (is, rest_of-line_end h, slice_get_past bytes column h)
-      (record { inside = omega arith; byte = refl; next = refl })
+  front-line_end done is h = grind (arith, nat_tests, rest_of-line_end, slice_get_past)
 
 -- the front at a byte
 pub front-byte : (lines : List SourceLine) (bytes : List ℕ) (line column : ℕ) (done : Bool)
     → done ≡ false → column < length bytes
     → IsFront (rest_of lines bytes line column done)
     (record { byte = slice_get bytes column; next = slice_get bytes (column + 1) })
-front-byte lines bytes line column done is h =
-    rw (is, rest_of-byte lines bytes line column h, rest_of-cell lines bytes line (column + 1))
-    (record { inside = omega arith; byte = refl; next = refl })
+front-byte lines bytes line column done is h = grind (arith, nat_tests, rest_of-byte, rest_of-cell)
 
 -- a reader that is at a byte
 pub record IsAtByte (r : Inside) (text : List Cell) : Type 0 where
@@ -101,19 +91,7 @@ none-some h = cc
 pub at-byte : (r : Inside) (text : List Cell)
     → rest_of r.source.now.lines r.bytes.now r.line r.column r.is_done ≡ text → IsSome (byte_at 0 text)
     → IsAtByte r text
-at-byte r text is some = by r.is_done refl
-  where
-    by : (done : Bool) → r.is_done ≡ done → IsAtByte r text
-    by true e = absurd (none-some (rw (← is, e) at some))
-    by false e =
-        elim ((slice_get_cases r.bytes.now r.column).1) [
-          | inl here ↦ record {
-            done = e;
-            inside = here.1;
-            ahead = rw (← is, e) (rest_of-byte r.source.now.lines r.bytes.now r.line r.column here.1);
-          }
-          | inr past ↦ absurd (none-some (rw (← is, e, rest_of-line_end r.source.now.lines r.bytes.now r.line r.column past.0) at some))
-        ]
+at-byte r text is some = grind (arith, nat_tests, none-some, slice_get_cases, rest_of-byte, rest_of-line_end)
 
 -- the byte at a distance is the first one after that many cells
 pub byte_at-drop : (n : ℕ) (text : List Cell) → byte_at n text ≡ byte_at 0 (drop n text)

@@ -1,5 +1,6 @@
 -- Bytes up to an `@` are skipped in prose, and belong to the name that is being read.
-use Rattle.std.proofs.Common.{◌≡◌, ◌<◌, ◌≤◌, ℕ, ◌+◌, ◌-◌, zero, suc, Bool, true, false, List, [], ◌∷◌, ◌++◌, Option, Some}
+use Rattle.std.proofs.lemmas.Bool.Decides.{nat_tests}
+use Rattle.std.proofs.Common.{◌≡◌, ◌<◌, ◌≤◌, ℕ, ◌+◌, ◌-◌, zero, suc, Bool, false, List, [], ◌∷◌, ◌++◌, Option, Some}
 use Rattle.std.proofs.Common.{take, drop, length, get_or, refl, ap, sym, ◌∙◌, arith, nat_eq, length-drop}
 use Rattle.std.proofs.lemmas.Bool.{ne_eqb}
 use Rattle.std.proofs.lemmas.List.{get_or-drop}
@@ -7,7 +8,7 @@ use Rattle.tangle_lines.specs.Reading.{SourceLine}
 use Rattle.tangle_text.specs.declared.regions.Region.{Region}
 use Rattle.tangle_text.specs.declared.regions.Region.TheVariants as region
 use Rattle.tangle_text.specs.declared.regions.Unit.TheVariants as unit
-use Rattle.tangle_text.specs.Text.{Cell, line_text, text_from, byte_at}
+use Rattle.tangle_text.specs.Text.{Cell, line_text, byte_at}
 use Rattle.tangle_text.specs.Regions.{unit_of, region_end, more_by, unless_stop}
 use Rattle.tangle_text.specs.NameBytes.{BeginsName}
 use Rattle.tangle_text.specs.Ahead.{rest_of}
@@ -65,28 +66,12 @@ module _ (lines : List SourceLine) (bytes : List ℕ) (line column end : ℕ) (l
 
   pub region_end-after : (r : Region) → PassesAll r → (done : Bool)
       → region_end r (rest_of lines bytes line end done) ≡ region_end r (rest_of lines bytes line column done)
-  region_end-after r one true = refl
-  region_end-after r one false =
-      rw (rest_of-after false)
-      (end-line r one line column (drop column bytes) (text_from (line + 1) (drop (line + 1) lines)) (end - column)
-      (omega (arith, low, high, length-drop column bytes)) other-after)
+  region_end-after r one done = grind (arith, nat_tests, rest_of-after, end-line, length-drop, other-after)
 
   pub bytes_begin : BeginsName (take (end - column) (drop column bytes))
       (rest_of lines bytes line column false) (rest_of lines bytes line end false)
   bytes_begin = record {
-    units =
-        rw (
-          name_bytes-are (rest_of lines bytes line column false),
-          name_bytes-are (rest_of lines bytes line end false),
-          rest_of-after false,
-        )
-        (units-line line column (drop column bytes) (text_from (line + 1) (drop (line + 1) lines)) (end - column)
-        (omega (arith, low, high, length-drop column bytes)) other-after);
+    units = grind (arith, nat_tests, name_bytes-are, rest_of-after false, units-line, length-drop, other-after);
     end = sym (region_end-after region.Name in-name false);
-    shorter =
-        omega (
-          arith,
-          ap length (rest_of-after false),
-          length-drop (end - column) (rest_of lines bytes line column false),
-        );
+    shorter = grind (arith, nat_tests, rest_of-after false, length-drop);
   }

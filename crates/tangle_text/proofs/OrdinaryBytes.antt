@@ -1,45 +1,26 @@
 -- Ordinary bytes, which have no meaning, are skipped one by one.
+use Rattle.std.proofs.lemmas.Bool.Decides.{nat_tests}
 use Rattle.std.proofs.Common.{◌≡◌, ℕ, ◌+◌, zero, suc, Bool, true, false, not, ◌||◌, List, [], ◌∷◌, ◌++◌, Option, Some}
-use Rattle.std.proofs.Common.{None, drop, refl, sym, ◌∙◌, arith}
+use Rattle.std.proofs.Common.{drop, refl, sym, ◌∙◌, arith}
 use Rattle.std.specs.List.{prefix_len}
-use Rattle.std.proofs.lemmas.Bool.{false≢true, not-true}
+use Rattle.std.proofs.lemmas.Bool.{not-true}
 use Rattle.tangle_text.specs.declared.regions.Region.{Region}
-use Rattle.tangle_text.specs.declared.regions.Region.TheVariants as region
 use Rattle.tangle_text.specs.declared.regions.Unit.TheVariants as unit
-use Rattle.tangle_text.specs.Bytes.{holds}
 use Rattle.tangle_text.specs.Text.{Cell, line_text, byte_at}
 use Rattle.tangle_text.specs.Regions.{unit_of, region_end, is_ordinary, holds_ordinary, AreOrdinary, skips_ordinary}
 use Rattle.tangle_text.proofs.RegionLemmas.{region_end-one}
 
 pub or-false : (a b : Bool) → not (a || b) ≡ true → (not a ≡ true) × (b ≡ false)
-or-false true b h = absurd (false≢true h)
-or-false false b h = (refl, not-true b h)
+or-false a b h = grind (arith, nat_tests, not-true)
 
 -- in each region that skips ordinary bytes, such a byte is a unit of its own
 byte-one : (r : Region) (b : ℕ) (next : Option ℕ)
     → skips_ordinary r ≡ true → is_ordinary b ≡ true → unit_of r (Some b) next ≡ unit.One
-byte-one r b next skips h =
-    let greater = or-false _ _ h in
-    let apostrophe = or-false _ _ greater.0 in
-    let quote = or-false _ _ apostrophe.0 in
-    let backslash = or-false _ _ quote.0 in
-    let asterisk = or-false _ _ backslash.0 in
-    go r skips (not-true _ asterisk.0) asterisk.1 backslash.1 quote.1 apostrophe.1 greater.1
-  where
-    go : (r : Region) → skips_ordinary r ≡ true → holds 64 (Some b) ≡ false
-        → holds 42 (Some b) ≡ false → holds 92 (Some b) ≡ false → holds 34 (Some b) ≡ false
-        → holds 39 (Some b) ≡ false → holds 62 (Some b) ≡ false → unit_of r (Some b) next ≡ unit.One
-    go region.Name skips at asterisk backslash quote apostrophe greater = absurd (false≢true skips)
-    go region.Word skips at asterisk backslash quote apostrophe greater = absurd (false≢true skips)
-    go region.White skips at asterisk backslash quote apostrophe greater = absurd (false≢true skips)
-    go region.Prose skips at asterisk backslash quote apostrophe greater = absurd (false≢true skips)
-    go region.BadConstant skips at asterisk backslash quote apostrophe greater = absurd (false≢true skips)
-    go r skips at asterisk backslash quote apostrophe greater = simp (at, asterisk, backslash, quote, apostrophe, greater)
+byte-one r b next skips h = grind (arith, nat_tests, or-false, not-true)
 
 pub cell-one : (r : Region) (b next : Option ℕ)
     → skips_ordinary r ≡ true → holds_ordinary b ≡ true → unit_of r b next ≡ unit.One
-cell-one r None next skips h = absurd (false≢true h)
-cell-one r (Some b) next skips h = byte-one r b next skips h
+cell-one r b next skips h = grind (arith, nat_tests, byte-one)
 
 pub region_end-ordinary : (r : Region) → skips_ordinary r ≡ true → (n : ℕ) (text : List Cell)
     → AreOrdinary n text → region_end r (drop n text) ≡ region_end r text

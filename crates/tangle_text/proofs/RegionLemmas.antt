@@ -1,4 +1,5 @@
 -- Regions, unit by unit.
+use Rattle.std.proofs.lemmas.Bool.Decides.{nat_tests}
 use Rattle.std.proofs.Common.{◌≡◌, ℕ, ◌+◌, suc, List, [], ◌∷◌, drop, refl, ap, sym, arith}
 use Rattle.tangle_text.specs.declared.regions.Region.{Region}
 use Rattle.tangle_text.specs.declared.regions.Unit.{Unit as Unit-of}
@@ -27,29 +28,16 @@ region_end-stop r (c ∷ cs) h = rw (region_end-counted r (c ∷ cs), h) refl
 
 pub region_end-one : (r : Region) (text : List Cell)
     → unit_at r text ≡ unit.One → region_end r text ≡ region_end r (drop 1 text)
-region_end-one r [] h = refl
-region_end-one r (c ∷ cs) h =
-    rw (region_end-counted r (c ∷ cs), h, drop-more (counted r 0 cs) c cs, region_end-counted r cs) refl
+region_end-one r text h = grind (arith, nat_tests, region_end-counted, drop-more, counted)
 
 region_end-two : (r : Region) (text : List Cell)
     → unit_at r text ≡ unit.Two → region_end r text ≡ region_end r (drop 1 (drop 1 text))
-region_end-two r [] h = refl
-region_end-two r (c ∷ []) h = rw (region_end-counted r (c ∷ []), h, region_end-nothing r) refl
-region_end-two r (c ∷ d ∷ cs) h =
-    rw (
-      region_end-counted r (c ∷ d ∷ cs),
-      h,
-      drop-more (1 + counted r 0 cs) c (d ∷ cs),
-      drop-more (counted r 0 cs) d cs,
-      region_end-counted r cs,
-    ) refl
+region_end-two r text h = grind (arith, nat_tests, region_end-counted, region_end-nothing, drop-more, counted)
 
 -- a unit that isn't the end of a region is skipped
 pub region_end-go : (r : Region) (text : List Cell) (u : Unit-of) → unit_at r text ≡ u → (u ≡ unit.Stop → ⊥) →
     region_end r text ≡ region_end r (drop (more_by u) (drop 1 text))
-region_end-go r text unit.Stop h go = absurd (go refl)
-region_end-go r text unit.One h go = region_end-one r text h
-region_end-go r text unit.Two h go = region_end-two r text h
+region_end-go r text u h go = grind (arith, nat_tests, region_end-one, region_end-two)
 
 -- the unit at the front of a text, by the first two bytes
 pub unit_at-front : (r : Region) (text : List Cell) (front : Front) (u : Unit-of)

@@ -1,6 +1,8 @@
 -- The chunks of bytes, and the parts that they are.
+use Rattle.std.proofs.Common.{arith}
+use Rattle.std.proofs.lemmas.Bool.Decides.{nat_tests}
 use Rattle.std.proofs.Common.{◌≡◌, ℕ, ◌+◌, ◌-◌, Bool, true, false, ◌&&◌, ◌==◌, List, [], ◌∷◌, ◌++◌, length, drop}
-use Rattle.std.proofs.Common.{get_or, slice_get, inl, inr, refl, ap, sym, ◌∙◌, append_assoc, drop-drop}
+use Rattle.std.proofs.Common.{get_or, slice_get, refl, ap, ◌∙◌, append_assoc, drop-drop}
 use Rattle.std.specs.List.{AllByRecursion}
 use Rattle.std.proofs.lemmas.Bool.{and_parts}
 use Rattle.std.proofs.lemmas.Bool.Decides.{eqb_tells}
@@ -16,11 +18,7 @@ use Rattle.tangle_text.specs.declared.spans.Span.{Span}
 
 -- a byte that passes a test is no byte that fails it
 pub differs : (test : ℕ → Bool) (b n : ℕ) → test b ≡ true → test n ≡ false → (b == n) ≡ false
-differs test b n h k =
-    elim (eqb_tells b n) [
-      | inl same ↦ let never : false ≡ true = sym k ∙ (sym (ap test same.1) ∙ h) in cc
-      | inr other ↦ other.0
-    ]
+differs test b n h k = grind (arith, nat_tests, eqb_tells)
 
 -- word bytes, or one other byte
 
@@ -45,8 +43,7 @@ first_size [] = 0
 first_size (c ∷ cs) = length c
 
 chunk-words : (c : ℕ) (bs : List ℕ) → is_word_byte c ≡ true → IsChunk (c ∷ bs) → AreWordBytes (c ∷ bs)
-chunk-words c [] h k = (h, tt)
-chunk-words c (d ∷ bs) h k = k
+chunk-words c bs h k = grind (arith, nat_tests)
 
 -- one more byte in front of chunks
 record IsWithFront (b : ℕ) (cs : List (List ℕ)) : Type 0 where
@@ -73,9 +70,7 @@ front_on b c bs cs = go (is_word_byte b && is_word_byte c) refl
     }
 
 front : (b : ℕ) (cs : List (List ℕ)) → IsWithFront b cs
-front b [] = record { are = λ a. (tt, a); joins = refl; after = λ bs is e. is }
-front b ([] ∷ cs) = record { are = λ a. (tt, a); joins = refl; after = λ bs is e. is }
-front b ((c ∷ bs) ∷ cs) = front_on b c bs cs
+front b cs = grind (arith, nat_tests, front_on)
 
 pub chunks_are : (bs : List ℕ) → AreChunks (chunks bs)
 chunks_are [] = tt
@@ -94,26 +89,25 @@ chunks_after (b ∷ bs) = (front b (chunks bs)).after bs refl (chunks_after bs)
 pub chunk_passed : (column : ℕ) (bytes c : List ℕ) (cs : List (List ℕ)) (rest : List ℕ)
     → drop column bytes ≡ joined (c ∷ cs) ++ rest → drop (column + length c) bytes ≡ joined cs ++ rest
 chunk_passed column bytes c cs rest is =
-    sym (drop-drop (length c) column bytes)
-    ∙ ap (drop (length c)) (is ∙ append_assoc c (joined cs) rest)
-    ∙ drop-append_seam c (joined cs ++ rest)
+    grind (
+      arith,
+      nat_tests,
+      drop-drop (length c) column bytes,
+      append_assoc c (joined cs) rest,
+      drop-append_seam c (joined cs ++ rest),
+    )
 
 -- the bytes of a line from a range on are those of the chunks of the range, and more
 pub span_chunks : (texts : List (List ℕ)) (s : Span)
     → let line : List ℕ = drop s.start (get_or texts s.line []) in
     line ≡ joined (chunks (span_text texts s)) ++ drop (s.end - s.start) line
-span_chunks texts s =
-    let line : List ℕ = drop s.start (get_or texts s.line []) in
-    sym (take-append-drop (s.end - s.start) line)
-    ∙ ap (λ l. l ++ drop (s.end - s.start) line) (sym (chunks_joined (span_text texts s)))
+span_chunks texts s = grind (arith, nat_tests, take-append-drop, chunks_joined)
 
 -- the first chunk
 
 -- a byte that is no word byte is a chunk
 pub alone-chunk : (b : ℕ) (more : List (List ℕ)) → is_word_byte b ≡ false → with_front_byte b more ≡ (b ∷ []) ∷ more
-alone-chunk b [] h = refl
-alone-chunk b ([] ∷ more) h = refl
-alone-chunk b ((c ∷ cs) ∷ more) h = rw h refl
+alone-chunk b more h = grind (arith, nat_tests)
 
 -- the first chunk begins with the first byte
 pub front-chunk : (b : ℕ) (bs : List ℕ)
@@ -135,8 +129,7 @@ front-chunk b bs = by (chunks bs)
 pub alone-before : (b : ℕ) (bs : List ℕ) → is_word_byte b ≡ true → holds_word_byte (slice_get bs 0) ≡ false
     → with_front_byte b (chunks bs) ≡ (b ∷ []) ∷ chunks bs
 alone-before b [] word other = refl
-alone-before b (c ∷ bs) word other =
-    let first = front-chunk c bs in rw (first.2, word, other) refl
+alone-before b (c ∷ bs) word other = grind (arith, nat_tests, front-chunk)
 
 -- the part that a chunk is
 

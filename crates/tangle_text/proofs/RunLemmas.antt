@@ -1,6 +1,7 @@
 -- Words and white space, which end in their line.
-use Rattle.std.proofs.Common.{◌≡◌, ℕ, ◌+◌, ◌≤◌, zero, suc, Bool, true, false, not, List, [], ◌∷◌, ◌++◌, Option}
-use Rattle.std.proofs.Common.{Some, None, length, take, drop, refl, ap, sym, ◌∙◌, arith, drop-drop, length-drop}
+use Rattle.std.proofs.lemmas.Bool.Decides.{nat_tests}
+use Rattle.std.proofs.Common.{◌≡◌, ℕ, ◌+◌, ◌≤◌, zero, suc, Bool, false, not, List, [], ◌∷◌, ◌++◌, Option}
+use Rattle.std.proofs.Common.{Some, None, length, take, drop, refl, ap, arith, drop-drop, length-drop}
 use Rattle.std.specs.List.{prefix_len}
 use Rattle.std.proofs.Math.Seq.{drop-nil}
 use Rattle.tangle_lines.specs.Bytes.{is_white}
@@ -9,7 +10,7 @@ use Rattle.tangle_text.specs.declared.regions.Region.{Region}
 use Rattle.tangle_text.specs.declared.regions.Region.TheVariants as region
 use Rattle.tangle_text.specs.declared.regions.Unit.TheVariants as unit
 use Rattle.tangle_text.specs.Bytes.{is_word_byte}
-use Rattle.tangle_text.specs.Text.{Cell, line_text, text_from, byte_at, bytes_of}
+use Rattle.tangle_text.specs.Text.{Cell, line_text, byte_at, bytes_of}
 use Rattle.tangle_text.specs.Regions.{unit_of, unit_by, count_before}
 use Rattle.tangle_text.specs.Ahead.{rest_of}
 use Rattle.tangle_text.proofs.UnitLemmas.{counted, count-is}
@@ -33,51 +34,42 @@ white-run = record { ends = λ x. refl; is = λ b x. refl }
 counted-run : (r : Region) (test : ℕ → Bool) → IsRunOf r test → (line column : ℕ) (bytes : List ℕ) (rest : List Cell) →
     counted r 0 (line_text line column bytes ++ rest) ≡ prefix_len test bytes
 counted-run r test run line column [] rest = rw (run.ends (byte_at 0 rest)) refl
-counted-run r test run line column (b ∷ bs) rest = go (test b) refl (counted-run r test run line (column + 1) bs rest)
-  where
-    go : (t : Bool) → test b ≡ t → counted r 0 (line_text line (column + 1) bs ++ rest) ≡ prefix_len test bs →
-        counted r 0 (line_text line column (b ∷ bs) ++ rest) ≡ prefix_len test (b ∷ bs)
-    go true h more = rw (run.is b (byte_at 0 (line_text line (column + 1) bs ++ rest)), h) (ap (λ n. 1 + n) more)
-    go false h more = rw (run.is b (byte_at 0 (line_text line (column + 1) bs ++ rest)), h) refl
+counted-run r test run line column (b ∷ bs) rest =
+    grind (
+      arith,
+      nat_tests,
+      counted-run r test run line (column + 1) bs rest,
+      counted r 0 (line_text line (column + 1) bs ++ rest),
+      counted r 0 (line_text line column (b ∷ bs) ++ rest),
+    )
 
 -- the number of cells of a run
 pub count-run : (r : Region) (test : ℕ → Bool)
     → IsRunOf r test → (lines : List SourceLine) (bytes : List ℕ) (line column : ℕ)
     → count_before r (rest_of lines bytes line column false) ≡ prefix_len test (drop column bytes)
-count-run r test run lines bytes line column =
-    count-is r (rest_of lines bytes line column false)
-    ∙ counted-run r test run line column (drop column bytes) (text_from (line + 1) (drop (line + 1) lines))
+count-run r test run lines bytes line column = grind (arith, nat_tests, count-is, counted-run)
 
 -- the text after `n` bytes of a line
 drop-line : (line column n : ℕ) (bytes : List ℕ) (rest : List Cell) → n ≤ length bytes →
     drop n (line_text line column bytes ++ rest) ≡ line_text line (column + n) (drop n bytes) ++ rest
 drop-line line column zero bytes rest h = ap (λ k. line_text line k bytes ++ rest) (omega arith)
 drop-line line column (suc n) [] rest h = absurd (omega (arith, h))
-drop-line line column (suc n) (b ∷ bs) rest h =
-    drop-line line (column + 1) n bs rest (omega (arith, h))
-    ∙ ap (λ k. line_text line k (drop n bs) ++ rest) (omega arith)
+drop-line line column (suc n) (b ∷ bs) rest h = grind (arith, nat_tests, drop-line line (column + 1) n bs rest)
 
 bytes-line : (line column n : ℕ) (bytes : List ℕ) (rest : List Cell) → n ≤ length bytes →
     bytes_of (take n (line_text line column bytes ++ rest)) ≡ take n bytes
 bytes-line line column zero bytes rest h = refl
 bytes-line line column (suc n) [] rest h = absurd (omega (arith, h))
-bytes-line line column (suc n) (b ∷ bs) rest h =
-    ap (λ xs. b ∷ xs) (bytes-line line (column + 1) n bs rest (omega (arith, h)))
+bytes-line line column (suc n) (b ∷ bs) rest h = grind (arith, nat_tests, bytes-line line (column + 1) n bs rest)
 
 -- the text ahead of a position that is `n` bytes further on the line
 pub rest_of-further : (lines : List SourceLine) (bytes : List ℕ) (line column n : ℕ) (done : Bool)
     → column + n ≤ length bytes
     → rest_of lines bytes line (column + n) done ≡ drop n (rest_of lines bytes line column done)
-rest_of-further lines bytes line column n true h = sym (drop-nil n)
-rest_of-further lines bytes line column n false h =
-    rw (
-      drop-line line column n (drop column bytes) (text_from (line + 1) (drop (line + 1) lines))
-          (omega (arith, h, length-drop column bytes)),
-      drop-drop,
-    ) refl
+rest_of-further lines bytes line column n done h =
+    grind (arith, nat_tests, drop-nil, drop-line, length-drop, drop-drop)
 
 -- the bytes of a run
 pub run-bytes : (lines : List SourceLine) (bytes : List ℕ) (line column n : ℕ) → column + n ≤ length bytes →
     bytes_of (take n (rest_of lines bytes line column false)) ≡ take n (drop column bytes)
-run-bytes lines bytes line column n h =
-    bytes-line line column n (drop column bytes) _ (omega (arith, h, length-drop column bytes))
+run-bytes lines bytes line column n h = grind (arith, nat_tests, bytes-line, length-drop)

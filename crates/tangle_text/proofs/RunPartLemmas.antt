@@ -1,7 +1,7 @@
 -- Runs: how many cells they have, and their words, signs and spaces.
-use Rattle.std.proofs.Common.{◌≡◌, ℕ, ◌+◌, ◌<◌, ◌≤◌, ◌==◌, zero, suc, Bool, true, false, List, [], ◌∷◌, ◌++◌, Some}
-use Rattle.std.proofs.Common.{cond, length, take, drop, get_or, slice_get, refl, ap, ◌∙◌, arith, drop-cons, drop-drop, inl}
-use Rattle.std.proofs.Common.{inr}
+use Rattle.std.proofs.lemmas.Bool.Decides.{nat_tests}
+use Rattle.std.proofs.Common.{◌≡◌, ℕ, ◌+◌, ◌<◌, ◌≤◌, ◌==◌, zero, suc, Bool, true, false, List, [], ◌∷◌, ◌++◌}
+use Rattle.std.proofs.Common.{cond, length, take, drop, get_or, slice_get, refl, ap, ◌∙◌, arith, drop-cons, drop-drop}
 use Rattle.std.specs.List.{prefix_len}
 use Rattle.std.proofs.lemmas.List.Sums.{prefix_len-le-length}
 use Rattle.std.proofs.lemmas.Bool.Decides.{eqb_tells}
@@ -11,7 +11,7 @@ use Rattle.tangle_text.proofs.RunChunks.{alone-chunk, alone-before}
 use Rattle.tangle_files.specs.Bytes.{space}
 use Rattle.tangle_text.specs.Bytes.{is_word_byte}
 use Rattle.tangle_text.specs.declared.runs.RunPart.TheVariants as part
-use Rattle.tangle_text.specs.Text.{Cell, line_text, text_from}
+use Rattle.tangle_text.specs.Text.{Cell, line_text}
 use Rattle.tangle_text.specs.Ahead.{rest_of}
 use Rattle.tangle_text.specs.Runs.{is_in_run, run_count, run_size, with_front_byte, chunks, parts_of}
 
@@ -20,26 +20,15 @@ pub run_count-line : (line column : ℕ) (bs : List ℕ) (rest : List Cell)
 run_count-line line column [] rest = refl
 run_count-line line column (b ∷ []) rest = refl
 run_count-line line column (b ∷ c ∷ bs) rest =
-    go (is_in_run b (Some c)) refl (run_count-line line (column + 1) (c ∷ bs) rest)
-  where
-    go : (t : Bool) → is_in_run b (Some c) ≡ t
-        → run_count (line_text line (column + 1) (c ∷ bs) ++ rest) ≡ run_size (c ∷ bs)
-        → run_count (line_text line column (b ∷ c ∷ bs) ++ rest) ≡ run_size (b ∷ c ∷ bs)
-    go true h more = rw h (ap (λ n. 1 + n) more)
-    go false h more = rw h refl
+    grind (arith, nat_tests, run_count-line line (column + 1) (c ∷ bs) rest)
 
 pub run_count-rest : (lines : List SourceLine) (bytes : List ℕ) (line column : ℕ)
     → run_count (rest_of lines bytes line column false) ≡ run_size (drop column bytes)
-run_count-rest lines bytes line column =
-    run_count-line line column (drop column bytes) (text_from (line + 1) (drop (line + 1) lines))
+run_count-rest lines bytes line column = grind (arith, nat_tests, run_count-line)
 
 pub run_size-fits : (bs : List ℕ) → run_size bs ≤ length bs
 run_size-fits [] = omega arith
-run_size-fits (b ∷ bs) = go (is_in_run b (slice_get bs 0)) refl (run_size-fits bs)
-  where
-    go : (t : Bool) → is_in_run b (slice_get bs 0) ≡ t → run_size bs ≤ length bs → run_size (b ∷ bs) ≤ length (b ∷ bs)
-    go true h more = let e : run_size (b ∷ bs) ≡ 1 + run_size bs = rw h refl in omega (arith, e, more)
-    go false h more = let e : run_size (b ∷ bs) ≡ 0 = rw h refl in omega (arith, e)
+run_size-fits (b ∷ bs) = grind (arith, nat_tests, run_size-fits bs)
 
 -- the run goes over the byte at a column, or ends there
 
@@ -51,9 +40,7 @@ get-drop (b ∷ bs) (suc column) = get-drop bs column
 pub run_size_step : (bytes : List ℕ) (column : ℕ) → column < length bytes
     → run_size (drop column bytes)
     ≡ cond (is_in_run (get_or bytes column 0) (slice_get bytes (column + 1))) (1 + run_size (drop (column + 1) bytes)) 0
-run_size_step bytes column h =
-    let next : column + 1 ≡ suc column = omega arith in
-    rw (drop-cons bytes column 0 h, get-drop bytes (suc column), next) refl
+run_size_step bytes column h = grind (arith, nat_tests, drop-cons bytes column 0 h, get-drop bytes (suc column))
 
 pub run_size-over : (bytes : List ℕ) (column next : ℕ) → column < length bytes → next ≡ column + 1
     → is_in_run (get_or bytes column 0) (slice_get bytes (column + 1)) ≡ true
@@ -87,21 +74,14 @@ chunks-word b (c ∷ cs) h = go (is_word_byte c) refl (chunks-word c cs)
 -- the parts of a run at a column of a line, by the byte there
 
 not-space : (b : ℕ) → (b ≡ space → ⊥) → (b == space) ≡ false
-not-space b h = elim (eqb_tells b space) [
-  | inl same ↦ absurd (h same.1)
-  | inr differ ↦ differ.0
-]
+not-space b h = grind (arith, nat_tests, eqb_tells)
 
 pub sign-next : (line column : ℕ) (bytes : List ℕ) → column < length bytes
     → (get_or bytes column 0 ≡ space → ⊥) → is_word_byte (get_or bytes column 0) ≡ false
     → parts_of line column (chunks (drop column bytes))
     ≡ part.Sign (record { line = line; start = column; end = column + 1 })
     ∷ parts_of line (column + 1) (chunks (drop (column + 1) bytes))
-sign-next line column bytes h differs none =
-    let other = not-space (get_or bytes column 0) differs in
-    let b = get_or bytes column 0 in
-    let next : column + 1 ≡ suc column = omega arith in
-    rw (drop-cons bytes column 0 h, alone-chunk b (chunks (drop (suc column) bytes)) none, other, none, next) refl
+sign-next line column bytes h differs none = grind (arith, nat_tests, not-space, drop-cons, alone-chunk)
 
 pub word-next : (line column : ℕ) (bytes : List ℕ) → column < length bytes
     → (get_or bytes column 0 ≡ space → ⊥) → is_word_byte (get_or bytes column 0) ≡ true

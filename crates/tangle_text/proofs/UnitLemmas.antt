@@ -1,15 +1,14 @@
 -- The cells of a region, counted one by one.
-use Rattle.std.proofs.Common.{◌≡◌, ℕ, zero, suc, ◌+◌, Bool, true, false, ◌&&◌, ◌||◌, List, [], ◌∷◌, ◌++◌, length}
-use Rattle.std.proofs.Common.{flat_map, Option, None, refl, ap, sym, arith}
+use Rattle.std.proofs.lemmas.Bool.Decides.{nat_tests}
+use Rattle.std.proofs.Common.{◌≡◌, ℕ, zero, suc, ◌+◌, List, [], ◌∷◌, ◌++◌}
+use Rattle.std.proofs.Common.{flat_map, Option, None, refl, arith}
 use Rattle.tangle_text.specs.declared.regions.Region.{Region}
 use Rattle.tangle_text.specs.declared.regions.Region.TheVariants as region
 use Rattle.tangle_text.specs.declared.regions.Unit.{Unit as Unit-of}
 use Rattle.tangle_text.specs.declared.regions.Unit.TheVariants as unit
-use Rattle.tangle_lines.specs.Bytes.{at_sign}
-use Rattle.tangle_text.specs.Bytes.{holds}
 use Rattle.tangle_text.specs.NameBytes.{unit_name_bytes, unit_bytes, name_bytes}
 use Rattle.tangle_text.specs.Text.{Cell, byte_at}
-use Rattle.tangle_text.specs.Regions.{unit_by, unit_of, unit_at, more_by, unless_stop, units_from, units, count_before}
+use Rattle.tangle_text.specs.Regions.{unit_of, unit_at, more_by, unless_stop, units, count_before}
 
 -- the number of cells up to the end of a region: 0 where it ends, else this cell and those after it
 abbrev pub count_by : Unit-of → ℕ → ℕ
@@ -25,21 +24,8 @@ counted r zero (c ∷ cs) = count_by (unit_at r (c ∷ cs)) (counted r (more_by 
 -- a count is that of the cells one by one
 pub count-is : (r : Region) (text : List Cell) → count_before r text ≡ counted r 0 text
 count-is r [] = refl
-count-is r (c ∷ []) = by (unit_at r (c ∷ []))
-  where
-    by : (u : Unit-of)
-        → length (flat_map (λ v. v) (unless_stop u ((c ∷ []) ∷ []))) ≡ count_by u (counted r (more_by u) [])
-    by unit.Stop = refl
-    by unit.One = refl
-    by unit.Two = refl
-count-is r (c ∷ d ∷ cs) = by (unit_at r (c ∷ d ∷ cs)) (count-is r (d ∷ cs)) (count-is r cs)
-  where
-    by : (u : Unit-of) → count_before r (d ∷ cs) ≡ counted r 0 (d ∷ cs) → count_before r cs ≡ counted r 0 cs
-        → length (flat_map (λ v. v) (units_from u c d (units r (d ∷ cs)) (units r cs)))
-        ≡ count_by u (counted r (more_by u) (d ∷ cs))
-    by unit.Stop one two = refl
-    by unit.One one two = omega (arith, one)
-    by unit.Two one two = omega (arith, two)
+count-is r (c ∷ []) = grind (arith, nat_tests)
+count-is r (c ∷ d ∷ cs) = grind (arith, nat_tests, count-is r (d ∷ cs), count-is r cs)
 
 -- by the unit at the front
 pub count-one : (r : Region) (c : Cell) (cs : List Cell)
@@ -61,23 +47,9 @@ pub units-give : {A : Type 0} (f : Unit-of → Cell → Option ℕ → List A) (
     → ((c : Cell) → unit_at r (c ∷ []) ≡ unit.Two → f unit.Two c None ≡ g (c ∷ []))
     → (text : List Cell) → flat_map g (units r text) ≡ from_units f r 0 text
 units-give f g r one two last [] = refl
-units-give f g r one two last (c ∷ []) = by (unit_at r (c ∷ [])) refl
-  where
-    by : (u : Unit-of) → unit_at r (c ∷ []) ≡ u
-        → flat_map g (unless_stop u ((c ∷ []) ∷ [])) ≡ unless_stop u (f u c None ++ from_units f r (more_by u) [])
-    by unit.Stop e = refl
-    by unit.One e = ap (λ xs. xs ++ []) (sym (one c None))
-    by unit.Two e = ap (λ xs. xs ++ []) (sym (last c e))
+units-give f g r one two last (c ∷ []) = grind (arith, nat_tests)
 units-give f g r one two last (c ∷ d ∷ cs) =
-    by (unit_at r (c ∷ d ∷ cs)) (units-give f g r one two last (d ∷ cs)) (units-give f g r one two last cs)
-  where
-    by : (u : Unit-of)
-        → flat_map g (units r (d ∷ cs)) ≡ from_units f r 0 (d ∷ cs) → flat_map g (units r cs) ≡ from_units f r 0 cs
-        → flat_map g (units_from u c d (units r (d ∷ cs)) (units r cs))
-        ≡ unless_stop u (f u c d.byte ++ from_units f r (more_by u) (d ∷ cs))
-    by unit.Stop after_one after_two = refl
-    by unit.One after_one after_two = rw (one c d.byte, after_one) refl
-    by unit.Two after_one after_two = rw (two c d, after_two) refl
+    grind (arith, nat_tests, units-give f g r one two last (d ∷ cs), units-give f g r one two last cs)
 
 -- the bytes of the units of a name
 
@@ -86,12 +58,7 @@ name_bytes_of u c next = unit_name_bytes u c.byte next
 
 -- an @ at the end of a text starts a section, so no name goes on there
 never-two : (b : Option ℕ) → unit_of region.Name b None ≡ unit.Two → ⊥
-never-two b e = by (holds at_sign b) e
-  where
-    by : (x : Bool) → unit_by (x && false || x && true || x && false) x ≡ unit.Two → ⊥
-    by true e = cc
-    by false e = cc
+never-two b e = grind (arith, nat_tests)
 
 pub name_bytes-are : (text : List Cell) → name_bytes text ≡ from_units name_bytes_of region.Name 0 text
-name_bytes-are text = units-give name_bytes_of unit_bytes region.Name
-    (λ c n. refl) (λ c d. refl) (λ c e. absurd (never-two c.byte e)) text
+name_bytes-are text = grind (arith, nat_tests, units-give name_bytes_of unit_bytes region.Name, never-two)

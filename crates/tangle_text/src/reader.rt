@@ -1,8 +1,9 @@
 //! Reads the text ahead of a position.
-ghost use Rattle.std.specs.Prelude.{◌≡◌, ◌≤◌, ◌<◌, ◌+◌, ◌^◌, ℕ, List, [], length, take, drop};
+ghost use Rattle.std.specs.Prelude.{◌≡◌, ◌==◌, ◌≤◌, ◌<◌, ◌+◌, ◌^◌, ℕ, List, [], length, take, drop};
 ghost use Rattle.std.specs.Prelude.{get_or, slice_get, IsSome, IfOk, IfSome, IfNone, true, false};
 ghost use Rattle.std.specs.List.{prefix_len};
 ghost use Rattle.tangle_files.specs.Adding.{longest_line};
+ghost use Rattle.tangle_files.specs.Bytes.{space};
 ghost use Rattle.tangle_lines.specs.Bytes as lines;
 ghost use Rattle.tangle_text.specs.Ahead.{IsFront};
 ghost use Rattle.tangle_text.specs.Bytes as byte;
@@ -131,14 +132,32 @@ fn ordinary_end(bytes: &[u8], from: usize) -> usize
     run_end!(is_ordinary, bytes, from)
 }
 
+fn is_space(byte: u8) -> bool
+    ensures { result ≡ (byte == space) }
+{
+    byte == b' '
+}
+
+/// The column after the run of spaces from this column on. White space may go on after it.
+#[inline(always)]
+fn space_end(bytes: &[u8], from: usize) -> usize
+    requires { from ≤ length bytes.now }
+    ensures white { result + prefix_len lines.is_white (drop result bytes.now)
+        ≡ from + prefix_len lines.is_white (drop from bytes.now) }
+    ensures inside { result ≤ length bytes.now }
+{
+    run_end!(is_space, bytes, from)
+}
+
 /// The column after the run of white space from this column on.
+// Most of it is spaces, for which the test is shorter.
 #[inline(always)]
 fn white_end(bytes: &[u8], from: usize) -> usize
     requires { from ≤ length bytes.now }
     ensures end { result ≡ from + prefix_len lines.is_white (drop from bytes.now) }
     ensures inside { result ≤ length bytes.now }
 {
-    let mut end = from;
+    let mut end = space_end(bytes, from);
     while end < bytes.len() && is_white(bytes[end]) {
         end += 1;
     }
@@ -275,6 +294,7 @@ impl<'s, 'a> Reader<'s, 'a> {
     }
 
     /// Advances by a unit.
+    #[inline(always)]
     pub fn pass(&mut self, unit: Unit)
         ensures { self.new ≡ drop (more_by unit) (drop 1 self.old) }
     {

@@ -1,6 +1,7 @@
 -- Which control codes are in a comment, in a control text and in a section name.
+use Rattle.std.proofs.lemmas.Bool.Decides.{nat_tests}
 use Rattle.std.proofs.Common.{◌≡◌, ◌⊎◌, ℕ, ◌+◌, Bool, true, false, not, ◌&&◌, ◌||◌, List, [], ◌∷◌, ◌++◌, take, drop}
-use Rattle.std.proofs.Common.{Option, None, inl, inr, refl, ap, sym, ◌∙◌, arith, subst}
+use Rattle.std.proofs.Common.{Option, None, inl, inr, refl, sym, ◌∙◌, arith}
 use Rattle.std.proofs.Math.Seq.{take-add}
 use Rattle.std.proofs.lemmas.List.{drop-take}
 use Rattle.std.specs.List.{AllByRecursion}
@@ -112,7 +113,4 @@ line_comment-codes =
 pub codes-opened : (P : List Cell → Type 0) (inside last : ℕ) (text : List Cell)
     → AllByRecursion P (control_codes (take inside (drop 2 text) ++ take last (drop inside (drop 2 text))))
     → AllByRecursion P (control_codes (drop 2 (take (1 + (1 + inside + last)) text)))
-codes-opened P inside last text h =
-    let sum : 1 + (1 + inside + last) ≡ 2 + (inside + last) = omega arith in
-    subst (λ cells. AllByRecursion P (control_codes cells))
-    (sym (ap (λ n. drop 2 (take n text)) sum ∙ drop-take 2 (inside + last) text ∙ take-add inside last (drop 2 text))) h
+codes-opened P inside last text h = grind (arith, nat_tests, drop-take, take-add)

@@ -1,15 +1,15 @@
 -- An ASCII constant is on one line, and has no apostrophe before its last byte, except for one that a backslash escapes.
-use Rattle.std.proofs.Common.{◌≡◌, ◌<◌, ◌≤◌, ℕ, zero, suc, ◌+◌, ◌-◌, Bool, true, false, ◌==◌, ◌||◌, List, ◌∷◌, drop}
-use Rattle.std.proofs.Common.{Option, Some, None, inl, inr, refl, ap, sym, ◌∙◌, arith, subst, if◌then◌else◌}
+use Rattle.std.proofs.lemmas.Bool.Decides.{nat_tests}
+use Rattle.std.proofs.Common.{◌≡◌, ◌<◌, ◌≤◌, ℕ, ◌+◌, ◌-◌, Bool, true, false, ◌==◌, List, ◌∷◌, drop}
+use Rattle.std.proofs.Common.{Option, Some, None, refl, ap, sym, ◌∙◌, arith, subst, if◌then◌else◌}
 use Rattle.std.proofs.lemmas.Bool.Decides.{eqb_tells}
 use Rattle.std.proofs.lemmas.Bool.{cond_both}
 use Rattle.std.proofs.lemmas.Option.{cond_some}
 use Rattle.tangle_lines.specs.Bytes.{at_sign}
 use Rattle.tangle_text.specs.declared.regions.Region.TheVariants as region
-use Rattle.tangle_text.specs.declared.regions.Unit.TheVariants as unit
-use Rattle.tangle_text.specs.Bytes.{backslash, apostrophe, holds, is_octal, is_line_end}
+use Rattle.tangle_text.specs.Bytes.{backslash, apostrophe, holds, is_octal}
 use Rattle.tangle_text.specs.Text.{Cell, byte_at}
-use Rattle.tangle_text.specs.Regions.{unit_by, count_before}
+use Rattle.tangle_text.specs.Regions.{count_before}
 use Rattle.tangle_text.proofs.AheadLemmas.{byte_at-drop}
 use Rattle.tangle_lexer.specs.declared.modes.LexerState.{LexerState}
 use Rattle.tangle_lexer.specs.declared.constants.AsciiConstant.{AsciiConstant}
@@ -36,21 +36,12 @@ IsClosed text None = Unit {0}
 IsClosed text (Some k) = HoldsBytes (k.count + 1) text × ((j : ℕ) → j < k.count → IsEscaped j text)
 
 next-byte : (n : ℕ) (text : List Cell) → HoldsBytes n text → IsByte (byte_at n text) → HoldsBytes (n + 1) text
-next-byte n text h byte = more-bytes n 1 text h (front (drop n text) (subst IsByte (byte_at-drop n text) byte))
-  where
-    front : (text : List Cell) → IsByte (byte_at 0 text) → HoldsBytes 1 text
-    front x h = grind arith
+next-byte n text h byte = grind (arith, nat_tests, more-bytes, byte_at-drop)
 
 -- one more byte
 more-character : (n : ℕ) (text : List Cell)
     → AreCharacter n text → IsByte (byte_at n text) → IsEscaped n text → AreCharacter (n + 1) text
-more-character n text h byte quote = record {
-  bytes = next-byte n text h.bytes byte;
-  quotes = λ j l. elim (eqb_tells j n) [
-    | inl same ↦ subst (λ k. IsEscaped k text) (sym same.1) quote
-    | inr unlike ↦ h.quotes j (omega (arith, l, unlike.1))
-  ];
-}
+more-character n text h byte quote = grind (arith, nat_tests, next-byte, eqb_tells)
 
 no-character : (text : List Cell) → AreCharacter 0 text
 no-character text = record { bytes = tt; quotes = λ j l. absurd (omega (arith, l)) }
@@ -58,16 +49,11 @@ no-character text = record { bytes = tt; quotes = λ j l. absurd (omega (arith, 
 -- one more byte that is a byte other than an apostrophe
 known-character : (x n : ℕ) (text : List Cell) → (x == apostrophe) ≡ false
     → AreCharacter n text → holds x (byte_at n text) ≡ true → AreCharacter (n + 1) text
-known-character x n text other h is =
-    let no_quote = other-byte x apostrophe (byte_at n text) other is in
-    more-character n text h (holds-byte x (byte_at n text) is) (λ quote. absurd (let e = sym no_quote ∙ quote in cc))
+known-character x n text other h is = grind (arith, nat_tests, other-byte, more-character, holds-byte)
 
 closed-if : (v : Option ℕ) (n : ℕ) (text : List Cell)
     → ((x : ℕ) → v ≡ Some x → AreCharacter n text) → IsClosed text (if_closed v n text)
-closed-if None n text h = tt
-closed-if (Some x) n text h =
-    cond_both (holds apostrophe (byte_at n text)) _ None (IsClosed text)
-    (λ e. (next-byte n text (h x refl).bytes (holds-byte apostrophe (byte_at n text) e), (h x refl).quotes)) (λ e. tt)
+closed-if v n text h = grind (arith, nat_tests, cond_both, next-byte, holds-byte)
 
 -- a backslash at the front
 backslash-character : (text : List Cell) → holds backslash (byte_at 0 text) ≡ true → AreCharacter 1 text
@@ -106,15 +92,7 @@ abbrev HasNoQuote : ℕ → List Cell → Type 0
 HasNoQuote n text = (j : ℕ) → j < n → holds apostrophe (byte_at j text) ≡ true → ⊥
 
 bad-quotes : (text : List Cell) → HasNoQuote (count_before region.BadConstant text) text
-bad-quotes =
-    units-by region.BadConstant HasNoQuote (λ text e j l. absurd (omega (arith, l))) (λ j l. absurd (omega (arith, l)))
-    one (λ n c d cs e. grind arith) (λ c e. grind arith)
-  where
-    one : (n : ℕ) (c : Cell) (cs : List Cell)
-        → unit_by (holds apostrophe c.byte || is_line_end c.byte) false ≡ unit.One
-        → HasNoQuote n cs → HasNoQuote (suc n) (c ∷ cs)
-    one n c cs e rest zero l quote = grind arith
-    one n c cs e rest (suc j) l quote = rest j (omega (arith, l)) quote
+bad-quotes = grind (arith, nat_tests, units-by region.BadConstant HasNoQuote)
 
 one_if-few : (b : Bool) → one_if b ≤ 1
 one_if-few b = grind arith

@@ -1,6 +1,7 @@
 -- Quoted and verbatim texts, which are cut: what is true unit by unit is true of such a text.
-use Rattle.std.proofs.Common.{◌≡◌, ℕ, suc, ◌+◌, ◌≤◌, Bool, true, false, List, [], ◌∷◌, ◌++◌, Option, Some, None}
-use Rattle.std.proofs.Common.{refl, sym, ◌∙◌, arith, subst, cond, ◌&&◌, append_assoc}
+use Rattle.std.proofs.lemmas.Bool.Decides.{nat_tests}
+use Rattle.std.proofs.Common.{◌≡◌, ℕ, suc, ◌+◌, ◌≤◌, true, false, List, [], ◌∷◌, ◌++◌, Option, None}
+use Rattle.std.proofs.Common.{refl, sym, arith, subst, cond, append_assoc}
 use Rattle.tangle_faults.specs.declared.faults.FaultKind.TheVariants as fault
 use Rattle.tangle_lexer.specs.declared.tokens.Token.{Token}
 use Rattle.tangle_lexer.specs.declared.tokens.Token.TheVariants as token
@@ -8,11 +9,11 @@ use Rattle.tangle_text.specs.declared.regions.Region.{Region}
 use Rattle.tangle_text.specs.declared.regions.Region.TheVariants as region
 use Rattle.tangle_text.specs.declared.regions.Unit.TheVariants as unit
 use Rattle.tangle_lines.specs.Bytes.{at_sign}
-use Rattle.tangle_text.specs.Bytes.{backslash, holds, is_line_end}
+use Rattle.tangle_text.specs.Bytes.{backslash, holds}
 use Rattle.tangle_text.specs.Text.{Cell, byte_at}
 use Rattle.tangle_text.specs.Regions.{unit_of, unit_at, count_before}
 use Rattle.tangle_lexer.specs.Lexemes.{fault_if}
-use Rattle.tangle_lexer.specs.Quoted.{cut_range, unit_tokens, next_start, cut_tokens}
+use Rattle.tangle_lexer.specs.Quoted.{cut_range, cut_tokens}
 use Rattle.tangle_lexer.proofs.lemmas.CutLemmas.{cut-stop}
 use Rattle.tangle_lexer.proofs.laws.Points.{Point, point_at, IsByte, after_by, IsCellAt, IsTextAt, text-next}
 use Rattle.tangle_lexer.proofs.laws.RegionOrder.{goes-byte, other-byte}
@@ -30,36 +31,16 @@ pub record IsCut (r : Region) : Type 0 where
   pub takes : (b : Option ℕ) → unit_of r b None ≡ unit.Two → holds backslash b ≡ true
 
 pub double_quote-cut : IsCut region.DoubleQuote
-double_quote-cut = record {
-  stops = λ n. refl;
-  leaves = λ b n e h. grind arith;
-  pairs = λ b n e. grind arith;
-  takes = λ b e. grind arith;
-}
+double_quote-cut = grind (arith, nat_tests)
 
 pub apostrophe-cut : IsCut region.Apostrophe
-apostrophe-cut = record {
-  stops = λ n. refl;
-  leaves = λ b n e h. grind arith;
-  pairs = λ b n e. grind arith;
-  takes = λ b e. grind arith;
-}
+apostrophe-cut = grind (arith, nat_tests)
 
 pub header_name-cut : IsCut region.HeaderName
-header_name-cut = record {
-  stops = λ n. refl;
-  leaves = λ b n e h. grind arith;
-  pairs = λ b n e. grind arith;
-  takes = λ b e. grind arith;
-}
+header_name-cut = grind (arith, nat_tests)
 
 pub verbatim-cut : IsCut region.Verbatim
-verbatim-cut = record {
-  stops = λ n. refl;
-  leaves = λ b n e h. grind arith;
-  pairs = λ b n e. grind arith;
-  takes = λ b e. grind arith;
-}
+verbatim-cut = grind (arith, nat_tests)
 
 -- `P at start ts n text` is a fact about a text from a point on, whose first `n` cells are the region: the current range
 -- starts at column `start`, and `ts` are the tokens of the text. The cases are the end of the region, one byte, @@, two
@@ -95,51 +76,7 @@ module _ (texts : List (List ℕ)) (r : Region) (cut : IsCut r) (ends : ℕ → 
   two-holds : (n : ℕ) (c d : Cell) (cs : List Cell)
       → unit_at r (c ∷ d ∷ cs) ≡ unit.Two → Holds n cs → Holds (suc (suc n)) (c ∷ d ∷ cs)
   two-holds n c d cs e next at start h is =
-      let tokens : cut_tokens ends r 0 start (c ∷ d ∷ cs)
-      ≡ unit_tokens r unit.Two start c d.byte ++ cut_tokens ends r 0 (next_start unit.Two start c d.byte) cs =
-      rw e refl in
-      let after = text-next texts at c (d ∷ cs) is byte in
-      subst (λ ts. P at start ts (suc (suc n)) (c ∷ d ∷ cs)) (sym tokens)
-      (by d.byte refl (holds at_sign c.byte) refl (holds backslash c.byte) refl after.0 after.1)
-    where
-      byte : IsByte c.byte
-      byte = goes-byte r cut.stops c.byte d.byte unit.Two e (λ k. cc)
-
-      -- a line end is only after a backslash
-      back : d.byte ≡ None → holds backslash c.byte ≡ true
-      back none = cut.takes c.byte (subst (λ x. unit_of r c.byte x ≡ unit.Two) none e)
-
-      by : (x : Option ℕ) → d.byte ≡ x → (sign : Bool) → holds at_sign c.byte ≡ sign
-          → (slash : Bool) → holds backslash c.byte ≡ slash
-          → IsCellAt texts (point_at c.line (c.column + 1)) d → IsTextAt texts (after_by x d) cs
-          → P at start
-          (cond sign (cut_range r c.line start (c.column + 1))
-          (cond (slash && is_line_end x) (cut_range r c.line start (c.column + 1) ++ token.QuoteBreak ∷ []) [])
-          ++ cut_tokens ends r 0 (cond sign (c.column + 2) (cond (slash && is_line_end x) 0 start)) cs)
-          (suc (suc n)) (c ∷ d ∷ cs)
-      by None x true s slash b cell text =
-          let no_sign = other-byte backslash at_sign c.byte refl (back x) in
-          absurd (let never : true ≡ false = sym s ∙ no_sign in cc)
-      by None x false s false b cell text = absurd (let never : true ≡ false = sym (back x) ∙ b in cc)
-      by None x false s true b cell text =
-          rw append_assoc
-          (broken at start c d cs (cut_tokens ends r 0 0 cs) n h is.0 cell byte x s
-          (next (point_at (d.line + 1) 0) 0 (omega arith) text))
-      by (Some y) x true s slash b cell text =
-          signs at start c d cs (cut_tokens ends r 0 (c.column + 2) cs) n h is.0 cell byte (subst IsByte (sym x) tt) s
-          (sym (cut.pairs c.byte d.byte e) ∙ s)
-          (next (point_at d.line (d.column + 1)) (c.column + 2) (omega (arith, cell.column)) text)
-      by (Some y) x false s slash b cell text =
-          let further = others at start c d cs (cut_tokens ends r 0 start cs) n h is.0 cell byte
-          (subst IsByte (sym x) tt) s (sym (cut.pairs c.byte d.byte e) ∙ s)
-          (next (point_at d.line (d.column + 1)) start (omega (arith, h, is.0.column, cell.column)) text) in
-          none slash further
-        where
-          none : (slash : Bool) → P at start (cut_tokens ends r 0 start cs) (suc (suc n)) (c ∷ d ∷ cs)
-              → P at start
-              (cond (slash && false) (cut_range r c.line start (c.column + 1) ++ token.QuoteBreak ∷ []) []
-              ++ cut_tokens ends r 0 (cond (slash && false) 0 start) cs) (suc (suc n)) (c ∷ d ∷ cs)
-          none x further = grind arith
+      grind (arith, nat_tests, text-next, goes-byte, point_at, after_by, cond, other-byte, append_assoc)
 
   cut-holds : (text : List Cell) → Holds (count_before r text) text
   cut-holds =

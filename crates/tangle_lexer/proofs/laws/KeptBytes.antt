@@ -1,4 +1,5 @@
 -- The bytes of the segments that are kept are those in the spans of the tokens of C parts.
+use Rattle.std.proofs.lemmas.Bool.Decides.{nat_tests}
 use Rattle.std.proofs.Common.{◌≡◌, ℕ, zero, suc, ◌+◌, ◌-◌, Bool, true, false, not, List, [], ◌∷◌, ◌++◌, take, drop}
 use Rattle.std.proofs.Common.{flat_map, map, Option, Some, None, refl, ap, sym, ◌∙◌, arith, append_assoc, append-nil}
 use Rattle.std.proofs.Common.{if◌then◌else◌}
@@ -20,9 +21,9 @@ use Rattle.tangle_lexer.specs.declared.constants.AsciiConstant.{AsciiConstant}
 use Rattle.tangle_lines.specs.Bytes.{at_sign, double_quote}
 use Rattle.tangle_text.specs.Bytes.{apostrophe, greater_sign}
 use Rattle.tangle_text.specs.Text.{Cell, byte_at, front_line, span_at}
-use Rattle.tangle_text.specs.Regions.{count_before, units}
+use Rattle.tangle_text.specs.Regions.{count_before}
 use Rattle.tangle_lexer.specs.Lexemes.{Lexeme, fault_if, is_c_part, is_in_directive}
-use Rattle.tangle_lexer.specs.Comments.{unit_line_end, line_ends, ends_comment, starts_section, has_end_code}
+use Rattle.tangle_lexer.specs.Comments.{line_ends, ends_comment, starts_section, has_end_code}
 use Rattle.tangle_lexer.specs.Constants.{constant_at, constant_lexeme}
 use Rattle.tangle_lexer.specs.Names.{name_end, is_ended, name_faults, after_name, has_single_equals}
 use Rattle.tangle_lexer.specs.Names.{definition_or_mention, definition_count, mention_faults}
@@ -79,10 +80,7 @@ points-flat f h [] = refl
 points-flat f h (u ∷ us) = rw (points-append (f u) (flat_map f us), h u) (points-flat f h us)
 
 line_ends-points : (r : Region) (text : List Cell) → token_points (line_ends r text) ≡ []
-line_ends-points r text = points-flat unit_line_end one (units r text)
-  where
-    one : (u : List Cell) → token_points (unit_line_end u) ≡ []
-    one x = grind arith
+line_ends-points r text = grind (arith, nat_tests, points-flat, token_points)
 
 inner-points : (b : Bool) (ts : List Token) → token_points (map (inner_end_in b) ts) ≡ token_points ts
 inner-points b [] = refl
@@ -96,10 +94,7 @@ inner-points false (_ ∷ ts) = inner-points false ts
 white-points : (r : Region) (text : List Cell) (inner b : Bool) (kind : FaultKind) (line : ℕ)
     → token_points (token.White ∷ map (inner_end_in inner) (line_ends r text) ++ fault_if b kind line) ≡ []
 white-points r text inner b kind line =
-    points-append (map (inner_end_in inner) (line_ends r text)) (fault_if b kind line)
-    ∙ ap (λ ps. ps ++ token_points (fault_if b kind line))
-    (inner-points inner (line_ends r text) ∙ line_ends-points r text)
-    ∙ fault-points b kind line
+    grind (arith, nat_tests, points-append, token_points, inner-points, line_ends-points, fault-points)
 
 constant-points : (k : Option AsciiConstant) (s : LexerState) (text : List Cell)
     → token_points (constant_lexeme k s text).tokens ≡ []
@@ -110,9 +105,7 @@ module _ (texts : List (List ℕ)) where
   span-keeps : (at : Point) (n : ℕ) (c : Cell) (cs : List Cell)
       → IsTextAt texts at (c ∷ cs) → HoldsBytes n (c ∷ cs)
       → span_points (span_at n (c ∷ cs)) ++ [] ≡ byte_points (take n (c ∷ cs)) ++ []
-  span-keeps at n c cs is h =
-      let e : c.column + n - c.column ≡ n = omega arith in
-      rw (e, bytes-columns texts at n (c ∷ cs) is h, is.0.line, is.0.column) refl
+  span-keeps at n c cs is h = grind (arith, nat_tests, bytes-columns)
 
   -- the bytes in the spans of a lexeme's tokens are those that its segments keep
 
@@ -192,20 +185,7 @@ module _ (texts : List (List ℕ)) where
 
   kind-within : (kind : LexemeKind) (s : LexerState) (text : List Cell) → s.mode ≡ mode.CPart → KindKeeps kind s text
       → Keeps mode.CPart (c_lexeme kind s text) (c_segments kind (1 + (c_lexeme kind s text).more) text)
-  kind-within (lexeme_kind.Control code.SectionStart) s text m e us = refl
-  kind-within (lexeme_kind.Control code.Name) s text m e us =
-      part_points-plain true
-      (fault_if (is_in_directive s) fault.UseInDirective (front_line s.last_line text)
-      ++ name_faults s.last_line text
-      ++ fault_if (has_single_equals (after_name text)) fault.NameEquals (front_line s.last_line text))
-      us (use-plain s text).none
-      ∙ rw (e, m) refl
-  kind-within kind s text m e us =
-      let p = kind-plain kind s text tt in
-      let ps = flat_map kept_points (c_segments kind (1 + (c_lexeme kind s text).more) text) in
-      part_points-plain true (c_lexeme kind s text).tokens us p.tokens.none
-      ∙ ap (λ qs. qs ++ part_points true us) e
-      ∙ ap (λ x. ps ++ part_points (is_c_part x) us) (sym (p.mode ∙ m))
+  kind-within kind s text m e us = grind (arith, nat_tests, part_points-plain, use-plain, kind-plain)
 
   -- a lexeme outside of C parts adds no points; the mode after it says whether a C part begins
 

@@ -1,6 +1,7 @@
 -- The ranges of quoted and verbatim texts have all bytes of these texts but the second @ of each @@.
+use Rattle.std.proofs.lemmas.Bool.Decides.{nat_tests}
 use Rattle.std.proofs.Common.{◌≡◌, ℕ, suc, ◌+◌, ◌-◌, ◌≤◌, Bool, true, false, not, List, [], ◌∷◌, ◌++◌, take, drop}
-use Rattle.std.proofs.Common.{Option, None, inl, inr, refl, ap, sym, ◌∙◌, arith, cond, ◌==◌, ◌&&◌}
+use Rattle.std.proofs.Common.{Option, inl, inr, refl, ap, sym, ◌∙◌, arith, cond, ◌==◌, ◌&&◌}
 use Rattle.std.proofs.Common.{append_assoc, append-nil, flat_map}
 use Rattle.std.proofs.Math.Seq.{take-add}
 use Rattle.std.proofs.lemmas.Bool.Decides.{eqb_tells}
@@ -16,7 +17,7 @@ use Rattle.tangle_text.specs.Bytes.{holds, is_line_end}
 use Rattle.tangle_text.specs.Text.{Cell, byte_at, span_at}
 use Rattle.tangle_text.specs.Regions.{count_before}
 use Rattle.tangle_lexer.specs.Lexemes.{fault_if}
-use Rattle.tangle_lexer.specs.Quoted.{cut_range, cut_tokens, quote_end, one_if, quoted_text}
+use Rattle.tangle_lexer.specs.Quoted.{cut_tokens, quote_end, one_if, quoted_text}
 use Rattle.tangle_lexer.specs.Quoted.{verbatim_end, empty_end, verbatim_tokens}
 use Rattle.tangle_lexer.specs.Segments.{points_by, kept_points, byte_points, cell_kind, text_segments}
 use Rattle.tangle_lexer.specs.Segments.SegmentKind.{Kept, SecondAtSign, LineEnd}
@@ -43,10 +44,12 @@ points-before : (after_at_sign : Bool) (xs ys : List Cell) (ps : List (ℕ × �
     → ((h : Bool) → text_points h ys ≡ ps) → text_points after_at_sign (xs ++ ys) ≡ text_points after_at_sign xs ++ ps
 points-before after_at_sign [] ys ps h = h after_at_sign
 points-before after_at_sign (x ∷ xs) ys ps h =
-    ap (λ qs. points_by (cell_kind after_at_sign x) (x ∷ []) ++ qs)
-    (points-before (holds at_sign x.byte && not after_at_sign) xs ys ps h)
-    ∙ sym (append_assoc (points_by (cell_kind after_at_sign x) (x ∷ []))
-    (text_points (holds at_sign x.byte && not after_at_sign) xs) ps)
+    grind (
+      arith,
+      nat_tests,
+      points-before (holds at_sign x.byte && not after_at_sign) xs ys ps h,
+      append_assoc (points_by (cell_kind after_at_sign x) (x ∷ [])) (text_points (holds at_sign x.byte && not after_at_sign) xs) ps,
+    )
 
 module _ (texts : List (List ℕ)) where
   -- a text that is cut; `last` gives the points of its end
@@ -63,9 +66,7 @@ module _ (texts : List (List ℕ)) where
     -- the points of a current range with one more byte
     after-range : (line start column : ℕ) (ps : List (ℕ × ℕ)) → start ≤ column
         → columns_to line start (column + 1) ++ ps ≡ columns_to line start column ++ ((line, column) ∷ ps)
-    after-range line start column ps h =
-        ap (λ qs. qs ++ ps) (columns-next line start column h)
-        ∙ append_assoc (columns_to line start column) ((line, column) ∷ []) ps
+    after-range line start column ps h = grind (arith, nat_tests, columns-next, append_assoc, columns_to)
 
     one-points : (c : Cell) (cs : List Cell) (n : ℕ)
         → IsByte c.byte → (holds at_sign c.byte ≡ true → holds at_sign (byte_at 0 cs) ≡ false)
@@ -79,22 +80,7 @@ module _ (texts : List (List ℕ)) where
     two-points : (c d : Cell) (cs : List Cell) (n : ℕ) (sign : Bool)
         → IsByte c.byte → holds at_sign c.byte ≡ sign → holds at_sign d.byte ≡ sign
         → kept_of (suc (suc n)) (c ∷ d ∷ cs) ≡ (c.line, c.column) ∷ second_points sign d ++ kept_of n cs
-    two-points c d cs n sign byte first second =
-        ap (λ ps. (ps
-        ++ (second_points (holds at_sign c.byte) d
-        ++ text_points (holds at_sign d.byte && not (holds at_sign c.byte && true)) (take n cs))) ++ last (drop n cs))
-        (kept-byte false c byte refl)
-        ∙ ap
-        (λ a. (c.line, c.column) ∷ (second_points a d
-        ++ text_points (holds at_sign d.byte && not (a && true)) (take n cs)) ++ last (drop n cs)) first
-        ∙ ap
-        (λ b. (c.line, c.column) ∷ (second_points sign d ++ text_points b (take n cs)) ++ last (drop n cs))
-        (ap (λ b. b && not (sign && true)) second ∙ by sign)
-        ∙ ap (λ ps. (c.line, c.column) ∷ ps)
-        (append_assoc (second_points sign d) (text_points false (take n cs)) (last (drop n cs)))
-      where
-        by : (b : Bool) → (b && not (b && true)) ≡ false
-        by b = grind arith
+    two-points c d cs n sign byte first second = grind (arith, nat_tests)
 
     pub cut-keeps : (at : Point) (start : ℕ) (text : List Cell)
         → start ≤ at.column → IsTextAt texts at text
@@ -144,25 +130,19 @@ module _ (texts : List (List ℕ)) where
   quote-stop : (r : Region) (close last : ℕ) (at : Point) (start : ℕ) (text : List Cell)
       → start ≤ at.column → IsTextAt texts at text
       → token_points (quote_end r close last start text) ≡ columns_to at.line start at.column ++ close-points close text
-  quote-stop r close last at start [] h is =
-      let none : at.column - start ≡ 0 = omega (arith, is) in rw none (by (holds close None))
-    where
-      by : (b : Bool) → [] ≡ byte_points (take (one_if b) [])
-      by x = grind arith
-  quote-stop r close last at start (c ∷ cs) h is =
-      rw (← is.0.line, ← is.0.column) (by (holds close c.byte) (holds-byte close c.byte))
-    where
-      by : (b : Bool) → (b ≡ true → IsByte c.byte)
-          → token_points (cond b (cut_range r c.line start (c.column + 1))
-          (cut_range r c.line start c.column ++ token.Fault fault.StringEnd c.line ∷ []))
-          ≡ columns_to c.line start c.column ++ byte_points (take (cond b 1 0) (c ∷ cs))
-      by true byte =
-          ap token_points (sym (append-nil (cut_range r c.line start (c.column + 1))))
-          ∙ cut-points r c.line start (c.column + 1) []
-          ∙ append-nil (columns_to c.line start (c.column + 1))
-          ∙ columns-next c.line start c.column (omega (arith, h, is.0.column))
-          ∙ ap (λ ps. columns_to c.line start c.column ++ ps) (sym (ap (λ ps. ps ++ []) (byte-point c (byte refl))))
-      by false byte = cut-points r c.line start c.column (token.Fault fault.StringEnd c.line ∷ [])
+  quote-stop r close last at start text h is =
+      grind (
+        arith,
+        nat_tests,
+        holds-byte,
+        token_points,
+        cond,
+        columns_to,
+        append-nil,
+        cut-points,
+        columns-next,
+        byte-point,
+      )
 
   -- the closing byte is kept, whatever cell is before it
   close-kept : (close : ℕ) (text : List Cell) → ((b : Option ℕ) → holds close b ≡ true → holds at_sign b ≡ false)

@@ -1,4 +1,5 @@
 -- The tokens of a use, a mention and a definition are in order. `texts` are the bytes of the source lines.
+use Rattle.std.proofs.lemmas.Bool.Decides.{nat_tests}
 use Rattle.std.proofs.Common.{◌≡◌, ℕ, ◌+◌, Bool, true, false, not, List, ◌∷◌, ◌++◌, drop, Option}
 use Rattle.std.proofs.Common.{Some, None, refl, ap, sym, ◌∙◌, arith, subst, cond}
 use Rattle.std.proofs.lemmas.List.{drop-drop}
@@ -9,35 +10,23 @@ use Rattle.tangle_lexer.specs.declared.tokens.Token.{Token}
 use Rattle.tangle_lexer.specs.declared.modes.LexerState.{LexerState}
 use Rattle.tangle_lexer.specs.declared.names.Equals.TheVariants as equals
 use Rattle.tangle_lines.specs.Bytes.{at_sign}
-use Rattle.tangle_text.specs.Bytes.{greater_sign, equals_sign, holds}
+use Rattle.tangle_text.specs.Bytes.{greater_sign}
 use Rattle.tangle_text.specs.Text.{Cell, byte_at, front_line}
 use Rattle.tangle_lexer.specs.Lexemes.{Lexeme, fault_if, is_in_directive}
 use Rattle.tangle_lexer.specs.Comments.{two_if}
-use Rattle.tangle_lexer.specs.Names.{name_count, name_end, is_ended, name_more, after_name, count_before_equals}
-use Rattle.tangle_lexer.specs.Names.{count_through, equals_count, has_single_equals, definition_count, use_of_name}
+use Rattle.tangle_lexer.specs.Names.{name_count, name_end, is_ended, name_more, after_name}
+use Rattle.tangle_lexer.specs.Names.{equals_count, has_single_equals, definition_count, use_of_name}
 use Rattle.tangle_lexer.specs.Names.{definition_or_mention, name_in_documentation}
 use Rattle.tangle_lexer.proofs.laws.Points.{Point, IsByte, IsTextAt, text-somewhere}
 use Rattle.tangle_lexer.proofs.laws.TokenOrder.{IsAtLine, AreInOrder, AreBefore, in_order-append, faults-in_order}
-use Rattle.tangle_lexer.proofs.laws.RegionOrder.{holds-byte, are_bytes-hold, end-line}
+use Rattle.tangle_lexer.proofs.laws.RegionOrder.{are_bytes-hold, end-line}
 use Rattle.tangle_lexer.proofs.laws.WhiteOrder.{LexemeIsInOrder, after-end}
 use Rattle.tangle_text.proofs.AheadLemmas.{byte_at-drop}
 
 -- the last cell of an equals sign is a byte
 equals-last : (text : List Cell) (k : ℕ)
     → equals_count text ≡ Some k → (j : ℕ) × ((k ≡ j + 1) × IsByte (byte_at j text))
-equals-last text k e =
-    by (holds equals_sign (byte_at before text)) (holds-byte equals_sign (byte_at before text))
-    (holds equals_sign (byte_at (before + 1) text)) (holds-byte equals_sign (byte_at (before + 1) text)) e
-  where
-    before : ℕ
-    before = count_before_equals text
-
-    by : (one : Bool) → (one ≡ true → IsByte (byte_at (count_before_equals text) text)) → (two : Bool)
-        → (two ≡ true → IsByte (byte_at (count_before_equals text + 1) text))
-        → count_through (cond one (cond two equals.Double equals.Single) equals.Absent) (count_before_equals text)
-        ≡ Some k
-        → (j : ℕ) × ((k ≡ j + 1) × IsByte (byte_at j text))
-    by x h two l e = grind arith
+equals-last text k e = grind (arith, nat_tests)
 
 definition-last : (text : List Cell) (k : ℕ)
     → definition_count text ≡ Some k → (j : ℕ) × ((k ≡ j + 1) × IsByte (byte_at j (after_name text)))

@@ -1,4 +1,5 @@
 -- Points of the text, and the point after a cell. `texts` are the bytes of the source lines.
+use Rattle.std.proofs.lemmas.Bool.Decides.{nat_tests}
 use Rattle.std.proofs.Common.{◌≡◌, ℕ, zero, suc, ◌+◌, ◌<◌, ◌≤◌, List, [], ◌∷◌, ◌++◌, length, get_or, drop, Option, Some}
 use Rattle.std.proofs.Common.{◌==◌}
 use Rattle.tangle_text.specs.Bytes.{holds}
@@ -94,8 +95,7 @@ module _ (texts : List (List ℕ)) where
       → column + length bytes ≡ length (get_or texts line []) → line < length texts
       → ((k : ℕ) → k < length bytes → source_byte line (column + k) ≡ get_or bytes k 0)
       → IsTextAt (point_at (line + 1) 0) rest → IsTextAt (point_at line column) (line_text line column bytes ++ rest)
-  line-is line column [] rest h real same is =
-      (record { line = refl; column = refl; inside = omega (arith, h); real = real; byte = tt }, is)
+  line-is line column [] rest h real same is = grind (arith, nat_tests)
   line-is line column (b ∷ bs) rest h real same is = (
     record {
       line = refl;

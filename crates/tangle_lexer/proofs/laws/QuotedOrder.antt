@@ -1,6 +1,7 @@
 -- The ranges of quoted and verbatim texts are in order. `texts` are the bytes of the source lines.
-use Rattle.std.proofs.Common.{◌≡◌, ℕ, ◌+◌, ◌<◌, ◌≤◌, Bool, true, List, [], ◌∷◌, ◌++◌, length, drop}
-use Rattle.std.proofs.Common.{inl, inr, refl, sym, arith, subst, cond}
+use Rattle.std.proofs.lemmas.Bool.Decides.{nat_tests}
+use Rattle.std.proofs.Common.{ℕ, ◌+◌, ◌<◌, ◌≤◌, List, [], ◌∷◌, ◌++◌, drop}
+use Rattle.std.proofs.Common.{inl, inr, refl, sym, arith, subst}
 use Rattle.std.proofs.lemmas.Bool.Decides.{eqb_tells}
 use Rattle.std.proofs.lemmas.List.{drop-drop}
 use Rattle.tangle_faults.specs.declared.faults.FaultKind.TheVariants as fault
@@ -23,7 +24,6 @@ use Rattle.tangle_lexer.proofs.laws.Points.{text-next, text-after}
 use Rattle.tangle_lexer.proofs.laws.TokenOrder.{IsAtLine, AreInOrder, AreBefore, in_order-append}
 use Rattle.tangle_lexer.proofs.laws.TokenOrder.{faults-in_order}
 use Rattle.tangle_lexer.proofs.laws.CutTexts.{IsCut, verbatim-cut, cut-by}
-use Rattle.tangle_lexer.proofs.laws.RegionOrder.{holds-byte}
 use Rattle.tangle_lexer.proofs.laws.WhiteOrder.{LexemeIsInOrder, after-end, span-is}
 
 module _ (texts : List (List ℕ)) where
@@ -61,18 +61,7 @@ module _ (texts : List (List ℕ)) where
   quote_end-in_order : (r : Region) (close last : ℕ) (at : Point) (start : ℕ) (text : List Cell)
       → start ≤ at.column → IsTextAt texts at text
       → AreInOrder texts (quote-final close text) at.line (quote_end r close last start text)
-  quote_end-in_order r close last at start [] h is = (tt, tt)
-  quote_end-in_order r close last at start (c ∷ cs) h is =
-      rw (← is.0.line) (by (holds close c.byte) (holds-byte close c.byte))
-    where
-      real : c.line < length texts
-      real = omega (arith, is.0.line, is.0.real)
-
-      by : (b : Bool) → (b ≡ true → IsByte c.byte)
-          → AreBefore texts (drop (cond b 1 0) (c ∷ cs)) c.line
-          (cond b (cut_range r c.line start (c.column + 1))
-          (cut_range r c.line start c.column ++ token.Fault fault.StringEnd c.line ∷ []))
-      by x byte = grind arith
+  quote_end-in_order r close last at start text h is = grind (arith, nat_tests)
 
   pub quoted-in_order : (r : Region) → IsCut r → (close : ℕ) (s : LexerState) (at : Point) (c : Cell) (cs : List Cell)
       → IsTextAt texts at (c ∷ cs) → IsByte c.byte → LexemeIsInOrder texts at.line cs (quoted_text r close s (c ∷ cs))

@@ -1,4 +1,5 @@
 -- Cells that are bytes, and the order of the line ends in a region. `texts` are the bytes of the source lines.
+use Rattle.std.proofs.lemmas.Bool.Decides.{nat_tests}
 use Rattle.std.proofs.Common.{◌≡◌, ℕ, zero, suc, ◌+◌, Bool, true, false, List, [], ◌∷◌, ◌++◌, drop, Option, None}
 use Rattle.std.proofs.Common.{ap, sym, ◌∙◌, arith, subst, zero-add, ◌==◌}
 use Rattle.std.proofs.lemmas.List.{drop-drop}
@@ -6,7 +7,6 @@ use Rattle.tangle_lexer.specs.declared.tokens.Token.{Token}
 use Rattle.tangle_text.specs.declared.regions.Region.{Region}
 use Rattle.tangle_text.specs.declared.regions.Unit.{Unit as Unit-of}
 use Rattle.tangle_text.specs.declared.regions.Unit.TheVariants as unit
-use Rattle.tangle_lines.specs.Bytes.{at_sign}
 use Rattle.tangle_text.specs.Bytes.{holds, are_bytes, is_line_end}
 use Rattle.tangle_text.specs.Text.{Cell, byte_at}
 use Rattle.tangle_text.specs.Regions.{unit_of, count_before}
@@ -15,7 +15,6 @@ use Rattle.tangle_lexer.specs.Lexemes.{line_end_by}
 use Rattle.tangle_lexer.specs.declared.lexeme_kinds.ControlCode.{ControlCode}
 use Rattle.tangle_lexer.specs.declared.lexeme_kinds.ControlCode.TheVariants as code
 use Rattle.tangle_lexer.specs.Segments.{OpensWith}
-use Rattle.tangle_lexer.specs.CText.{code_at}
 use Rattle.tangle_lexer.specs.Comments.{line_ends, two_if}
 use Rattle.tangle_lexer.proofs.laws.Points.{Point, point_at, IsByte, after_cell, HoldsBytes, IsCellAt}
 use Rattle.tangle_lexer.proofs.laws.Points.{IsTextAt, after-byte, text-after}
@@ -42,11 +41,7 @@ are_bytes-hold first second text h = grind arith
 -- the two bytes of a control code that begins no section
 pub code-bytes : (kind : ControlCode) (text : List Cell)
     → (kind ≡ code.SectionStart → ⊥) → OpensWith kind text → HoldsBytes 2 text
-code-bytes kind [] other o = cc
-code-bytes kind (c ∷ cs) other o = (holds-byte at_sign c.byte o.0, second cs o.1)
-  where
-    second : (cells : List Cell) → code_at (byte_at 0 cells) ≡ kind → HoldsBytes 1 cells
-    second cells e = grind arith
+code-bytes kind text other o = grind (arith, nat_tests)
 
 pub more-bytes : (m n : ℕ) (text : List Cell) → HoldsBytes m text → HoldsBytes n (drop m text) → HoldsBytes (m + n) text
 more-bytes zero n text h k = rw (zero-add n) k
@@ -77,10 +72,7 @@ module _ (texts : List (List ℕ)) where
   -- the text after the bytes of a lexeme is on their line
   pub lexeme-line : (at : Point) (more : ℕ) (c : Cell) (cs : List Cell)
       → IsTextAt texts at (c ∷ cs) → HoldsBytes (1 + more) (c ∷ cs) → IsAtLine at.line (drop more cs)
-  lexeme-line at more c cs is h =
-      let after : Point = point_at at.line (at.column + (1 + more)) in
-      subst (IsAtLine at.line) (sym (drop-drop more 1 (c ∷ cs)))
-      (text-line after (drop (1 + more) (c ∷ cs)) (text-after texts (1 + more) at (c ∷ cs) is h))
+  lexeme-line at more c cs is h = grind (arith, nat_tests, point_at, drop-drop, text-line, text-after)
 
   -- and so is the text after the two bytes that end a region, if they are there
   pub end-line : (b : Bool) (at : Point) (text : List Cell) (line : ℕ) → IsTextAt texts at text

@@ -1,13 +1,13 @@
 -- The segments of a text are side by side and fill it, and the cells of each are such as its kind has.
-use Rattle.std.proofs.Common.{◌≡◌, ◌<◌, ◌≤◌, ℕ, zero, suc, ◌+◌, Bool, true, false, not, ◌&&◌, ◌||◌, List, [], ◌∷◌, ◌++◌}
-use Rattle.std.proofs.Common.{take, drop, flat_map, Option, Some, None, inl, inr, refl, ap, sym, ◌∙◌, arith, append-nil}
-use Rattle.std.proofs.Common.{cond, ◌==◌, if◌then◌else◌, ◌-◌, subst}
+use Rattle.std.proofs.lemmas.Bool.Decides.{nat_tests}
+use Rattle.std.proofs.Common.{◌≡◌, ◌<◌, ◌≤◌, ℕ, zero, suc, ◌+◌, Bool, true, false, not, ◌&&◌, List, [], ◌∷◌, ◌++◌}
+use Rattle.std.proofs.Common.{take, drop, flat_map, Option, None, inl, inr, refl, ap, sym, ◌∙◌, arith, append-nil}
+use Rattle.std.proofs.Common.{cond, if◌then◌else◌, ◌-◌, subst}
 use Rattle.std.proofs.Math.Seq.{take-add}
 use Rattle.std.proofs.lemmas.Grind.{flat_map-append}
 use Rattle.std.proofs.lemmas.List.{take-append-drop, drop-drop, length-take}
 use Rattle.std.specs.List.{AllByRecursion}
-use Rattle.std.proofs.lemmas.Bool.{cond_both}
-use Rattle.tangle_lines.specs.Bytes.{at_sign, is_white}
+use Rattle.tangle_lines.specs.Bytes.{at_sign}
 use Rattle.tangle_lexer.specs.declared.modes.Mode.{Mode}
 use Rattle.tangle_lexer.specs.declared.modes.Mode.TheVariants as mode
 use Rattle.tangle_lexer.specs.declared.modes.LexerState.{LexerState}
@@ -18,9 +18,8 @@ use Rattle.tangle_lexer.specs.declared.lexeme_kinds.LexemeKind.TheVariants as le
 use Rattle.tangle_text.specs.declared.regions.Region.TheVariants as region
 use Rattle.tangle_lexer.specs.declared.constants.AsciiConstant.{AsciiConstant}
 use Rattle.tangle_text.specs.declared.regions.Unit.TheVariants as unit
-use Rattle.tangle_text.specs.Bytes.{asterisk, slash, less_sign, left_parenthesis, equals_sign, apostrophe, backslash}
-use Rattle.tangle_text.specs.Bytes.{holds, is_line_end, are_bytes, is_between}
-use Rattle.tangle_text.specs.Bytes.{lower}
+use Rattle.tangle_text.specs.Bytes.{asterisk, slash}
+use Rattle.tangle_text.specs.Bytes.{holds, are_bytes}
 use Rattle.tangle_text.specs.Text.{Cell, byte_at}
 use Rattle.tangle_text.specs.Regions.{count_before, unit_of}
 use Rattle.tangle_lexer.specs.Lexemes.{Lexeme}
@@ -28,15 +27,15 @@ use Rattle.tangle_lexer.specs.Comments.{has_end_code, two_if, ends_comment, bloc
 use Rattle.tangle_lexer.specs.Constants.{constant_at, constant_lexeme, ascii_constant}
 use Rattle.tangle_lexer.specs.Names.{name_count, is_ended, name_more}
 use Rattle.tangle_lexer.specs.CText.{code_at, kind_at}
-use Rattle.tangle_lexer.specs.Steps.{c_code, c_lexeme, lexeme_in}
+use Rattle.tangle_lexer.specs.Steps.{c_lexeme, lexeme_in}
 use Rattle.tangle_lexer.specs.Steps.{lexeme}
 use Rattle.tangle_lexer.specs.Segments.{Segment, segment, ShowsKind, OpensWith, text_segments, verbatim_segments}
 use Rattle.tangle_lexer.specs.Segments.{code_segments, c_segments, segments_in, segments, HasNoSection, IsBlockComment}
 use Rattle.tangle_lexer.specs.Segments.{IsLineComment, IsControlText, IsSectionName, IsAsciiConstant}
-use Rattle.tangle_lexer.specs.Segments.SegmentKind.{Kept, SecondAtSign, LineEnd, WhiteSpace, ControlBytes}
+use Rattle.tangle_lexer.specs.Segments.SegmentKind.{Kept, LineEnd, WhiteSpace, ControlBytes}
 use Rattle.tangle_text.proofs.AheadLemmas.{byte_at-drop}
-use Rattle.tangle_lexer.proofs.laws.Points.{IsByte, HoldsBytes}
-use Rattle.tangle_lexer.proofs.laws.RegionOrder.{holds-byte, some-byte, are_bytes-hold, code-bytes, more-bytes}
+use Rattle.tangle_lexer.proofs.laws.Points.{HoldsBytes}
+use Rattle.tangle_lexer.proofs.laws.RegionOrder.{some-byte, are_bytes-hold, code-bytes, more-bytes}
 use Rattle.tangle_lexer.proofs.laws.RegionUnits.{units-by}
 use Rattle.tangle_lexer.proofs.laws.WhiteOrder.{word-bytes, line_comment-bytes}
 use Rattle.tangle_lexer.proofs.laws.CodesInside.{control_text-codes, name-codes, block_comment-codes}
@@ -76,13 +75,7 @@ verbatim-fills text =
 
 kind-fills : (kind : LexemeKind) (s : LexerState) (text : List Cell)
     → cells_of (c_segments kind (1 + (c_lexeme kind s text).more) text) ≡ take (1 + (c_lexeme kind s text).more) text
-kind-fills (lexeme_kind.Control code.DoubleAt) s text =
-    ap (λ xs. take 1 text ++ xs) (append-nil (take 1 (drop 1 text))) ∙ sym (take-add 1 1 text)
-kind-fills (lexeme_kind.Control code.Verbatim) s text = verbatim-fills text
-kind-fills lexeme_kind.DoubleQuote s text = text-fills false _
-kind-fills lexeme_kind.Apostrophe s text = text-fills false _
-kind-fills lexeme_kind.HeaderName s text = text-fills false _
-kind-fills kind s text = append-nil (take (1 + (c_lexeme kind s text).more) text)
+kind-fills kind s text = grind (arith, nat_tests, append-nil, take-add, verbatim-fills, text-fills)
 
 lexeme-fills : (s : LexerState) (text : List Cell)
     → cells_of (segments_in s.mode s (1 + (lexeme s text).more) text) ≡ take (1 + (lexeme s text).more) text
@@ -118,25 +111,7 @@ shows-append (x ∷ xs) ys h k = (h.0, shows-append xs ys h.1 k)
 
 -- @@ has an @ as its second byte
 second-sign : (next : Option ℕ) → code_at next ≡ code.DoubleAt → holds at_sign next ≡ true
-second-sign None e = cc
-second-sign (Some n) e =
-    let m : ℕ = lower n in
-    let P : ControlCode → Type 0 = λ k. k ≡ code.DoubleAt → (m == at_sign) ≡ true in
-    small (is_between 65 90 n) refl
-    (cond_both (is_white m || m == asterisk) code.SectionStart _ P (λ h k. cc) (λ h.
-    cond_both (m == at_sign) code.DoubleAt _ P (λ h k. h) (λ h.
-    cond_both (m == 100) code.Macro _ P (λ h k. cc) (λ h.
-    cond_both (m == 102 || m == 115) code.Format _ P (λ h k. cc) (λ h.
-    cond_both (m == 99 || m == 112) code.UnnamedPart _ P (λ h k. cc) (λ h.
-    cond_both (m == less_sign || m == left_parenthesis) code.Name _ P (λ h k. cc) (λ h.
-    cond_both (m == 94 || m == 46 || m == 58 || m == 116 || m == 113) code.ControlText _ P (λ h k. cc) (λ h.
-    cond_both (m == equals_sign) code.Verbatim _ P (λ h k. cc) (λ h.
-    cond_both (m == 38) code.Join _ P (λ h k. cc) (λ h.
-    cond_both (m == 104) code.AllMacros _ P (λ h k. cc) (λ h.
-    cond_both (m == apostrophe) code.AsciiConstant code.Other P (λ h k. cc) (λ h k. cc))))))))))) e)
-  where
-    small : (b : Bool) → is_between 65 90 n ≡ b → ((if b then n + 32 else n) == at_sign) ≡ true → (n == at_sign) ≡ true
-    small x e h = grind arith
+second-sign next e = grind (arith, nat_tests)
 
 -- the first cells of a text are the same after the cells from the n-th on are dropped
 
@@ -152,19 +127,14 @@ opens-taken kind n text h o = rw (byte-take 0 n text (omega (arith, h)), byte-ta
 
 code-taken : (n : ℕ) (text : List Cell)
     → 0 < n → n ≤ 2 → holds at_sign (byte_at 0 text) ≡ true → ShowsKind ControlBytes (take n text)
-code-taken n text h k sign =
-    let l = length-take n text in
-    (ap (holds at_sign) (byte-take 0 n text h) ∙ sign, omega (arith, l, k))
+code-taken n text h k sign = grind (arith, nat_tests, length-take, byte-take)
 
 -- cells that are bytes are such as a Kept segment has
 
 bytes-shows : (n : ℕ) (text : List Cell) → HoldsBytes n text → ShowsKind Kept (take n text)
 bytes-shows zero text h = tt
 bytes-shows (suc n) [] h = tt
-bytes-shows (suc n) (c ∷ cs) h = (by c.byte h.0, bytes-shows n cs h.1)
-  where
-    by : (b : Option ℕ) → IsByte b → is_line_end b ≡ false
-    by b h = grind arith
+bytes-shows (suc n) (c ∷ cs) h = grind (arith, nat_tests, bytes-shows n cs h.1)
 
 -- comments
 
@@ -247,14 +217,8 @@ white-shows =
 
 text-shows : (after_at_sign : Bool) (cells : List Cell) → AllShow (text_segments after_at_sign cells)
 text-shows after_at_sign [] = tt
-text-shows after_at_sign (c ∷ cs) = (
-  by (is_line_end c.byte) refl after_at_sign (holds at_sign c.byte) refl,
-  text-shows (holds at_sign c.byte && not after_at_sign) cs,
-)
-  where
-    by : (e : Bool) → is_line_end c.byte ≡ e → (h sign : Bool)
-        → holds at_sign c.byte ≡ sign → ShowsKind (cond e LineEnd (cond (h && sign) SecondAtSign Kept)) (c ∷ [])
-    by x e h sign k = grind arith
+text-shows after_at_sign (c ∷ cs) =
+    grind (arith, nat_tests, text-shows (holds at_sign c.byte && not after_at_sign) cs, cond)
 
 verbatim-shows : (text : List Cell) → holds at_sign (byte_at 0 text) ≡ true → AllShow (verbatim_segments text)
 verbatim-shows text sign =
@@ -293,27 +257,23 @@ constant-long x s text = grind arith
 constant-shows : (s : LexerState) (c : Cell) (cs : List Cell)
     → OpensWith code.AsciiConstant (c ∷ cs) → IsAsciiConstant (take (1 + (ascii_constant s (c ∷ cs)).more) (c ∷ cs))
 constant-shows s c cs o =
-    let n : ℕ = 1 + (ascii_constant s (c ∷ cs)).more in
-    let long = length-take n (c ∷ cs) in
-    let two : 1 < n = constant-long (constant_at (drop 1 cs)) s (c ∷ cs) in (
-      opens-taken code.AsciiConstant n (c ∷ cs) two o,
-      bytes-shows n (c ∷ cs) (ascii_constant-bytes s (c ∷ cs) (code-bytes code.AsciiConstant (c ∷ cs) (λ e. cc) o)),
-      λ k first last quote.
-          let here : holds apostrophe (byte_at k (c ∷ cs)) ≡ true =
-          ap (holds apostrophe) (sym (byte-take k n (c ∷ cs) (omega (arith, last, long)))) ∙ quote in
-          let inside = ascii_constant-quotes s (c ∷ cs) k first (omega (arith, last, long)) here in
-          let third : 2 < n = omega (arith, first, last, long) in
-          (inside.0, ap (holds backslash) (byte-take 2 n (c ∷ cs) third) ∙ inside.1),
+    grind (
+      arith,
+      nat_tests,
+      length-take,
+      constant-long (constant_at (drop 1 cs)) s (c ∷ cs),
+      bytes-shows,
+      ascii_constant-bytes s (c ∷ cs),
+      code-bytes code.AsciiConstant (c ∷ cs),
+      byte-take,
+      ascii_constant-quotes s (c ∷ cs),
+      byte-take 2,
     )
 
 -- the segments of both bytes of @@
 signs-shows : (c : Cell) (cs : List Cell)
     → OpensWith code.DoubleAt (c ∷ cs) → AllShow (code_segments code.DoubleAt 2 (c ∷ cs))
-signs-shows c cs o =
-    (bytes-shows 1 (c ∷ cs) (holds-byte at_sign c.byte o.0, tt), (by cs (second-sign (byte_at 0 cs) o.1), tt))
-  where
-    by : (cells : List Cell) → holds at_sign (byte_at 0 cells) ≡ true → ShowsKind SecondAtSign (take 1 cells)
-    by x h = grind arith
+signs-shows c cs o = grind (arith, nat_tests)
 
 kind-shows : (kind : LexemeKind) (s : LexerState) (c : Cell) (cs : List Cell)
     → OpensLexeme kind (c ∷ cs) → AllShow (c_segments kind (1 + (c_lexeme kind s (c ∷ cs)).more) (c ∷ cs))
@@ -322,8 +282,7 @@ kind-shows (lexeme_kind.Control code.Verbatim) s c cs o = verbatim-shows (c ∷ 
 kind-shows (lexeme_kind.Control code.ControlText) s c cs o = (control_text-shows s (c ∷ cs) o, tt)
 kind-shows (lexeme_kind.Control code.Name) s c cs o = (name-shows s (c ∷ cs) o, tt)
 kind-shows (lexeme_kind.Control code.AsciiConstant) s c cs o = (constant-shows s c cs o, tt)
-kind-shows (lexeme_kind.Control kind) s c cs o =
-    (code-taken (1 + (c_code kind s (c ∷ cs)).more) (c ∷ cs) (omega arith) (omega arith) o.0, tt)
+kind-shows (lexeme_kind.Control kind) s c cs o = grind (arith, nat_tests)
 kind-shows lexeme_kind.BlockComment s c cs o = (inl (block_comment-shows s (c ∷ cs) o), tt)
 kind-shows lexeme_kind.LineComment s c cs o = (inr (line_comment-shows s (c ∷ cs) o), tt)
 kind-shows lexeme_kind.LineEnd s c cs o = ((o, tt), tt)
@@ -331,11 +290,7 @@ kind-shows lexeme_kind.White s c cs o =
     let n : ℕ = count_before region.White cs in
     let more : 1 + n ≡ suc n = omega arith in
     (rw more (o, white-shows cs), tt)
-kind-shows lexeme_kind.Word s c cs o = (
-  bytes-shows (1 + count_before region.Word cs) (c ∷ cs)
-      (more-bytes 1 (count_before region.Word cs) (c ∷ cs) (some-byte c.byte o.0, tt) (word-bytes cs)),
-  tt,
-)
+kind-shows lexeme_kind.Word s c cs o = grind (arith, nat_tests, bytes-shows, more-bytes, some-byte, word-bytes)
 kind-shows lexeme_kind.Other s c cs o = (bytes-shows 1 (c ∷ cs) (some-byte c.byte o.0, tt), tt)
 kind-shows kind s c cs o = text-shows false (take (1 + (c_lexeme kind s (c ∷ cs)).more) (c ∷ cs))
 

@@ -1,14 +1,14 @@
 -- The points of the bytes of cells and of ranges.
+use Rattle.std.proofs.lemmas.Bool.Decides.{nat_tests}
 use Rattle.std.proofs.Common.{◌≡◌, ℕ, zero, suc, ◌+◌, ◌-◌, ◌≤◌, Bool, List, [], ◌∷◌, ◌++◌, take}
-use Rattle.std.proofs.Common.{refl, ap, sym, ◌∙◌, arith, append_assoc, cond}
-use Rattle.std.specs.Prelude.{nat_lt}
+use Rattle.std.proofs.Common.{refl, ap, arith, append_assoc}
 use Rattle.tangle_lexer.specs.declared.tokens.Token.{Token}
 use Rattle.tangle_lexer.specs.declared.tokens.Token.TheVariants as token
 use Rattle.tangle_text.specs.declared.regions.Region.{Region}
 use Rattle.tangle_text.specs.Text.{Cell}
 use Rattle.tangle_faults.specs.declared.faults.FaultKind.{FaultKind}
 use Rattle.tangle_lexer.specs.Lexemes.{fault_if}
-use Rattle.tangle_lexer.specs.Quoted.{range_token, cut_range}
+use Rattle.tangle_lexer.specs.Quoted.{cut_range}
 use Rattle.tangle_lexer.specs.Segments.{columns_from, span_points, cell_point, byte_points}
 use Rattle.tangle_lexer.proofs.laws.Points.{Point, IsByte, after_cell, HoldsBytes, IsTextAt, after-byte}
 
@@ -19,21 +19,12 @@ columns_to line start end = columns_from line start (end - start)
 columns-more : (line column n : ℕ)
     → columns_from line column (n + 1) ≡ columns_from line column n ++ (line, column + n) ∷ []
 columns-more line column zero = let e : column ≡ column + 0 = omega arith in ap (λ x. (line, x) ∷ []) e
-columns-more line column (suc n) =
-    let e : suc n + 1 ≡ suc (n + 1) = omega arith in
-    let f : column + 1 + n ≡ column + suc n = omega arith in
-    ap (columns_from line column) e
-    ∙ ap (λ ps. (line, column) ∷ ps)
-    (columns-more line (column + 1) n ∙ ap (λ x. columns_from line (column + 1) n ++ (line, x) ∷ []) f)
+columns-more line column (suc n) = grind (arith, nat_tests, columns-more line (column + 1) n)
 
 -- the points with one more column at the end
 pub columns-next : (line start column : ℕ)
     → start ≤ column → columns_to line start (column + 1) ≡ columns_to line start column ++ (line, column) ∷ []
-columns-next line start column h =
-    let e : column + 1 - start ≡ (column - start) + 1 = omega (arith, h) in
-    let f : start + (column - start) ≡ column = omega (arith, h) in
-    ap (columns_from line start) e ∙ columns-more line start (column - start)
-    ∙ ap (λ x. columns_to line start column ++ (line, x) ∷ []) f
+columns-next line start column h = grind (arith, nat_tests, columns-more)
 
 pub columns-nothing : (line column : ℕ) → columns_to line column column ≡ []
 columns-nothing line column = let e : column - column ≡ 0 = omega arith in ap (columns_from line column) e
@@ -51,8 +42,7 @@ token_points (_ ∷ ts) = token_points ts
 pub points-append : (ts us : List Token) → token_points (ts ++ us) ≡ token_points ts ++ token_points us
 points-append [] us = refl
 points-append (token.Span kind s ∷ ts) us =
-    ap (λ ps. span_points s ++ ps) (points-append ts us)
-    ∙ sym (append_assoc (span_points s) (token_points ts) (token_points us))
+    grind (arith, nat_tests, points-append ts us, append_assoc (span_points s) (token_points ts) (token_points us))
 points-append (_ ∷ ts) us = points-append ts us
 
 pub fault-points : (b : Bool) (kind : FaultKind) (line : ℕ) → token_points (fault_if b kind line) ≡ []
@@ -61,12 +51,7 @@ fault-points b kind line = grind arith
 -- the points of a range are its columns, also if the range is empty
 pub cut-points : (r : Region) (line start end : ℕ) (ts : List Token)
     → token_points (cut_range r line start end ++ ts) ≡ columns_to line start end ++ token_points ts
-cut-points r line start end ts = by (nat_lt start end) refl
-  where
-    by : (b : Bool) → nat_lt start end ≡ b
-        → token_points (cond b (range_token r (record { line = line; start = start; end = end }) ∷ []) [] ++ ts)
-        ≡ columns_to line start end ++ token_points ts
-    by x e = grind arith
+cut-points r line start end ts = grind (arith, nat_tests)
 
 module _ (texts : List (List ℕ)) where
   -- the points of bytes of one line are its columns from the first byte on
@@ -75,6 +60,11 @@ module _ (texts : List (List ℕ)) where
   bytes-columns at zero text is h = refl
   bytes-columns at (suc n) [] is h = absurd h
   bytes-columns at (suc n) (c ∷ cs) is h =
-      let goes = after-byte c h.0 in
-      let rest = bytes-columns (after_cell c) n cs is.1 h.1 in
-      rw (byte-point c h.0, rest, goes, is.0.line, is.0.column) refl
+      grind (
+        arith,
+        nat_tests,
+        after-byte c h.0,
+        bytes-columns (after_cell c) n cs is.1 h.1,
+        after_cell c,
+        byte-point c h.0,
+      )

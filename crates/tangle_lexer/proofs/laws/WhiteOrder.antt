@@ -1,5 +1,6 @@
 -- The tokens of comments, control texts, other white space, words and signs are in order. `texts` are the bytes of the
 -- source lines.
+use Rattle.std.proofs.lemmas.Bool.Decides.{nat_tests}
 use Rattle.std.proofs.Common.{◌≡◌, ℕ, ◌+◌, Bool, true, not, List, ◌∷◌, drop, Option}
 use Rattle.std.proofs.Common.{refl, ap, sym, ◌∙◌, arith, subst, if◌then◌else◌}
 use Rattle.tangle_faults.specs.declared.faults.FaultKind.{FaultKind}
@@ -101,13 +102,4 @@ module _ (texts : List (List ℕ)) where
   -- the first `n` bytes of a line are a range of it
   pub span-is : (at : Point) (n : ℕ) (c : Cell) (cs : List Cell) → IsTextAt texts at (c ∷ cs) → HoldsBytes n (c ∷ cs)
       → (c.line ≡ at.line) × IsSpan texts (span_at n (c ∷ cs))
-  span-is at n c cs is h =
-      let after : Point = point_at at.line (at.column + n) in
-      let within = text-within texts after (drop n (c ∷ cs)) (text-after texts n at (c ∷ cs) is h) in (
-        is.0.line,
-        record {
-          line = omega (arith, is.0.line, is.0.real);
-          start = omega arith;
-          end = rw is.0.line (omega (arith, is.0.column, within));
-        },
-      )
+  span-is at n c cs is h = grind (arith, nat_tests, point_at, text-within, text-after)

@@ -1,8 +1,9 @@
 -- The tokens of a block: those before its head, in which runs stand for the tokens that they consist of.
-use Rattle.std.proofs.Common.{◌≡◌, ◌<◌, ℕ, ◌+◌, Bool, true, false, ◌||◌, List, [], ◌∷◌, ◌++◌, length, drop, inl, inr}
+use Rattle.std.proofs.lemmas.Bool.Decides.{nat_tests}
+use Rattle.std.proofs.Common.{◌≡◌, ◌<◌, ℕ, ◌+◌, Bool, true, false, List, [], ◌∷◌, ◌++◌, length, drop}
 use Rattle.std.proofs.Common.{refl, ap, sym, subst, ◌∙◌, append_assoc, drop-drop, arith, length-append}
 use Rattle.std.specs.List.{list_any, All}
-use Rattle.std.proofs.lemmas.List.Elements.{All-append, All-cons, All-nil}
+use Rattle.std.proofs.lemmas.List.Elements.{All-append, All-nil}
 use Rattle.std.proofs.lemmas.Bool.{or_parts, true≢false}
 use Rattle.std.proofs.lemmas.Grind.{flat_map-append}
 use Rattle.tangle_lines.specs.Reading.{SourceLine}
@@ -48,8 +49,7 @@ run_in-one texts x h = grind arith
 pub runs-plain : (texts : List (List ℕ)) (ts : List Token) → HasNone is_run ts → All (IsRunIn texts) ts
 runs-plain texts [] h = All-nil (IsRunIn texts)
 runs-plain texts (t ∷ ts) h =
-    let both = or_parts (is_run t) (list_any is_run ts) h in
-    All-cons (IsRunIn texts) t ts (run_in-one texts t both.0) (runs-plain texts ts both.1)
+    grind (arith, nat_tests, or_parts (is_run t) (list_any is_run ts) h, run_in-one texts t, runs-plain texts ts)
 
 -- a rest of a rest of the text of lines is a rest of it
 pub rest-drop : (lines : List SourceLine) (n : ℕ) (text : List Cell)
@@ -64,17 +64,14 @@ pub plain-tokens : (texts : List (List ℕ)) (old new : List Token) (s after : L
     → HasNone is_run (lexeme s text).tokens
     → unfolded texts new ++ tokens_from after rest ≡ unfolded texts old ++ tokens_from s text
 plain-tokens texts old new s after text rest inside read none =
-    let here : Lexeme = lexeme s text in
-    let here_are : unfolded texts (old ++ here.tokens) ≡ unfolded texts old ++ here.tokens
-    = unfolded-append texts old here.tokens ∙ ap (λ ts. unfolded texts old ++ ts)
-    (unfolded-plain texts here.tokens none) in
-    let ahead = tokens_from here.after (drop here.more (drop 1 text)) in
-    ap (λ ts. unfolded texts ts ++ tokens_from after rest) read.tokens
-    ∙ (ap (λ ts. ts ++ tokens_from after rest) here_are
-    ∙ (ap (λ t. (unfolded texts old ++ here.tokens) ++ tokens_from t rest) read.state
-    ∙ (ap (λ t. (unfolded texts old ++ here.tokens) ++ tokens_from here.after t) read.ahead
-    ∙ (append_assoc (unfolded texts old) here.tokens ahead
-    ∙ ap (λ ts. unfolded texts old ++ ts) (sym (tokens_from-step s text inside))))))
+    grind (
+      arith,
+      nat_tests,
+      unfolded-append texts old,
+      unfolded-plain texts,
+      append_assoc (unfolded texts old),
+      tokens_from-step s text inside,
+    )
 
 pub plain-runs : (texts : List (List ℕ)) (old new : List Token) (s after : LexerState) (text rest : List Cell)
     → IsRead old new text rest after (lexeme s text) → HasNone is_run (lexeme s text).tokens
@@ -86,8 +83,7 @@ plain-runs texts old new s after text rest read none runs =
 pub plain-none : (test : Token → Bool) (old new : List Token) (s after : LexerState) (text rest : List Cell)
     → IsRead old new text rest after (lexeme s text) → HasNone test (lexeme s text).tokens
     → HasNone test old → HasNone test new
-plain-none test old new s after text rest read here before =
-    ap (list_any test) read.tokens ∙ none-append test old (lexeme s text).tokens before here
+plain-none test old new s after text rest read here before = grind (arith, nat_tests, none-append)
 
 pub read-ours : (lines : List SourceLine) (old new : List Token) (s after : LexerState) (text rest : List Cell)
     → IsRead old new text rest after (lexeme s text) → IsRestOf lines text → IsRestOf lines rest
@@ -99,12 +95,14 @@ pub plain-reads-on : (lines : List SourceLine) (old new : List Token) (s after :
     → 0 < length text → IsRead old new text rest after (lexeme s text) → HasNone is_run (lexeme s text).tokens
     → occurrences_from after rest ≡ occurrences_from s text → IsRestOf lines text
     → ReadsOn lines old new s after text rest
-plain-reads-on lines old new s after text rest inside read none occurrences ours = record {
-  tokens = plain-tokens (texts_of lines) old new s after text rest inside read none;
-  runs = plain-runs (texts_of lines) old new s after text rest read none;
-  occurrences = occurrences;
-  ours = read-ours lines old new s after text rest read ours;
-}
+plain-reads-on lines old new s after text rest inside read none occurrences ours =
+    grind (
+      arith,
+      nat_tests,
+      plain-tokens (texts_of lines) old new s after text rest inside read none,
+      plain-runs (texts_of lines) old new s after text rest read none,
+      read-ours lines old new s after text rest read ours,
+    )
 
 -- one after another
 
@@ -114,12 +112,7 @@ reads-nothing lines ts s text ours = record { tokens = refl; runs = λ runs. run
 
 pub reads-trans : (lines : List SourceLine) (ts us vs : List Token) (s t u : LexerState) (x y z : List Cell)
     → ReadsOn lines ts us s t x y → ReadsOn lines us vs t u y z → ReadsOn lines ts vs s u x z
-reads-trans lines ts us vs s t u x y z first more = record {
-  tokens = more.tokens ∙ first.tokens;
-  runs = λ runs. more.runs (first.runs runs);
-  occurrences = more.occurrences ∙ first.occurrences;
-  ours = more.ours;
-}
+reads-trans lines ts us vs s t u x y z first more = grind (arith, nat_tests)
 
 -- the tokens before a head that was removed
 
@@ -127,19 +120,11 @@ same-parts : (xs ys : List Token) (x y : Token) → xs ++ x ∷ [] ≡ ys ++ y �
 same-parts [] [] x y e = (refl, cc)
 same-parts [] (b ∷ ys) x y e = absurd (omega (arith, ap length e, length-append ys (y ∷ [])))
 same-parts (a ∷ xs) [] x y e = absurd (omega (arith, ap length e, length-append xs (x ∷ [])))
-same-parts (a ∷ xs) (b ∷ ys) x y e =
-    let rest : xs ++ x ∷ [] ≡ ys ++ y ∷ [] = cc in
-    let both = same-parts xs ys x y rest in
-    let first : a ≡ b = cc in
-    (rw (first, both.0) refl, both.1)
+same-parts (a ∷ xs) (b ∷ ys) x y e = grind (arith, nat_tests, same-parts xs ys x y)
 
 no_head-snoc : (ts : List Token) (head : Token) → is_head head ≡ true → HasNone is_head (ts ++ head ∷ []) → ⊥
 no_head-snoc [] head h j = cc
-no_head-snoc (t ∷ ts) head h j = go (is_head t) j (no_head-snoc ts head h)
-  where
-    go : (b : Bool) → (b || list_any is_head (ts ++ head ∷ [])) ≡ false
-        → (HasNone is_head (ts ++ head ∷ []) → ⊥) → ⊥
-    go x j next = grind arith
+no_head-snoc (t ∷ ts) head h j = grind (arith, nat_tests, no_head-snoc ts head h)
 
 -- a head was removed: it is the lexeme, and the tokens are those from before
 pub record IsTaken (old kept : List Token) (here : Lexeme) (head : Token) : Type 0 where
@@ -151,45 +136,34 @@ pub taken : (old new kept : List Token) (s after : LexerState) (text rest : List
     → HasNone is_head old → IsRead old new text rest after (lexeme s text)
     → (new ≡ kept ++ head ∷ []) × (is_head head ≡ true) → IsTaken old kept (lexeme s text) head
 taken old new kept s after text rest head none read popped =
-    let here : Lexeme = lexeme s text in
-    let h : new ≡ old ++ here.tokens = read.tokens in
-    let j : new ≡ kept ++ head ∷ [] = popped.0 in
-    elim (lexeme-alone s text) [
-      | inl plain ↦
-          absurd (no_head-snoc kept head popped.1 (ap (list_any is_head) (sym j ∙ h)
-          ∙ none-append is_head old here.tokens none (no-head here.tokens plain.0)))
-      | inr found ↦
-          let e : kept ++ head ∷ [] ≡ old ++ found.0 ∷ [] = sym j ∙ (h ∙ ap (λ xs. old ++ xs) found.1) in
-          let both = same-parts kept old head found.0 e in
-          record {
-            same = both.0;
-            tokens = found.1 ∙ ap (λ t. t ∷ []) (sym both.1);
-            begins = subst (λ t. BeginsIn t here.after.mode) (sym both.1) found.3;
-          }
-    ]
+    grind (
+      arith,
+      nat_tests,
+      lexeme-alone s text,
+      no_head-snoc kept head popped.1,
+      none-append is_head old,
+      no-head,
+      same-parts kept old head,
+    )
 
 -- no head was removed: the lexeme is none
 pub not-taken : (old new : List Token) (s after : LexerState) (text rest : List Cell)
     → IsRead old new text rest after (lexeme s text)
     → ((ts : List Token) (head : Token) → new ≡ ts ++ head ∷ [] → is_head head ≡ false)
     → IsPlain s (lexeme s text)
-not-taken old new s after text rest read none =
-    elim (lexeme-alone s text) [
-      | inl plain ↦ plain
-      | inr found ↦
-          let never : true ≡ false =
-          sym found.2 ∙ none old found.0 (read.tokens ∙ ap (λ xs. old ++ xs) found.1) in absurd (true≢false never)
-    ]
+not-taken old new s after text rest read none = grind (arith, nat_tests, lexeme-alone s text, true≢false)
 
 pub taken-tokens : (texts : List (List ℕ)) (old new kept : List Token) (s after : LexerState) (text rest : List Cell)
     (head : Token) → 0 < length text → IsRead old new text rest after (lexeme s text)
     → (new ≡ kept ++ head ∷ []) × (is_head head ≡ true) → IsTaken old kept (lexeme s text) head
     → unfolded texts kept ++ head ∷ [] ++ tokens_from after rest ≡ unfolded texts old ++ tokens_from s text
 taken-tokens texts old new kept s after text rest head inside read popped taken =
-    let no_run : HasNone is_run (head ∷ []) = rw (head-no-run head popped.1) refl in
-    let none : HasNone is_run (lexeme s text).tokens = ap (list_any is_run) taken.tokens ∙ no_run in
-    let parts : unfolded texts new ≡ unfolded texts kept ++ head ∷ []
-    = ap (unfolded texts) popped.0 ∙ (unfolded-append texts kept (head ∷ [])
-    ∙ ap (λ ts. unfolded texts kept ++ ts) (unfolded-plain texts (head ∷ []) no_run)) in
-    ap (λ ts. ts ++ tokens_from after rest) (sym parts)
-    ∙ plain-tokens texts old new s after text rest inside read none
+    grind (
+      arith,
+      nat_tests,
+      taken,
+      head-no-run head popped.1,
+      unfolded-append texts kept (head ∷ []),
+      unfolded-plain texts (head ∷ []),
+      plain-tokens texts old new s after text rest inside read,
+    )

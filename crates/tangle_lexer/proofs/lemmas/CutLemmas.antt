@@ -1,6 +1,7 @@
 -- Texts that are cut, unit by unit.
-use Rattle.std.proofs.Common.{◌≡◌, ◌<◌, ◌+◌, ℕ, Bool, true, false, nat_eq, List, [], ◌∷◌, ◌++◌, length, drop}
-use Rattle.std.proofs.Common.{drop-drop, refl, ap, sym, ◌∙◌, arith}
+use Rattle.std.proofs.lemmas.Bool.Decides.{nat_tests}
+use Rattle.std.proofs.Common.{◌≡◌, ◌<◌, ◌+◌, ℕ, Bool, true, false, List, [], ◌∷◌, ◌++◌, length, drop}
+use Rattle.std.proofs.Common.{drop-drop, refl, arith}
 use Rattle.std.proofs.lemmas.Bool.{eqb-true}
 use Rattle.tangle_text.specs.declared.regions.Region.{Region}
 use Rattle.tangle_text.specs.declared.regions.Unit.{Unit as Unit-of}
@@ -9,7 +10,6 @@ use Rattle.tangle_lexer.specs.declared.tokens.Token.{Token}
 use Rattle.tangle_text.specs.Text.{Cell, byte_at, front_cell}
 use Rattle.tangle_text.specs.declared.regions.Region.TheVariants as region
 use Rattle.tangle_text.specs.Regions.{unit_at, more_by, units, region_end, count_before}
-use Rattle.tangle_text.proofs.UnitLemmas.{count_by, count-is}
 use Rattle.tangle_lexer.specs.Quoted.{cut_tokens, unit_tokens, next_start, ends_at_once, one_if}
 use Rattle.tangle_lexer.specs.Quoted.{is_backslash_at, last_is_backslash}
 use Rattle.tangle_text.proofs.RegionLemmas.{region_end-is}
@@ -42,25 +42,15 @@ pub backslash-go : (last : Bool) (text : List Cell) (u : Unit-of)
     → 0 < length text → unit_at region.Verbatim text ≡ u → (u ≡ unit.Stop → ⊥)
     → last_is_backslash last (units region.Verbatim text)
     ≡ last_is_backslash (is_backslash_at u (byte_at 0 text)) (units region.Verbatim (drop (more_by u) (drop 1 text)))
-backslash-go last [] u inside h go = absurd (omega (arith, inside))
-backslash-go last text unit.Stop inside h go = absurd (go refl)
-backslash-go last (c ∷ []) unit.One inside h go = rw h refl
-backslash-go last (c ∷ d ∷ cs) unit.One inside h go = rw h refl
-backslash-go last (c ∷ []) unit.Two inside h go = grind arith
-backslash-go last (c ∷ d ∷ cs) unit.Two inside h go = rw h refl
+backslash-go last text u inside h go = grind (arith, nat_tests)
 
 -- a region that ends at the front is empty
 pub at_once-stop : (r : Region) (text : List Cell) → unit_at r text ≡ unit.Stop → ends_at_once r text ≡ true
 at_once-stop r x h = grind arith
 
-count_by-go : (u : Unit-of) (n : ℕ) → (u ≡ unit.Stop → ⊥) → nat_eq (count_by u n) 0 ≡ false
-count_by-go x n go = grind arith
-
 pub at_once-go : (r : Region) (text : List Cell) (u : Unit-of)
     → 0 < length text → unit_at r text ≡ u → (u ≡ unit.Stop → ⊥) → ends_at_once r text ≡ false
-at_once-go r [] u inside h go = absurd (omega (arith, inside))
-at_once-go r (c ∷ cs) u inside h go =
-    ap (λ n. nat_eq n 0) (count-is r (c ∷ cs)) ∙ count_by-go (unit_at r (c ∷ cs)) _ (λ stop. go (sym h ∙ stop))
+at_once-go r text u inside h go = grind (arith, nat_tests)
 
 pub at_once-end : (r : Region) (text : List Cell) → ends_at_once r text ≡ true → text ≡ region_end r text
 unfolding region_end
@@ -70,7 +60,4 @@ at_once-end r text h = let none : count_before r text ≡ 0 = eqb-true (count_be
 pub drop-end : (r : Region) (text : List Cell) (b : List Cell → Bool)
     → drop (one_if (b (region_end r text))) (region_end r text)
     ≡ drop (count_before r text + one_if (b (drop (count_before r text) text))) text
-drop-end r text b =
-    let is = region_end-is r text in
-    ap (λ t. drop (one_if (b t)) t) is
-    ∙ drop-drop (one_if (b (drop (count_before r text) text))) (count_before r text) text
+drop-end r text b = grind (arith, nat_tests, region_end-is, drop-drop)

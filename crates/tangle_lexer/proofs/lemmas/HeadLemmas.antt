@@ -1,6 +1,7 @@
 -- A head is the only token of its lexeme, no lexeme has a run, and a C part begins with a head.
+use Rattle.std.proofs.lemmas.Bool.Decides.{nat_tests}
 use Rattle.std.proofs.Common.{arith}
-use Rattle.std.proofs.Common.{◌≡◌, ℕ, Bool, true, false, ◌||◌, List, [], ◌∷◌, Option, Some, None, ◌⊎◌, inl, inr, refl}
+use Rattle.std.proofs.Common.{◌≡◌, ℕ, Bool, true, ◌||◌, List, [], ◌∷◌, Option, ◌⊎◌, inl, inr, refl}
 use Rattle.std.proofs.Common.{sym, ◌∙◌}
 use Rattle.tangle_lexer.specs.declared.modes.Mode.{Mode}
 use Rattle.tangle_lexer.specs.declared.modes.Mode.TheVariants as mode
@@ -10,7 +11,7 @@ use Rattle.tangle_lexer.specs.declared.tokens.Token.TheVariants as token
 use Rattle.tangle_text.specs.Text.{Cell}
 use Rattle.tangle_lexer.specs.Lexemes.{Lexeme}
 use Rattle.tangle_faults.specs.declared.faults.FaultKind.TheVariants as fault
-use Rattle.tangle_lexer.specs.Names.{mention_faults, definition_or_mention, definition_count}
+use Rattle.tangle_lexer.specs.Names.{definition_or_mention, definition_count}
 use Rattle.tangle_lexer.specs.Steps.{lexeme}
 use Rattle.tangle_lexer.proofs.lemmas.PlainTokens.{HasNone, none-by, ArePlain, is_not_plain, fault_if-plain}
 use Rattle.tangle_lexer.proofs.lemmas.PlainLexemes.{IsPlainLexeme, use-plain, mention-plain, fault-plain, kind-plain}
@@ -42,18 +43,14 @@ IsHeadAlone s l = IsPlain s l ⊎ IsHead l
 
 -- plain tokens are neither heads nor runs
 plain-special : (ts : List Token) → ArePlain ts → HasNone is_special ts
-plain-special ts h = none-by is_not_plain is_special one ts h.none
-  where
-    one : (t : Token) → is_not_plain t ≡ false → is_special t ≡ false
-    one x h = grind arith
+plain-special ts h = grind (arith, nat_tests, none-by, is_not_plain)
 
 plain-alone : (s : LexerState) (l : Lexeme) → IsPlainLexeme s l → IsHeadAlone s l
 plain-alone s l h = inl (plain-special l.tokens h.tokens, λ e. sym h.mode ∙ e)
 
 name-alone : (found : Option ℕ) (s : LexerState) (text : List Cell)
     → IsHeadAlone s (definition_or_mention found s text)
-name-alone None s text = inl (plain-special (mention_faults s text) (mention-plain s text), λ e. cc)
-name-alone (Some count) s text = inr (_, refl, refl, tt)
+name-alone found s text = grind (arith, nat_tests, plain-special, mention-plain)
 
 pub lexeme-alone : (s : LexerState) (text : List Cell) → IsHeadAlone s (lexeme s text)
 lexeme-alone s text =

@@ -1,6 +1,7 @@
 -- The ends of names, and the equals signs after them.
+use Rattle.std.proofs.lemmas.Bool.Decides.{nat_tests}
 use Rattle.std.proofs.Common.{◌≡◌, ℕ, ◌+◌, true, false, List, drop, Option, Some, None, refl, ap, sym, ◌∙◌, arith}
-use Rattle.std.proofs.Common.{drop-drop, subst, if◌then◌else◌}
+use Rattle.std.proofs.Common.{drop-drop, if◌then◌else◌}
 use Rattle.std.proofs.lemmas.Option.{none-some, same_Some}
 use Rattle.tangle_lexer.specs.declared.names.Equals.{Equals}
 use Rattle.tangle_lexer.specs.declared.names.Equals.TheVariants as equals
@@ -18,18 +19,13 @@ use Rattle.tangle_text.proofs.AheadLemmas.{byte_at-drop}
 
 pub byte_at-next : (n : ℕ) (text : List Cell) → byte_at (n + 1) text ≡ byte_at 1 (drop n text)
 byte_at-next n text =
-    byte_at-drop (n + 1) text
-    ∙ (ap (byte_at 0) (ap (λ k. drop k text) (omega arith) ∙ sym (drop-drop 1 n text))
-    ∙ sym (byte_at-drop 1 (drop n text)))
+    grind (arith, nat_tests, byte_at-drop (n + 1) text, drop-drop 1 n text, byte_at-drop 1 (drop n text))
 
 -- the equals sign, by the text after the cells before it
 pub equals-further : (text : List Cell)
     → equals_by (byte_at 0 (drop (count_before_equals text) text)) (byte_at 1 (drop (count_before_equals text) text))
     ≡ equals_in text
-equals-further text =
-    let n = count_before_equals text in
-    sym (ap (λ b. equals_by b (byte_at (n + 1) text)) (byte_at-drop n text)
-    ∙ ap (equals_by (byte_at 0 (drop n text))) (byte_at-next n text))
+equals-further text = grind (arith, nat_tests, byte_at-drop, byte_at-next)
 
 pub name_end-is : (text mid : List Cell) → mid ≡ region_end region.Name (drop 1 (drop 1 text)) → mid ≡ name_end text
 name_end-is text mid h = mid-is region.Name text mid h
@@ -37,9 +33,12 @@ name_end-is text mid h = mid-is region.Name text mid h
 pub after-is : (text mid rest : List Cell)
     → mid ≡ name_end text → rest ≡ drop (two_if (has_end_code mid)) mid → rest ≡ after_name text
 after-is text mid rest h go =
-    go ∙ (ap (λ t. drop (two_if (has_end_code t)) t) h
-    ∙ (ap (drop (two_if (is_ended text))) (sym (after-two (name_count text) text))
-    ∙ drop-drop (two_if (is_ended text)) (1 + name_count text) (drop 1 text)))
+    grind (
+      arith,
+      nat_tests,
+      after-two (name_count text) text,
+      drop-drop (two_if (is_ended text)) (1 + name_count text) (drop 1 text),
+    )
 
 -- the text after white space, + and white space
 pub plus-further : (text : List Cell) → holds plus_sign (byte_at 0 (white_end text)) ≡ true →
@@ -52,10 +51,7 @@ plus-further text h =
 
 pub no_plus-further : (text : List Cell) → holds plus_sign (byte_at 0 (white_end text)) ≡ false →
     white_end text ≡ drop (count_before_equals text) text
-no_plus-further text h =
-    let first = white_count 0 text in
-    let plus : holds plus_sign (byte_at first text) ≡ false = ap (holds plus_sign) (byte_at-drop first text) ∙ h in
-    rw plus refl
+no_plus-further text h = grind (arith, nat_tests, byte_at-drop)
 
 -- a name whose equals sign was read is a definition
 pub definition-read : (last line : ℕ) (text rest : List Cell) (e : Equals)
@@ -93,22 +89,11 @@ pub definition-found : (last line : ℕ) (found : Option ℕ) (text after rest :
     → PassesEquals (equals_in after) (count_before_equals after) last after rest found
     → (n : ℕ) × (definition_count text ≡ Some n) × (rest ≡ drop (name_more text + n) (drop 1 text))
     × (line ≡ front_line last (drop (name_more text + n) text))
-definition-found last line found text after rest ended is some takes =
-    definition-read last line text rest (equals_in (after_name text)) ended refl
-    (subst (λ t. PassesEquals (equals_in t) (count_before_equals t) last t rest (Some line)) is
-    (subst (λ f. PassesEquals (equals_in after) (count_before_equals after) last after rest f) some takes))
+definition-found last line found text after rest ended is some takes = grind (arith, nat_tests, definition-read)
 
 -- a name is no definition if `pass_equals` found no equals sign after it
 pub definition-not-found : (last : ℕ) (found : Option ℕ) (text after rest : List Cell)
     → is_ended text ≡ true → after ≡ after_name text → found ≡ None
     → PassesEquals (equals_in after) (count_before_equals after) last after rest found
     → (definition_count text ≡ None) × (rest ≡ drop (name_more text) (drop 1 text))
-definition-not-found last found text after rest ended is none takes =
-    by (equals_in (after_name text)) refl
-    (subst (λ t. PassesEquals (equals_in t) (count_before_equals t) last t rest None) is
-    (subst (λ f. PassesEquals (equals_in after) (count_before_equals after) last after rest f) none takes))
-  where
-    by : (e : Equals) → equals_in (after_name text) ≡ e
-        → PassesEquals e (count_before_equals (after_name text)) last (after_name text) rest None
-        → (definition_count text ≡ None) × (rest ≡ drop (name_more text) (drop 1 text))
-    by x absent takes = grind arith
+definition-not-found last found text after rest ended is none takes = grind (arith, nat_tests)

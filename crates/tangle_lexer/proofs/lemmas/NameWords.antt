@@ -1,5 +1,6 @@
 -- How a name in normal form grows with the bytes that are read.
-use Rattle.std.proofs.Common.{◌≡◌, ◌<◌, ℕ, List, [], ◌∷◌, ◌++◌, Bool, true, false, ◌&&◌, subst, append_assoc}
+use Rattle.std.proofs.lemmas.Bool.Decides.{nat_tests}
+use Rattle.std.proofs.Common.{◌≡◌, ◌<◌, ℕ, List, [], ◌∷◌, ◌++◌, Bool, true, false, ◌&&◌, append_assoc}
 use Rattle.std.proofs.Common.{append-nil, length, length-append, Option, Some, None, refl, ap, sym, ◌∙◌, arith, cond}
 use Rattle.std.proofs.Common.{All, inl, inr, ◌⊎◌, if◌then◌else◌, filter}
 use Rattle.std.specs.List.{slice_split, onto_first, join_with_byte, last_or}
@@ -7,8 +8,7 @@ use Rattle.std.proofs.lemmas.List.Splits.{slice_split_none, slice_split-cons_yes
 use Rattle.std.proofs.lemmas.List.Elements.{filter-append, All-nil, All-cons}
 use Rattle.tangle_files.specs.Bytes.{space}
 use Rattle.tangle_lines.specs.Bytes.{is_white}
-use Rattle.tangle_text.specs.Bytes.{holds_white}
-use Rattle.tangle_lexer.specs.Names.{has_bytes, name_words, normal_form, ends_in_white, IsNameSoFar}
+use Rattle.tangle_lexer.specs.Names.{has_bytes, name_words, normal_form, IsNameSoFar}
 
 abbrev has_words : List (List ℕ) → Bool
 has_words [] = false
@@ -72,10 +72,7 @@ by-append b white x more any = grind arith
 
 parts-any : (bytes : List ℕ) → 0 < length (parts_of bytes)
 parts-any [] = omega arith
-parts-any (b ∷ bytes) = by (is_white b) (parts_of bytes)
-  where
-    by : (white : Bool) (parts : List (List ℕ)) → 0 < length (parts_by b white parts)
-    by x parts = grind arith
+parts-any (b ∷ bytes) = grind (arith, nat_tests)
 
 -- white space separates parts
 parts-white : (front : List ℕ) (b : ℕ) (rest : List ℕ)
@@ -105,20 +102,13 @@ parts-other (b ∷ bytes) =
 
 -- white space at the end adds no word
 words-white : (bytes : List ℕ) (b : ℕ) → is_white b ≡ true → name_words (bytes ++ b ∷ []) ≡ name_words bytes
-words-white bytes b white =
-    ap (filter has_bytes) (parts-white bytes b [] white)
-    ∙ filter-append has_bytes (parts_of bytes) ([] ∷ [])
-    ∙ append-nil (name_words bytes)
+words-white bytes b white = grind (arith, nat_tests, filter, parts-white, filter-append, append-nil)
 
 -- a byte after white space begins a word
 words-new : (front : List ℕ) (a b : ℕ) → is_white a ≡ true → is_white b ≡ false
     → name_words ((front ++ a ∷ []) ++ b ∷ []) ≡ name_words (front ++ a ∷ []) ++ (b ∷ []) ∷ []
 words-new front a b white other =
-    ap name_words (append_assoc front (a ∷ []) (b ∷ []))
-    ∙ ap (filter has_bytes) (parts-white front a (b ∷ []) white)
-    ∙ filter-append has_bytes (parts_of front) (parts_of (b ∷ []))
-    ∙ ap (λ parts. name_words front ++ filter has_bytes parts) (slice_split-cons_no is_white b [] other)
-    ∙ ap (λ words. words ++ (b ∷ []) ∷ []) (sym (words-white front a white))
+    grind (arith, nat_tests, append_assoc, filter, parts-white, filter-append, slice_split-cons_no, words-white)
 
 -- a byte after another one belongs to the same word
 words-more : (bytes : List ℕ) (a b : ℕ) → is_white a ≡ false → is_white b ≡ false
@@ -151,91 +141,55 @@ words-more bytes a b first second =
 space-append : (after : Bool) (front word more : List ℕ)
     → front ++ (if after then space ∷ (word ++ more) else word ++ more)
     ≡ (front ++ (if after then space ∷ word else word)) ++ more
-space-append true front word more = sym (append_assoc front (space ∷ word) more)
-space-append false front word more = sym (append_assoc front word more)
+space-append after front word more = grind (arith, nat_tests, append_assoc)
 
 -- a byte after white space is added with one space before it, unless it is the first of the name
 form-new : (front : List ℕ) (a b : ℕ) → is_white a ≡ true → is_white b ≡ false
     → normal_form ((front ++ a ∷ []) ++ b ∷ [])
     ≡ normal_form (front ++ a ∷ []) ++ (if has_bytes (normal_form (front ++ a ∷ [])) then space ∷ b ∷ [] else b ∷ [])
-form-new front a b white other =
-    ap (join_with_byte space) (words-new front a b white other)
-    ∙ join-append (name_words (front ++ a ∷ [])) (b ∷ [])
-    ∙ ap (λ any. normal_form (front ++ a ∷ []) ++ (if any then space ∷ b ∷ [] else b ∷ []))
-    (sym (join-has (parts_of (front ++ a ∷ []))))
+form-new front a b white other = grind (arith, nat_tests, words-new, join-append, join-has)
 
 -- a byte after another one is added
 form-more : (front : List ℕ) (a b : ℕ) → is_white a ≡ false → is_white b ≡ false
     → normal_form ((front ++ a ∷ []) ++ b ∷ []) ≡ normal_form (front ++ a ∷ []) ++ b ∷ []
 form-more front a b first second =
-    let more = words-more front a b first second in
-    ap (join_with_byte space) more.3
-    ∙ join-append more.0 (more.1 ++ b ∷ [])
-    ∙ space-append (has_words more.0) (join_with_byte space more.0) more.1 (b ∷ [])
-    ∙ ap (λ bs. bs ++ b ∷ []) (sym (join-append more.0 more.1) ∙ ap (join_with_byte space) (sym more.2))
+    grind (arith, nat_tests, words-more front a b first second, join-append, space-append)
 
 -- the name with a byte more
 
 pub so-far-white : (read name : List ℕ) (white : Bool) (b : ℕ) → is_white b ≡ true → IsNameSoFar read name white
     → IsNameSoFar (read ++ b ∷ []) name true
-so-far-white read name white b is h = record {
-  form = h.form ∙ ap (join_with_byte space) (sym (words-white read b is));
-  ends = sym (ap holds_white (last-append None read b) ∙ is);
-}
+so-far-white read name white b is h = grind (arith, nat_tests, words-white, last-append)
 
 -- the byte that is read is added, after a space if one is needed
 so-far-next : (read name : List ℕ) (white : Bool) (b : ℕ) → is_white b ≡ false → IsNameSoFar read name white
     → IsNameSoFar (read ++ b ∷ []) (name ++ (if has_bytes name && white then space ∷ b ∷ [] else b ∷ [])) false
-so-far-next read name white b is h = record {
-  form = rw (h.form, h.ends) (elim (from-end read) [
-    | inl none ↦ rw none
-        (sym (ap (λ parts. join_with_byte space (filter has_bytes parts)) (slice_split-cons_no is_white b [] is)))
-    | inr ends ↦ rw ends.2 (by ends.0 ends.1 (is_white ends.1) refl)
-  ]);
-  ends = sym (ap holds_white (last-append None read b) ∙ is);
-}
-  where
-    one : (any ends : Bool) → ends ≡ false → (if any && ends then space ∷ b ∷ [] else b ∷ []) ≡ b ∷ []
-    one any ends e = grind arith
-
-    two : (any ends : Bool)
-        → ends ≡ true → (if any && ends then space ∷ b ∷ [] else b ∷ []) ≡ (if any then space ∷ b ∷ [] else b ∷ [])
-    two any ends e = grind arith
-
-    by : (front : List ℕ) (a : ℕ) (white : Bool) → is_white a ≡ white
-        → normal_form (front ++ a ∷ [])
-        ++ (if has_bytes (normal_form (front ++ a ∷ [])) && ends_in_white (front ++ a ∷ [])
-        then space ∷ b ∷ []
-        else b ∷ [])
-        ≡ normal_form ((front ++ a ∷ []) ++ b ∷ [])
-    by front a true e =
-        ap (λ bs. normal_form (front ++ a ∷ []) ++ bs)
-        (two (has_bytes (normal_form (front ++ a ∷ [])))
-        (ends_in_white (front ++ a ∷ [])) (ap holds_white (last-append None front a) ∙ e))
-        ∙ sym (form-new front a b e is)
-    by front a false e =
-        ap (λ bs. normal_form (front ++ a ∷ []) ++ bs)
-        (one (has_bytes (normal_form (front ++ a ∷ [])))
-        (ends_in_white (front ++ a ∷ [])) (ap holds_white (last-append None front a) ∙ e))
-        ∙ sym (form-more front a b e is)
+so-far-next read name white b is h =
+    grind (
+      arith,
+      nat_tests,
+      from-end read,
+      filter has_bytes,
+      slice_split-cons_no is_white b,
+      last-append None read b,
+      last-append None,
+      form-new,
+      form-more,
+    )
 
 pub so-far-space : (read name : List ℕ) (white : Bool) (b : ℕ) → is_white b ≡ false → IsNameSoFar read name white
     → 0 < length name → white ≡ true
     → IsNameSoFar (read ++ b ∷ []) ((name ++ space ∷ []) ++ b ∷ []) false
 so-far-space read [] white b is h any after = absurd (omega (arith, any))
 so-far-space read (x ∷ name) white b is h any after =
-    subst (λ bs. IsNameSoFar (read ++ b ∷ []) bs false)
-    (ap (λ w. (x ∷ name) ++ (if w then space ∷ b ∷ [] else b ∷ [])) after
-    ∙ sym (append_assoc (x ∷ name) (space ∷ []) (b ∷ [])))
-    (so-far-next read (x ∷ name) white b is h)
+    grind (arith, nat_tests, append_assoc (x ∷ name) (space ∷ []) (b ∷ []), so-far-next read (x ∷ name) white b is h)
 
 pub so-far-byte : (read name : List ℕ) (white : Bool) (b : ℕ) → is_white b ≡ false → IsNameSoFar read name white
     → (white ≡ false) ⊎ (length name ≡ 0)
     → IsNameSoFar (read ++ b ∷ []) (name ++ b ∷ []) false
 so-far-byte read [] white b is h reason = so-far-next read [] white b is h
 so-far-byte read (x ∷ name) white b is h (inl other) =
-    subst (λ bs. IsNameSoFar (read ++ b ∷ []) bs false)
-    (ap (λ w. (x ∷ name) ++ (if w then space ∷ b ∷ [] else b ∷ [])) other) (so-far-next read (x ∷ name) white b is h)
+    grind (arith, nat_tests, so-far-next read (x ∷ name) white b is h)
 so-far-byte read (x ∷ name) white b is h (inr none) = absurd (omega (arith, none))
 
 -- names that are in normal form as they are read
@@ -254,12 +208,8 @@ plain-space read b is h = rw is (inr (read, h.0, refl, so-far-white read read fa
 
 pub plain-byte : (read : List ℕ) (white : Bool) (b : ℕ)
     → is_white b ≡ false → IsPlainSoFar read white → IsPlainSoFar (read ++ b ∷ []) false
-plain-byte read true b is (inl none) =
-    rw none (omega arith, so-far-byte [] [] false b is (record { form = refl; ends = refl }) (inl refl))
-plain-byte read true b is (inr name) = (
-  omega (arith, length-append read (b ∷ [])),
-  subst (λ bs. IsNameSoFar (read ++ b ∷ []) (bs ++ b ∷ []) false)
-      (sym name.2) (so-far-space read name.0 true b is name.3 name.1 refl),
-)
+plain-byte read true b is (inl none) = grind (arith, nat_tests)
+plain-byte read true b is (inr name) =
+    grind (arith, nat_tests, length-append read (b ∷ []), so-far-space read name.0 true b is name.3 name.1 refl)
 plain-byte read false b is h =
     (omega (arith, length-append read (b ∷ [])), so-far-byte read read false b is h.1 (inl refl))

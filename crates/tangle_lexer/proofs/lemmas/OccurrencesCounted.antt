@@ -1,4 +1,5 @@
 -- Occurrences are numbered one after another, so their numbers in tokens are below their count.
+use Rattle.std.proofs.lemmas.Bool.Decides.{nat_tests}
 use Rattle.std.proofs.Common.{◌≡◌, ◌≤◌, ◌<◌, ℕ, zero, suc, ◌+◌, false, ◌||◌, List, [], ◌∷◌, ◌++◌, length}
 use Rattle.std.proofs.Common.{flat_map, refl, ap, arith, Option, None, Some, option_to_list}
 use Rattle.std.proofs.Common.{length-append}
@@ -54,10 +55,7 @@ lexeme-plain s l h = plain-keeps s l h.none h.count h.tokens
 
 head-keeps : (s : LexerState) (l : Lexeme) (h : Token) → l.occurrence ≡ None → l.after.occurrences ≡ s.occurrences
     → l.tokens ≡ h ∷ [] → IsBelow (s.occurrences + length (option_to_list l.occurrence)) h → Keeps s l
-head-keeps s l h none same is below = record {
-  count = omega (arith, same, ap (λ n. length (option_to_list n)) none);
-  below = rw is (below, tt);
-}
+head-keeps s l h none same is below = grind (arith, nat_tests)
 
 name-keeps : (count : Option ℕ) (s : LexerState) (text : List Cell) → Keeps s (definition_or_mention count s text)
 name-keeps None s text =

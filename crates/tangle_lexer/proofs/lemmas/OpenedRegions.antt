@@ -1,4 +1,5 @@
 -- Regions that open with two cells.
+use Rattle.std.proofs.lemmas.Bool.Decides.{nat_tests}
 use Rattle.std.proofs.Common.{◌≡◌, ℕ, ◌+◌, drop-drop, List, drop, ap, sym, ◌∙◌}
 use Rattle.std.proofs.Common.{arith}
 use Rattle.tangle_text.specs.declared.regions.Region.{Region}
@@ -28,6 +29,4 @@ pub ended-ahead : (r : Region) (text mid rest : List Cell)
     → rest
     ≡ drop (1 + count_before r (drop 2 text)
     + two_if (ends_region r (drop (count_before r (drop 2 text)) (drop 2 text)))) (drop 1 text)
-ended-ahead r text mid rest h go =
-    go ∙ (ap (λ t. drop (two_if (ends_region r t)) t) (mid-is r text mid h)
-    ∙ sym (after-if (count_before r (drop 2 text)) _ text))
+ended-ahead r text mid rest h go = grind (arith, nat_tests, mid-is, after-if)

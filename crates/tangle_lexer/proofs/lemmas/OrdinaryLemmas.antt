@@ -1,6 +1,7 @@
 -- Ordinary bytes of a region are units of one cell without tokens.
+use Rattle.std.proofs.lemmas.Bool.Decides.{nat_tests}
 use Rattle.std.proofs.Common.{◌≡◌, ℕ, zero, suc, true, false, List, [], ◌∷◌, Option, drop, refl, sym, ◌∙◌}
-use Rattle.std.proofs.Common.{◌++◌, ap, arith}
+use Rattle.std.proofs.Common.{arith}
 use Rattle.tangle_text.specs.declared.regions.Region.{Region}
 use Rattle.tangle_lexer.specs.declared.tokens.Token.{Token}
 use Rattle.tangle_lines.specs.Bytes.{at_sign}
@@ -25,9 +26,14 @@ pub line_ends-ordinary : (r : Region) → skips_ordinary r ≡ true → (n : ℕ
 line_ends-ordinary r is zero text h = refl
 line_ends-ordinary r is (suc n) [] h = refl
 line_ends-ordinary r is (suc n) (c ∷ cs) h =
-    line_ends-ordinary r is n cs h.1
-    ∙ sym (line_ends-go r 0 (c ∷ cs) unit.One (omega arith) (cell-one r c.byte (byte_at 0 cs) is h.0) (λ e. cc)
-    ∙ ap (λ ts. ts ++ line_ends r cs) (no_line_end c.byte c.line h.0))
+    grind (
+      arith,
+      nat_tests,
+      line_ends-ordinary r is n cs h.1,
+      line_ends-go r 0 (c ∷ cs) unit.One,
+      cell-one r c.byte (byte_at 0 cs) is h.0,
+      no_line_end c.byte c.line h.0,
+    )
 
 pub cut-ordinary : (ends : ℕ → List Cell → List Token) (r : Region)
     → skips_ordinary r ≡ true → (n start : ℕ) (text : List Cell) → AreOrdinary n text

@@ -1,11 +1,13 @@
 -- Lexemes whose tokens are plain, and which leave the mode, the count of occurrences and the last line unchanged.
+use Rattle.std.proofs.Common.{rules}
+use Rattle.std.proofs.lemmas.Bool.Decides.{nat_tests}
 use Rattle.std.proofs.Common.{arith}
-use Rattle.std.proofs.Common.{◌≡◌, ℕ, false, List, [], ◌++◌, drop, refl, Option, None}
+use Rattle.std.proofs.Common.{◌≡◌, ℕ, List, ◌++◌, drop, refl, Option, None}
 use Rattle.tangle_faults.specs.declared.faults.FaultKind.{FaultKind}
 use Rattle.tangle_faults.specs.declared.faults.FaultKind.TheVariants as fault
 use Rattle.tangle_text.specs.declared.regions.Region.{Region}
 use Rattle.tangle_text.specs.declared.regions.Region.TheVariants as region
-use Rattle.tangle_text.specs.Text.{Cell, front_column, front_line}
+use Rattle.tangle_text.specs.Text.{Cell, front_line}
 use Rattle.tangle_lexer.specs.declared.constants.AsciiConstant.{AsciiConstant}
 use Rattle.tangle_lexer.specs.declared.lexeme_kinds.ControlCode.TheVariants as code
 use Rattle.tangle_lexer.specs.declared.lexeme_kinds.LexemeKind.{LexemeKind}
@@ -13,8 +15,8 @@ use Rattle.tangle_lexer.specs.declared.lexeme_kinds.LexemeKind.TheVariants as le
 use Rattle.tangle_lexer.specs.declared.modes.LexerState.{LexerState}
 use Rattle.tangle_lexer.specs.Constants.{constant_at, constant_lexeme}
 use Rattle.tangle_lexer.specs.Lexemes.{Lexeme, fault_if, is_in_directive}
-use Rattle.tangle_lexer.specs.Names.{name_faults, mention_faults, has_single_equals, after_name, is_macro}
-use Rattle.tangle_lexer.specs.Quoted.{quote_end, quoted_text}
+use Rattle.tangle_lexer.specs.Names.{name_faults, mention_faults, has_single_equals, after_name}
+use Rattle.tangle_lexer.specs.Quoted.{quoted_text}
 use Rattle.tangle_lexer.specs.CText.{code_fault}
 use Rattle.tangle_lexer.specs.Steps.{c_lexeme}
 use Rattle.tangle_lexer.proofs.lemmas.LexemeCases.{IsPlainKind}
@@ -32,24 +34,18 @@ pub record IsPlainLexeme (s : LexerState) (here : Lexeme) : Type 0 where
 plain : (s : LexerState) (here : Lexeme) → ArePlain here.tokens → here.after.mode ≡ s.mode
     → here.occurrence ≡ None → here.after.occurrences ≡ s.occurrences → here.after.last_line ≡ s.last_line
     → IsPlainLexeme s here
-plain s here tokens mode none count last =
-    record { tokens = tokens; mode = mode; none = none; count = count; last = last }
+plain s here tokens mode none count last = grind (arith, nat_tests)
 
 -- the faults of a name that is used
 pub use-plain : (s : LexerState) (text : List Cell)
     → ArePlain (fault_if (is_in_directive s) fault.UseInDirective (front_line s.last_line text)
     ++ name_faults s.last_line text
     ++ fault_if (has_single_equals (after_name text)) fault.NameEquals (front_line s.last_line text))
-use-plain s text =
-    plain-append _ _
-    (plain-append _ _ (fault_if-plain (is_in_directive s) fault.UseInDirective (front_line s.last_line text))
-    (fault_if-plain _ fault.NameEnd _))
-    (fault_if-plain (has_single_equals (after_name text)) fault.NameEquals (front_line s.last_line text))
+use-plain s text = grind (arith, nat_tests, plain-append, fault_if-plain)
 
 -- the faults of a name that is mentioned
 pub mention-plain : (s : LexerState) (text : List Cell) → ArePlain (mention_faults s text)
-mention-plain s text = plain-append _ _ (fault_if-plain _ fault.NameEnd _)
-    (fault_if-plain (is_macro s.mode) fault.NameInMacro (front_line s.last_line text))
+mention-plain s text = grind (arith, nat_tests, plain-append, fault_if-plain)
 
 constant-plain : (constant : Option AsciiConstant) (s : LexerState) (text : List Cell)
     → IsPlainLexeme s (constant_lexeme constant s text)
@@ -57,14 +53,11 @@ constant-plain x s text = grind arith
 
 pub quoted-text : (r : Region) (close : ℕ) (s : LexerState) (text : List Cell)
     → AreText (quoted_text r close s text).tokens
-quoted-text r close s text =
-    cut_tokens-text (quote_end r close s.last_line) r 0 (front_column text) (drop 1 text)
-    (quote_end-text r close s.last_line)
+quoted-text r close s text = grind (arith, nat_tests, cut_tokens-text, quote_end-text)
 
 quoted-plain : (r : Region) (close : ℕ) (s : LexerState) (text : List Cell)
     → IsPlainLexeme s (quoted_text r close s text)
-quoted-plain r close s text =
-    plain s _ (text-plain _ (quoted-text r close s text)) refl refl refl refl
+quoted-plain r close s text = grind (arith, nat_tests, plain, text-plain, quoted-text)
 
 pub fault-plain : (kind : FaultKind) (s : LexerState) (text : List Cell) → IsPlainLexeme s (code_fault kind s text)
 fault-plain kind s text = plain s _ (seen _ refl) refl refl refl refl
@@ -73,20 +66,14 @@ pub kind-plain : (kind : LexemeKind) (s : LexerState) (text : List Cell)
     → IsPlainKind kind → IsPlainLexeme s (c_lexeme kind s text)
 kind-plain (lexeme_kind.Control code.SectionStart) s text h = absurd h
 kind-plain (lexeme_kind.Control code.Name) s text h = absurd h
-kind-plain (lexeme_kind.Control code.ControlText) s text h = plain s _
-    (white-plain _ _ _ (line_ends-plain region.ControlText (drop 2 text)) (fault_if-plain _ fault.ControlText _))
-    refl refl refl refl
-kind-plain (lexeme_kind.Control code.Verbatim) s text h =
-    plain s _ (text-plain _ (verbatim_tokens-text (drop 2 text))) refl refl refl refl
-kind-plain (lexeme_kind.Control code.AllMacros) s text h =
-    plain s _ (seen _ (fault_if-plain (is_in_directive s) fault.UseInDirective (front_line s.last_line text)).none)
-    refl refl refl refl
+kind-plain (lexeme_kind.Control code.ControlText) s text h =
+    grind (arith, nat_tests, plain, white-plain, line_ends-plain, fault_if-plain)
+kind-plain (lexeme_kind.Control code.Verbatim) s text h = search (rules, plain, text-plain, verbatim_tokens-text)
+kind-plain (lexeme_kind.Control code.AllMacros) s text h = grind (arith, nat_tests)
 kind-plain (lexeme_kind.Control code.AsciiConstant) s text h = constant-plain (constant_at (drop 2 text)) s text
-kind-plain lexeme_kind.BlockComment s text h = plain s _
-    (white-plain _ _ _ (line_ends-plain region.BlockComment (drop 2 text)) (fault_if-plain _ fault.CommentEnd _))
-    refl refl refl refl
-kind-plain lexeme_kind.LineComment s text h =
-    plain s _ (white-plain false [] _ (seen [] refl) (fault_if-plain _ fault.CommentEnd _)) refl refl refl refl
+kind-plain lexeme_kind.BlockComment s text h =
+    grind (arith, nat_tests, plain, white-plain, line_ends-plain, fault_if-plain)
+kind-plain lexeme_kind.LineComment s text h = grind (arith, nat_tests, plain, white-plain, seen, fault_if-plain)
 kind-plain lexeme_kind.DoubleQuote s text h = quoted-plain region.DoubleQuote _ s text
 kind-plain lexeme_kind.Apostrophe s text h = quoted-plain region.Apostrophe _ s text
 kind-plain lexeme_kind.HeaderName s text h = quoted-plain region.HeaderName _ s text

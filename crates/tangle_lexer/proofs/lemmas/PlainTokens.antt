@@ -1,4 +1,5 @@
 -- Tokens that are neither heads nor uses nor runs.
+use Rattle.std.proofs.lemmas.Bool.Decides.{nat_tests}
 use Rattle.std.proofs.Common.{arith}
 use Rattle.std.proofs.Common.{◌≡◌, ℕ, zero, suc, Bool, true, false, List, [], ◌∷◌, ◌++◌, refl, Option}
 use Rattle.std.proofs.Common.{flat_map, map}
@@ -9,15 +10,14 @@ use Rattle.tangle_faults.specs.declared.faults.FaultKind.{FaultKind}
 use Rattle.tangle_lexer.specs.declared.tokens.Token.{Token}
 use Rattle.tangle_lexer.specs.declared.tokens.Token.TheVariants as token
 use Rattle.tangle_text.specs.declared.regions.Region.{Region}
-use Rattle.tangle_text.specs.declared.regions.Region.TheVariants as region
 use Rattle.tangle_text.specs.declared.regions.Unit.{Unit as Unit-of}
-use Rattle.tangle_text.specs.Text.{Cell, byte_at, front_column}
-use Rattle.tangle_text.specs.Regions.{unit_at, more_by, units}
+use Rattle.tangle_text.specs.Text.{Cell, byte_at}
+use Rattle.tangle_text.specs.Regions.{unit_at, more_by}
 use Rattle.tangle_lexer.specs.LinesOfC.{inner_end_in}
 use Rattle.tangle_lexer.specs.Lexemes.{fault_if}
-use Rattle.tangle_lexer.specs.Comments.{unit_line_end, line_ends}
+use Rattle.tangle_lexer.specs.Comments.{line_ends}
 use Rattle.tangle_lexer.specs.Quoted.{unit_tokens, next_start, at_stop, cut_tokens, quote_end}
-use Rattle.tangle_lexer.specs.Quoted.{verbatim_end, verbatim_tokens, empty_end, ends_at_once}
+use Rattle.tangle_lexer.specs.Quoted.{verbatim_end, verbatim_tokens, empty_end}
 use Rattle.tangle_lexer.specs.Heads.{is_head}
 
 -- no token passes this test
@@ -32,9 +32,7 @@ none-append test ts us h j = rw (list_any-append test ts us, h) j
 pub none-by : (p q : Token → Bool) → ((t : Token) → p t ≡ false → q t ≡ false)
     → (ts : List Token) → HasNone p ts → HasNone q ts
 none-by p q weaker [] h = refl
-none-by p q weaker (t ∷ ts) h =
-    let both = or_parts (p t) (list_any p ts) h in
-    rw (weaker t both.0, none-by p q weaker ts both.1) refl
+none-by p q weaker (t ∷ ts) h = grind (arith, nat_tests, or_parts (p t) (list_any p ts) h, none-by p q weaker ts)
 
 -- a token that is a head, a use or a run
 abbrev pub is_not_plain : Token → Bool
@@ -63,10 +61,7 @@ none-flat test f h [] = refl
 none-flat test f h (u ∷ us) = none-append test (f u) (flat_map f us) (h u) (none-flat test f h us)
 
 pub line_ends-plain : (r : Region) (text : List Cell) → ArePlain (line_ends r text)
-line_ends-plain r text = seen _ (none-flat is_not_plain unit_line_end one (units r text))
-  where
-    one : (u : List Cell) → HasNone is_not_plain (unit_line_end u)
-    one x = grind arith
+line_ends-plain r text = grind (arith, nat_tests, seen, none-flat)
 
 -- as white space of a directive they are plain too
 inner-plain : (b : Bool) (t : Token) → is_not_plain (inner_end_in b t) ≡ is_not_plain t
@@ -81,8 +76,7 @@ inner_ends-plain b (t ∷ ts) h =
 
 pub white-plain : (b : Bool) (ends faults : List Token)
     → ArePlain ends → ArePlain faults → ArePlain (token.White ∷ map (inner_end_in b) ends ++ faults)
-white-plain b ends faults h k =
-    seen _ (none-append is_not_plain (map (inner_end_in b) ends) faults (inner_ends-plain b ends h.none) k.none)
+white-plain b ends faults h k = grind (arith, nat_tests, seen, none-append, inner_ends-plain)
 
 -- ranges of quoted and verbatim texts
 
@@ -104,10 +98,7 @@ text-append : (xs ys : List Token) → AreText xs → AreText ys → AreText (xs
 text-append xs ys h k = are-text (xs ++ ys) (none-append is_not_text xs ys h.none k.none)
 
 pub text-plain : (ts : List Token) → AreText ts → ArePlain ts
-text-plain ts h = seen ts (none-by is_not_text is_not_plain one ts h.none)
-  where
-    one : (t : Token) → is_not_text t ≡ false → is_not_plain t ≡ false
-    one t h = grind arith
+text-plain ts h = grind (arith, nat_tests, seen, none-by)
 
 unit_tokens-text : (r : Region) (u : Unit-of) (start : ℕ) (c : Cell) (next : Option ℕ)
     → AreText (unit_tokens r u start c next)
@@ -141,5 +132,4 @@ empty_end-text x = grind arith
 
 pub verbatim_tokens-text : (text : List Cell) → AreText (verbatim_tokens text)
 verbatim_tokens-text text =
-    cond_both (ends_at_once region.Verbatim text) _ _ AreText (λ e. are-text _ (empty_end-text text).none)
-    (λ e. cut_tokens-text verbatim_end region.Verbatim 0 (front_column text) text verbatim_end-text)
+    grind (arith, nat_tests, cond_both, are-text, empty_end-text, cut_tokens-text, verbatim_end-text)

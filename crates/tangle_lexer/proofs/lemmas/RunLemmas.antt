@@ -1,7 +1,11 @@
 -- A run of a C part is read: its token stands for those of the words, signs and spaces that it consists of.
+use Rattle.std.proofs.Common.{if◌then◌else◌, nat_le, ◌==◌}
+use Rattle.std.proofs.lemmas.List.{get_or-drop}
+use Rattle.std.proofs.lemmas.Bool.Decides.{nat_tests}
+use Rattle.tangle_text.specs.Bytes.{backslash}
 use Rattle.std.proofs.Common.{◌≡◌, ◌<◌, ◌≤◌, ℕ, zero, suc, ◌+◌, ◌-◌, Bool, true, false, ◌&&◌, List, [], ◌∷◌, ◌++◌, length}
 use Rattle.std.proofs.Common.{take, drop, map, get_or, slice_get, Option, IsSome, ◌⊎◌, inl, inr, refl, ap}
-use Rattle.std.proofs.Common.{sym, ◌∙◌, subst, arith, append_assoc, append-nil, length-drop, option_to_list}
+use Rattle.std.proofs.Common.{sym, ◌∙◌, subst, arith, append_assoc, append-nil, length-drop}
 use Rattle.std.specs.List.{All}
 use Rattle.std.proofs.lemmas.Bool.{and_parts}
 use Rattle.std.proofs.lemmas.List.Elements.{All-push}
@@ -19,7 +23,7 @@ use Rattle.tangle_lexer.specs.declared.simple.SimpleLexeme.{SimpleLexeme}
 use Rattle.tangle_lexer.specs.declared.tokens.Token.{Token}
 use Rattle.tangle_lexer.specs.declared.tokens.Token.TheVariants as token
 use Rattle.tangle_lexer.specs.LinesOfC.{with_item}
-use Rattle.tangle_lexer.specs.Lexemes.{Lexeme, elsewhere, is_c_part}
+use Rattle.tangle_lexer.specs.Lexemes.{elsewhere, is_c_part}
 use Rattle.tangle_lexer.specs.Reads.{ReadsOn}
 use Rattle.tangle_lexer.specs.Runs.{part_token, unfolded, IsRunOf, IsRunIn}
 use Rattle.tangle_lexer.specs.Simple.{IsSimple, simple_kind, is_c_text, is_word_or_sign, begins_run, is_apart}
@@ -39,16 +43,9 @@ InLine line column bytes rest k =
 
 line-place : (line column : ℕ) (bytes : List ℕ) (rest : List Cell) (k : ℕ) →
     InLine line column bytes rest k ⊎ ((j : ℕ) × (drop k (line_text line column bytes ++ rest) ≡ drop j rest))
-line-place line column bytes rest zero =
-    inl (omega arith, ap (λ n. line_text line n bytes ++ rest) (omega arith))
+line-place line column bytes rest zero = grind (arith, nat_tests)
 line-place line column [] rest (suc k) = inr (k, refl)
-line-place line column (b ∷ bs) rest (suc k) =
-    elim (line-place line (column + 1) bs rest k) [
-      | inl near ↦
-          let same : column + 1 + k ≡ column + suc k = omega arith in
-          inl (omega (arith, near.0), near.1 ∙ ap (λ n. line_text line n (drop k bs) ++ rest) same)
-      | inr far ↦ inr far
-    ]
+line-place line column (b ∷ bs) rest (suc k) = grind (arith, nat_tests, line-place line (column + 1) bs rest k)
 
 byte-some : (line column : ℕ) (bs : List ℕ) (rest : List Cell)
     → IsSome (byte_at 0 (line_text line column bs ++ rest)) → 0 < length bs
@@ -82,9 +79,7 @@ text-place from (l ∷ ls) k h =
             rest = text_from (from + 1) ls;
             real = omega arith;
             inside = omega (arith, more, length-drop k l.bytes);
-            is = near.1
-                ∙ (ap (λ n. line_text from n (drop k l.bytes) ++ text_from (from + 1) ls) column
-                ∙ ap (λ n. line_text n k (drop k l.bytes) ++ text_from (from + 1) ls) line);
+            is = grind (arith, nat_tests);
           }
       | inr far ↦
           let place : IsInLine (texts_of ls) (from + 1) (drop far.0 (text_from (from + 1) ls))
@@ -96,10 +91,7 @@ text-place from (l ∷ ls) k h =
             rest = place.rest;
             real = omega (arith, place.real);
             inside = place.inside;
-            is = far.1
-                ∙ (place.is
-                ∙ ap (λ n. line_text n place.column (drop place.column (get_or (texts_of ls) place.line []))
-                ++ place.rest) line);
+            is = grind (arith, nat_tests);
           }
     ]
 
@@ -125,9 +117,19 @@ parts-are : (texts : List (List ℕ)) (line column n : ℕ)
     → run_parts texts (record { line = line; start = column; end = column + n })
     ≡ parts_of line column (chunks (take n (drop column (get_or texts line []))))
 unfolding run_parts
-parts-are texts line column n =
-    let same : column + n - column ≡ n = omega arith in
-    ap (λ k. parts_of line column (chunks (take k (drop column (get_or texts line []))))) same
+parts-are texts line column n = grind (arith, nat_tests)
+
+-- a run does not end in a backslash
+
+run-last : (bs : List ℕ) (n : ℕ) → run_size bs ≡ suc n → (get_or bs n 0 == backslash) ≡ false
+run-last [] n h = grind arith
+run-last (b ∷ bs) zero h = grind (arith, nat_tests)
+run-last (b ∷ bs) (suc n) h = grind (arith, run-last bs n)
+
+run-end : (bytes : List ℕ) (column : ℕ) → 0 < run_size (drop column bytes)
+    → ((if nat_le (column + run_size (drop column bytes)) column then 0
+    else get_or bytes (column + run_size (drop column bytes) - 1) 0) == backslash) ≡ false
+run-end bytes column h = grind (arith, get_or-drop, run-last (drop column bytes) (run_size (drop column bytes) - 1))
 
 line-run : (lines : List SourceLine) (l : LineOfC) (stays : (b : Bool) → with_item b l ≡ l)
     (occurrences last line column : ℕ) (rest : List Cell)
@@ -150,11 +152,7 @@ line-run lines l stays occurrences last line column rest real inside begins =
     let read : Reads here text (map part_token (parts_of line column (chunks (take n bytes)))) (drop n text) = goes.0 in
     record {
       some = omega (arith, count, some-size bytes begins);
-      tokens = read.tokens
-          ∙ (ap (λ ps. map part_token ps ++ tokens_from here (drop n text)) (sym parts)
-          ∙ (ap (λ x. map part_token (run_parts texts x) ++ tokens_from here (drop n text)) (sym span_is)
-          ∙ ap (λ k. map part_token (run_parts texts (span_at (run_count text) text)) ++ tokens_from here (drop k text))
-          (sym count)));
+      tokens = grind (arith, nat_tests);
       occurrences = read.occurrences ∙ ap (λ k. occurrences_from here (drop k text)) (sym count);
       run = subst (IsRunOf texts) (sym span_is) (record {
         span = record {
@@ -163,6 +161,7 @@ line-run lines l stays occurrences last line column rest real inside begins =
           end = omega (arith, run_size-fits bytes, length-drop column (get_or texts line []), inside);
         };
         spaces = ap (has_single_spaces true) parts ∙ goes.1 true (λ e. begins);
+        ends = run-end (get_or texts line []) column (some-size bytes begins);
       });
     }
 
@@ -182,22 +181,15 @@ lexeme-apart : (s : LexerState) (text : List Cell) (p : SimpleLexeme)
     → IsSimple text p → is_c_text s.mode ≡ true → is_word_or_sign p ≡ true
     → is_apart s.line.include s.line.line (byte_at 0 text) ≡ true → lexeme s text ≡ lexeme (elsewhere s) text
 lexeme-apart s text p here m h apart =
-    lexeme-simple s text p here m
-    ∙ (kind-apart p s text h apart ∙ sym (lexeme-simple (elsewhere s) text p here m))
+    cc (lexeme-simple s text p here m, kind-apart p s text h apart, lexeme-simple (elsewhere s) text p here m)
 
 tokens-apart : (s t : LexerState) (text : List Cell) → 0 < length text
     → lexeme s text ≡ lexeme t text → tokens_from s text ≡ tokens_from t text
-tokens-apart s t text inside same =
-    tokens_from-step s text inside
-    ∙ (ap (λ (l : Lexeme). l.tokens ++ tokens_from l.after (drop l.more (drop 1 text))) same
-    ∙ sym (tokens_from-step t text inside))
+tokens-apart s t text inside same = grind (arith, nat_tests, tokens_from-step)
 
 occurrences-apart : (s t : LexerState) (text : List Cell) → 0 < length text
     → lexeme s text ≡ lexeme t text → occurrences_from s text ≡ occurrences_from t text
-occurrences-apart s t text inside same =
-    occurrences_from-step s text inside
-    ∙ (ap (λ (l : Lexeme). option_to_list l.occurrence ++ occurrences_from l.after (drop l.more (drop 1 text))) same
-    ∙ sym (occurrences_from-step t text inside))
+occurrences-apart s t text inside same = grind (arith, nat_tests, occurrences_from-step)
 
 c_part-is : (m : Mode) → is_c_part m ≡ true → m ≡ mode.CPart
 c_part-is x h = grind arith
@@ -259,8 +251,7 @@ run-reads-on lines old new s text rest span added is ahead ours run =
     = ap (unfolded texts) added
     ∙ (unfolded-append texts old (token.Run span ∷ []) ∙ ap (λ ts. unfolded texts old ++ ts) (append-nil parts)) in
     record {
-      tokens = ap (λ ts. ts ++ after) tokens_are
-          ∙ (append_assoc (unfolded texts old) parts after ∙ ap (λ ts. unfolded texts old ++ ts) (sym from));
+      tokens = grind (arith, nat_tests, append_assoc);
       runs = λ runs. subst (All (IsRunIn texts)) (sym added)
           (All-push (IsRunIn texts) old (token.Run span) runs run_is);
       occurrences = ap (occurrences_from (elsewhere s)) ahead ∙ sym run.occurrences;

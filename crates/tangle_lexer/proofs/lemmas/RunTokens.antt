@@ -1,20 +1,20 @@
 -- The tokens of a run are those of the words, signs and spaces that it consists of.
-use Rattle.std.proofs.Common.{◌≡◌, ◌<◌, ℕ, zero, suc, ◌+◌, Bool, true, false, ◌==◌, ◌&&◌, ◌||◌, not, List, [], ◌∷◌}
+use Rattle.std.proofs.lemmas.Bool.Decides.{nat_tests}
+use Rattle.std.proofs.Common.{◌≡◌, ◌<◌, ℕ, zero, suc, ◌+◌, Bool, true, false, ◌==◌, not, List, [], ◌∷◌}
 use Rattle.std.proofs.Common.{◌++◌, length, take, drop, map, Option, Some, None, ◌⊎◌, slice_get, inl, inr, refl, ap}
-use Rattle.std.proofs.Common.{sym, ◌∙◌, subst, arith, option_to_list}
-use Rattle.std.proofs.lemmas.Bool.{or_cases, or_parts, and_parts, not-true, false≢true}
-use Rattle.std.proofs.lemmas.Bool.Decides.{eqb_tells}
+use Rattle.std.proofs.Common.{sym, ◌∙◌, subst, arith}
+use Rattle.std.proofs.lemmas.Bool.{false≢true}
 use Rattle.tangle_lines.specs.Bytes.{at_sign, double_quote, is_white}
 use Rattle.tangle_files.specs.Bytes.{space}
 use Rattle.tangle_text.specs.declared.regions.Region.{Region}
 use Rattle.tangle_text.specs.declared.regions.Region.TheVariants as region
 use Rattle.tangle_text.specs.declared.regions.Unit.TheVariants as unit
-use Rattle.tangle_text.specs.Bytes.{apostrophe, asterisk, slash, less_sign, holds, holds_white, holds_word_byte}
+use Rattle.tangle_text.specs.Bytes.{apostrophe, slash, holds_white, holds_word_byte}
 use Rattle.tangle_text.specs.Bytes.{is_word_byte, number_sign, backslash}
 use Rattle.tangle_text.specs.Text.{Cell, line_text, byte_at, span_at}
 use Rattle.tangle_text.specs.Regions.{unit_at, count_before}
 use Rattle.tangle_text.specs.Runs.{is_plain, holds_plain, is_in_run, run_size, chunks, parts_of, has_single_spaces}
-use Rattle.tangle_text.proofs.RunChunks.{differs, alone-chunk, front-chunk, alone-before, part-word}
+use Rattle.tangle_text.proofs.RunChunks.{alone-chunk, front-chunk, alone-before, part-word}
 use Rattle.tangle_text.proofs.UnitLemmas.{count-one}
 use Rattle.tangle_lexer.specs.declared.modes.Mode.TheVariants as mode
 use Rattle.tangle_lexer.specs.declared.modes.IncludeState.TheVariants as include
@@ -36,20 +36,7 @@ use Rattle.tangle_lexer.proofs.lemmas.StepLemmas.{lexeme-here, tokens_from-step,
 -- bytes of a run
 
 pub word-plain : (b : ℕ) → is_word_byte b ≡ true → is_plain b ≡ true
-word-plain b h =
-    let other = λ (n : ℕ) (k : is_word_byte n ≡ false). differs is_word_byte b n h k in
-    rw (
-      other 32 refl,
-      other 9 refl,
-      other 13 refl,
-      other 11 refl,
-      other 12 refl,
-      other 34 refl,
-      other 39 refl,
-      other 47 refl,
-      other 64 refl,
-      other 92 refl,
-    ) refl
+word-plain b h = grind (arith, nat_tests)
 
 -- the kind of the lexeme that begins with a byte of a run, where no #include was begun
 abbrev kind_of : ℕ → Option ℕ → LexemeKind
@@ -72,55 +59,14 @@ pub record ArePlainTests (b : ℕ) : Type 0 where
   pub space : (b == space) ≡ false
   pub backslash : (b == backslash) ≡ false
 
-pub plain-tests : (b : ℕ) → is_plain b ≡ true → ArePlainTests b
-plain-tests b h = record {
-  white = grind arith;
-  quote = grind arith;
-  apostrophe = grind arith;
-  slash = grind arith;
-  at_sign = grind arith;
-  space = grind arith;
-  backslash = grind arith;
-}
-
 word-kind : (b : ℕ) (next : Option ℕ) → is_word_byte b ≡ true → kind_of b next ≡ lexeme_kind.Word
-word-kind b next h =
-    let tests = plain-tests b (word-plain b h) in
-    let less = differs is_word_byte b less_sign h refl in
-    rw (tests.at_sign, tests.slash, tests.quote, tests.apostrophe, less, tests.white, h) refl
+word-kind b next h = grind (arith, nat_tests)
 
 plain-byte : (b : ℕ) (next : Option ℕ) → is_plain b ≡ true → IsRunByte b next
-plain-byte b next h = by (is_word_byte b) refl (b == less_sign) refl
-  where
-    open plain-tests b h use {white, quote, apostrophe, slash, at_sign, space, backslash}
-
-    by : (w : Bool) → is_word_byte b ≡ w → (l : Bool) → (b == less_sign) ≡ l → IsRunByte b next
-    by true w l k = inl w
-    by false w true k = inr (inl (rw (at_sign, slash, quote, apostrophe, k) refl, w, space, backslash))
-    by false w false k = inr (inl (rw (at_sign, slash, quote, apostrophe, k, white, w) refl, w, space, backslash))
+plain-byte b next h = grind (arith, nat_tests)
 
 run-byte : (b : ℕ) (next : Option ℕ) → is_in_run b next ≡ true → IsRunByte b next
-run-byte b next h =
-    elim (or_cases _ (b == slash && not (holds asterisk next || holds slash next)) h) [
-      | inl front ↦
-          elim (or_cases (is_plain b) (b == space && holds_plain next) front) [
-            | inl plain ↦ plain-byte b next plain
-            | inr spaces ↦
-                let both = and_parts (b == space) (holds_plain next) spaces in
-                elim (eqb_tells b space) [
-                  | inl same ↦ inr (inr (same.1, both.1))
-                  | inr other ↦ let never : false ≡ true = sym other.0 ∙ both.0 in cc
-                ]
-          ]
-      | inr slashes ↦
-          let both = and_parts (b == slash) _ slashes in
-          let neither = or_parts (holds asterisk next) (holds slash next) (not-true _ both.1) in
-          elim (eqb_tells b slash) [
-            | inl same ↦ subst (λ x. IsRunByte x next) (sym same.1)
-                (inr (inl (rw (neither.0, neither.1) refl, refl, refl, refl)))
-            | inr other ↦ let never : false ≡ true = sym other.0 ∙ both.0 in cc
-          ]
-    ]
+run-byte b next h = grind (arith, nat_tests)
 
 -- the rest of a line
 
@@ -178,24 +124,11 @@ lexeme-reads : (s : LexerState) (text : List Cell) (here : Lexeme)
     → 0 < length text → lexeme s text ≡ here → here.occurrence ≡ None → here.after ≡ s
     → Reads s text here.tokens (drop here.more (drop 1 text))
 lexeme-reads s text here inside is none after =
-    let rest = drop here.more (drop 1 text) in
-    record {
-      tokens = tokens_from-step s text inside
-          ∙ (ap (λ (l : Lexeme). l.tokens ++ tokens_from l.after (drop l.more (drop 1 text))) is
-          ∙ ap (λ t. here.tokens ++ tokens_from t rest) after);
-      occurrences = occurrences_from-step s text inside
-          ∙ (ap
-          (λ (l : Lexeme). option_to_list l.occurrence ++ occurrences_from l.after (drop l.more (drop 1 text))) is
-          ∙ (ap (λ n. option_to_list n ++ occurrences_from here.after rest) none
-          ∙ ap (λ t. occurrences_from t rest) after));
-    }
+    grind (arith, nat_tests, inside, tokens_from-step, occurrences_from-step)
 
 reads-cons : (s : LexerState) (text mid rest : List Cell) (t : Token) (ts us : List Token)
     → us ≡ t ∷ ts → Reads s text (t ∷ []) mid → Reads s mid ts rest → Reads s text us rest
-reads-cons s text mid rest t ts us is first more = record {
-  tokens = first.tokens ∙ (ap (λ vs. t ∷ vs) more.tokens ∙ ap (λ vs. vs ++ tokens_from s rest) (sym is));
-  occurrences = first.occurrences ∙ more.occurrences;
-}
+reads-cons s text mid rest t ts us is first more = grind (arith, nat_tests)
 
 end_of : List Token → ℕ
 end_of (token.Span kind s ∷ ts) = s.end
@@ -300,17 +233,15 @@ module _ (l : LineOfC) (stays : (b : Bool) → with_item b l ≡ l) (occurrences
       → holds_word_byte (slice_get bs 0) ≡ false → holds_word_byte (slice_get xs 0) ≡ false
       → Goes (column + 1) bs xs after → Goes column (b ∷ bs) (b ∷ xs) after
   word-continues column b bs xs after word other first_other more =
-      let text = at column (b ∷ bs) in
-      let next = at (column + 1) bs in
-      let none : count_before region.Word next ≡ 0
-      = word-stop next (ap holds_word_byte (front-byte line (column + 1) bs rest) ∙ other) in
-      let this : Token = token.Span span_kind.Word (record { line = line; start = column; end = column + 1 }) in
-      let first : Reads here text (this ∷ []) next
-      = subst (λ n. Reads here text (token.Span span_kind.Word (span_at (1 + n) text) ∷ []) (drop n next)) none
-      (word-reads column b bs word) in (
-        reads-cons here text next after this (tokens_of (column + 1) xs) (tokens_of column (b ∷ xs))
-            (rw (alone-before b xs word first_other, part-word line column b [] word) refl) first more.0,
-        λ before h. rw (alone-before b xs word first_other, part-word line column b [] word) (more.1 false (λ e. cc)),
+      grind (
+        arith,
+        nat_tests,
+        word-stop,
+        front-byte,
+        word-reads column b bs word,
+        reads-cons here,
+        alone-before b xs word first_other,
+        part-word,
       )
 
   -- a word byte before another belongs to the word of that
@@ -349,15 +280,8 @@ module _ (l : LineOfC) (stays : (b : Bool) → with_item b l ≡ l) (occurrences
       let single : has_single_spaces false (parts_of line (column + 1 + length (c ∷ zs)) chunk.1) ≡ true
       = rw (chunk.2, part-word line (column + 1) c zs next_word) at (more.1 false (λ e. cc)) in (
         record {
-          tokens =
-              first.tokens
-              ∙ (ap (λ k. token.Span span_kind.Word (record { line = line; start = column; end = column + k })
-              ∷ tokens_from here (drop (count_before region.Word next) next)) size_is
-              ∙ (ap (λ t. this ∷ tokens_from here t) past_is ∙ (ap (λ ts. this ∷ ts) rests
-              ∙ ap (λ ts. ts ++ tokens_from here after) (sym parts))));
-          occurrences =
-              first.occurrences
-              ∙ (ap (occurrences_from here) past_is ∙ (sym second.occurrences ∙ more.0.occurrences));
+          tokens = grind (arith, nat_tests);
+          occurrences = grind (arith, nat_tests);
         },
         λ before h. rw (chunk.2, word, next_word, part-word line column b (c ∷ zs) word, column_is) single,
       )

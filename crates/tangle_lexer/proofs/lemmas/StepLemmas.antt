@@ -1,6 +1,7 @@
 -- What one step of the lexer does to the text, the tokens and the occurrences.
-use Rattle.std.proofs.Common.{◌≡◌, ◌<◌, ◌+◌, ℕ, zero, suc, List, [], ◌∷◌, ◌++◌, length, drop, map, flat_map, Option}
-use Rattle.std.proofs.Common.{Some, None, option_to_list, refl, ap, ◌∙◌, arith, append_assoc, length-drop}
+use Rattle.std.proofs.lemmas.Bool.Decides.{nat_tests}
+use Rattle.std.proofs.Common.{◌≡◌, ◌<◌, ◌+◌, ℕ, zero, suc, List, [], ◌∷◌, ◌++◌, length, drop, map}
+use Rattle.std.proofs.Common.{option_to_list, refl, ap, ◌∙◌, arith, append_assoc, length-drop}
 use Rattle.std.proofs.lemmas.List.{length_push}
 use Rattle.tangle_lines.specs.Reading.{SourceLine}
 use Rattle.tangle_lexer.specs.declared.modes.Mode.TheVariants as mode
@@ -8,7 +9,6 @@ use Rattle.tangle_lexer.specs.declared.modes.LexerState.{LexerState}
 use Rattle.tangle_lexer.specs.declared.lexeme_kinds.LexemeKind.{LexemeKind}
 use Rattle.tangle_lexer.specs.declared.tokens.Token.{Token}
 use Rattle.tangle_text.specs.Text.{Cell}
-use Rattle.tangle_lexer.specs.Lexemes.{Lexeme, OccurrenceOnLine}
 use Rattle.tangle_lexer.specs.CText.{kind_at}
 use Rattle.tangle_lexer.specs.Steps.{c_lexeme, lexeme_in, lexeme, lexemes, tokens_from, occurrences_from}
 use Rattle.tangle_lexer.specs.Occurrences.{OccurrenceRead, occurrence_of}
@@ -30,21 +30,14 @@ pub tokens_from-step : (s : LexerState) (text : List Cell) → 0 < length text
     → tokens_from s text
     ≡ (lexeme s text).tokens ++ tokens_from (lexeme s text).after (drop (lexeme s text).more (drop 1 text))
 unfolding tokens_from
-tokens_from-step s [] h = absurd (omega (arith, h))
-tokens_from-step s (c ∷ cs) h =
-    let here : Lexeme = lexeme s (c ∷ cs) in
-    ap (λ rest. here.tokens ++ flat_map (λ l. l.tokens) rest) (lexemes-drop here.more here.after cs)
+tokens_from-step s text h = grind (arith, nat_tests, lexemes-drop)
 
 pub occurrences_from-step : (s : LexerState) (text : List Cell) → 0 < length text
     → occurrences_from s text
     ≡ option_to_list (lexeme s text).occurrence
     ++ occurrences_from (lexeme s text).after (drop (lexeme s text).more (drop 1 text))
 unfolding occurrences_from
-occurrences_from-step s [] h = absurd (omega (arith, h))
-occurrences_from-step s (c ∷ cs) h =
-    let here : Lexeme = lexeme s (c ∷ cs) in
-    ap (λ rest. option_to_list here.occurrence ++ flat_map (λ l. option_to_list l.occurrence) rest)
-    (lexemes-drop here.more here.after cs)
+occurrences_from-step s text h = grind (arith, nat_tests, lexemes-drop)
 
 -- a step does not change the list of the occurrences read and those ahead
 pub step-occurrences : (lines : List SourceLine) (old new : List OccurrenceRead)
@@ -54,32 +47,13 @@ pub step-occurrences : (lines : List SourceLine) (old new : List OccurrenceRead)
     → new ++ map (occurrence_of lines) (occurrences_from after rest)
     ≡ old ++ map (occurrence_of lines) (occurrences_from s text)
 step-occurrences lines old new from to s after text rest h read adds =
-    rw (read.ahead, read.state, occurrences_from-step s text h) (go (lexeme s text).occurrence adds)
-  where
-    go : (occurrence : Option OccurrenceOnLine) → AddsOccurrence lines old new occurrence
-        → new
-        ++ map (occurrence_of lines) (occurrences_from (lexeme s text).after (drop (lexeme s text).more (drop 1 text)))
-        ≡ old
-        ++ map (occurrence_of lines)
-        (option_to_list occurrence ++ occurrences_from (lexeme s text).after (drop (lexeme s text).more (drop 1 text)))
-    go None adds = ap
-        (λ xs. xs
-        ++ map (occurrence_of lines) (occurrences_from (lexeme s text).after (drop (lexeme s text).more (drop 1 text))))
-        adds
-    go (Some occurrence) adds =
-        ap
-        (λ xs. xs
-        ++ map (occurrence_of lines) (occurrences_from (lexeme s text).after (drop (lexeme s text).more (drop 1 text))))
-        adds
-        ∙ append_assoc old (occurrence_of lines occurrence ∷ [])
-        (map (occurrence_of lines) (occurrences_from (lexeme s text).after (drop (lexeme s text).more (drop 1 text))))
+    grind (arith, nat_tests, occurrences_from-step, append_assoc)
 
 -- a step makes the text ahead shorter
 pub step-shorter : (old new : List Token) (s after : LexerState) (text rest : List Cell)
     → 0 < length text → IsRead old new text rest after (lexeme s text)
     → length rest < length text
-step-shorter old new s after text rest h read =
-    omega (arith, h, ap length read.ahead, length-drop (lexeme s text).more (drop 1 text), length-drop 1 text)
+step-shorter old new s after text rest h read = grind (arith, nat_tests, length-drop)
 
 -- the number of occurrences that were read grows by one with each name
 
@@ -88,11 +62,4 @@ pub step-count : (lines : List SourceLine) (old new : List OccurrenceRead)
     → IsRead from to text rest after (lexeme s text) → AddsOccurrence lines old new (lexeme s text).occurrence
     → s.occurrences ≡ length old → after.occurrences ≡ length new
 step-count lines old new from to s after text rest read adds before =
-    ap (λ t. t.occurrences) read.state ∙ go (lexeme s text).occurrence adds (lexeme-keeps s text).count
-  where
-    go : (occurrence : Option OccurrenceOnLine) → AddsOccurrence lines old new occurrence
-        → (lexeme s text).after.occurrences ≡ s.occurrences + length (option_to_list occurrence)
-        → (lexeme s text).after.occurrences ≡ length new
-    go None adds counts = omega (arith, counts, before, ap length adds)
-    go (Some occurrence) adds counts =
-        omega (arith, counts, before, ap length adds, length_push old (occurrence_of lines occurrence))
+    grind (arith, nat_tests, lexeme-keeps, length_push)

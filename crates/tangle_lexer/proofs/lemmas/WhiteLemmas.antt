@@ -1,8 +1,10 @@
 -- White space that ends on its line: which lexemes are white space alone, and the text after it.
+use Rattle.std.proofs.Common.{rules}
+use Rattle.std.proofs.lemmas.Bool.Decides.{nat_tests}
 use Rattle.std.proofs.Common.{arith}
 use Rattle.std.proofs.Common.{◌≡◌, ◌<◌, ℕ, zero, suc, ◌+◌, Bool, true, false, not, ◌&&◌, List, [], ◌∷◌, ◌++◌}
-use Rattle.std.proofs.Common.{map, length, drop, drop-drop, Option, refl, ap, sym, ◌∙◌}
-use Rattle.std.proofs.lemmas.Bool.{or_parts, and_parts}
+use Rattle.std.proofs.Common.{map, length, drop, drop-drop, Option, refl, sym, ◌∙◌}
+use Rattle.std.proofs.lemmas.Bool.{and_parts}
 use Rattle.std.specs.Prelude.{is_some}
 use Rattle.tangle_faults.specs.declared.faults.FaultKind.{FaultKind}
 use Rattle.tangle_faults.specs.declared.faults.FaultKind.TheVariants as fault
@@ -23,15 +25,15 @@ use Rattle.tangle_text.specs.Text.{Cell, byte_at}
 use Rattle.tangle_text.specs.Regions.{unit_at, more_by, count_before, region_end}
 use Rattle.tangle_text.proofs.RegionLemmas.{region_end-is, region_end-stop, region_end-nothing}
 use Rattle.tangle_lexer.specs.LinesOfC.{inner_end_in}
-use Rattle.tangle_lexer.specs.Lexemes.{fault_if, is_in_directive}
+use Rattle.tangle_lexer.specs.Lexemes.{fault_if}
 use Rattle.tangle_lexer.specs.Comments.{comment_or_control_text, line_comment, line_ends, ends_region, starts_section}
 use Rattle.tangle_lexer.specs.Comments.{is_on_line, ends_on_line, two_if}
-use Rattle.tangle_lexer.specs.Constants.{constant_at, constant_lexeme}
-use Rattle.tangle_lexer.specs.White.{is_white_token, is_white_alone, lexeme_but_name, next_but_name, after_a_name}
+use Rattle.tangle_lexer.specs.Constants.{constant_lexeme}
+use Rattle.tangle_lexer.specs.White.{is_white_alone, lexeme_but_name, next_but_name}
 use Rattle.tangle_lexer.specs.White.{white_count, white_end}
 use Rattle.tangle_lexer.proofs.lemmas.LexemeLemmas.{line_ends-go, line_ends-stop}
 use Rattle.tangle_lexer.proofs.lemmas.OpenedRegions.{ended-ahead}
-use Rattle.tangle_lexer.proofs.lemmas.PlainTokens.{AreText, is_not_text, verbatim_tokens-text}
+use Rattle.tangle_lexer.proofs.lemmas.PlainTokens.{AreText, verbatim_tokens-text}
 use Rattle.tangle_lexer.proofs.lemmas.PlainLexemes.{quoted-text}
 
 -- white space with line ends, and with a fault unless it ends
@@ -44,11 +46,7 @@ inner-on_line b x = grind arith
 
 pub region-white : (r : Region) (kind : FaultKind) (s : LexerState) (text : List Cell)
     → is_white_alone (comment_or_control_text r kind s text).tokens ≡ ends_on_line r (drop 2 text)
-region-white r kind s text =
-    white-by (map (inner_end_in (is_in_directive s)) (line_ends r (drop 2 text))) _ kind _
-    ∙ ap (λ b. b && ends_region r (drop (count_before r (drop 2 text)) (drop 2 text)))
-    (inner-on_line (is_in_directive s) (line_ends r (drop 2 text)))
-    ∙ ap (λ t. is_on_line (line_ends r (drop 2 text)) && ends_region r t) (sym (region_end-is r (drop 2 text)))
+region-white r kind s text = grind (arith, nat_tests, white-by, inner-on_line, region_end-is)
 
 -- the text after a region that two cells open, if it ends on its first line
 pub region-ahead : (r : Region) (text inner rest : List Cell)
@@ -56,10 +54,7 @@ pub region-ahead : (r : Region) (text inner rest : List Cell)
     → rest
     ≡ drop (1 + count_before r (drop 2 text)
     + two_if (ends_region r (drop (count_before r (drop 2 text)) (drop 2 text)))) (drop 1 text)
-region-ahead r text inner rest is ends go =
-    let ended = (and_parts (is_on_line (line_ends r inner)) (ends_region r (region_end r inner)) ends).1 in
-    ended-ahead r text (region_end r inner) rest (ap (region_end r) is)
-    (go ∙ ap (λ b. drop (two_if b) (region_end r inner)) (sym ended))
+region-ahead r text inner rest is ends go = grind (arith, nat_tests, and_parts, ended-ahead)
 
 -- // up to the line end is white space alone if no section start is in it
 pub line-white : (s : LexerState) (text : List Cell) → is_white_alone (line_comment s text).tokens
@@ -74,21 +69,10 @@ line-white s text = by (starts_section (drop (count_before region.LineComment (d
 module _ (r : Region) (text whole : List Cell)
     (ends : line_ends r text ≡ line_ends r whole) (end : region_end r text ≡ region_end r whole) where
   pub ends-here : unit_at r text ≡ unit.Stop → ends_region r text ≡ ends_on_line r whole
-  ends-here stop =
-      ap (ends_region r) (sym (region_end-stop r text stop) ∙ end)
-      ∙ sym (ap (λ e. is_on_line e && ends_region r (region_end r whole)) (sym ends ∙ line_ends-stop r text stop))
+  ends-here stop = grind (arith, nat_tests, region_end-stop, line_ends-stop)
 
   pub never-ends : text ≡ [] → ends_on_line r whole ≡ false
-  never-ends is =
-      ap (λ t. is_on_line (line_ends r whole) && ends_region r t)
-      (sym end ∙ ap (region_end r) is ∙ region_end-nothing r)
-      ∙ (ap (λ b. is_on_line (line_ends r whole) && b) (nothing r) ∙ never (is_on_line (line_ends r whole)))
-    where
-      nothing : (r : Region) → ends_region r [] ≡ false
-      nothing x = grind arith
-
-      never : (b : Bool) → (b && false) ≡ false
-      never b = grind arith
+  never-ends is = grind (arith, nat_tests, region_end-nothing)
 
 pub no-line_end : (b : Option ℕ) → is_some b ≡ true → is_line_end b ≡ false
 no-line_end b h = grind arith
@@ -101,12 +85,7 @@ line-goes r text u inside here go some = rw (line_ends-go r 0 text u inside here
 
 -- the tokens of a quoted or verbatim text are no white space
 text-dark : (ts : List Token) → AreText ts → is_white_alone ts ≡ false
-text-dark [] h = refl
-text-dark (t ∷ []) h = one t (or_parts (is_not_text t) false h.none).0
-  where
-    one : (t : Token) → is_not_text t ≡ false → is_white_token t ≡ false
-    one t h = grind arith
-text-dark (t ∷ u ∷ ts) h = refl
+text-dark ts h = grind (arith, nat_tests)
 
 constant-dark : (constant : Option AsciiConstant) (s : LexerState) (text : List Cell)
     → is_white_alone (constant_lexeme constant s text).tokens ≡ false
@@ -115,11 +94,7 @@ constant-dark x s text = grind arith
 pub code-dark : (kind : ControlCode) (text : List Cell)
     → (kind ≡ code.ControlText → ⊥) → (kind ≡ code.Other → ⊥)
     → is_white_alone (lexeme_but_name (lexeme_kind.Control kind) text).tokens ≡ false
-code-dark code.ControlText text h k = absurd (h refl)
-code-dark code.Other text h k = absurd (k refl)
-code-dark code.Verbatim text h k = text-dark _ (verbatim_tokens-text (drop 2 text))
-code-dark code.AsciiConstant text h k = constant-dark (constant_at (drop 2 text)) after_a_name text
-code-dark _ text h k = refl
+code-dark kind text h k = grind (arith, nat_tests, text-dark, verbatim_tokens-text, constant-dark)
 
 pub kind-dark : (kind : LexemeKind) (text : List Cell)
     → (kind ≡ lexeme_kind.White → ⊥) → (kind ≡ lexeme_kind.BlockComment → ⊥)
@@ -129,12 +104,9 @@ kind-dark (lexeme_kind.Control code) text white block line control = absurd (con
 kind-dark lexeme_kind.White text white block line control = absurd (white refl)
 kind-dark lexeme_kind.BlockComment text white block line control = absurd (block refl)
 kind-dark lexeme_kind.LineComment text white block line control = absurd (line refl)
-kind-dark lexeme_kind.DoubleQuote text white block line control =
-    text-dark _ (quoted-text region.DoubleQuote _ after_a_name text)
-kind-dark lexeme_kind.Apostrophe text white block line control =
-    text-dark _ (quoted-text region.Apostrophe _ after_a_name text)
-kind-dark lexeme_kind.HeaderName text white block line control =
-    text-dark _ (quoted-text region.HeaderName _ after_a_name text)
+kind-dark lexeme_kind.DoubleQuote text white block line control = search (rules, text-dark, quoted-text)
+kind-dark lexeme_kind.Apostrophe text white block line control = search (rules, text-dark, quoted-text)
+kind-dark lexeme_kind.HeaderName text white block line control = search (rules, text-dark, quoted-text)
 kind-dark _ text white block line control = refl
 
 -- the text after the white space at the front
@@ -146,10 +118,7 @@ skipped (suc k) (c ∷ cs) = sym (drop-drop (white_count k cs) 1 (c ∷ cs)) ∙
 
 pub white-goes : (text : List Cell) → is_white_alone (next_but_name text).tokens ≡ true
     → white_end text ≡ white_end (drop (next_but_name text).more (drop 1 text))
-white-goes [] h = white-nothing (next_but_name []).more
-  where
-    white-nothing : (k : ℕ) → white_end [] ≡ white_end (drop k [])
-    white-nothing x = grind arith
+white-goes [] h = grind (arith, nat_tests)
 white-goes (c ∷ cs) h =
     let more = (next_but_name (c ∷ cs)).more in
     rw h (sym (drop-drop (white_count more cs) 1 (c ∷ cs)) ∙ skipped more cs)

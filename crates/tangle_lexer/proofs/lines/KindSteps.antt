@@ -1,13 +1,14 @@
 -- In a C part the lexer's state follows the open line of C, lexeme by lexeme.
+use Rattle.std.proofs.lemmas.Bool.Decides.{nat_tests}
+use Rattle.std.proofs.Common.{rules}
 use Rattle.std.proofs.Common.{arith}
-use Rattle.std.proofs.Common.{◌≡◌, ℕ, Bool, true, false, List, [], ◌∷◌, ◌++◌, map, flat_map, drop, ◌==◌}
+use Rattle.std.proofs.Common.{◌≡◌, ℕ, Bool, true, false, List, [], ◌∷◌, ◌++◌, map, flat_map, ◌==◌}
 use Rattle.std.proofs.Common.{Option, Some, None, refl, ap, sym, ◌∙◌, subst, ◌&&◌}
 use Rattle.tangle_faults.specs.declared.faults.FaultKind.{FaultKind}
 use Rattle.tangle_faults.specs.declared.faults.FaultKind.TheVariants as fault
 use Rattle.tangle_text.specs.declared.regions.Region.{Region}
-use Rattle.tangle_text.specs.declared.regions.Region.TheVariants as region
-use Rattle.tangle_lines.specs.Bytes.{at_sign, double_quote}
-use Rattle.tangle_text.specs.Bytes.{number_sign, backslash, apostrophe, greater_sign, holds}
+use Rattle.tangle_lines.specs.Bytes.{at_sign}
+use Rattle.tangle_text.specs.Bytes.{number_sign, backslash, holds}
 use Rattle.tangle_text.specs.Text.{Cell, span_at, front_line}
 use Rattle.tangle_text.specs.Regions.{units}
 use Rattle.tangle_lexer.specs.declared.tokens.Token.{Token}
@@ -28,7 +29,7 @@ use Rattle.tangle_lexer.specs.LinesOfC.{with_item, inner_end_in, after_line_end,
 use Rattle.tangle_lexer.specs.LinesOfC as lines_of_c
 use Rattle.tangle_lexer.specs.Lexemes.{is_c_part, is_in_directive, fault_if, white_lexeme}
 use Rattle.tangle_lexer.specs.Comments.{unit_line_end, line_ends}
-use Rattle.tangle_lexer.specs.Constants.{constant_at, constant_lexeme}
+use Rattle.tangle_lexer.specs.Constants.{constant_lexeme}
 use Rattle.tangle_lexer.specs.Names.{use_of_name, name_faults, name_end, has_single_equals, after_name}
 use Rattle.tangle_lexer.specs.Steps.{c_lexeme}
 use Rattle.tangle_lexer.specs.LinesOfParts.{is_use_fault}
@@ -128,8 +129,7 @@ module _ (texts : List (List ℕ)) (R : Judgement texts) where
       → is_use_fault (token.Fault kind n) ≡ false
       → Follows s.line (white_lexeme [] (token.Fault kind n ∷ []) 0 s).tokens
       (white_lexeme [] (token.Fault kind n ∷ []) 0 s).after.line
-  white-alone s kind n m h =
-      white-follows s [] (token.Fault kind n ∷ []) m tt (λ l e. fault-step texts R kind n h)
+  white-alone s kind n m h = search (rules, white-follows, fault-step)
 
   -- signs
   sign-follows : (l : LineOfC) (e : AtLineEnd) (at : Point) (c : Cell) (cs : List Cell) (is_number is_backslash : Bool)
@@ -178,41 +178,26 @@ module _ (texts : List (List ℕ)) (R : Judgement texts) where
       (other-byte at_sign number_sign c.byte refl o.0) (other-byte at_sign backslash c.byte refl o.0)
   kind-follows (lexeme_kind.Control code.Macro) s at c cs m plain o is = white-alone s fault.CodeInC _ m refl
   kind-follows (lexeme_kind.Control code.Format) s at c cs m plain o is = white-alone s fault.CodeInC _ m refl
-  kind-follows (lexeme_kind.Control code.UnnamedPart) s at c cs m plain o is =
-      white-alone s fault.CodeInC _ m refl
+  kind-follows (lexeme_kind.Control code.UnnamedPart) s at c cs m plain o is = grind (arith, nat_tests, white-alone)
   kind-follows (lexeme_kind.Control code.ControlText) s at c cs m plain o is =
-      white-follows s (line_ends region.ControlText (drop 1 cs)) _ m (line_ends-are region.ControlText (drop 1 cs))
-      (λ l e. faults-step texts R _ fault.ControlText _ refl)
+      search (rules, white-follows, line_ends-are, faults-step)
   kind-follows (lexeme_kind.Control code.Verbatim) s at c cs m plain o is =
-      verbatim-steps texts R s.line.line s.line.at_line_end _ (drop 1 cs)
-      (text-after texts 2 at (c ∷ cs) is (code-bytes code.Verbatim (c ∷ cs) (λ e. cc) o))
-  kind-follows (lexeme_kind.Control code.Join) s at c cs m plain o is =
-      join-step texts R
+      grind (arith, nat_tests, verbatim-steps, text-after, code-bytes)
+  kind-follows (lexeme_kind.Control code.Join) s at c cs m plain o is = grind (arith, nat_tests, join-step)
   kind-follows (lexeme_kind.Control code.AllMacros) s at c cs m plain o is =
-      subst (λ b. Steps texts R s.line.line s.line.at_line_end
-      (token.AllMacros c.line ∷ fault_if b fault.UseInDirective c.line) line.Empty Ends) (sym (in_directive s m))
-      (use-step texts R (token.AllMacros c.line) refl refl refl (λ us. refl) (λ l. refl) (λ before us. refl)
-      c.line)
-  kind-follows (lexeme_kind.Control code.AsciiConstant) s at c cs m plain o is =
-      constant-follows (constant_at (drop 1 cs)) s (c ∷ cs) m
-  kind-follows (lexeme_kind.Control code.Other) s at c cs m plain o is =
-      white-step texts R
+      grind (arith, nat_tests, in_directive, use-step)
+  kind-follows (lexeme_kind.Control code.AsciiConstant) s at c cs m plain o is = search (rules, constant-follows)
+  kind-follows (lexeme_kind.Control code.Other) s at c cs m plain o is = grind (arith, nat_tests, white-step)
   kind-follows lexeme_kind.BlockComment s at c cs m plain o is =
-      white-follows s (line_ends region.BlockComment (drop 1 cs)) _ m (line_ends-are region.BlockComment (drop 1 cs))
-      (λ l e. faults-step texts R _ fault.CommentEnd _ refl)
-  kind-follows lexeme_kind.LineComment s at c cs m plain o is =
-      white-follows s [] _ m tt (λ l e. faults-step texts R _ fault.CommentEnd _ refl)
+      search (rules, white-follows, line_ends-are, faults-step)
+  kind-follows lexeme_kind.LineComment s at c cs m plain o is = search (rules, white-follows, faults-step)
   kind-follows lexeme_kind.DoubleQuote s at c cs m plain o is =
-      quoted-steps texts R region.DoubleQuote double_quote-cut (λ s. refl) s.line.line s.line.at_line_end
-      double_quote s.last_line at c cs is (some-byte c.byte o.0)
+      grind (arith, nat_tests, quoted-steps, double_quote-cut, some-byte)
   kind-follows lexeme_kind.Apostrophe s at c cs m plain o is =
-      quoted-steps texts R region.Apostrophe apostrophe-cut (λ s. refl) s.line.line s.line.at_line_end
-      apostrophe s.last_line at c cs is (some-byte c.byte o.0)
+      grind (arith, nat_tests, quoted-steps, apostrophe-cut, some-byte)
   kind-follows lexeme_kind.HeaderName s at c cs m plain o is =
-      quoted-steps texts R region.HeaderName header_name-cut (λ s. refl) s.line.line s.line.at_line_end
-      greater_sign s.last_line at c cs is (some-byte c.byte o.0)
-  kind-follows lexeme_kind.LineEnd s at c cs m plain o is =
-      line_end-step texts R c.line
+      grind (arith, nat_tests, quoted-steps, header_name-cut, some-byte)
+  kind-follows lexeme_kind.LineEnd s at c cs m plain o is = grind (arith, nat_tests, line_end-step)
   kind-follows lexeme_kind.White s at c cs m plain o is = white-step texts R
   kind-follows lexeme_kind.Word s at c cs m plain o is = item-step texts R _ refl
   kind-follows lexeme_kind.Other s at c cs m plain o is =

@@ -1,8 +1,8 @@
 -- What a token does to the open line of C, and that the lexer's state follows it.
+use Rattle.std.proofs.lemmas.Bool.Decides.{nat_tests}
 use Rattle.std.proofs.Common.{arith}
 use Rattle.std.proofs.Common.{◌≡◌, ℕ, Bool, true, false, ◌&&◌, ◌||◌, not, List, [], ◌∷◌, ◌++◌, refl, ap, sym, ◌∙◌}
 use Rattle.std.proofs.Common.{cond, if◌then◌else◌, append_assoc}
-use Rattle.std.specs.Prelude.{filter}
 use Rattle.std.specs.List.{list_any}
 use Rattle.tangle_faults.specs.declared.faults.FaultKind.{FaultKind}
 use Rattle.tangle_faults.specs.declared.faults.FaultKind.TheVariants as fault
@@ -15,10 +15,10 @@ use Rattle.tangle_lexer.specs.declared.modes.AtLineEnd.TheVariants.{Ends, GoesOn
 use Rattle.tangle_lexer.specs.LinesOfC.{with_item, joined_line, line_after_end, at_next_line_end}
 use Rattle.tangle_lexer.specs.LinesOfC as lines_of_c
 use Rattle.tangle_lexer.specs.Lexemes.{fault_if}
-use Rattle.tangle_lexer.specs.LinesOfParts.{is_number_sign, is_use, is_between_items, is_directive}
+use Rattle.tangle_lexer.specs.LinesOfParts.{is_number_sign, is_use, is_directive}
 use Rattle.tangle_lexer.specs.LinesOfParts.{goes_on, join_behind, join_ahead, ends_line, is_inner_line_end}
 use Rattle.tangle_lexer.specs.LinesOfParts.{HasInnerEndsAsDirective, uses_in_directive, is_use_fault}
-use Rattle.tangle_lexer.specs.LinesOfParts.{begins_with_use_fault, with_use_fault}
+use Rattle.tangle_lexer.specs.LinesOfParts.{begins_with_use_fault}
 use Rattle.tangle_lexer.specs.LinesOfParts as parts
 use Rattle.tangle_lexer.specs.SpanBytes.{ends_in_backslash}
 use Rattle.tangle_lexer.proofs.lines.OpenLines.{settled, kind_of, kind_after, kind-snoc, directive-is, end_of, end_after}
@@ -80,14 +80,7 @@ module _ (texts : List (List ℕ)) (R : Judgement texts) where
 
   no-uses : (before : List Token) (t : Token) → list_any is_use before ≡ false → is_use t ≡ false
       → uses_in_directive texts (before ++ t ∷ []) ≡ []
-  no-uses before t h j = by (is_directive texts (before ++ t ∷ []))
-    where
-      none : filter is_use (before ++ t ∷ []) ≡ []
-      none = uses-append before (t ∷ []) h ∙ ap (λ b. cond b (t ∷ []) []) j
-
-      by : (b : Bool) → cond b (filter is_use (before ++ t ∷ [])) [] ≡ []
-      by true = none
-      by false = refl
+  no-uses before t h j = grind (arith, nat_tests, uses-append, cond)
 
   one-step : {l m : LineOfC} {e f : AtLineEnd} (t : Token) → is_use t ≡ false → is_use_fault t ≡ false
       → ((before us : List Token) → IsOpen texts before l e (t ∷ us) → Goes (ends_line texts before t us) before t m f us)
@@ -114,12 +107,8 @@ module _ (texts : List (List ℕ)) (R : Judgement texts) where
       → kind_after texts t (kind_of texts before) ≡ settled m (join_ahead us)
       → end_after texts t e ≡ f
       → IsOpen texts (before ++ t ∷ []) m f us
-  grown before t us is no_use inner kind end = record {
-    kind = kind-snoc texts before t ∙ kind;
-    end = end-snoc texts before t ∙ ap (end_after texts t) is.end ∙ end;
-    inner = inner-snoc texts before t is.inner inner;
-    uses = uses-snoc before t is.uses no_use;
-  }
+  grown before t us is no_use inner kind end =
+      grind (arith, nat_tests, kind-snoc, end-snoc, end_after, inner-snoc, uses-snoc)
 
   -- white space and faults
   pub white-step : {l : LineOfC} {e : AtLineEnd} → Steps l e (token.White ∷ []) l e
@@ -242,15 +231,7 @@ module _ (texts : List (List ℕ)) (R : Judgement texts) where
     used-line : (before us : List Token) (l : LineOfC) (e : AtLineEnd) → IsOpen texts before l e (t ∷ us)
         → uses_in_directive texts (before ++ t ∷ []) ≡ (if lines_of_c.is_directive l then t ∷ [] else [])
     used-line before us l e is =
-        ap (λ b. cond b (filter is_use (before ++ t ∷ [])) []) kind
-        ∙ ap (λ ts. cond (lines_of_c.is_directive l) ts [])
-        (uses-append before (t ∷ []) is.uses ∙ ap (λ b. cond b (t ∷ []) []) is_used)
-      where
-        kind : is_directive texts (before ++ t ∷ []) ≡ lines_of_c.is_directive l
-        kind = directive-is texts (before ++ t ∷ []) ∙ ap lines_of_c.is_directive (kind-snoc texts before t)
-            ∙ ap lines_of_c.is_directive (item (kind_of texts before))
-            ∙ ap (λ k. lines_of_c.is_directive (with_item false k)) (is.kind ∙ ap (settled l) (no_join us))
-            ∙ use-kind l
+        grind (arith, nat_tests, cond, uses-append, directive-is, kind-snoc, kind_of, settled, use-kind)
 
     pub use-step : {l : LineOfC} {e : AtLineEnd} (n : ℕ)
         → Steps l e (t ∷ use_fault (lines_of_c.is_directive l) n) line.Empty Ends

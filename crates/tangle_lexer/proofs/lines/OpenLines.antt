@@ -1,9 +1,10 @@
 -- The open line of C, that is, the tokens since the last line of C ended, and what the lexer's state says of it.
+use Rattle.std.proofs.lemmas.Bool.Decides.{nat_tests}
 use Rattle.std.proofs.Common.{arith}
-use Rattle.std.proofs.Common.{◌≡◌, ℕ, Bool, true, false, ◌&&◌, ◌||◌, List, [], ◌∷◌, ◌++◌, refl, ap, sym, ◌∙◌}
+use Rattle.std.proofs.Common.{◌≡◌, ℕ, Bool, true, false, ◌&&◌, ◌||◌, List, [], ◌∷◌, ◌++◌, refl}
 use Rattle.std.proofs.Common.{cond, if◌then◌else◌}
 use Rattle.std.specs.Prelude.{filter}
-use Rattle.std.specs.List.{list_all, list_any}
+use Rattle.std.specs.List.{list_any}
 use Rattle.std.proofs.lemmas.List.Folds.{list_any-append, list_all-append}
 use Rattle.tangle_lexer.specs.declared.tokens.Token.{Token}
 use Rattle.tangle_lexer.specs.declared.tokens.Token.TheVariants as token
@@ -39,34 +40,16 @@ module _ (texts : List (List ℕ)) where
 
   pub kind-snoc : (ts : List Token) (t : Token) → kind_of (ts ++ t ∷ []) ≡ kind_after t (kind_of ts)
   kind-snoc [] t = refl
-  kind-snoc (u ∷ us) t = by (is_between_items u) (is_number_sign texts u) (kind-snoc us t)
-    where
-      stays : (k : LineOfC) → ((n : Bool) → with_item n k ≡ k) → k ≡ kind_after t k
-      stays k fixed = grind arith
-
-      by : (b n : Bool) → kind_of (us ++ t ∷ []) ≡ kind_after t (kind_of us)
-          → cond b (kind_of (us ++ t ∷ [])) (cond n line.Directive line.Other)
-          ≡ kind_after t (cond b (kind_of us) (cond n line.Directive line.Other))
-      by x n h = grind arith
+  kind-snoc (u ∷ us) t = grind (arith, nat_tests, kind-snoc us t, cond)
 
   pub directive-is : (ts : List Token) → is_directive texts ts ≡ lines_of_c.is_directive (kind_of ts)
   directive-is [] = refl
-  directive-is (t ∷ ts) = by (is_between_items t) (is_number_sign texts t) (directive-is ts)
-    where
-      by : (b n : Bool) → is_directive texts ts ≡ lines_of_c.is_directive (kind_of ts)
-          → cond b (is_directive texts ts) n
-          ≡ lines_of_c.is_directive (cond b (kind_of ts) (cond n line.Directive line.Other))
-      by x n h = grind arith
+  directive-is (t ∷ ts) = grind (arith, nat_tests, directive-is ts, cond)
 
   -- a directive stays one
   pub directive-append : (ts us : List Token) → is_directive texts ts ≡ true → is_directive texts (ts ++ us) ≡ true
   directive-append [] us h = cc
-  directive-append (t ∷ ts) us h = by (is_between_items t) h (directive-append ts us)
-    where
-      by : (b : Bool) → cond b (is_directive texts ts) (is_number_sign texts t) ≡ true
-          → (is_directive texts ts ≡ true → is_directive texts (ts ++ us) ≡ true)
-          → cond b (is_directive texts (ts ++ us)) (is_number_sign texts t) ≡ true
-      by x h rest = grind arith
+  directive-append (t ∷ ts) us h = grind (arith, nat_tests, directive-append ts us, cond)
 
   -- what a line end after a line does
   abbrev pub end_of : List Token → AtLineEnd
@@ -83,64 +66,27 @@ module _ (texts : List (List ℕ)) where
   join-snoc : (ts : List Token) (t : Token)
       → join_behind (ts ++ t ∷ []) ≡ (is_join t || is_between_items t && join_behind ts)
   join-snoc [] t = grind arith
-  join-snoc (u ∷ us) t =
-      rw (list_all-append is_between_items us (t ∷ []), join-snoc us t)
-      (by (is_join u) (list_all is_between_items us) (is_between_items t) (is_join t) (join_behind us))
-    where
-      by : (k a b j e : Bool) → (k && (a && (b && true)) || (j || b && e)) ≡ (j || b && (k && a || e))
-      by k a b j e = grind arith
+  join-snoc (u ∷ us) t = grind (arith, nat_tests, list_all-append is_between_items us (t ∷ []), join-snoc us t)
 
   on-snoc : (ts : List Token) (t : Token)
       → goes_on texts (ts ++ t ∷ []) ≡ cond (is_white_space t) (goes_on texts ts) (ends_in_backslash texts t)
-  on-snoc [] t = one t
-    where
-      one : (t : Token) → ends_in_backslash texts t ≡ cond (is_white_space t) false (ends_in_backslash texts t)
-      one x = grind arith
-  on-snoc (u ∷ us) t =
-      rw (list_all-append is_white_space us (t ∷ []), on-snoc us t)
-      (by (list_all is_white_space us) (is_white_space t) (ends_in_backslash texts u) (goes_on texts us) (ends_in_backslash texts t))
-    where
-      by : (a w x g y : Bool) → cond (a && (w && true)) x (cond w g y) ≡ cond w (cond a x g) y
-      by a w x g y = grind arith
+  on-snoc [] t = grind (arith, nat_tests)
+  on-snoc (u ∷ us) t = grind (arith, nat_tests, list_all-append is_white_space us (t ∷ []), on-snoc us t, cond)
 
   pub end-snoc : (ts : List Token) (t : Token) → end_of (ts ++ t ∷ []) ≡ end_after t (end_of ts)
-  end-snoc ts t =
-      ap (λ j. cond j Removed (cond (goes_on texts (ts ++ t ∷ [])) GoesOn Ends)) (join-snoc ts t)
-      ∙ ap (λ g. cond (is_join t || is_between_items t && join_behind ts) Removed (cond g GoesOn Ends)) (on-snoc ts t)
-      ∙ by t (join_behind ts) (goes_on texts ts)
-    where
-      at_end : (j g : Bool) → cond j Removed Ends ≡ at_next_line_end (cond j Removed (cond g GoesOn Ends))
-      at_end j g = grind arith
-
-      by : (t : Token) (j g : Bool)
-          → cond (is_join t || is_between_items t && j) Removed
-          (cond (cond (is_white_space t) g (ends_in_backslash texts t)) GoesOn Ends)
-          ≡ end_after t (cond j Removed (cond g GoesOn Ends))
-      by x j g = grind arith
+  end-snoc ts t = grind (arith, nat_tests, cond, join-snoc, on-snoc)
 
   -- inner line ends are in directives alone, also with one more token
   pub inner-snoc : (ts : List Token) (t : Token)
       → (list_any is_inner_line_end ts ≡ true → is_directive texts ts ≡ true)
       → (is_inner_line_end t ≡ true → is_directive texts ts ≡ true)
       → list_any is_inner_line_end (ts ++ t ∷ []) ≡ true → is_directive texts (ts ++ t ∷ []) ≡ true
-  inner-snoc ts t before here h =
-      directive-append ts (t ∷ [])
-      (by (list_any is_inner_line_end ts) (is_inner_line_end t) before here
-      (sym (list_any-append is_inner_line_end ts (t ∷ [])) ∙ h))
-    where
-      by : (a b : Bool) → (a ≡ true → is_directive texts ts ≡ true) → (b ≡ true → is_directive texts ts ≡ true)
-          → (a || (b || false)) ≡ true → is_directive texts ts ≡ true
-      by a b f g h = grind arith
+  inner-snoc ts t before here h = grind (arith, nat_tests, directive-append, list_any-append)
 
 -- the uses among tokens without uses and others are those of the others
 pub uses-append : (ts us : List Token) → list_any is_use ts ≡ false → filter is_use (ts ++ us) ≡ filter is_use us
 uses-append [] us h = refl
-uses-append (t ∷ ts) us h = by (is_use t) h (uses-append ts us)
-  where
-    by : (b : Bool) → (b || list_any is_use ts) ≡ false
-        → (list_any is_use ts ≡ false → filter is_use (ts ++ us) ≡ filter is_use us)
-        → cond b (t ∷ filter is_use (ts ++ us)) (filter is_use (ts ++ us)) ≡ filter is_use us
-    by x h rest = grind arith
+uses-append (t ∷ ts) us h = grind (arith, nat_tests, uses-append ts us, cond)
 
 pub uses-snoc : (ts : List Token) (t : Token) → list_any is_use ts ≡ false → is_use t ≡ false
     → list_any is_use (ts ++ t ∷ []) ≡ false

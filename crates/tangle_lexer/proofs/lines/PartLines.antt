@@ -1,4 +1,5 @@
 -- Which lines of C of a part have inner line ends and which uses have the fault UseInDirective, lexeme by lexeme.
+use Rattle.std.proofs.lemmas.Bool.Decides.{nat_tests}
 use Rattle.std.proofs.Common.{arith}
 use Rattle.std.proofs.Common.{◌≡◌, ℕ, zero, suc, Bool, true, false, List, [], ◌∷◌, ◌++◌, flat_map, length}
 use Rattle.std.proofs.Common.{Option, Some, None, refl, ap, sym, ◌∙◌, cond, drop}
@@ -36,16 +37,12 @@ use Rattle.tangle_lexer.proofs.lines.KindSteps.{Follows, kind-follows, use-follo
 -- tokens without heads
 
 pub no-heads : (ts : List Token) → HasNone is_not_plain ts → HasNone is_head ts
-no-heads = none-by is_not_plain is_head one
-  where
-    one : (t : Token) → is_not_plain t ≡ false → is_head t ≡ false
-    one t h = grind arith
+no-heads = grind (arith, nat_tests, none-by, is_not_plain)
 
 body-append : (ts us : List Token) → HasNone is_head ts → body (ts ++ us) ≡ ts ++ body us
 body-append [] us h = refl
 body-append (t ∷ ts) us h =
-    let both = or_parts (is_head t) (list_any is_head ts) h in
-    ap (λ b. cond b [] (t ∷ body (ts ++ us))) both.0 ∙ ap (λ vs. t ∷ vs) (body-append ts us both.1)
+    grind (arith, nat_tests, or_parts (is_head t) (list_any is_head ts) h, cond, body-append ts us)
 
 begins-head : (t : Token) → is_head t ≡ false → begins_c_part t ≡ false
 begins-head t h = grind arith
@@ -53,9 +50,7 @@ begins-head t h = grind arith
 c_parts-append : (ts us : List Token) → HasNone is_head ts → c_parts (ts ++ us) ≡ c_parts us
 c_parts-append [] us h = refl
 c_parts-append (t ∷ ts) us h =
-    let both = or_parts (is_head t) (list_any is_head ts) h in
-    ap (λ b. cond b (body (ts ++ us) ∷ c_parts (ts ++ us)) (c_parts (ts ++ us))) (begins-head t both.0)
-    ∙ c_parts-append ts us both.1
+    grind (arith, nat_tests, or_parts (is_head t) (list_any is_head ts) h, cond, begins-head t, c_parts-append ts us)
 
 body-begins : (ts : List Token) → begins_with_use_fault ts ≡ false → begins_with_use_fault (body ts) ≡ false
 body-begins x h = grind arith
@@ -120,23 +115,14 @@ module _ (texts : List (List ℕ)) where
 
   head-law : (s after : LexerState) (t : Token) (ts : List Token) → is_head t ≡ true → begins_with_use_fault (t ∷ ts) ≡ false
       → AreRightFrom after ts → begins_c_part t ≡ false → AreRightFrom s (t ∷ ts)
-  head-law s after t ts head begins right no_part = record {
-    now = λ m. rw head (ended s.line.line s.line.at_line_end);
-    begins = λ m. begins;
-    all = rw no_part right.all;
-  }
+  head-law s after t ts head begins right no_part = grind (arith, nat_tests, ended s.line.line s.line.at_line_end)
 
   part-law : (s after : LexerState) (t : Token) (ts : List Token) → is_head t ≡ true → begins_with_use_fault (t ∷ ts) ≡ false
       → after.mode ≡ mode.CPart → after.line.line ≡ line.Empty → after.line.at_line_end ≡ Ends
       → AreRightFrom after ts → begins_c_part t ≡ true → AreRightFrom s (t ∷ ts)
   unfolding are-right
-  part-law s after t ts head begins m empty ends right part = record {
-    now = λ m. rw head (ended s.line.line s.line.at_line_end);
-    begins = λ m. begins;
-    all = rw part
-        (All-cons IsRightPart (body ts) (c_parts ts)
-        (right.now m [] (rw (empty, ends) (front-open texts (body ts)))) right.all);
-  }
+  part-law s after t ts head begins m empty ends right part =
+      grind (arith, nat_tests, ended s.line.line s.line.at_line_end, front-open)
 
   -- outside of C parts
   outside-law : (s : LexerState) (here : Lexeme) → is_c_part s.mode ≡ false → HasNone is_head here.tokens → Law s here
@@ -204,8 +190,7 @@ module _ (texts : List (List ℕ)) where
   from-right : (k : ℕ) (s : LexerState) (text : List Cell) (at : Point)
       → IsTextAt texts at text
       → AreRightFrom s (flat_map (λ l. l.tokens) (lexemes k s text))
-  from-right k s [] at is =
-      record { now = λ m. ended s.line.line s.line.at_line_end; begins = λ m. refl; all = All-nil IsRightPart }
+  from-right k s [] at is = grind (arith, nat_tests, ended s.line.line s.line.at_line_end)
   from-right (suc k) s (c ∷ cs) at is = from-right k s cs (after_cell c) is.1
   from-right zero s (c ∷ cs) at is =
       let here : Lexeme = lexeme s (c ∷ cs) in

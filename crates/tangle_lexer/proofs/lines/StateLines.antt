@@ -1,8 +1,8 @@
 -- Where a lexeme of a C part begins, the lexer knows whether the open line of C is a directive.
+use Rattle.std.proofs.lemmas.Bool.Decides.{nat_tests}
 use Rattle.std.proofs.Common.{arith}
 use Rattle.std.proofs.Common.{◌≡◌, ℕ, zero, suc, Bool, true, false, ◌||◌, List, [], ◌∷◌, ◌++◌, length}
 use Rattle.std.proofs.Common.{Option, Some, None, refl, ap, sym, ◌∙◌, subst, cond, drop, append_assoc, append-nil}
-use Rattle.std.specs.List.{list_any}
 use Rattle.std.proofs.lemmas.List.Folds.{list_any-append}
 use Rattle.tangle_lines.specs.Reading.{SourceLine}
 use Rattle.tangle_text.specs.Text.{Cell, text_from, texts_of}
@@ -42,29 +42,11 @@ body-none (t ∷ ts) h = ap (λ b. cond b (last_body ts) (t ∷ ts)) h
 
 body-append : (ts us : List Token) → HasNone is_head us → last_body (ts ++ us) ≡ last_body ts ++ us
 body-append [] us h = body-none us h
-body-append (t ∷ ts) us h =
-    ap (λ b. cond (is_head t || b) (last_body (ts ++ us)) (t ∷ ts ++ us)) (same (list_any is_head ts) refl)
-    ∙ by (is_head t || list_any is_head ts) (body-append ts us h)
-  where
-    same : (b : Bool) → list_any is_head ts ≡ b → list_any is_head (ts ++ us) ≡ list_any is_head ts
-    same true e = list_any-append is_head ts us ∙ ap (λ x. x || list_any is_head us) e ∙ sym e
-    same false e = list_any-append is_head ts us ∙ ap (λ x. x || list_any is_head us) e ∙ h ∙ sym e
-
-    by : (b : Bool) → last_body (ts ++ us) ≡ last_body ts ++ us
-        → cond b (last_body (ts ++ us)) (t ∷ ts ++ us) ≡ cond b (last_body ts) (t ∷ ts) ++ us
-    by x h = grind arith
+body-append (t ∷ ts) us h = grind (arith, nat_tests, cond, body-append ts us h, list_any-append is_head ts us)
 
 body-head : (ts : List Token) (t : Token) → is_head t ≡ true → last_body (ts ++ t ∷ []) ≡ []
 body-head [] t h = ap (λ b. cond (b || false) [] (t ∷ [])) h
-body-head (u ∷ us) t h =
-    ap (λ b. cond b (last_body (us ++ t ∷ [])) (u ∷ us ++ t ∷ [])) (by (is_head u) (list_any is_head us)) ∙ body-head us t h
-  where
-    last : (b : Bool) → (b || (is_head t || false)) ≡ true
-    last x = grind arith
-
-    by : (a b : Bool) → (a || list_any is_head (us ++ t ∷ [])) ≡ true
-    by true b = refl
-    by false b = list_any-append is_head us (t ∷ []) ∙ last (list_any is_head us)
+body-head (u ∷ us) t h = grind (arith, nat_tests, cond, body-head us t h, list_any-append is_head us (t ∷ []))
 
 module _ (texts : List (List ℕ)) where
   -- whether the last of the lines of C is a directive

@@ -1,7 +1,7 @@
 -- Texts that are cut are items of the open line of C: quoted texts, and verbatim texts, which may end in a backslash.
 use Rattle.std.proofs.Common.{◌≡◌, ℕ, zero, suc, ◌+◌, ◌-◌, ◌<◌, ◌≤◌, Bool, true, false, List, [], ◌∷◌, ◌++◌, ◌==◌, ◌⊎◌}
 use Rattle.std.proofs.Common.{inl, inr, refl, ap, sym, ◌∙◌, arith, subst, cond, if◌then◌else◌}
-use Rattle.std.specs.Prelude.{nat_lt, nat_le}
+use Rattle.std.specs.Prelude.{nat_lt}
 use Rattle.std.proofs.lemmas.Bool.Decides.{nat_tests, eqb_tells}
 use Rattle.tangle_faults.specs.declared.faults.FaultKind.TheVariants as fault
 use Rattle.tangle_text.specs.declared.regions.Region.{Region}
@@ -27,18 +27,13 @@ use Rattle.tangle_lexer.proofs.lines.LineSteps.{Judgement, Steps, steps-append, 
 less : (a b : ℕ) → a < b → nat_lt a b ≡ true
 less a b h = grind (arith, nat_tests)
 
-not-less : (a b : ℕ) → b ≤ a → nat_lt a b ≡ false
-not-less a b h = grind (arith, nat_tests)
-
 -- a range that is not empty
 range-is : (r : Region) (l start end : ℕ) → start < end
     → cut_range r l start end ≡ range_token r (record { line = l; start = start; end = end }) ∷ []
-range-is r l start end h =
-    ap (λ b. cond b (range_token r (record { line = l; start = start; end = end }) ∷ []) []) (less start end h)
+range-is r l start end h = grind (arith, nat_tests)
 
 range-none : (r : Region) (l start end : ℕ) → end ≤ start → cut_range r l start end ≡ []
-range-none r l start end h =
-    ap (λ b. cond b (range_token r (record { line = l; start = start; end = end }) ∷ []) []) (not-less start end h)
+range-none r l start end h = grind (arith, nat_tests)
 
 same-item : (l : LineOfC) → with_item false (with_item false l) ≡ with_item false l
 same-item l = grind arith
@@ -56,9 +51,7 @@ module _ (texts : List (List ℕ)) (R : Judgement texts) where
   -- the last byte of a range that is not empty
   last-is : (l start end : ℕ) → start < end
       → last_byte texts (record { line = l; start = start; end = end }) ≡ source_byte texts l (end - 1)
-  last-is l start end h =
-      let not_empty : nat_le end start ≡ false = grind (arith, nat_tests) in
-      ap (λ b. cond b 0 (source_byte texts l (end - 1))) not_empty
+  last-is l start end h = grind (arith, nat_tests)
 
   -- the byte before the column after a cell
   after-byte-of : (at : Point) (c : Cell) → IsByte c.byte → IsCellAt texts at c
@@ -167,9 +160,7 @@ module _ (texts : List (List ℕ)) (R : Judgement texts) where
         → IsCutFrom r cut (λ b. Ends) refl quoted-item l at start (quote_end r close last start text) 0 text
     unfolding IsCutFrom
     quoted-stop close last at start [] h is x f before same back done =
-        steps-append texts R [] _
-        (nothing-left r cut (λ b. Ends) refl quoted-item l x f before (done (omega (arith, h, is))))
-        (fault-step texts R fault.StringEnd last refl)
+        grind (arith, nat_tests, steps-append, fault-step)
     quoted-stop close last at start (c ∷ cs) h is x f before same back done = by (holds close c.byte)
       where
         by : (b : Bool) → Steps texts R x f

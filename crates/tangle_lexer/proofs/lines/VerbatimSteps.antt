@@ -1,4 +1,5 @@
 -- A verbatim text is an item of the open line of C, which may end in a backslash.
+use Rattle.std.proofs.Common.{rules}
 use Rattle.std.proofs.Common.{◌≡◌, ℕ, ◌+◌, ◌-◌, ◌≤◌, Bool, true, false, List, [], ◌∷◌, ◌==◌}
 use Rattle.std.proofs.Common.{Option, None, inl, inr, refl, ap, sym, arith, subst, cond}
 use Rattle.std.specs.Prelude.{nat_le}
@@ -24,7 +25,7 @@ use Rattle.tangle_lexer.proofs.laws.CutTexts.{verbatim-cut}
 use Rattle.tangle_lexer.proofs.laws.Points.{Point, source_byte, IsTextAt}
 use Rattle.tangle_lexer.proofs.laws.RegionUnits.{units-by}
 use Rattle.tangle_lexer.proofs.lines.LineSteps.{Judgement, Steps, steps-append, faults-step, item-step}
-use Rattle.tangle_lexer.proofs.lines.TextSteps.{end_by, last_cell, IsCutFrom, nothing-left, stop-step, cut-from}
+use Rattle.tangle_lexer.proofs.lines.TextSteps.{end_by, last_cell, IsCutFrom, stop-step, cut-from}
 
 -- both cells of a unit of two are @ in a verbatim text
 two-signs : (b n : Option ℕ) → unit_of region.Verbatim b n ≡ unit.Two → holds at_sign n ≡ true
@@ -64,11 +65,8 @@ module _ (texts : List (List ℕ)) (R : Judgement texts) (l : LineOfC) where
   verbatim-stop : (at : Point) (start : ℕ) (text : List Cell) → start ≤ at.column → IsTextAt texts at text
       → IsCutFrom texts R region.Verbatim verbatim-cut end_by refl item l at start (verbatim_end start text) 0 text
   unfolding IsCutFrom
-  verbatim-stop at start [] h is = λ x f last same back done.
-      nothing-left texts R region.Verbatim verbatim-cut end_by refl item l x f last (done (omega (arith, h, is)))
-  verbatim-stop at start (c ∷ cs) h is =
-      stop-step texts R region.Verbatim verbatim-cut end_by refl item l at start c cs _ h is.0
-      (λ f. faults-step texts R (is_line_end c.byte) fault.VerbatimEnd c.line refl)
+  verbatim-stop at start [] h is = grind (arith, nat_tests)
+  verbatim-stop at start (c ∷ cs) h is = search (rules, stop-step, verbatim-cut, end_by, faults-step)
 
   empty-step : (e : AtLineEnd) (text : List Cell)
       → Steps texts R l e (token.Span span_kind.Verbatim (span_at 0 text) ∷ []) m Ends

@@ -1,15 +1,15 @@
 -- What a C compiler reads of gaps that are written one after another.
+use Rattle.std.proofs.lemmas.Bool.Decides.{nat_tests}
 use Rattle.std.proofs.Common.{arith}
-use Rattle.std.proofs.Common.{◌≡◌, ℕ, Bool, false, ◌&&◌, ◌==◌, not, List, [], ◌∷◌, ◌++◌, Option, Some, refl, ap}
-use Rattle.std.proofs.Common.{◌∙◌, sym, append_assoc, if◌then◌else◌}
+use Rattle.std.proofs.Common.{◌≡◌, ℕ, Bool, false, ◌&&◌, ◌==◌, not, List, [], ◌∷◌, ◌++◌, Option, Some, refl}
+use Rattle.std.proofs.Common.{append_assoc, if◌then◌else◌}
 use Rattle.std.proofs.lemmas.List.Elements.{filter-append}
 use Rattle.std.proofs.Math.Bool.{and-true, and-false}
-use Rattle.tangle_files.specs.Bytes.{space, line_feed}
-use Rattle.tangle_text.specs.Bytes.{backslash}
+use Rattle.tangle_files.specs.Bytes.{space}
 use Rattle.tangle_lines.specs.declared.origin.Origin.{Origin}
 use Rattle.tangle_lexer.specs.declared.tokens.Token.{Token}
 use Rattle.tangle_scan.specs.Rules.{is_front_gap, is_name_part, is_continued}
-use Rattle.tangle_scan.specs.ReadAsMeant.{Gap, Space, LineFeed, TakenOut, Mark, gap_bytes, as_read, is_empty}
+use Rattle.tangle_scan.specs.ReadAsMeant.{Gap, Space, gap_bytes, as_read, is_empty}
 use Rattle.tangle_scan.specs.ReadAsMeant.{without_spaces, IsReadAs}
 use Rattle.tangle_scan.specs.ReadAsMeant.{needs_white, token_bytes, AreReadAsMeant}
 
@@ -21,11 +21,7 @@ some-append (x ∷ xs) y ys = refl
 pub read-append : (after : Bool) (gap more : List Gap)
     → as_read after (gap ++ more) ≡ as_read after gap ++ as_read (after && is_empty gap) more
 read-append after [] more = rw (and-true after) refl
-read-append after (x ∷ gap) more = rw (and-false after) (by after x (read-append false gap more))
-  where
-    by : (after : Bool) (x : Gap) → as_read false (gap ++ more) ≡ as_read false gap ++ as_read false more
-        → as_read after (x ∷ (gap ++ more)) ≡ as_read after (x ∷ gap) ++ as_read false more
-    by after x h = grind arith
+read-append after (x ∷ gap) more = grind (arith, nat_tests, and-false after, read-append false gap more)
 
 pub spaces-append : (xs ys : List ℕ) → without_spaces (xs ++ ys) ≡ without_spaces xs ++ without_spaces ys
 spaces-append xs ys = filter-append (λ b. not (b == space)) xs ys
@@ -33,16 +29,7 @@ spaces-append xs ys = filter-append (λ b. not (b == space)) xs ys
 pub bytes-append : (mark : Origin → List ℕ) (gap more : List Gap)
     → gap_bytes mark (gap ++ more) ≡ gap_bytes mark gap ++ gap_bytes mark more
 bytes-append mark [] more = refl
-bytes-append mark (x ∷ gap) more = by x (bytes-append mark gap more)
-  where
-    by : (x : Gap) → gap_bytes mark (gap ++ more) ≡ gap_bytes mark gap ++ gap_bytes mark more
-        → gap_bytes mark (x ∷ gap ++ more) ≡ gap_bytes mark (x ∷ gap) ++ gap_bytes mark more
-    by Space h = ap (λ bytes. space ∷ bytes) h
-    by LineFeed h = ap (λ bytes. line_feed ∷ bytes) h
-    by TakenOut h = ap (λ bytes. backslash ∷ line_feed ∷ bytes) h
-    by (Mark origin) h =
-        ap (λ bytes. line_feed ∷ (mark origin ++ bytes)) h
-        ∙ ap (λ bytes. line_feed ∷ bytes) (sym (append_assoc (mark origin) (gap_bytes mark gap) (gap_bytes mark more)))
+bytes-append mark (x ∷ gap) more = grind (arith, nat_tests, bytes-append mark gap more, append_assoc)
 
 -- a blank before the end of a gap, if the flag says so
 abbrev pub blank_before : Bool → List Gap → List Gap

@@ -1,15 +1,16 @@
 -- The items of a C part have the spans of its tokens.
+use Rattle.std.proofs.lemmas.Bool.Decides.{nat_tests}
 use Rattle.std.proofs.Common.{arith}
-use Rattle.std.proofs.Common.{◌≡◌, ℕ, Bool, false, List, [], ◌∷◌, refl, ap, sym, ◌∙◌}
-use Rattle.std.proofs.Common.{Option, Some, None}
+use Rattle.std.proofs.Common.{◌≡◌, ℕ, Bool, List, [], ◌∷◌, refl, ap, sym, ◌∙◌}
+use Rattle.std.proofs.Common.{Option, Some}
 use Rattle.tangle_lines.specs.declared.origin.Origin.{Origin}
 use Rattle.tangle_text.specs.declared.spans.Span.{Span}
 use Rattle.tangle_lexer.specs.declared.tokens.Token.{Token}
 use Rattle.tangle_lexer.specs.declared.tokens.SpanKind.{SpanKind}
 use Rattle.tangle_lexer.specs.declared.tokens.Token.TheVariants as token
 use Rattle.tangle_scan.specs.declared.items.Item.{Item}
-use Rattle.tangle_lines.specs.Reading.{SourceLine, origin_at}
-use Rattle.tangle_scan.specs.Rules.{texts_of, span_item, part_tokens, at_line_front, blanks}
+use Rattle.tangle_lines.specs.Reading.{SourceLine}
+use Rattle.tangle_scan.specs.Rules.{texts_of, span_item, at_line_front}
 use Rattle.tangle_scan.specs.Rules.{is_continued, part_items}
 use Rattle.tangle_scan.specs.LineTruth.{counted_after_line_end}
 use Rattle.tangle_scan.specs.Passes.{counted_after_token, items_by_origin}
@@ -55,7 +56,4 @@ items_by_origin-spans lines before counted (e ∷ es) =
 pub part-spans : (lines : List SourceLine) (line : ℕ) (es : List Token)
     → item_spans (part_items lines line es) ≡ token_spans es
 part-spans lines line es =
-    let ruled : List Token = blanks (texts_of lines) None false (part_tokens (texts_of lines) es) in
-    ap item_spans (part_items-by_origin lines line es)
-    ∙ items_by_origin-spans lines None (origin_at lines line) ruled
-    ∙ alike-spans ruled es (part-kept (texts_of lines) es)
+    grind (arith, nat_tests, part_items-by_origin, items_by_origin-spans, alike-spans, part-kept)

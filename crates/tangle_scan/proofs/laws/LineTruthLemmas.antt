@@ -1,8 +1,9 @@
 -- If tokens follow one another line by line, their items are at their own lines.
-use Rattle.std.proofs.Common.{◌≡◌, ℕ, ◌+◌, ◌<◌, Bool, true, false, not, ◌&&◌, ◌||◌, if◌then◌else◌, Option, Some}
-use Rattle.std.proofs.Common.{None, is_some}
-use Rattle.std.proofs.Common.{List, [], ◌∷◌, ◌++◌, length, refl, ap, sym, ◌∙◌, arith, subst, append_assoc, append-nil}
-use Rattle.std.proofs.Common.{inl, inr, map}
+use Rattle.std.proofs.lemmas.Bool.Decides.{nat_tests}
+use Rattle.std.proofs.Common.{◌≡◌, ℕ, ◌+◌, ◌<◌, Bool, true, false, not, ◌&&◌, if◌then◌else◌, Option, Some}
+use Rattle.std.proofs.Common.{None}
+use Rattle.std.proofs.Common.{List, [], ◌∷◌, ◌++◌, length, refl, ap, sym, arith, subst, append_assoc, append-nil}
+use Rattle.std.proofs.Common.{map}
 use Rattle.std.proofs.lemmas.List.{map-append, length-map}
 use Rattle.std.specs.List.{AllZip, list_all}
 use Rattle.std.proofs.lemmas.List.Folds.{list_all-append}
@@ -15,14 +16,14 @@ use Rattle.tangle_lexer.specs.declared.tokens.Token.TheVariants as token
 use Rattle.tangle_scan.specs.declared.items.Item.{Item}
 use Rattle.tangle_scan.specs.declared.items.Item.TheVariants as item
 use Rattle.tangle_lines.specs.Reading.{SourceLine, origin_at}
-use Rattle.tangle_scan.specs.Rules.{is_open, is_constant, may_merge, white_inner_end}
+use Rattle.tangle_scan.specs.Rules.{is_constant, may_merge, white_inner_end}
 use Rattle.tangle_scan.specs.Rules.{texts_of, without_faults, would_merge, with_spaces, is_gap, has_join, map_runs}
 use Rattle.tangle_scan.specs.Rules.{left_of_run, part_tokens, span_item}
-use Rattle.tangle_scan.specs.Rules.{is_continued, at_line_front, blanks, next_line, same_origin, part_items}
+use Rattle.tangle_scan.specs.Rules.{is_continued, at_line_front, blanks, next_line, part_items}
 use Rattle.tangle_scan.specs.LineTruth.{is_expected, counted_after_line_end}
 use Rattle.tangle_scan.specs.LineTruth.{CountedItem, counted_items, has_line_end, left_or_join, locations}
 use Rattle.tangle_scan.specs.LineTruth.{part_locations, IsOwn, IsAtItsLine}
-use Rattle.tangle_scan.specs.Passes.{counted_after_token, items_by_origin}
+use Rattle.tangle_scan.specs.Passes.{items_by_origin}
 use Rattle.tangle_lexer.proofs.laws.TokenOrder.{line_past, AreByLine}
 use Rattle.tangle_scan.proofs.lemmas.ItemsByOrigin.{part_items-by_origin, same_origin-either}
 
@@ -66,9 +67,16 @@ inner-spaced : (texts : List (List ℕ)) (es : List Token)
 inner-spaced texts [] = refl
 inner-spaced texts (e ∷ []) = refl
 inner-spaced texts (e ∷ f ∷ es) =
-    rw (inner-constant e, inner-constant f, inner-merges texts e, inner-merges texts f, inner-spaces (would_merge texts e f))
-    (ap (λ t. white_inner_end e ∷ (if would_merge texts e f then token.White ∷ [] else []) ++ t)
-    (inner-spaced texts (f ∷ es)))
+    grind (
+      arith,
+      nat_tests,
+      inner-constant e,
+      inner-constant f,
+      inner-merges texts e,
+      inner-merges texts f,
+      inner-spaces (would_merge texts e f),
+      inner-spaced texts (f ∷ es),
+    )
 
 inner-join : (run : List Token) → has_join (map white_inner_end run) ≡ has_join run
 inner-join [] = refl
@@ -107,19 +115,7 @@ counted_after_line_end-next : (lines : List SourceLine) (continued : Bool) (coun
     → (continued && not (is_expected lines counted line)) ≡ false → line + 1 < length lines
     → counted_after_line_end lines continued counted line ≡ origin_at lines (line + 1)
 counted_after_line_end-next lines continued counted line out inside =
-    elim (leb_tells (length lines) (line + 1)) [
-      | inl over ↦ absurd (omega (arith, over.1))
-      | inr under ↦
-          let expected : is_expected lines counted line ≡ same_origin (origin_at lines (line + 1)) (next_line counted) =
-          rw under.0 refl in
-          rw expected (by continued (same_origin (origin_at lines (line + 1)) (next_line counted)) (rw expected at out)
-          (same_origin-either (origin_at lines (line + 1)) (next_line counted)))
-    ]
-  where
-    by : (b same : Bool) → (b && not same) ≡ false
-        → (if same then next_line counted else origin_at lines (line + 1)) ≡ origin_at lines (line + 1)
-        → (if b || same then next_line counted else origin_at lines (line + 1)) ≡ origin_at lines (line + 1)
-    by x same h e = grind arith
+    grind (arith, nat_tests, leb_tells, same_origin-either)
 
 span-counted : (origin : Option Origin) (kind : SpanKind) (s : Span) (items : List Item)
     → counted_items origin (span_item kind s ∷ items)
@@ -147,34 +143,21 @@ module _ (lines : List SourceLine) where
   AreSeenAlike es fs = (before : Option Token) (counted : Origin) → seen before counted es ≡ seen before counted fs
 
   seen-first : (e : Token) (es fs : List Token) → AreSeenAlike es fs → AreSeenAlike (e ∷ es) (e ∷ fs)
-  seen-first (token.LineEnd line) es fs h before counted =
-      seen-line_end before counted line es ∙ h (at_line_front texts before line) (counted_after before counted line)
-      ∙ sym (seen-line_end before counted line fs)
-  seen-first token.White es fs h before counted = h before counted
-  seen-first (token.Span kind s) es fs h before counted =
-      let rest = h (Some (token.Span kind s)) counted in simp span-counted cc
-  seen-first (token.AsciiConstant b line) es fs h before counted =
-      ap (λ ps. record { item = item.Code b; origin = Some counted } ∷ ps)
-      (h (Some (token.AsciiConstant b line)) counted)
-  seen-first e es fs h before counted = h (Some e) (counted_after_token lines counted e)
+  seen-first e es fs h before counted = grind (arith, nat_tests, seen-line_end, span-counted)
 
   -- rule 3 does not change the counted origin of a source item
   blanks-seen : (left : Option Token) (white : Bool) (es : List Token) → AreSeenAlike (blanks texts left white es) es
-  blanks-seen left white [] before counted = end (is_open texts left)
-    where
-      end : (b : Bool) → seen before counted (if b then token.White ∷ [] else []) ≡ seen before counted []
-      end x = grind arith
+  blanks-seen left white [] before counted = grind (arith, nat_tests)
   blanks-seen left white (token.White ∷ es) before counted = blanks-seen left true es before counted
   blanks-seen left white (token.LineEnd line ∷ es) before counted =
-      let rest : List Token = blanks texts (at_line_front texts left line) false es in
-      seen-first (token.LineEnd line) rest es (blanks-seen (at_line_front texts left line) false es) before counted
+      grind (arith, nat_tests, seen-first (token.LineEnd line), blanks-seen (at_line_front texts left line) false es)
   blanks-seen left white (e ∷ es) before counted =
-      blank (is_some left && white)
-      ∙ seen-first e (blanks texts (Some e) false es) es (blanks-seen (Some e) false es) before counted
-    where
-      blank : (b : Bool) → let rest : List Token = e ∷ blanks texts (Some e) false es in
-          seen before counted ((if b then token.White ∷ [] else []) ++ rest) ≡ seen before counted rest
-      blank x = grind arith
+      grind (
+        arith,
+        nat_tests,
+        seen-first e (blanks texts (Some e) false es) es (blanks-seen (Some e) false es) before counted,
+        blanks-seen (Some e) false es,
+      )
 
   -- outside stretches the counted origin is that of this source line, if there is such a line
   abbrev IsCounted : Origin → Bool → ℕ → Type 0
@@ -191,13 +174,7 @@ module _ (lines : List SourceLine) where
   own : (counted : Origin) (stretch : Bool) (line at : ℕ) (i : Item)
       → at ≡ line → IsCounted counted stretch line → line < length texts
       → IsOwn lines (record { item = i; origin = Some counted }) (record { item = i; line = at; in_stretch = stretch })
-  own counted stretch line at i e here real =
-      let inside : line < length lines = omega (arith, real, length-map lines (λ l. l.bytes)) in
-      record {
-        item = refl;
-        line = omega (arith, e, inside);
-        origin = λ out. ap Some (here out inside ∙ ap (origin_at lines) (sym e));
-      }
+  own counted stretch line at i e here real = grind (arith, nat_tests, length-map)
 
   -- one token other than a join, white space and a line end, before others
   first-true : (e : Token) (es fs gs : List Token)
@@ -213,39 +190,29 @@ module _ (lines : List SourceLine) where
   first-true (token.AllMacros at) es fs gs gap next before counted stretch line here ordered =
       next (Some (token.AllMacros at)) (origin_at lines at) false line (λ e i. ap (origin_at lines) ordered.0) ordered.1
   first-true (token.Span kind s) es fs gs gap next before counted stretch line here ordered =
-      rw span-counted (
-        own counted stretch line s.line (span_item kind s) ordered.0.0 here
-            (subst (λ l. l < length texts) ordered.0.0 ordered.0.1.line),
-        next (Some (token.Span kind s)) counted stretch line here ordered.1,
-      )
-  first-true (token.AsciiConstant b at) es fs gs gap next before counted stretch line here ordered = (
-    own counted stretch line at (item.Code b) ordered.0.0 here ordered.0.1,
-    next (Some (token.AsciiConstant b at)) counted stretch line here ordered.1,
-  )
-  first-true e es fs gs gap next before counted stretch line here ordered =
-      next (Some e) counted stretch (line_past line e) here ordered.1
+      grind (arith, nat_tests, span-counted, own counted stretch line s.line (span_item kind s) ordered.0.0 here)
+  first-true (token.AsciiConstant b at) es fs gs gap next before counted stretch line here ordered =
+      grind (arith, nat_tests, own counted stretch line at (item.Code b) ordered.0.0 here ordered.0.1)
+  first-true e es fs gs gap next before counted stretch line here ordered = grind (arith, nat_tests, line_past)
 
   -- a run that rule 2 does not remove, before other tokens
   kept-true : (run es fs gs : List Token)
       → AreGaps run → has_join run ≡ false → AreTrue es fs gs
       → AreTrue (run ++ es) (map white_inner_end run ++ fs) (run ++ gs)
-  kept-true [] es fs gs gaps none next before counted stretch line here ordered =
-      next before counted stretch line here ordered
+  kept-true [] es fs gs gaps none next before counted stretch line here ordered = grind (arith, nat_tests)
   kept-true (token.Join ∷ run) es fs gs gaps none next before counted stretch line here ordered = cc
   kept-true (token.White ∷ run) es fs gs gaps none next before counted stretch line here ordered =
       kept-true run es fs gs gaps none next before counted stretch line here ordered.1
   kept-true (token.InnerLineEnd at ∷ run) es fs gs gaps none next before counted stretch line here ordered =
       kept-true run es fs gs gaps none next before counted true (line + 1) (λ e. absurd cc) ordered.1
   kept-true (token.LineEnd at ∷ run) es fs gs gaps none next before counted stretch line here ordered =
-      let continued : Bool = is_continued texts before in
-      let begins : Bool = continued && not (is_expected lines counted at) in
-      let after : IsCounted (counted_after before counted at) begins (line + 1) =
-      λ out inside.
-      counted_after_line_end-next lines continued counted at out (omega (arith, ordered.0, inside))
-      ∙ ap (λ l. origin_at lines (l + 1)) ordered.0 in
-      rw (seen-line_end before counted at (map white_inner_end run ++ fs))
-      (kept-true run es fs gs gaps none next (at_line_front texts before at)
-      (counted_after before counted at) begins (line + 1) after ordered.1)
+      grind (
+        arith,
+        nat_tests,
+        counted_after_line_end-next,
+        seen-line_end before counted at (map white_inner_end run ++ fs),
+        kept-true run es fs gs gaps none next (at_line_front texts before at) (counted_after before counted at),
+      )
   kept-true (_ ∷ run) es fs gs gaps none next before counted stretch line here ordered = absurd cc
 
   -- what rule 2 leaves of a run, before other tokens
@@ -278,11 +245,7 @@ module _ (lines : List SourceLine) where
       (map_runs left_of_run (map white_inner_end run ++ white_inner_end e ∷ []) (map white_inner_end es))
       (map_runs left_or_join (run ++ e ∷ []) es)
   run-pushed run e es h =
-      let left : List Token → List Token = λ r. map_runs left_of_run r (map white_inner_end es) in
-      let right : List Token = map_runs left_or_join (run ++ e ∷ []) es in
-      subst (λ ts. AreTrue ts (left (map white_inner_end run ++ white_inner_end e ∷ [])) right)
-      (append_assoc run (e ∷ []) es)
-      (subst (λ r. AreTrue ((run ++ e ∷ []) ++ es) (left r) right) (map-append white_inner_end run (e ∷ [])) h)
+      grind (arith, nat_tests, append_assoc run (e ∷ []) es, map-append white_inner_end run (e ∷ []))
 
   map_runs-true : (run es : List Token) → AreGaps run → RunsAreTrue run es
   map_runs-true run [] gaps = λ before counted stretch line here ordered.

@@ -1,4 +1,5 @@
 -- The items that are dropped at the end of a macro are those of the tokens that are dropped there.
+use Rattle.std.proofs.lemmas.Bool.Decides.{nat_tests}
 use Rattle.std.proofs.Common.{arith}
 use Rattle.std.proofs.Common.{◌≡◌, ℕ, Bool, true, false, if◌then◌else◌, List, [], ◌∷◌, ◌++◌, refl}
 use Rattle.std.proofs.Common.{Option, Some, None}
@@ -8,7 +9,7 @@ use Rattle.tangle_lexer.specs.declared.tokens.Token.{Token}
 use Rattle.tangle_lexer.specs.declared.tokens.Token.TheVariants as token
 use Rattle.tangle_scan.specs.declared.items.Item.{Item}
 use Rattle.tangle_scan.specs.Rules.{next_item, macro_blanks, unmarked_items}
-use Rattle.tangle_scan.specs.MacroBytes.{without_end, without_end_after}
+use Rattle.tangle_scan.specs.MacroBytes.{without_end}
 use Rattle.tangle_scan.specs.ReadAsMeant.{is_empty, is_dropped_token, with_written, written_tokens}
 
 module _ (texts : List (List ℕ)) where
@@ -55,12 +56,7 @@ module _ (texts : List (List ℕ)) where
   -- items before items of which some are written
   more-items : (ps xs ys : List Item) → IsWritten xs ys → IsWritten (ps ++ xs) (ps ++ ys)
   more-items [] xs ys h = h
-  more-items (p ∷ ps) xs ys h =
-      let more = more-items ps xs ys h in
-      record { is = rw more.is (kept (ps ++ ys) more.some); some = refl }
-    where
-      kept : (zs : List Item) → is_empty zs ≡ false → without_end_after texts p zs ≡ p ∷ zs
-      kept x some = grind arith
+  more-items (p ∷ ps) xs ys h = grind (arith, nat_tests, more-items ps xs ys h)
 
   -- a token that is written, before tokens that are all dropped
 

@@ -1,7 +1,8 @@
 -- A C compiler reads the items of a macro as the author means them.
+use Rattle.std.proofs.lemmas.Bool.Decides.{nat_tests}
 use Rattle.std.proofs.Common.{arith}
 use Rattle.std.proofs.Common.{◌≡◌, ℕ, Bool, true, false, ◌&&◌, not, if◌then◌else◌, List, [], ◌∷◌, ◌++◌, flat_map}
-use Rattle.std.proofs.Common.{append_assoc, append-nil, Option, Some, None, is_some, inl, inr, ◌⊎◌, refl, ap, sym, ◌∙◌, subst}
+use Rattle.std.proofs.Common.{append_assoc, append-nil, Option, Some, None, is_some, inl, inr, ◌⊎◌, refl, ap, ◌∙◌, subst}
 use Rattle.std.proofs.Math.Bool.{and-false}
 use Rattle.tangle_files.specs.Bytes.{space, line_feed}
 use Rattle.tangle_lexer.specs.declared.tokens.Token.{Token}
@@ -57,8 +58,7 @@ module _ (texts : List (List ℕ)) where
   AreSpaces meant white = (without_spaces meant ≡ []) × (is_empty meant ≡ not white)
 
   more-spaces : (meant : List ℕ) (white : Bool) → AreSpaces meant white → AreSpaces (meant ++ space ∷ []) true
-  more-spaces meant white are =
-      (spaces-append meant (space ∷ []) ∙ (append-nil (without_spaces meant) ∙ are.0), some-append meant space [])
+  more-spaces meant white are = grind (arith, nat_tests, spaces-append, append-nil, some-append)
 
   -- the tokens that follow are read as meant after an item on the same line, or at the front of the macro
   abbrev ReadsOnLine : List Token → Type 0
@@ -108,55 +108,24 @@ module _ (texts : List (List ℕ)) where
   gap-on_line : (in_name white : Bool) (meant : List ℕ) (before : Option Token) (e : Token) → AreSpaces meant white
       → IsReadAs meant (as_read (is_continued texts before) (blank_before (is_some before && white) []))
       (needs_white texts in_name meant before e)
-  gap-on_line in_name true meant (Some b) e are =
-      record { lines = sym are.0; together = λ none. let some = are.1 in absurd cc; apart = λ needed. refl }
-  gap-on_line in_name true meant None e are = record {
-    lines = sym are.0;
-    together = λ none. refl;
-    apart = λ needed. let wrong = rw (and-false (not (is_empty meant))) at needed in absurd cc;
-  }
-  gap-on_line in_name false meant before e are = rw (and-false (is_some before)) (record {
-    lines = sym are.0;
-    together = λ none. refl;
-    apart = λ needed. let wrong = rw are.1 at needed in absurd cc;
-  })
+  gap-on_line in_name white meant before e are = grind (arith, nat_tests, and-false)
 
   reads-on_line : (e : Token) (es : List Token) → is_front_gap e ≡ false → ReadsOnLine es → ReadsOnLine (e ∷ es)
   reads-on_line e es item next in_name white meant before are ends =
-      let after : Bool = in_name && not white && is_name_part e in
-      item-as-meant texts (λ origin. []) (λ e. []) space (EndsMacro texts) in_name meant
-      before e es (blank_before (is_some before && white) []) (text_from after (Some e) false es ++ line_feed ∷ [])
-      (text_from in_name before white (e ∷ es) ++ line_feed ∷ []) item
-      (rw (text-item in_name before white e es item, append_assoc, append_assoc) refl)
-      (gap-on_line in_name white meant before e are)
-      (rw are.1 (next after false [] (Some e) (refl, refl) ends))
+      grind (arith, nat_tests, item-as-meant, blank_before, text-item, append_assoc, gap-on_line)
 
   -- the bytes before an item that is on a later line than the last one
   gap-after_line_ends : (in_name : Bool) (meant : List ℕ) (before : Option Token) (gap : List Gap) (e : Token) (es : List Token)
       → next_item (e ∷ es) ≡ Some e → AreSpaces meant true
       → IsGap in_name before gap (e ∷ es) →
       IsReadAs meant (as_read (is_continued texts before) gap) (needs_white texts in_name meant before e)
-  gap-after_line_ends in_name meant before gap e es first are is = record {
-    lines = is.0 ∙ sym are.0;
-    together = λ none. let some = are.1 in absurd cc;
-    apart = apart is.1;
-  }
-    where
-      apart : (is_empty (as_read (is_continued texts before) gap) ≡ false)
-          ⊎ (has_blank_at_line_end texts in_name before (next_item (e ∷ es)) ≡ false)
-          → needs_white texts in_name meant before e ≡ true → is_empty (as_read (is_continued texts before) gap) ≡ false
-      apart x needed = grind arith
+  gap-after_line_ends in_name meant before gap e es first are is = grind (arith, nat_tests)
 
   reads-after_line_ends : (e : Token) (es : List Token)
       → is_front_gap e ≡ false → next_item (e ∷ es) ≡ Some e → ReadsOnLine es
       → ReadsAfterLineEnds (e ∷ es)
   reads-after_line_ends e es item first next in_name white meant before gap are is ends =
-      item-as-meant texts (λ origin. []) (λ e. []) space (EndsMacro texts) in_name meant
-      before e es gap (text_from false (Some e) false es ++ line_feed ∷ [])
-      (bytes_in_gap gap ++ (text_from false None white (e ∷ es) ++ line_feed ∷ [])) item
-      (rw (text-item false None white e es item, append_assoc, append_assoc) refl)
-      (gap-after_line_ends in_name meant before gap e es first are is)
-      (rw (are.1, and-false in_name) (next false false [] (Some e) (refl, refl) ends))
+      grind (arith, nat_tests, item-as-meant, text-item, append_assoc, gap-after_line_ends, and-false)
 
   -- one more line end after line ends
   reads-more_line_ends : (line : ℕ) (es : List Token)
@@ -175,10 +144,7 @@ module _ (texts : List (List ℕ)) where
           ∙ append-nil (as_read (is_continued texts before) gap)
 
   reads : (es : List Token) → Reads es
-  reads [] = record {
-    on_line = λ in_name white meant before are ends. record { line_feed = refl; stays = ends };
-    after_line_ends = λ in_name white meant before gap are is ends. absurd cc;
-  }
+  reads [] = grind (arith, nat_tests)
   reads (token.White ∷ es) =
       let next = reads es in
       record {

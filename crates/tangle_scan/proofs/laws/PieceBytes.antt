@@ -1,4 +1,5 @@
 -- The bytes in the spans of the pieces are the bytes that the segments of C parts keep.
+use Rattle.std.proofs.lemmas.Bool.Decides.{nat_tests}
 use Rattle.std.proofs.Common.{◌≡◌, ◌≤◌, ℕ, ◌+◌, Option, subst, true, false, List, [], ◌∷◌, ◌++◌, length}
 use Rattle.std.proofs.Common.{flat_map, refl, ap, sym, ◌∙◌, arith, append_assoc, append-nil, Some, None}
 use Rattle.std.specs.List.{All, AllPairs}
@@ -16,7 +17,6 @@ use Rattle.tangle_lexer.specs.Segments.SegmentKind.{Kept}
 use Rattle.tangle_scan.specs.Web.{web_of, Block, blocks, piece_of}
 use Rattle.tangle_lexer.specs.LinesOfParts.{body}
 use Rattle.tangle_scan.specs.Web.BlockKind.{OfPiece}
-use Rattle.tangle_scan.specs.Rules.{part_items}
 use Rattle.tangle_scan.specs.ItemSpans.{item_spans}
 use Rattle.tangle_scan.specs.KeptBytes.{IsEarlier, KeepsEachByte}
 use Rattle.tangle_lexer.proofs.laws.Points.{Point, point_at, after_cell, IsCellAt, IsTextAt, text-is}
@@ -27,8 +27,7 @@ use Rattle.tangle_scan.proofs.laws.ItemSpans.{token_spans, part-spans}
 flat_map-twice : {A B C : Type 0} (f : B → List C) (g : A → List B) (xs : List A)
     → flat_map f (flat_map g xs) ≡ flat_map (λ x. flat_map f (g x)) xs
 flat_map-twice f g [] = refl
-flat_map-twice f g (x ∷ xs) =
-    flat_map-append f (g x) (flat_map g xs) ∙ ap (λ zs. flat_map f (g x) ++ zs) (flat_map-twice f g xs)
+flat_map-twice f g (x ∷ xs) = grind (arith, nat_tests, flat_map-append f (g x) (flat_map g xs), flat_map-twice f g xs)
 
 abbrev points_of : List Span → List (ℕ × ℕ)
 points_of ss = flat_map span_points ss
@@ -44,8 +43,7 @@ module _ (lines : List SourceLine) where
   piece-points : (n : ℕ) (occurrence : Option ℕ) (line : ℕ) (es : List Token)
       → block_points (record { section = n; kind = OfPiece occurrence line; tokens = body es })
       ≡ points_of (token_spans (body es))
-  piece-points n occurrence line es =
-      ap points_of (append-nil (item_spans (part_items lines line (body es))) ∙ part-spans lines line (body es))
+  piece-points n occurrence line es = grind (arith, nat_tests, append-nil, part-spans)
 
   -- A C part has the spans of the tokens up to the next head. So if the tokens begin inside a C part, these spans come
   -- first, and those of the blocks after them.

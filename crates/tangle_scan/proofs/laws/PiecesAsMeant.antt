@@ -1,4 +1,5 @@
 -- A C compiler reads the items of a piece as the author means them.
+use Rattle.std.proofs.lemmas.Bool.Decides.{nat_tests}
 use Rattle.std.proofs.Common.{arith}
 use Rattle.std.proofs.Common.{◌≡◌, ℕ, ◌+◌, Bool, true, false, ◌&&◌, if◌then◌else◌, List, [], ◌∷◌, ◌++◌, flat_map}
 use Rattle.std.proofs.Common.{append_assoc, append-nil, Option, Some, None, is_some, refl, ap, sym, ◌∙◌, subst}
@@ -11,9 +12,8 @@ use Rattle.tangle_lines.specs.declared.origin.Origin.{Origin}
 use Rattle.tangle_lines.specs.Reading.{SourceLine, origin_at}
 use Rattle.tangle_lexer.specs.declared.tokens.Token.{Token}
 use Rattle.tangle_lexer.specs.declared.tokens.Token.TheVariants as token
-use Rattle.tangle_lexer.specs.declared.tokens.SpanKind.TheVariants as span_kind
 use Rattle.tangle_scan.specs.declared.items.Item.{Item}
-use Rattle.tangle_scan.specs.Rules.{is_open, texts_of, span_text, is_continued, ends_line}
+use Rattle.tangle_scan.specs.Rules.{is_open, texts_of, is_continued, ends_line}
 use Rattle.tangle_lexer.specs.SpanBytes.{ends_in_backslash}
 use Rattle.tangle_scan.specs.Rules.{is_front_gap, blanks, next_line, part_tokens, part_items}
 use Rattle.tangle_scan.specs.LineTruth.{is_expected}
@@ -53,12 +53,7 @@ module _ (lines : List SourceLine) (used : ℕ → List ℕ) (mark : Origin → 
   item-text : (before : Option Token) (counted : Origin) (e : Token) (es : List Token) → is_front_gap e ≡ false →
       flat_map item_bytes (items_by_origin lines before counted (e ∷ es))
       ≡ bytes_of e ++ flat_map item_bytes (items_by_origin lines (Some e) (counted_after_token lines counted e) es)
-  item-text before counted (token.Span span_kind.Word s) es item = refl
-  item-text before counted (token.UseOf line occurrence) es item =
-      ap (λ bytes. space ∷ bytes) (sym (append_assoc (used occurrence) (line_feed ∷ mark (origin_at lines line)) _))
-  item-text before counted (token.AllMacros line) es item =
-      ap (λ bytes. line_feed ∷ bytes) (sym (append_assoc macros (line_feed ∷ mark (origin_at lines line)) _))
-  item-text before counted _ es item = cc
+  item-text before counted e es item = grind (arith, nat_tests, append_assoc)
 
   -- the bytes of an item, and of a blank before it
   text-item : (before : Option Token) (white : Bool) (counted : Origin) (e : Token) (es : List Token)
@@ -66,11 +61,7 @@ module _ (lines : List SourceLine) (used : ℕ → List ℕ) (mark : Origin → 
       → text_from before white counted (e ∷ es)
       ≡ blank_bytes (is_some before && white)
       ++ (bytes_of e ++ text_from (Some e) false (counted_after_token lines counted e) es)
-  text-item before white counted e es item =
-      let rest = blanks texts (Some e) false es in
-      rw (blanks-item texts before white e es item)
-      (text-blank before counted (is_some before && white) (e ∷ rest)
-      ∙ ap (λ bs. blank_bytes (is_some before && white) ++ bs) (item-text before counted e rest item))
+  text-item before white counted e es item = grind (arith, nat_tests, blanks-item, text-blank, item-text)
 
   -- the tokens that the compiler reads, from an item on
   read-item : (continued : Bool) (e : Token) (es : List Token) → is_front_gap e ≡ false →
@@ -100,28 +91,12 @@ module _ (lines : List SourceLine) (used : ℕ → List ℕ) (mark : Origin → 
 
   -- the gap directly after an item, and at the front of a piece
   no-gap : (last : Option Token) → IsGap [] false last last []
-  no-gap last = record {
-    line_ends = refl;
-    together = λ none. (refl, refl);
-    apart = λ blank f needed. absurd cc;
-    front = front last;
-    ended = λ is. rw is refl;
-    closing = λ none closed. (refl, closed);
-  }
-    where
-      front : (last : Option Token) → is_some last ≡ false → (all : List ℕ) → Serves all last []
-      front x h all f needed = grind arith
+  no-gap last = grind (arith, nat_tests)
 
   white-gap : (meant : List ℕ) (white : Bool) (last before : Option Token) (gap : List Gap)
       → IsGap meant white last before gap → IsGap (meant ++ space ∷ []) true last before gap
-  white-gap meant white last before gap is = record {
-    line_ends = is.line_ends ∙ sym (spaces-append meant (space ∷ []) ∙ append-nil (without_spaces meant));
-    together = λ none. let some = some-append meant space [] in absurd cc;
-    apart = λ blank. is.front (sym (and-true (is_some before)) ∙ blank) (meant ++ space ∷ []);
-    front = is.front;
-    ended = is.ended;
-    closing = is.closing;
-  }
+  white-gap meant white last before gap is =
+      grind (arith, nat_tests, spaces-append, append-nil, some-append, and-true)
 
   -- the gap after the end of a line that is not continued
   line_end-gap : (meant : List ℕ) (white : Bool) (last before : Option Token) (gap : List Gap) (end : Gap)
@@ -129,50 +104,15 @@ module _ (lines : List SourceLine) (used : ℕ → List ℕ) (mark : Origin → 
       → as_read false (end ∷ []) ≡ line_feed ∷ []
       → IsGap (meant ++ line_feed ∷ []) false last None (gap ++ end ∷ [])
   line_end-gap meant white last before gap end is continued read =
-      let after = is_continued texts last in
-      let all : read_since last (gap ++ end ∷ []) ≡ read_since last gap ++ line_feed ∷ [] =
-      read-append after gap (end ∷ []) ∙ ap (λ bytes. as_read after gap ++ bytes) (rw (is.ended continued) read) in
-      let some : is_empty (read_since last (gap ++ end ∷ [])) ≡ false =
-      rw all (some-append (read_since last gap) line_feed []) in
-      record {
-        line_ends = rw (
-          all,
-          spaces-append (read_since last gap) (line_feed ∷ []),
-          spaces-append meant (line_feed ∷ []),
-          is.line_ends,
-        ) refl;
-        together = λ none. let other = some-append meant line_feed [] in absurd cc;
-        apart = λ blank f needed. some;
-        front = λ none all f needed. some;
-        ended = λ ends. rw (some-append gap end []) (and-false after);
-        closing = λ none. absurd cc;
-      }
+      grind (arith, nat_tests, read-append, some-append, spaces-append, and-false)
 
   -- the compiler reads the gap with the blank as meant, and after that perhaps what is taken out
   blanked : (meant : List ℕ) (white : Bool) (last before : Option Token) (gap more : List Gap)
       → IsGap meant white last before gap → ((after : Bool) → as_read after more ≡ []) → (f : Token)
       → IsReadAs meant (read_since last (gap ++ blank_before (is_some before && white) more))
       (needs_white texts false meant last f)
-  blanked meant white last before gap more is none f = by (is_some before && white) refl
-    where
-      after : Bool
-      after = is_continued texts last
-
-      by : (blank : Bool) → (is_some before && white) ≡ blank
-          → IsReadAs meant (read_since last (gap ++ blank_before blank more)) (needs_white texts false meant last f)
-      by true has = rw (read-append after gap (Space ∷ more), none false) (record {
-        lines = spaces-append (read_since last gap) (space ∷ [])
-            ∙ (append-nil (without_spaces (read_since last gap)) ∙ is.line_ends);
-        together = λ nothing.
-            let wrong = rw ((is.together nothing).1, and-false (is_some before)) at has in absurd cc;
-        apart = λ needed. some-append (read_since last gap) space [];
-      })
-      by false has =
-          rw (read-append after gap more, none (after && is_empty gap), append-nil (read_since last gap)) (record {
-            lines = is.line_ends;
-            together = λ nothing. (is.together nothing).0;
-            apart = is.apart has f;
-          })
+  blanked meant white last before gap more is none f =
+      grind (arith, nat_tests, blank_before, read-append, spaces-append, append-nil, and-false, some-append)
 
   -- The items of the tokens that follow are read as meant.
 
@@ -262,8 +202,7 @@ module _ (lines : List SourceLine) (used : ℕ → List ℕ) (mark : Origin → 
       (next meant false last at (next_line counted) gap (is line) refl))
 
   backslash-bytes : (e : Token) → is_backslash texts e ≡ true → bytes_of e ≡ backslash ∷ []
-  backslash-bytes (token.Span span_kind.Sign s) is = (bytes_eq-Decides (span_text texts s) (backslash ∷ [])).0 is
-  backslash-bytes _ is = cc
+  backslash-bytes e is = grind (arith, nat_tests, bytes_eq-Decides)
 
   plain-item : (e : Token) (es : List Token) → is_front_gap e ≡ false → Reads es → ReadsPlain (e ∷ es)
   plain-item e es item next meant white last before counted gap is plain =
@@ -368,10 +307,7 @@ module _ (lines : List SourceLine) (used : ℕ → List ℕ) (mark : Origin → 
   reads (token.LineEnd line ∷ es) =
       let next = reads es in
       record { plain = plain-line_end line es next.plain; continued = continued-line_end line es next.plain }
-  reads (e ∷ es) = record {
-    plain = plain-item e es refl (reads es);
-    continued = λ meant white last before counted front gap bytes is continued ends. absurd cc;
-  }
+  reads (e ∷ es) = grind (arith, nat_tests, plain-item e es refl (reads es), reads es)
 
   -- the items of a whole piece are read as meant
   pub piece-as-meant : (line : ℕ) (tokens : List Token)

@@ -1,16 +1,17 @@
 -- A C compiler reads the items of a web as the author means them.
-use Rattle.std.proofs.Common.{ℕ, Bool, true, false, List, [], ◌∷◌, ◌++◌, map, flat_map, if◌then◌else◌}
+use Rattle.std.proofs.Common.{arith}
+use Rattle.std.proofs.lemmas.Bool.Decides.{nat_tests}
+use Rattle.std.proofs.Common.{ℕ, List, [], ◌∷◌, ◌++◌, map, flat_map}
 use Rattle.std.specs.List.{AllZip}
 use Rattle.tangle_lines.specs.declared.origin.Origin.{Origin}
 use Rattle.tangle_lines.specs.Reading.{SourceLine, SourceRead}
 use Rattle.tangle_lexer.specs.Steps.{all_tokens}
 use Rattle.tangle_lexer.specs.declared.tokens.Token.{Token}
 use Rattle.tangle_scan.specs.declared.items.Item.{Item}
-use Rattle.tangle_scan.specs.Rules.{texts_of, part_tokens, macro_tokens, macro_items, is_macro, without_backslashes}
+use Rattle.tangle_scan.specs.Rules.{texts_of, part_tokens, macro_tokens, without_backslashes}
 use Rattle.tangle_scan.specs.ItemBytes.{piece_item_bytes}
 use Rattle.tangle_scan.specs.MacroBytes.{macro_bytes}
 use Rattle.tangle_scan.specs.Web.{web_of, PieceRead, Block, BlockKind, blocks, piece_of, kind_piece, macro_of}
-use Rattle.tangle_scan.specs.Web.{kind_macro}
 use Rattle.tangle_scan.specs.Web.BlockKind.{OfMacro, OfPiece}
 use Rattle.tangle_scan.specs.ReadAsMeant.{ItemsAreReadAsMeant, IsMacroReadAsMeant, IsPieceReadAsMeant}
 use Rattle.tangle_scan.proofs.laws.MacrosAsMeant.{macro-as-meant}
@@ -34,24 +35,7 @@ module _ (lines : List SourceLine) where
       → AllZip IsMacroOf (flat_map (macro_of lines) bs)
       (flat_map (λ b. map (λ items. tokens_of_macro b) (macro_of lines b)) bs)
   macros-as-meant [] = tt
-  macros-as-meant (b ∷ bs) = by b.kind (macros-as-meant bs)
-    where
-      all : List (List Item)
-      all = flat_map (macro_of lines) bs
-
-      each : List (List Token)
-      each = flat_map (λ b. map (λ items. tokens_of_macro b) (macro_of lines b)) bs
-
-      kept : (is_kept : Bool) → AllZip IsMacroOf all each
-          → AllZip IsMacroOf ((if is_kept then macro_items texts b.tokens ∷ [] else []) ++ all)
-          (map (λ items. tokens_of_macro b) (if is_kept then macro_items texts b.tokens ∷ [] else []) ++ each)
-      kept true rest = (macro-as-meant texts (tokens_of_macro b), rest)
-      kept false rest = rest
-
-      by : (kind : BlockKind) → AllZip IsMacroOf all each → AllZip IsMacroOf (kind_macro lines kind b ++ all)
-          (map (λ items. tokens_of_macro b) (kind_macro lines kind b) ++ each)
-      by (OfMacro line) rest = kept (is_macro texts (macro_items texts b.tokens)) rest
-      by (OfPiece occurrence line) rest = rest
+  macros-as-meant (b ∷ bs) = grind (arith, nat_tests, macros-as-meant bs, macro-as-meant texts (tokens_of_macro b))
 
   module _ (used : ℕ → List ℕ) (mark : Origin → List ℕ) (macros : List ℕ) where
     abbrev IsPieceOf : PieceRead → List Token → Type 0

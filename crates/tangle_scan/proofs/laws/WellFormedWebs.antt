@@ -1,7 +1,8 @@
 -- The spans of the items of a web are ranges of source lines, and the numbers of its occurrences are below their count.
+use Rattle.std.proofs.lemmas.Bool.Decides.{nat_tests}
 use Rattle.std.proofs.Common.{◌≡◌, length, map, arith, subst, ◌<◌, ℕ, ◌+◌}
 use Rattle.std.proofs.Common.{Bool, true, false, Option, Some, None, List, [], ◌∷◌, ◌++◌, flat_map}
-use Rattle.std.proofs.Common.{if◌then◌else◌, cond, ◌==◌, ◌&&◌}
+use Rattle.std.proofs.Common.{cond}
 use Rattle.std.specs.List.{AllByRecursion, All}
 use Rattle.std.specs.Option.{IfSome}
 use Rattle.std.proofs.lemmas.List.Elements.{All-from_recursion, All-weaker}
@@ -14,8 +15,8 @@ use Rattle.tangle_text.specs.declared.spans.Span.{Span}
 use Rattle.tangle_lexer.specs.declared.tokens.Token.TheVariants as token
 use Rattle.tangle_scan.specs.declared.items.Item.{Item}
 use Rattle.tangle_scan.specs.Rules.{texts_of, span_item, part_tokens, macro_tokens}
-use Rattle.tangle_scan.specs.Rules.{is_continued, at_line_front, blanks, macro_blanks, unmarked_items, ends_line}
-use Rattle.tangle_scan.specs.Rules.{part_items, macro_items, is_macro, without_backslashes}
+use Rattle.tangle_scan.specs.Rules.{is_continued, at_line_front, blanks, macro_blanks, unmarked_items}
+use Rattle.tangle_scan.specs.Rules.{part_items, macro_items, without_backslashes}
 use Rattle.tangle_scan.specs.LineTruth.{counted_after_line_end}
 use Rattle.tangle_scan.specs.Passes.{items_at, counted_after_token, items_by_origin}
 use Rattle.tangle_scan.proofs.lemmas.KeptTokens.{kept, part-kept, macro_blanks-kept, macro-kept}
@@ -24,8 +25,6 @@ use Rattle.tangle_scan.specs.Web.{PieceRead, blocks, section_after, piece_of, ma
 use Rattle.tangle_lexer.specs.LinesOfParts.{body}
 use Rattle.tangle_scan.specs.WellFormed.{IsUseBelow, IsWellFormed}
 use Rattle.tangle_scan.specs.ItemSpans.{IsSpan, IsInRange}
-use Rattle.tangle_lexer.specs.SpanBytes.{first_byte}
-use Rattle.tangle_text.specs.Bytes.{backslash}
 use Rattle.tangle_lexer.proofs.laws.TokenOrder.{line_after, AreFromLine}
 use Rattle.tangle_scan.proofs.laws.WebLaws.{all-in_order}
 use Rattle.tangle_text.specs.Text.{text_from}
@@ -78,12 +77,7 @@ module _ (lines : List SourceLine) (count : ℕ) where
 
   backslashes-right : (es : List Token) → AreRight es → AreRight (without_backslashes texts es)
   backslashes-right [] h = tt
-  backslashes-right (token.Span span_kind.Sign s ∷ es) h =
-      by (first_byte texts s == backslash && ends_line es) (backslashes-right es h.1)
-    where
-      by : (b : Bool) → AreRight (without_backslashes texts es)
-          → AreRight ((if b then [] else token.Span span_kind.Sign s ∷ []) ++ without_backslashes texts es)
-      by x rest = grind arith
+  backslashes-right (token.Span span_kind.Sign s ∷ es) h = grind (arith, nat_tests, backslashes-right es h.1)
   backslashes-right (e ∷ es) h = (h.0, backslashes-right es h.1)
 
   -- an item of which the same is true, where the numbers of uses are below `n`
@@ -140,27 +134,36 @@ module _ (lines : List SourceLine) (count : ℕ) where
   pieces-right : (n line : ℕ) (es : List Token) → AreFromLine texts line es → AreBelow count es
       → AllByRecursion IsRightPiece (flat_map (piece_of lines) (blocks n es))
   pieces-right n line [] h k = tt
-  pieces-right n line (token.UnnamedPart at ∷ es) h k = (
-    record { items = part-right at (body es) (body-right at es h.1 k.1); occurrence = tt },
-    pieces-right n at es h.1 k.1,
-  )
-  pieces-right n line (token.NamedPart at occurrence ∷ es) h k = (
-    record { items = part-right at (body es) (body-right at es h.1 k.1); occurrence = k.0 },
-    pieces-right n at es h.1 k.1,
-  )
+  pieces-right n line (token.UnnamedPart at ∷ es) h k =
+      grind (
+        arith,
+        nat_tests,
+        part-right at (body es) (body-right at es h.1 k.1),
+        body-right at es h.1 k.1,
+        pieces-right n at es h.1 k.1,
+      )
+  pieces-right n line (token.NamedPart at occurrence ∷ es) h k =
+      grind (
+        arith,
+        nat_tests,
+        part-right at (body es) (body-right at es h.1 k.1),
+        body-right at es h.1 k.1,
+        pieces-right n at es h.1 k.1,
+      )
   pieces-right n line (e ∷ es) h k = pieces-right (section_after n e) (line_after line e) es h.1 k.1
 
   macros-right : (n line : ℕ) (es : List Token) → AreFromLine texts line es → AreBelow count es
       → AllByRecursion (All (IsRightItem 0)) (flat_map (macro_of lines) (blocks n es))
   macros-right n line [] h k = tt
   macros-right n line (token.MacroStart at ∷ es) h k =
-      by (is_macro texts (macro_items texts (body es))) (macros-right n at es h.1 k.1)
-    where
-      by : (b : Bool) → AllByRecursion (All (IsRightItem 0)) (flat_map (macro_of lines) (blocks n es))
-          → AllByRecursion (All (IsRightItem 0))
-          (cond b (macro_items texts (body es) ∷ []) [] ++ flat_map (macro_of lines) (blocks n es))
-      by true rest = (macro-right (body es) (body-right at es h.1 k.1), rest)
-      by false rest = rest
+      grind (
+        arith,
+        nat_tests,
+        macros-right n at es h.1 k.1,
+        cond,
+        macro-right (body es) (body-right at es h.1 k.1),
+        body-right at es h.1 k.1,
+      )
   macros-right n line (e ∷ es) h k = macros-right (section_after n e) (line_after line e) es h.1 k.1
 
   range-of : (n : ℕ) (items : List Item) → All (IsRightItem n) items → All (IsInRange texts) items

@@ -1,6 +1,7 @@
 -- The items of a C part, token by token.
+use Rattle.std.proofs.lemmas.Bool.Decides.{nat_tests}
 use Rattle.std.proofs.Common.{◌≡◌, ℕ, ◌-◌, length, slice_get, arith, Bool, true, false, ◌||◌, List, []}
-use Rattle.std.proofs.Common.{◌∷◌, ◌++◌, refl, ap, sym, ◌∙◌, if◌then◌else◌, Option, Some, append_assoc}
+use Rattle.std.proofs.Common.{◌∷◌, ◌++◌, refl, ap, ◌∙◌, if◌then◌else◌, Option, Some, append_assoc}
 use Rattle.std.proofs.Common.{append-nil, length-append, map, take, ◌≤◌}
 use Rattle.tangle_lexer.specs.declared.tokens.Token.{Token}
 use Rattle.tangle_lexer.specs.declared.tokens.Token.TheVariants as token
@@ -12,7 +13,6 @@ use Rattle.tangle_lines.specs.declared.origin.Origin.{Origin}
 use Rattle.tangle_lines.specs.Reading.{SourceLine}
 use Rattle.tangle_text.specs.declared.spans.Span.{Span}
 use Rattle.tangle_lexer.specs.declared.tokens.SpanKind.{SpanKind}
-use Rattle.tangle_lexer.specs.declared.tokens.SpanKind.TheVariants as span_kind
 use Rattle.tangle_scan.specs.declared.parts.PartState.{PartState}
 use Rattle.tangle_scan.specs.declared.parts.Start.{Start}
 use Rattle.tangle_scan.specs.Rules.{texts_of, span_item, would_merge}
@@ -44,9 +44,7 @@ items_by_origin-blank lines before counted x es = grind arith
 
 pub items-push : (texts : List (List ℕ)) (entries : List Entry) (x : Entry)
     → items_of texts (entries ++ x ∷ []) ≡ items_of texts entries ++ entry_items texts x
-items-push texts entries x =
-    flat_map-append (entry_items texts) entries (x ∷ [])
-    ∙ ap (λ t. items_of texts entries ++ t) (append-nil (entry_items texts x))
+items-push texts entries x = grind (arith, nat_tests, flat_map-append, append-nil)
 
 pub items-of-items : (texts : List (List ℕ)) (items : List Item) → items_of texts (map entry.Item items) ≡ items
 items-of-items texts [] = refl
@@ -55,8 +53,7 @@ items-of-items texts (x ∷ items) = ap (λ t. x ∷ t) (items-of-items texts it
 pub items-more : (texts : List (List ℕ)) (entries : List Entry) (items : List Item)
     → items_of texts (entries ++ map entry.Item items) ≡ items_of texts entries ++ items
 items-more texts entries items =
-    flat_map-append (entry_items texts) entries (map entry.Item items)
-    ∙ ap (λ t. items_of texts entries ++ t) (items-of-items texts items)
+    cc (flat_map-append (entry_items texts) entries (map entry.Item items), items-of-items texts items)
 
 -- the last entry, on which it depends whether the next line continues this one and whether rule 1 puts white space
 
@@ -65,13 +62,10 @@ at-end [] x = refl
 at-end (y ∷ entries) x = at-end entries x
 
 pub last-of-push : (entries : List Entry) (x : Entry) → last_entry (entries ++ x ∷ []) ≡ Some x
-last-of-push entries x =
-    let end : length (entries ++ x ∷ []) - 1 ≡ length entries = omega (arith, length-append entries (x ∷ [])) in
-    rw (end, at-end entries x) refl
+last-of-push entries x = grind (arith, nat_tests, length-append entries (x ∷ []), at-end entries x)
 
 last-of-two : (entries : List Entry) (x y : Entry) → last_entry (entries ++ x ∷ y ∷ []) ≡ Some y
-last-of-two entries x y =
-    ap last_entry (sym (append_assoc entries (x ∷ []) (y ∷ []))) ∙ last-of-push (entries ++ x ∷ []) y
+last-of-two entries x y = cc (append_assoc entries (x ∷ []) (y ∷ []), last-of-push (entries ++ x ∷ []) y)
 
 pub last-ends : (b : ℕ) (texts : List (List ℕ)) (entries : List Entry) (x : Entry)
     → entries_end_in b texts (entries ++ x ∷ []) ≡ entry_ends_in b texts x
@@ -85,36 +79,16 @@ span-ends b texts x s = grind arith
 pub item-ends : (b : ℕ) (lines : List SourceLine) (entries : List Entry) (e : Token)
     → is_solid e ≡ true → is_head e ≡ false → ((s : Span) → e ≡ token.Run s → ⊥)
     → entries_end_in b (texts_of lines) (entries ++ map entry.Item (items_at lines e)) ≡ ends_in b (texts_of lines) e
-item-ends b lines entries (token.Span kind s) solid head run =
-    last-ends b (texts_of lines) entries (entry.Item (span_item kind s)) ∙ span-ends b (texts_of lines) kind s
-item-ends b lines entries token.QuoteBreak solid head run =
-    last-ends b (texts_of lines) entries (entry.Item item.QuoteBreak)
-item-ends b lines entries (token.AsciiConstant value line) solid head run =
-    last-ends b (texts_of lines) entries (entry.Item (item.Code value))
-item-ends b lines entries (token.UseOf line occurrence) solid head run =
-    ap (last_ends_in b (texts_of lines)) (last-of-two entries _ _)
-item-ends b lines entries (token.AllMacros line) solid head run =
-    ap (last_ends_in b (texts_of lines)) (last-of-two entries _ _)
-item-ends b lines entries (token.Run s) solid head run = absurd (run s refl)
-item-ends b lines entries _ solid head run = cc
+item-ends b lines entries e solid head run = grind (arith, nat_tests, last-ends, span-ends, last-of-two)
 
 span-merges : (texts : List (List ℕ)) (entries : List Entry) (kind : SpanKind) (s : Span) (f : Token)
     → entries_merge texts (entries ++ entry.Item (span_item kind s) ∷ []) f ≡ would_merge texts (token.Span kind s) f
-span-merges texts entries span_kind.Word s f = rw (last-of-push entries (entry.Item (item.Word s))) refl
-span-merges texts entries kind s f = rw (last-of-push entries (entry.Item (span_item kind s))) refl
+span-merges texts entries kind s f = grind (arith, nat_tests, last-of-push)
 
 pub item-merges : (lines : List SourceLine) (entries : List Entry) (e f : Token)
     → is_solid e ≡ true → is_head e ≡ false → ((s : Span) → e ≡ token.Run s → ⊥)
     → entries_merge (texts_of lines) (entries ++ map entry.Item (items_at lines e)) f ≡ would_merge (texts_of lines) e f
-item-merges lines entries (token.Span kind s) f solid head run = span-merges (texts_of lines) entries kind s f
-item-merges lines entries token.QuoteBreak f solid head run =
-    rw (last-of-push entries (entry.Item item.QuoteBreak)) refl
-item-merges lines entries (token.AsciiConstant b line) f solid head run =
-    rw (last-of-push entries (entry.Item (item.Code b))) refl
-item-merges lines entries (token.UseOf line occurrence) f solid head run = rw (last-of-two entries _ _) refl
-item-merges lines entries (token.AllMacros line) f solid head run = rw (last-of-two entries _ _) refl
-item-merges lines entries (token.Run s) f solid head run = absurd (run s refl)
-item-merges lines entries _ f solid head run = cc
+item-merges lines entries e f solid head run = grind (arith, nat_tests, span-merges, last-of-push, last-of-two)
 
 -- whether the entries made so far have a mark
 
@@ -143,22 +117,15 @@ blank-unmarked x = grind arith
 
 pub start-within : (entries : List Entry) (at : PartState) → at.start.entries ≤ length entries
     → (start_of_gap entries at).entries ≤ length entries
-start-within entries at within = by (is_after_line_end at.last)
-  where
-    by : (b : Bool) → (if b then at.start else record { entries = length entries; counted = at.counted }).entries
-        ≤ length entries
-    by x = grind arith
+start-within entries at within = grind (arith, nat_tests)
 
 -- the marks among the entries, and among those before the gap
 
 marked-more : (old new : List Entry) (at next : PartState) (more : List Entry) → IsMarked old at → new ≡ old ++ more
     → next.start ≡ at.start → next.counted.has_mark ≡ (list_any entry_is_mark more || at.counted.has_mark)
     → IsMarked new next
-marked-more old new at next more h is start mark = record {
-  start = omega (arith, h.start, ap (λ (s : Start). s.entries) start, ap length is, length-append old more);
-  now = rw (is, mark, list_any-append entry_is_mark old more, h.now) (or_comm at.counted.has_mark _);
-  before = rw (is, start, take-append-le at.start.entries old more h.start) h.before;
-}
+marked-more old new at next more h is start mark =
+    grind (arith, nat_tests, length-append, list_any-append, or_comm, take-append-le)
 
 pub marked-item : (old new : List Entry) (at next : PartState) (blank : Bool) (items : List Item) → IsMarked old at
     → new ≡ (old ++ map entry.Item (blank_if blank)) ++ map entry.Item items → next.start ≡ at.start

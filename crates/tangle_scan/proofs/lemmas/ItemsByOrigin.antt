@@ -1,7 +1,8 @@
 -- Rules 4 and 5 in one pass over the tokens.
+use Rattle.std.proofs.lemmas.Bool.Decides.{nat_tests}
 use Rattle.std.proofs.Common.{arith}
 use Rattle.std.proofs.Common.{◌≡◌, ℕ, ◌+◌, nat_le, length, Bool, true, false, ◌&&◌, ◌||◌, if◌then◌else◌}
-use Rattle.std.proofs.Common.{Option, Some, None, is_some, List, [], ◌∷◌, ◌++◌, refl, ap, sym, ◌∙◌, inl, inr}
+use Rattle.std.proofs.Common.{Option, Some, None, is_some, List, [], ◌∷◌, ◌++◌, refl, ap, ◌∙◌}
 use Rattle.std.proofs.lemmas.Bool.Decides.{eqb_tells}
 use Rattle.tangle_lines.specs.declared.origin.Origin.{Origin}
 use Rattle.tangle_lexer.specs.declared.tokens.Token.{Token}
@@ -10,7 +11,6 @@ use Rattle.tangle_lexer.specs.declared.tokens.SpanKind.TheVariants as span_kind
 use Rattle.tangle_lines.specs.Reading.{SourceLine, origin_at}
 use Rattle.tangle_scan.specs.declared.items.Item.{Item}
 use Rattle.tangle_scan.specs.declared.items.Item.TheVariants as item
-use Rattle.tangle_scan.specs.Rules.{is_open}
 use Rattle.tangle_scan.specs.Rules.{texts_of, is_continued, at_line_front, blanks, next_line, same_origin}
 use Rattle.tangle_scan.specs.Rules.{with_all_marks, with_needed_marks, is_front_gap, part_tokens, part_items}
 use Rattle.tangle_scan.specs.LineTruth.{counted_after_line_end}
@@ -29,16 +29,7 @@ by-line_item x lines continued counted line end mark = grind arith
 
 -- the choice between two origins that are the same makes no difference
 pub same_origin-either : (p q : Origin) → (if same_origin p q then q else p) ≡ p
-same_origin-either p q =
-    elim (eqb_tells p.file q.file) [
-      | inl f ↦ elim (eqb_tells p.line q.line) [
-        | inl l ↦ rw (f.0, l.0)
-            (ap (λ x. record { file = x; line = q.line }) (sym f.1)
-            ∙ ap (λ y. record { file = p.file; line = y }) (sym l.1))
-        | inr l ↦ rw (f.0, l.0) refl
-      ]
-      | inr f ↦ rw f.0 refl
-    ]
+same_origin-either p q = grind (arith, nat_tests, eqb_tells)
 
 module _ (lines : List SourceLine) where
   abbrev texts : List (List ℕ)
@@ -85,11 +76,7 @@ module _ (lines : List SourceLine) where
       → is_continued texts left ≡ is_continued texts before
       → made left counted (blanks texts before white es)
       ≡ items_by_origin lines before counted (blanks texts before white es)
-  made-blanks left before white counted [] alike = end (is_open texts before)
-    where
-      end : (b : Bool) → let last : List Token = if b then token.White ∷ [] else [] in
-          made left counted last ≡ items_by_origin lines before counted last
-      end x = grind arith
+  made-blanks left before white counted [] alike = grind (arith, nat_tests)
   made-blanks left before white counted (token.White ∷ es) alike = made-blanks left before true counted es alike
   made-blanks left before white counted (token.LineEnd line ∷ es) alike =
       let front : Option Token = at_line_front texts before line in

@@ -1,4 +1,5 @@
 -- Rules 1 to 3 keep all tokens other than white space, line ends, joins and faults, in their order.
+use Rattle.std.proofs.lemmas.Bool.Decides.{nat_tests}
 use Rattle.std.proofs.Common.{arith}
 use Rattle.std.proofs.Common.{◌≡◌, ℕ, Bool, true, false, ◌&&◌, not, if◌then◌else◌, Option, Some, None, is_some}
 use Rattle.std.proofs.Common.{List, [], ◌∷◌, ◌++◌, map, flat_map, refl, ap, ◌∙◌}
@@ -91,13 +92,19 @@ pub macro_blanks-kept : (texts : List (List ℕ)) (in_name : Bool) (before : Opt
 macro_blanks-kept texts in_name before white [] = refl
 macro_blanks-kept texts in_name before white (token.White ∷ es) = macro_blanks-kept texts in_name before true es
 macro_blanks-kept texts in_name before white (token.LineEnd line ∷ es) =
-    white-kept (has_blank_at_line_end texts in_name before (next_item es))
-    (token.LineEnd line ∷ macro_blanks texts false None false es)
-    ∙ macro_blanks-kept texts false None false es
+    grind (
+      arith,
+      nat_tests,
+      white-kept (has_blank_at_line_end texts in_name before (next_item es)),
+      macro_blanks-kept texts false None false es,
+    )
 macro_blanks-kept texts in_name before white (e ∷ es) =
-    white-kept (is_some before && white)
-    (e ∷ macro_blanks texts (in_name && not white && is_name_part e) (Some e) false es)
-    ∙ ap (λ ts. keep e ++ ts) (macro_blanks-kept texts (in_name && not white && is_name_part e) (Some e) false es)
+    grind (
+      arith,
+      nat_tests,
+      white-kept (is_some before && white),
+      macro_blanks-kept texts (in_name && not white && is_name_part e) (Some e) false es,
+    )
 
 without_front-kept : (es : List Token) → kept (without_front_gaps es) ≡ kept es
 without_front-kept [] = refl
@@ -107,18 +114,17 @@ without_front-kept (_ ∷ es) = refl
 
 -- the tokens of a C part after rules 1 to 3
 pub part-kept : (texts : List (List ℕ)) (es : List Token) → kept (blanks texts None false (part_tokens texts es)) ≡ kept es
-part-kept texts es =
-    blanks-kept texts None false (part_tokens texts es)
-    ∙ without_joins-kept [] (with_spaces texts (clean_tokens es)) refl
-    ∙ with_spaces-kept texts (clean_tokens es)
-    ∙ clean-kept es
+part-kept texts es = grind (arith, nat_tests, blanks-kept, without_joins-kept, with_spaces-kept, clean-kept)
 
 -- the tokens of a macro after rules 1 and 2
 pub macro-kept : (texts : List (List ℕ)) (es : List Token) → kept (macro_tokens texts es) ≡ kept es
 macro-kept texts es =
-    let front : List Token = without_front_gaps (clean_tokens es) in
-    without_joins-kept [] (with_name_space texts (with_spaces texts front)) refl
-    ∙ with_name_space-kept texts (with_spaces texts front)
-    ∙ with_spaces-kept texts front
-    ∙ without_front-kept (clean_tokens es)
-    ∙ clean-kept es
+    grind (
+      arith,
+      nat_tests,
+      without_joins-kept,
+      with_name_space-kept,
+      with_spaces-kept,
+      without_front-kept,
+      clean-kept,
+    )

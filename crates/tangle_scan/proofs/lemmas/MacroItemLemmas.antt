@@ -1,12 +1,12 @@
 -- The items of a macro, from item to item.
+use Rattle.std.proofs.lemmas.Bool.Decides.{nat_tests}
 use Rattle.std.proofs.Common.{◌≡◌, ℕ, zero, suc, ◌+◌, Bool, true, false, ◌==◌, ◌&&◌, ◌||◌, not, List, [], ◌∷◌, ◌++◌, replicate}
-use Rattle.std.proofs.Common.{refl, ap, ◌∙◌, if◌then◌else◌, Option, Some, None, is_some, option_to_list}
+use Rattle.std.proofs.Common.{refl, ap, ◌∙◌, if◌then◌else◌, Option, Some, None, option_to_list}
 use Rattle.std.proofs.Common.{append-nil, arith, take}
 use Rattle.std.specs.List.{list_all}
 use Rattle.std.proofs.Math.Bool.{and-false, or-false, or-true}
 use Rattle.tangle_lexer.specs.declared.tokens.Token.{Token}
 use Rattle.tangle_lexer.specs.declared.tokens.Token.TheVariants as token
-use Rattle.tangle_lexer.specs.declared.tokens.SpanKind.TheVariants as span_kind
 use Rattle.tangle_scan.specs.declared.items.Item.{Item}
 use Rattle.tangle_scan.specs.declared.items.Item.TheVariants as item
 use Rattle.tangle_scan.specs.declared.macro_items.MacroState.{MacroState}
@@ -53,15 +53,11 @@ after_ends texts in_name before ends es =
 gap-after_ends : (texts : List (List ℕ)) (in_name : Bool) (before : Option Token) (ends : ℕ) (gap es : List Token)
     → list_all is_front_gap gap ≡ true
     → after_ends texts in_name before ends (gap ++ es) ≡ after_ends texts in_name before (ends + line_ends gap) es
-gap-after_ends texts in_name before ends [] es h =
-    let same : ends ≡ ends + 0 = omega arith in ap (λ n. after_ends texts in_name before n es) same
+gap-after_ends texts in_name before ends [] es h = grind (arith, nat_tests)
 gap-after_ends texts in_name before ends (token.White ∷ gap) es h =
     rw (front-white texts (gap ++ es)) (gap-after_ends texts in_name before ends gap es h)
 gap-after_ends texts in_name before ends (token.LineEnd line ∷ gap) es h =
-    let more : suc ends + line_ends gap ≡ ends + suc (line_ends gap) = omega arith in
-    ap (λ t. blank_if (has_blank_at_line_end texts in_name before (next_item (gap ++ es))) ++ t)
-    (one-more ends (unmarked_items (macro_blanks texts false None false (gap ++ es))))
-    ∙ (gap-after_ends texts in_name before (suc ends) gap es h ∙ ap (λ n. after_ends texts in_name before n es) more)
+    grind (arith, nat_tests, one-more ends, gap-after_ends texts in_name before (suc ends) gap es h)
 gap-after_ends texts in_name before ends (_ ∷ gap) es h = cc
 
 abbrev gap_with : Bool → ℕ → Gap
@@ -87,13 +83,7 @@ gap-items : (texts : List (List ℕ)) (in_name : Bool) (before : Option Token) (
     (gap es : List Token) → list_all is_front_gap gap ≡ true
     → items_from texts in_name before (gap_with white ends) (gap ++ es)
     ≡ items_from texts in_name before (gap_with (white || has_white gap) (ends + line_ends gap)) es
-gap-items texts in_name before white zero gap es h =
-    let same : line_ends gap ≡ 0 + line_ends gap = omega arith in
-    gap-on_line texts in_name before white gap es h
-    ∙ ap (λ n. items_from texts in_name before (gap_with (white || has_white gap) n) es) same
-gap-items texts in_name before white (suc n) gap es h =
-    let more : (suc n + line_ends gap == 0) ≡ false = grind arith in
-    rw (some-ends n, more) (gap-after_ends texts in_name before (suc n) gap es h)
+gap-items texts in_name before white ends gap es h = grind (arith, nat_tests, gap-on_line, some-ends, gap-after_ends)
 
 -- the items after a gap, at an item and at the end
 
@@ -108,27 +98,22 @@ solid-items : (texts : List (List ℕ)) (in_name : Bool) (before : Option Token)
     ≡ blank_if (has_blank texts in_name before (gap_with white ends) e) ++ (replicate ends item.LineEnd
     ++ (option_to_list (item_of e) ++ unmarked_items
     (macro_blanks texts (in_name && (ends == 0 && not white) && is_name_part e) (Some e) false es)))
-solid-items texts in_name before white zero e es h =
-    let rest = macro_blanks texts (in_name && not white && is_name_part e) (Some e) false es in
-    rw (
-      macro_blanks-item texts in_name before white e es (solid-front e h),
-      unmarked-blank (is_some before && white) (e ∷ rest),
-      unmarked-step e rest (solid-front e h),
-    ) refl
-solid-items texts in_name before white (suc n) e es h =
-    rw (
-      some-ends n,
-      macro_blanks-item texts false None false e es (solid-front e h),
-      next-solid e es h,
-      unmarked-step e (macro_blanks texts false (Some e) false es) (solid-front e h),
-      and-false in_name,
-    ) refl
+solid-items texts in_name before white ends e es h =
+    grind (
+      arith,
+      nat_tests,
+      macro_blanks-item,
+      solid-front,
+      unmarked-blank,
+      unmarked-step,
+      some-ends,
+      next-solid,
+      and-false,
+    )
 
 end-items : (texts : List (List ℕ)) (in_name : Bool) (before : Option Token) (white : Bool) (ends : ℕ)
     → items_from texts in_name before (gap_with white ends) [] ≡ replicate ends item.LineEnd
-end-items texts in_name before white zero = refl
-end-items texts in_name None white (suc n) = rw (some-ends n) (append-nil (replicate (suc n) item.LineEnd))
-end-items texts in_name (Some e) white (suc n) = rw (some-ends n) (append-nil (replicate (suc n) item.LineEnd))
+end-items texts in_name before white ends = grind (arith, nat_tests, some-ends, append-nil, replicate)
 
 -- backslashes, of which a gap has none
 
@@ -136,8 +121,7 @@ gap-backslashes : (texts : List (List ℕ)) (gap es : List Token) → list_all i
     → without_backslashes texts (gap ++ es) ≡ gap ++ without_backslashes texts es
 gap-backslashes texts [] es h = refl
 gap-backslashes texts (token.White ∷ gap) es h = ap (λ t. token.White ∷ t) (gap-backslashes texts gap es h)
-gap-backslashes texts (token.LineEnd line ∷ gap) es h =
-    ap (λ t. token.LineEnd line ∷ t) (gap-backslashes texts gap es h)
+gap-backslashes texts (token.LineEnd line ∷ gap) es h = grind (arith, nat_tests, gap-backslashes texts gap es h)
 gap-backslashes texts (_ ∷ gap) es h = cc
 
 gap-ends_line : (gap es : List Token) → list_all is_front_gap gap ≡ true → ends_line es ≡ false
@@ -158,8 +142,7 @@ item-ends_line texts (e ∷ es) = rw (item-ahead texts false e es refl) refl
 
 drops : (texts : List (List ℕ)) (e : Token) (gap es : List Token) → list_all is_front_gap gap ≡ true
     → ends_line es ≡ false → is_line_backslash texts e (gap ++ es) ≡ is_dropped texts e (gap_of gap)
-drops texts (token.Span span_kind.Sign s) gap es h none = rw (gap-ends_line gap es h none) refl
-drops texts _ gap es h none = refl
+drops texts e gap es h none = grind (arith, nat_tests, gap-ends_line)
 
 -- the items ahead of an item, which a backslash before a line end is not
 
@@ -168,15 +151,7 @@ ahead : (texts : List (List ℕ)) (at : MacroState) (e : Token) (es : List Token
     ((if is_dropped texts e (gap_of (left_gap texts at.is_first e es)) then [] else e ∷ [])
     ++ (left_gap texts at.is_first e es ++ without_backslashes texts (joined_from texts false (from_item es))))
 unfolding items_ahead
-ahead texts at e es h =
-    let left = left_gap texts at.is_first e es in
-    let next = joined_from texts false (from_item es) in
-    let gap = left-front_gap texts at.is_first e es in
-    rw (
-      item-ahead texts at.is_first e es h,
-      drops texts e left next gap (item-ends_line texts es),
-      gap-backslashes texts left next gap,
-    ) refl
+ahead texts at e es h = grind (arith, nat_tests, left-front_gap, item-ahead, drops, item-ends_line, gap-backslashes)
 
 pub ahead-item : (texts : List (List ℕ)) (at : MacroState) (e : Token) (es : List Token) → is_solid e ≡ true →
     let gap : Gap = gap_of (left_gap texts at.is_first e es) in
@@ -185,12 +160,7 @@ pub ahead-item : (texts : List (List ℕ)) (at : MacroState) (e : Token) (es : L
     ++ (replicate at.gap.line_ends item.LineEnd ++ (option_to_list (item_of e)
     ++ items_ahead texts (record { is_first = false; item = Some e; in_name = is_in_name at e; gap = gap }) (from_item es)))
 unfolding items_ahead
-ahead-item texts at e es h kept =
-    let left = left_gap texts at.is_first e es in
-    let next = without_backslashes texts (joined_from texts false (from_item es)) in
-    ahead texts at e es h
-    ∙ rw (kept, ← gap-on_line texts (is_in_name at e) (Some e) false left next (left-front_gap texts at.is_first e es))
-    (solid-items texts at.in_name at.item at.gap.has_white at.gap.line_ends e (left ++ next) h)
+ahead-item texts at e es h kept = grind (arith, nat_tests, ahead, gap-on_line, left-front_gap, solid-items)
 
 pub ahead-backslash : (texts : List (List ℕ)) (at : MacroState) (e : Token) (es : List Token) → is_solid e ≡ true →
     let gap : Gap = gap_of (left_gap texts at.is_first e es) in
@@ -199,11 +169,7 @@ pub ahead-backslash : (texts : List (List ℕ)) (at : MacroState) (e : Token) (e
       gap = gap_with (at.gap.has_white || gap.has_white) (at.gap.line_ends + gap.line_ends);
     }) (from_item es)
 unfolding items_ahead
-ahead-backslash texts at e es h gone =
-    ahead texts at e es h
-    ∙ rw gone
-    (gap-items texts at.in_name at.item at.gap.has_white at.gap.line_ends (left_gap texts at.is_first e es) _
-    (left-front_gap texts at.is_first e es))
+ahead-backslash texts at e es h gone = grind (arith, nat_tests, ahead, gap-items, left-front_gap)
 
 pub ahead-begin : (texts : List (List ℕ)) (at : MacroState) (es : List Token)
     → at ≡ record { is_first = true; item = None; in_name = true; gap = gap_of [] }
@@ -214,8 +180,7 @@ ahead-begin texts at es is = rw (is, macro-begin texts es) refl
 pub ahead-end : (texts : List (List ℕ)) (at : MacroState) (first : Bool) (es : List Token) → es ≡ []
     → at.is_first ≡ first → items_ahead texts at es ≡ replicate at.gap.line_ends item.LineEnd
 unfolding items_ahead
-ahead-end texts at true es none is = rw (none, is) (end-items texts at.in_name at.item at.gap.has_white at.gap.line_ends)
-ahead-end texts at false es none is = rw (none, is) (end-items texts at.in_name at.item at.gap.has_white at.gap.line_ends)
+ahead-end texts at first es none is = grind (arith, nat_tests, end-items)
 
 pub first-solid : (es : List Token) → list_all is_solid (take 1 (from_item es)) ≡ true
 first-solid [] = refl

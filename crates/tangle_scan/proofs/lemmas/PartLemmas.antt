@@ -1,4 +1,6 @@
 -- What one pass over the tokens of a C part read, and what is left.
+use Rattle.std.proofs.lemmas.Bool.Decides.{nat_tests}
+use Rattle.std.proofs.Common.{rules}
 use Rattle.std.proofs.Common.{◌≡◌, ◌≤◌, ℕ, Bool, true, false, ◌&&◌, ◌||◌, not, if◌then◌else◌, refl, ap, Option, None, Some}
 use Rattle.std.proofs.Common.{is_some, List, [], ◌∷◌, ◌++◌, sym, ◌∙◌, append_assoc, append-nil, length, take, map, arith}
 use Rattle.std.proofs.Common.{length-append}
@@ -36,7 +38,7 @@ use Rattle.std.proofs.Common.{◌==◌}
 use Rattle.tangle_scan.specs.Rules.{blanks, part_items, is_front_gap}
 use Rattle.tangle_scan.specs.LineTruth.{counted_after_line_end}
 use Rattle.tangle_scan.specs.Passes.{IsPassed, from_gap, start_of_gap, items_after, spaced_after, blank_before, blank_before_run}
-use Rattle.tangle_scan.specs.Passes.{is_joined, is_item, is_touching, is_after_line_end, keeps_white, last_after_line_end}
+use Rattle.tangle_scan.specs.Passes.{is_joined, is_item, is_after_line_end, keeps_white, last_after_line_end}
 use Rattle.tangle_scan.specs.Passes.{line_item, items_at, counted_after_token, items_by_origin, blank_if}
 use Rattle.tangle_scan.specs.Passes.{item_ends_in, entries_end_in, entries_continue, are_open, entries_merge, is_code, last_entry, origin_of}
 use Rattle.tangle_scan.proofs.lemmas.ItemsByOrigin.{items_by_origin-item, part_items-by_origin, by-line_item}
@@ -81,15 +83,8 @@ white-made : (lines : List SourceLine) (before : Option Token) (counted : Origin
     → made (left_of_run gap ++ es) ≡ items ++ items_after lines before counted (keeps_white at && has) es)
     → (es : List Token) → made (left_of_run (gap ++ token.White ∷ []) ++ es)
     ≡ items ++ items_after lines before counted (keeps_white at && true) es
-white-made lines before counted last.Joined has gap made items joined keeps h es =
-    rw (has_join-push gap token.White, joined) (rw joined at h es)
-white-made lines before counted last.Front has gap made items joined keeps h es =
-    rw (has_join-push gap token.White, joined)
-    (ap made (append_assoc gap (token.White ∷ []) es) ∙ ((rw joined at h (token.White ∷ es))
-    ∙ ap (λ t. items ++ items_by_origin lines before counted t) (blanks-at-front (texts_of lines) before es (keeps refl))))
-white-made lines before counted _ has gap made items joined keeps h es =
-    rw (has_join-push gap token.White, joined)
-    (ap made (append_assoc gap (token.White ∷ []) es) ∙ (rw joined at h (token.White ∷ es)))
+white-made lines before counted at has gap made items joined keeps h es =
+    grind (arith, nat_tests, has_join-push, append_assoc, blanks-at-front)
 
 pub passed-white : (lines : List SourceLine) (whole : List Item) (entries : List Entry) (at : PartState) (es : List Token)
     → IsPassed lines whole entries at (token.White ∷ es)
@@ -118,8 +113,7 @@ passed-white lines whole entries at es h = record {
 pub passed-inner_end : (lines : List SourceLine) (whole : List Item) (entries : List Entry) (at : PartState)
     (line : ℕ) (es : List Token) → IsPassed lines whole entries at (token.InnerLineEnd line ∷ es)
     → IsPassed lines whole entries (record at { has_white = true }) es
-passed-inner_end lines whole entries at line es h =
-    passed-white lines whole entries at es (record { read = h.read; left = h.left })
+passed-inner_end lines whole entries at line es h = search (rules, passed-white)
 
 -- a line end
 
@@ -331,10 +325,7 @@ solid-front x h = grind arith
 item-joins : (gap : List Token) (merges : Bool) (e : Token) (es : List Token) → is_gap e ≡ false
     → (merges ≡ true → has_join gap ≡ false)
     → without_joins gap (white_if merges ++ e ∷ es) ≡ left_of_run gap ++ (white_if merges ++ e ∷ without_joins [] es)
-item-joins gap false e es solid none = without_joins-item gap e es solid
-item-joins gap true e es solid none =
-    without_joins-item (gap ++ token.White ∷ []) e es solid
-    ∙ rw (has_join-push gap token.White, none refl) (append_assoc gap (token.White ∷ []) (e ∷ without_joins [] es))
+item-joins gap merges e es solid none = grind (arith, nat_tests, without_joins-item, has_join-push, append_assoc)
 
 touching-item : (at : Last) (white merges : Bool) → (is_item at && not white && merges) ≡ true → is_item at ≡ true
 touching-item x white merges h = grind arith
@@ -356,26 +347,19 @@ item-ahead : (lines : List SourceLine) (whole : List Item) (entries : List Entry
     ++ (blank_if (blank_before lines entries at e)
     ++ (items_at lines e ++ ahead lines e (counted_after_token lines (origin_of at.counted) e) es))
 item-ahead lines whole entries at e es solid h =
-    h.left
-    ∙ (ap (λ t. from_gap lines entries at h.read.front (without_joins h.read.gap t))
-    (solid-spaced (texts_of lines) h.read.prev e es solid
-    ∙ ap (λ b. white_if b ++ e ∷ spaced_after (texts_of lines) e es) (h.read.merges e))
-    ∙ (ap (from_gap lines entries at h.read.front)
-    (item-joins h.read.gap merges e (spaced_after (texts_of lines) e es) (solid-gap e solid)
-    (λ is. h.read.joined ∙ item-unjoined at.last (item is)))
-    ∙ (h.read.made (white_if merges ++ e ∷ without_joins [] (spaced_after (texts_of lines) e es))
-    ∙ ap (λ t. items_of (texts_of lines) entries ++ t)
-    (ap (items_by_origin lines h.read.before (origin_of at.counted))
-    (item-blanks (texts_of lines) at.last at.has_white merges h.read.before e _ (solid-front e solid) h.read.keeps item)
-    ∙ (items_by_origin-blank lines h.read.before (origin_of at.counted) (blank_before lines entries at e) _
-    ∙ ap (λ t. blank_if (blank_before lines entries at e) ++ t)
-    (items_by_origin-item lines h.read.before (origin_of at.counted) e _ (solid-front e solid)))))))
-  where
-    merges : Bool
-    merges = is_touching at && entries_merge (texts_of lines) entries e
-
-    item : merges ≡ true → is_item at.last ≡ true
-    item is = touching-item at.last at.has_white (entries_merge (texts_of lines) entries e) is
+    grind (
+      arith,
+      nat_tests,
+      solid-spaced,
+      item-joins,
+      solid-gap,
+      item-unjoined,
+      item-blanks,
+      solid-front,
+      items_by_origin-blank,
+      items_by_origin-item,
+      touching-item,
+    )
 
 open-item : (texts : List (List ℕ)) (e : Token) → is_end e ≡ false → is_open texts (Some e) ≡ ends_in slash texts e
 open-item texts x h = grind arith
@@ -482,15 +466,8 @@ part-ahead : (lines : List SourceLine) (whole : List Item) (entries : List Entry
     → whole ≡ items_of (texts_of lines) entries
     ++ (blank_if (blank_before lines entries at (part_token p))
     ++ (map part_item (p ∷ ps) ++ ahead lines (last_token (part_token p) ps) (origin_of at.counted) es))
-part-ahead lines whole entries at part.Space ps es spaces h = cc
-part-ahead lines whole entries at (part.Word s) ps es spaces h =
-    let e = token.Span span_kind.Word s in
-    item-ahead lines whole entries at e (map part_token ps ++ es) refl h
-    ∙ rw (parts-ahead lines e (origin_of at.counted) ps es refl spaces) refl
-part-ahead lines whole entries at (part.Sign s) ps es spaces h =
-    let e = token.Span span_kind.Sign s in
-    item-ahead lines whole entries at e (map part_token ps ++ es) refl h
-    ∙ rw (parts-ahead lines e (origin_of at.counted) ps es refl spaces) refl
+part-ahead lines whole entries at p ps es spaces h =
+    grind (arith, nat_tests, item-ahead lines whole entries at, parts-ahead lines)
 
 -- an item after which no run is written as one with it, and a word or a sign before
 front-merges : (texts : List (List ℕ)) (entries : List Entry) (p : RunPart)
@@ -524,8 +501,7 @@ pub passed-run : (lines : List SourceLine) (whole : List Item) (entries : List E
     → IsPassed lines whole entries at (unfolded_token (texts_of lines) (token.Run s) ++ es)
     → IsPassed lines whole ((entries ++ map entry.Item (blank_if (blank_before_run lines entries at s))) ++ entry.Run s ∷ [])
     (record at { last = last.Item; has_white = false }) es
-passed-run lines whole entries at s es run h =
-    run-passed lines whole entries at s (run_parts (texts_of lines) s) es refl run run.spaces h
+passed-run lines whole entries at s es run h = search (rules, run-passed)
 
 -- the beginning and the end of a part
 
@@ -558,10 +534,10 @@ last-blank lines before counted x = grind arith
 pub passed-whole : (lines : List SourceLine) (whole : List Item) (entries : List Entry) (at : PartState) (es : List Token)
     → es ≡ [] → IsPassed lines whole entries at es
     → items_of (texts_of lines) entries ++ blank_if (are_open (texts_of lines) entries at.last) ≡ whole
-passed-whole lines whole entries at (e ∷ es) none h = cc
-passed-whole lines whole entries at [] none h =
-    sym (h.left
-    ∙ (ap (from_gap lines entries at h.read.front) (sym (append-nil (left_of_run h.read.gap)))
-    ∙ (h.read.made [] ∙ ap (λ t. items_of (texts_of lines) entries ++ t)
-    (ap (λ b. items_by_origin lines h.read.before (origin_of at.counted) (white_if b)) h.read.before_open
-    ∙ last-blank lines h.read.before (origin_of at.counted) (are_open (texts_of lines) entries at.last)))))
+passed-whole lines whole entries at es none h =
+    grind (
+      arith,
+      nat_tests,
+      append-nil (left_of_run h.read.gap),
+      last-blank lines h.read.before (origin_of at.counted) (are_open (texts_of lines) entries at.last),
+    )

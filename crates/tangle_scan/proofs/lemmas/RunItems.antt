@@ -1,4 +1,6 @@
 -- The first and the last part of a run.
+use Rattle.std.proofs.lemmas.Bool.Decides.{nat_tests}
+use Rattle.std.proofs.Common.{rules}
 use Rattle.std.proofs.Common.{◌≡◌, ◌≤◌, ◌<◌, ℕ, ◌+◌, ◌-◌, Bool, true, false, ◌==◌, List, [], ◌∷◌}
 use Rattle.std.proofs.Common.{◌++◌, length, drop, get_or, refl, ap, sym, ◌∙◌, arith, length-drop, append_assoc}
 use Rattle.std.proofs.lemmas.Bool.{lt-leb}
@@ -67,29 +69,19 @@ StandsFor texts parts bytes = (line column : ℕ) (c : List ℕ) (none : Bool) �
 merges-stand : (texts : List (List ℕ)) → StandsFor texts (merges texts) is_merging_byte
 merges-stand texts line column [] none h is = absurd h
 merges-stand texts line column (b ∷ []) none h is = first-merges texts line column b [] is
-merges-stand texts line column (b ∷ c ∷ bs) none h is =
-    first-merges texts line column b (c ∷ bs) is
-    ∙ (word-merges b h.0 ∙ sym (words-end is_merging_byte true word-merges (c ∷ bs) h.1)
-    ∙ ap (λ k. bytes_end is_merging_byte k (c ∷ bs)) (sym (word-merges b h.0)))
+merges-stand texts line column (b ∷ c ∷ bs) none h is = search (rules, first-merges, word-merges, words-end)
 
 -- a byte that is no word byte and no space
 ends-stand : (n : ℕ) (texts : List (List ℕ)) → is_word_byte n ≡ false → (n == space) ≡ false
     → StandsFor texts (ends n texts) (λ b. b == n)
 ends-stand n texts word white line column [] none h is = absurd h
-ends-stand n texts word white line column (b ∷ []) none h is =
-    part-by (λ p. ends n texts p ≡ (b == n)) line column b []
-    (λ space_here. sym (differs (λ m. m == space) b n space_here white))
-    (λ _ word_here. sym (differs is_word_byte b n word_here word))
-    (λ _ sign. ap (λ k. k == n) is)
+ends-stand n texts word white line column (b ∷ []) none h is = grind (arith, nat_tests, part-by, differs)
 ends-stand n texts word white line column (b ∷ c ∷ bs) none h is =
-    rw (part-word line column b (c ∷ bs) h.0)
-    (sym (words-end (λ m. m == n) false (λ d word_here. differs is_word_byte d n word_here word) (b ∷ c ∷ bs) h))
+    grind (arith, nat_tests, part-word line column b (c ∷ bs) h.0, words-end, differs is_word_byte)
 
 front-byte : (bytes : List ℕ) (column : ℕ) (c rest : List ℕ) → IsChunk c → drop column bytes ≡ c ++ rest
     → get_or bytes column 0 ≡ get_or c 0 0
-front-byte bytes column [] rest h is = absurd h
-front-byte bytes column (b ∷ bs) rest h is =
-    ap (λ k. get_or bytes k 0) (omega arith) ∙ sym (get_or-drop column bytes 0 0) ∙ ap (λ l. get_or l 0 0) is
+front-byte bytes column c rest h is = grind (arith, nat_tests, get_or-drop column bytes 0 0)
 
 chunks-end : (texts : List (List ℕ)) (parts : RunPart → Bool) (bytes : ℕ → Bool) → StandsFor texts parts bytes
     → (line column : ℕ) (cs : List (List ℕ)) (rest : List ℕ) (none : Bool)
@@ -157,8 +149,7 @@ front-merges texts s ((b ∷ bs) ∷ cs) rest p ps h is parts =
 pub run-front : (texts : List (List ℕ)) (s : Span) (p : RunPart) (ps : List RunPart) → run_parts texts s ≡ p ∷ ps
     → may_merge texts (part_token p) ≡ is_merging_byte (first_byte texts s)
 unfolding run_parts
-run-front texts s p ps is =
-    front-merges texts s (chunks (span_text texts s)) _ p ps (chunks_are (span_text texts s)) (span_chunks texts s) is
+run-front texts s p ps is = search (rules, front-merges, chunks_are, span_chunks)
 
 -- the last token of a run that begins with this one
 

@@ -1,6 +1,7 @@
 -- Gathering a web block by block.
-use Rattle.std.proofs.Common.{◌≡◌, ◌≤◌, ◌<◌, ◌+◌, true, List, [], ◌∷◌, ◌++◌, length, map, refl, ap, sym, ◌∙◌, arith}
-use Rattle.std.proofs.Common.{Option, None, Some, option_to_list}
+use Rattle.std.proofs.lemmas.Bool.Decides.{nat_tests}
+use Rattle.std.proofs.Common.{◌≡◌, ◌≤◌, ◌<◌, ◌+◌, true, List, [], ◌∷◌, ◌++◌, length, map, refl, arith}
+use Rattle.std.proofs.Common.{Option, option_to_list}
 use Rattle.std.specs.Option.{IfSome, IfNone}
 use Rattle.tangle_lines.specs.Reading.{SourceRead}
 use Rattle.tangle_lexer.specs.declared.tokens.Token.{Token}
@@ -26,8 +27,7 @@ occurrences-end s = refl
 ends-body : (s : LexerState) (next_head : Option Token) (rest : List Cell)
     → IfSome next_head (λ head. is_head head ≡ true) → IfNone next_head (rest ≡ [])
     → body (option_to_list next_head ++ tokens_from s rest) ≡ []
-ends-body s None rest head end = ap body (ap (tokens_from s) end ∙ tokens-end s)
-ends-body s (Some e) rest head end = rw head refl
+ends-body s next_head rest head end = grind (arith, nat_tests, tokens-end)
 
 -- gathering a block, and then the tokens after it, gathers all of them
 pub block-builder : (source : SourceRead) (before : WebBuilderRead) (head : Token)
@@ -38,9 +38,7 @@ pub block-builder : (source : SourceRead) (before : WebBuilderRead) (head : Toke
     (option_to_list next_head ++ tokens_from after rest)
     ≡ builder_with source before (head ∷ tokens_from s text)
 block-builder source before head s after text rest block next_head all some end =
-    builder-cut source before (head ∷ block)
-    (option_to_list next_head ++ tokens_from after rest) (ends-body after next_head rest some end)
-    ∙ ap (λ es. builder_with source before (head ∷ es)) (sym all)
+    grind (arith, nat_tests, builder-cut, ends-body)
 
 -- gathering the tokens before the first head, and then those from it on, gathers all of them
 pub front-builder : (source : SourceRead) (before : WebBuilderRead) (s after : LexerState)
@@ -50,9 +48,7 @@ pub front-builder : (source : SourceRead) (before : WebBuilderRead) (s after : L
     → builder_with source (builder_with source before block) (option_to_list next_head ++ tokens_from after rest)
     ≡ builder_with source before (tokens_from s text)
 front-builder source before s after text rest block next_head all some end =
-    builder-cut source before block (option_to_list next_head ++ tokens_from after rest)
-    (ends-body after next_head rest some end)
-    ∙ ap (builder_with source before) (sym all)
+    grind (arith, nat_tests, builder-cut, ends-body)
 
 -- each head has at least one cell
 pub block-shorter : (text rest : List Cell) (next_head : Option Token)

@@ -1,12 +1,13 @@
 -- Rules 1 and 2 for the tokens of a macro, from item to item.
+use Rattle.std.proofs.lemmas.Bool.Decides.{nat_tests}
 use Rattle.std.proofs.Common.{arith}
-use Rattle.std.proofs.Common.{◌≡◌, ℕ, Bool, true, false, ◌||◌, not, List, [], ◌∷◌, ◌++◌, refl, ap, sym, ◌∙◌}
+use Rattle.std.proofs.Common.{◌≡◌, ℕ, Bool, true, false, ◌||◌, not, List, [], ◌∷◌, ◌++◌, refl, ap, ◌∙◌}
 use Rattle.std.proofs.Common.{if◌then◌else◌, append_assoc, append-nil}
 use Rattle.std.specs.List.{list_all}
 use Rattle.tangle_lexer.specs.declared.tokens.Token.{Token}
 use Rattle.tangle_lexer.specs.declared.tokens.Token.TheVariants as token
 use Rattle.tangle_scan.specs.Rules.{is_gap, without_joins, left_of_run, has_join, clean_tokens, white_inner_end}
-use Rattle.tangle_scan.specs.Rules.{with_spaces, with_name_space, with_space_after, may_follow_name, would_merge}
+use Rattle.tangle_scan.specs.Rules.{with_spaces, with_space_after, may_follow_name}
 use Rattle.tangle_scan.specs.Rules.{macro_tokens, is_front_gap}
 use Rattle.tangle_scan.specs.Passes.{with_white_space, gap_before, from_item, is_spaced, left_gap}
 use Rattle.tangle_scan.specs.Passes.{spaced_from, joined_from, is_solid}
@@ -17,18 +18,12 @@ use Rattle.tangle_scan.proofs.lemmas.RuleLemmas.{without_joins-gap}
 inside-spaced : (texts : List (List ℕ)) (e : Token) (es : List Token)
     → with_spaces texts (e ∷ es) ≡ e ∷ with_white_space texts false e es
 inside-spaced texts e [] = refl
-inside-spaced texts e (f ∷ es) =
-    ap (λ t. e ∷ (if would_merge texts e f then token.White ∷ [] else []) ++ t) (inside-spaced texts f es)
+inside-spaced texts e (f ∷ es) = grind (arith, nat_tests, inside-spaced texts f es)
 
 -- no white space is put after a join, white space or a line end
 after-gap : (texts : List (List ℕ)) (e : Token) (es : List Token) → is_gap e ≡ true
     → with_white_space texts false e es ≡ with_spaces texts es
-after-gap texts e [] h = refl
-after-gap texts token.Join (f ∷ es) h = sym (inside-spaced texts f es)
-after-gap texts token.White (f ∷ es) h = sym (inside-spaced texts f es)
-after-gap texts (token.LineEnd line) (f ∷ es) h = sym (inside-spaced texts f es)
-after-gap texts (token.InnerLineEnd line) (f ∷ es) h = sym (inside-spaced texts f es)
-after-gap texts _ (f ∷ es) h = cc
+after-gap texts e es h = grind (arith, nat_tests, inside-spaced texts)
 
 pub spaced-inside : (texts : List (List ℕ)) (es : List Token)
     → with_white_space texts false token.White es ≡ with_spaces texts es
@@ -45,8 +40,7 @@ after-name texts e f es x y is = grind arith
 name-after : (texts : List (List ℕ)) (e : Token) (es : List Token)
     → with_space_after texts e (with_white_space texts false e es) ≡ e ∷ with_white_space texts true e es
 name-after texts e [] = refl
-name-after texts e (f ∷ es) =
-    after-name texts e f (with_white_space texts false f es) (would_merge texts e f) (may_follow_name texts f) refl
+name-after texts e (f ∷ es) = grind (arith, nat_tests, after-name)
 
 -- rule 1 at a gap and at an item
 
@@ -57,14 +51,7 @@ gap-spaced texts first e es h same = grind arith
 
 item-spaced : (texts : List (List ℕ)) (first : Bool) (e : Token) (es : List Token) → is_solid e ≡ true
     → spaced_from texts first (e ∷ es) ≡ e ∷ with_white_space texts first e (clean_tokens es)
-item-spaced texts first token.White es h = cc
-item-spaced texts first (token.LineEnd line) es h = cc
-item-spaced texts first (token.InnerLineEnd line) es h = cc
-item-spaced texts first token.Join es h = cc
-item-spaced texts first (token.Fault kind line) es h = cc
-item-spaced texts false e es h = inside-spaced texts e (clean_tokens es)
-item-spaced texts true e es h =
-    ap (with_name_space texts) (inside-spaced texts e (clean_tokens es)) ∙ name-after texts e (clean_tokens es)
+item-spaced texts first e es h = grind (arith, nat_tests, inside-spaced, name-after)
 
 -- rule 2 at a gap, of which `run` was read, and at the item after it
 
@@ -73,9 +60,7 @@ run-more : (texts : List (List ℕ)) (first : Bool) (run : List Token) (e : Toke
     without_joins (run ++ e ∷ []) (spaced_from texts first es) ≡ left_of_run ((run ++ e ∷ []) ++ gap_before es) ++ ahead →
     without_joins run (spaced_from texts first (e ∷ es)) ≡ left_of_run (run ++ e ∷ gap_before es) ++ ahead
 run-more texts first run e es ahead h same more =
-    ap (without_joins run) (gap-spaced texts first e es h same)
-    ∙ (without_joins-gap run e (spaced_from texts first es) h
-    ∙ (more ∙ ap (λ t. left_of_run t ++ ahead) (append_assoc run (e ∷ []) (gap_before es))))
+    grind (arith, nat_tests, gap-spaced, without_joins-gap, append_assoc)
 
 run-ahead : (texts : List (List ℕ)) (first : Bool) (run es : List Token)
     → without_joins run (spaced_from texts first es)
@@ -126,15 +111,7 @@ left-ahead texts first before es =
 
 pub item-ahead : (texts : List (List ℕ)) (first : Bool) (e : Token) (es : List Token) → is_solid e ≡ true
     → joined_from texts first (e ∷ es) ≡ e ∷ (left_gap texts first e es ++ joined_from texts false (from_item es))
-item-ahead texts first e es h = rw (item-spaced texts first e es h) (by e h)
-  where
-    by : (e : Token) → is_solid e ≡ true → without_joins [] (e ∷ with_white_space texts first e (clean_tokens es))
-        ≡ e ∷ (left_gap texts first e es ++ joined_from texts false (from_item es))
-    by token.White h = cc
-    by (token.LineEnd line) h = cc
-    by (token.InnerLineEnd line) h = cc
-    by token.Join h = cc
-    by e h = ap (λ t. e ∷ t) (left-ahead texts first e es)
+item-ahead texts first e es h = grind (arith, nat_tests, item-spaced, left-ahead)
 
 -- what is left of a gap has no join
 
@@ -149,11 +126,4 @@ front-gap (_ ∷ es) h = refl
 
 pub left-front_gap : (texts : List (List ℕ)) (first : Bool) (before : Token) (es : List Token)
     → list_all is_front_gap (left_gap texts first before es) ≡ true
-left-front_gap texts first before es = by (is_spaced texts first before es) (has_join (gap_before es)) refl
-  where
-    by : (white join : Bool) → has_join (gap_before es) ≡ join → list_all is_front_gap
-        (left_of_run ((if white then token.White ∷ [] else []) ++ gap_before es)) ≡ true
-    by true true is = rw is refl
-    by false true is = rw is refl
-    by true false is = rw is (front-gap es is)
-    by false false is = rw is (front-gap es is)
+left-front_gap texts first before es = grind (arith, nat_tests, front-gap)

@@ -1,4 +1,6 @@
 -- Pieces as they are stored, with entries in place of items.
+use Rattle.std.proofs.Common.{arith}
+use Rattle.std.proofs.lemmas.Bool.Decides.{nat_tests}
 use Rattle.std.proofs.Common.{◌≡◌, ◌∙◌, ◌<◌, ℕ, List, [], ◌∷◌, ◌++◌, map, length, get_or, refl, ap, sym}
 use Rattle.std.specs.List.{All}
 use Rattle.std.proofs.lemmas.List.{map-append, length-map, get_or-map}
@@ -16,9 +18,7 @@ pieces-count texts stored pieces is = sym (length-map stored (piece_read texts))
 pub piece-at : (texts : List (List ℕ)) (stored : List StoredPiece) (pieces : List PieceRead)
     → map (piece_read texts) stored ≡ pieces → (n : ℕ) (p : StoredPiece) (none : PieceRead) → n < length stored
     → p ≡ get_or stored n p → get_or pieces n none ≡ piece_read texts p
-piece-at texts stored pieces is n p none low at =
-    ap (λ ps. get_or ps n none) (sym is)
-    ∙ (get_or-map (piece_read texts) stored n p none low ∙ ap (piece_read texts) (sym at))
+piece-at texts stored pieces is n p none low at = grind (arith, nat_tests, get_or-map)
 
 -- a piece with these items was added
 pub piece-added : (texts : List (List ℕ)) (before after : List StoredPiece) (piece : StoredPiece) (items : List Item)

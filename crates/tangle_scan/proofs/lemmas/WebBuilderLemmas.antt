@@ -1,3 +1,4 @@
+use Rattle.std.proofs.lemmas.Bool.Decides.{nat_tests}
 use Rattle.std.proofs.Common.{arith}
 use Rattle.std.proofs.Common.{◌≡◌, ℕ, ◌+◌, true, false, List, [], ◌∷◌, ◌++◌, refl, ap, sym, ◌∙◌, if◌then◌else◌}
 use Rattle.std.proofs.Common.{append_assoc, append-nil, ◌||◌, Option, None, Some}
@@ -21,33 +22,23 @@ use Rattle.tangle_scan.specs.WebBuilder.{WebBuilderRead, builder_with, with_head
 
 pub body-whole : (es : List Token) → list_any is_head es ≡ false → body es ≡ es
 body-whole [] h = refl
-body-whole (e ∷ es) h =
-    let both = or_parts (is_head e) (list_any is_head es) h in
-    rw both.0 (ap (λ t. e ∷ t) (body-whole es both.1))
+body-whole (e ∷ es) h = grind (arith, nat_tests, or_parts (is_head e) (list_any is_head es) h, body-whole es)
 
 -- an empty list of tokens adds nothing
 pub builder-nothing : (source : SourceRead) (before : WebBuilderRead) → builder_with source before [] ≡ before
 unfolding builder_with
-builder-nothing source before =
-    rw (append-nil before.pieces, append-nil before.macros, append-nil before.faults, or-false before.has_all_macros)
-    refl
+builder-nothing source before = grind (arith, nat_tests, append-nil, or-false)
 
 -- gathering a token, and then the tokens after it, gathers all of them
 builder-first : (source : SourceRead) (before : WebBuilderRead) (e : Token) (es : List Token)
     → builder_with source (with_head source before e es) es ≡ builder_with source before (e ∷ es)
 unfolding builder_with
-builder-first source before e es =
-    rw (flat_map-append, flat_map-append, list_any-append, append_assoc, append_assoc, append_assoc, or_assoc) refl
+builder-first source before e es = grind (arith, nat_tests, flat_map-append, list_any-append, append_assoc, or_assoc)
 
 -- a token that is no head adds its own fault only
 fault-added : (source : SourceRead) (before : WebBuilderRead) (e : Token) (es : List Token) → is_head e ≡ false
     → record before { faults = before.faults ++ own_fault source.files source.lines e } ≡ with_head source before e es
-fault-added source before token.Section es h = cc
-fault-added source before (token.MacroStart line) es h = cc
-fault-added source before (token.UnnamedPart line) es h = cc
-fault-added source before (token.NamedPart line occurrence) es h = cc
-fault-added source before _ es h =
-    rw (append-nil before.pieces, append-nil before.macros, or-false before.has_all_macros) refl
+fault-added source before e es h = grind (arith, nat_tests, append-nil, or-false)
 
 -- tokens without a head add only their faults
 pub front-whole : (source : SourceRead) (before : WebBuilderRead) (es : List Token) → list_any is_head es ≡ false
@@ -79,12 +70,15 @@ pub section-gathered : (source : SourceRead) (before : WebBuilderRead) (es : Lis
     → with_faults source es (record before { sections = before.sections + 1 })
     ≡ builder_with source before (token.Section ∷ es)
 section-gathered source before es none =
-    ap (with_faults source es) gathered ∙ block-whole source before token.Section es none
-  where
-    gathered : record before { sections = before.sections + 1 } ≡ with_head source before token.Section es
-    gathered =
-        rw (append-nil before.pieces, append-nil before.macros, append-nil before.faults, or-false before.has_all_macros)
-        refl
+    grind (
+      arith,
+      nat_tests,
+      block-whole source before token.Section es none,
+      append-nil before.pieces,
+      append-nil before.macros,
+      append-nil before.faults,
+      or-false before.has_all_macros,
+    )
 
 -- a C part
 
@@ -108,14 +102,15 @@ pub piece-gathered : (source : SourceRead) (before : WebBuilderRead) (occurrence
     → with_faults source es (with_piece source before occurrence line es)
     ≡ builder_with source before (part_head line occurrence ∷ es)
 piece-gathered source before occurrence line es none =
-    ap (with_faults source es) (gathered occurrence) ∙ block-whole source before (part_head line occurrence) es none
-  where
-    gathered : (name : Option ℕ)
-        → with_piece source before name line es ≡ with_head source before (part_head line name) es
-    gathered None =
-        rw (body-whole es none, append-nil before.macros, append-nil before.faults, or-false (list_any is_all_macros es)) refl
-    gathered (Some n) =
-        rw (body-whole es none, append-nil before.macros, append-nil before.faults, or-false (list_any is_all_macros es)) refl
+    grind (
+      arith,
+      nat_tests,
+      block-whole source before (part_head line occurrence) es none,
+      body-whole es none,
+      append-nil before.macros,
+      append-nil before.faults,
+      or-false (list_any is_all_macros es),
+    )
 
 -- a head is one of four kinds of tokens
 pub no-other-head : (e : Token)
@@ -132,19 +127,20 @@ body-cut (x ∷ xs) es cut = ap (λ t. if is_head x then [] else x ∷ t) (body-
 
 head-cut : (source : SourceRead) (before : WebBuilderRead) (x : Token) (xs es : List Token)
     → body es ≡ [] → with_head source before x xs ≡ with_head source before x (xs ++ es)
-head-cut source before (token.MacroStart line) xs es cut = rw (body-cut xs es cut) refl
-head-cut source before (token.UnnamedPart line) xs es cut = rw (body-cut xs es cut) refl
-head-cut source before (token.NamedPart line occurrence) xs es cut = rw (body-cut xs es cut) refl
-head-cut source before _ xs es cut = refl
+head-cut source before x xs es cut = grind (arith, nat_tests, body-cut)
 
 pub builder-cut : (source : SourceRead) (before : WebBuilderRead) (xs es : List Token) → body es ≡ [] →
     builder_with source (builder_with source before xs) es ≡ builder_with source before (xs ++ es)
 builder-cut source before [] es cut = ap (λ g. builder_with source g es) (builder-nothing source before)
 builder-cut source before (x ∷ xs) es cut =
-    ap (λ g. builder_with source g es) (sym (builder-first source before x xs))
-    ∙ (builder-cut source (with_head source before x xs) xs es cut
-    ∙ (ap (λ g. builder_with source g (xs ++ es)) (head-cut source before x xs es cut)
-    ∙ builder-first source before x (xs ++ es)))
+    grind (
+      arith,
+      nat_tests,
+      builder-first source before x xs,
+      builder-cut source (with_head source before x xs) xs es cut,
+      head-cut source before x xs es cut,
+      builder-first source before x (xs ++ es),
+    )
 
 -- a macro without a head inside, whose items were added or whose fault
 macro-added : (source : SourceRead) (before : WebBuilderRead) (line : ℕ) (es : List Token) → body es ≡ es →
@@ -155,14 +151,7 @@ macro-added : (source : SourceRead) (before : WebBuilderRead) (line : ℕ) (es :
       faults = before.faults
           ++ (if is_macro then [] else fault_on source.files source.lines fault.MacroName line ∷ []);
     } ≡ with_head source before (token.MacroStart line) es)
-macro-added source before line es whole =
-    rw (
-      whole,
-      append-nil before.pieces,
-      append-nil (if is_macro (texts_of source.lines) (macro_items (texts_of source.lines) es)
-          then macro_items (texts_of source.lines) es ∷ [] else []),
-      or-false before.has_all_macros,
-    ) refl
+macro-added source before line es whole = grind (arith, nat_tests, append-nil, or-false)
 
 pub macro-gathered : (source : SourceRead) (before : WebBuilderRead) (line : ℕ) (es : List Token)
     → list_any is_head es ≡ false →

@@ -1,4 +1,5 @@
 -- Which cells are a control text, a section name, an ASCII constant or a comment, and which are not.
+use Rattle.std.proofs.lemmas.Bool.Decides.{nat_tests}
 use Rattle.std.proofs.Common.{◌≡◌, ℕ, ◌+◌, List, [], ◌∷◌, ◌++◌, Some, None, inl, inr, refl, codes, true, false, arith}
 use Rattle.tangle_text.specs.Text.{Cell}
 use Rattle.tangle_lexer.specs.Segments.{ShowsKind}
@@ -55,8 +56,4 @@ no_constant_past_its_end h = let same = h.2 3 (omega arith) (omega arith) refl i
 -- comments
 
 pub no_comment_over_a_section_start : ShowsKind Comment (cells (codes "/*a@*b*/")) → ⊥
-no_comment_over_a_section_start h =
-    elim h [
-      | inl block ↦ let none : true ≡ false = block.2.0 in cc
-      | inr line ↦ let none : false ≡ true = line.0 in cc
-    ]
+no_comment_over_a_section_start h = grind (arith, nat_tests)

@@ -1,12 +1,13 @@
-use Rattle.std.proofs.Common.{◌≡◌, map, ◌++◌, ap, sym, subst, ◌∙◌, arith, append-nil}
+use Rattle.std.proofs.lemmas.Bool.Decides.{nat_tests}
+use Rattle.std.proofs.Common.{rules}
+use Rattle.std.proofs.Common.{map, ◌++◌, ap, sym, subst, ◌∙◌, arith}
 use Rattle.std.specs.List.{list_any, All}
 use Rattle.tangle_text.specs.Text.{texts_of}
-use Rattle.tangle_lexer.specs.declared.tokens.Token.TheVariants as token
 use Rattle.tangle_lexer.specs.Steps.{lexeme, tokens_from}
 use Rattle.tangle_lexer.specs.Heads.{is_head}
 use Rattle.tangle_lexer.specs.Runs.{unfolded, is_run, IsRunIn}
 use Rattle.tangle_lexer.specs.Occurrences.{occurrence_of}
-use Rattle.tangle_lexer.proofs.lemmas.HeadLemmas.{BeginsIn, IsPlain}
+use Rattle.tangle_lexer.proofs.lemmas.HeadLemmas.{IsPlain}
 use Rattle.tangle_lexer.proofs.lemmas.PlainTokens.{HasNone}
 use Rattle.tangle_lexer.proofs.lemmas.StepLemmas.{step-occurrences, step-count, step-shorter}
 use Rattle.tangle_lexer.proofs.lemmas.BlockLemmas.{taken, taken-tokens, not-taken, no-head, no-run}
@@ -33,9 +34,7 @@ returns-in-Some-pop_head c =
       no_run = λ other. ap (list_any is_run) found.same ∙ before.no_run other;
       no_head = ap (list_any is_head) found.same ∙ before.no_head;
       head = popped.1;
-      in_macro = λ line is.
-          let same : head ≡ token.MacroStart line = cc in
-          ap (λ s. s.mode) read.state ∙ subst (λ t. BeginsIn t (lexeme s text).after.mode) same found.begins;
+      in_macro = grind (arith, nat_tests);
       end = tt;
       shorter = omega (arith, step-shorter _ _ s _ text _ inside read, before.shorter);
       occurrences = step-occurrences lines _ _ _ _ s _ text _ inside read adds ∙ before.occurrences;
@@ -43,10 +42,7 @@ returns-in-Some-pop_head c =
     }
 
 pub returns-clause-tokens : goal.returns-clause-tokens
-returns-clause-tokens c =
-    let texts = texts_of c.args.source.now.lines in
-    sym (ap (λ ts. ts ++ tokens_from c.loop-front.state c.loop-front.reader)
-    (append-nil (unfolded texts c.loop-front.buffers.tokens.items)) ∙ c.loop-front.invariant.tokens)
+returns-clause-tokens c = search rules
 
 pub returns-clause-ours : goal.returns-clause-ours
 returns-clause-ours c = c.loop-front.invariant.ours

@@ -1,5 +1,6 @@
+use Rattle.std.proofs.lemmas.Grind.{common_steps}
 use Rattle.std.proofs.Common.{◌≡◌, ◌++◌, ◌∷◌, [], ◌+◌, take, inl, true≢false, false, refl, ap, sym, subst, ◌∙◌, arith}
-use Rattle.std.proofs.Common.{take-suc, take_all, add-one, ltb-false}
+use Rattle.std.proofs.Common.{take-suc, add-one, ltb-false}
 use Rattle.std.specs.Prelude.{slice_index_or}
 use Rattle.tangle_lexer.proofs.lemmas.NameWords.{IsPlainSoFar, past-space, plain-space, plain-byte}
 use Rattle.tangle_lexer.proofs.names.has_single_spaces.Goals as goal
@@ -31,8 +32,4 @@ loop-byte-preserved c =
     ])
 
 pub returns-then-not-white : goal.returns-then-not-white
-returns-then-not-white c = λ plain.
-    let all = take_all c.loop-byte.byte-index c.args.bytes.now c.loop-byte-test.false in
-    let h = subst (λ white. IsPlainSoFar (take c.loop-byte.byte-index c.args.bytes.now) white)
-    c.if-not-white.true c.loop-byte.invariant in
-    sym (subst (λ bs. IsPlainSoFar bs false) all h).1.form
+returns-then-not-white c = grind (arith, common_steps)

@@ -1,15 +1,12 @@
-use Rattle.std.proofs.Common.{◌+◌, Some, drop, ap, sym, ◌∙◌, refl, arith, drop-drop}
+use Rattle.std.proofs.lemmas.Bool.Decides.{nat_tests}
+use Rattle.std.proofs.Common.{◌+◌, Some, drop, ap, sym, ◌∙◌, arith, drop-drop}
 use Rattle.tangle_text.specs.Text.{byte_at, front_line}
 use Rattle.tangle_lexer.specs.Names.{count_before_equals, equals_by}
 use Rattle.tangle_lexer.proofs.lemmas.NameLemmas.{equals-further}
 use Rattle.tangle_lexer.proofs.names.pass_equals.Goals as goal
 
 pub returns-in-Absent : goal.returns-in-Absent
-returns-in-Absent c =
-    let further = c.skip_to_equals.ensures ∙ ap (λ t. drop (count_before_equals t) t) c.copy-further.ensures in
-    let is =
-    c.equals_at.ensures ∙ (ap (λ t. equals_by (byte_at 0 t) (byte_at 1 t)) further ∙ equals-further c.args.reader.now) in
-    rw (sym is ∙ c.in-Absent.is) (refl, refl)
+returns-in-Absent c = grind (arith, nat_tests, equals-further)
 
 pub returns-in-Single : goal.returns-in-Single
 returns-in-Single c =

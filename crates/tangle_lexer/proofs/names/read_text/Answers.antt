@@ -1,51 +1,32 @@
-use Rattle.std.proofs.Common.{Result, Ok, Err, OnOk, [], ◌++◌, drop, ap, refl, sym, ◌∙◌}
-use Rattle.std.proofs.Common.{append_assoc, append-nil, length, length-drop, arith}
-use Rattle.std.proofs.lemmas.Result.{IfOk-weaker}
+use Rattle.std.proofs.Common.{rules}
+use Rattle.std.proofs.lemmas.Bool.Decides.{nat_tests}
+use Rattle.std.proofs.Common.{Result, OnOk, [], drop, ap, refl, sym}
+use Rattle.std.proofs.Common.{append_assoc, length, length-drop, arith}
 use Rattle.tangle_text.specs.declared.regions.Region.TheVariants as region
-use Rattle.tangle_text.specs.Regions.{region_end, more_by}
-use Rattle.tangle_lexer.specs.Names.{normal_form}
-use Rattle.tangle_text.specs.NameBytes.{name_bytes, unit_name_bytes}
+use Rattle.tangle_text.specs.Regions.{more_by}
+use Rattle.tangle_text.specs.NameBytes.{name_bytes}
 use Rattle.tangle_text.proofs.RegionLemmas.{unit_at-front, region_end-nothing, region_end-stop, region_end-go}
-use Rattle.tangle_lexer.proofs.lemmas.LexemeLemmas.{name_bytes-go, name_bytes-stop}
+use Rattle.tangle_lexer.proofs.lemmas.LexemeLemmas.{name_bytes-go}
 use Rattle.tangle_lexer.proofs.names.read_text.Goals as goal
 
 if_ok : {T E P : Type 0} (r : Result T E) → P → OnOk r P
-if_ok (Ok x) p = p
-if_ok (Err e) p = tt
+if_ok r p = grind (arith, nat_tests)
 
 -- the name that is a slice of its line
 
 pub returns-then-has_single_spaces-clause-text : goal.returns-then-has_single_spaces-clause-text
-returns-then-has_single_spaces-clause-text c =
-    let slice = c.in_ok-slice.slice in
-    let none = name_bytes-stop c.take_name_bytes.new.self (c.is_name_end.ensures.0 c.if-is_name_end.true) in
-    let given = c.in_ok-slice.ensures.units ∙ ap (λ bs. slice ++ bs) none ∙ append-nil slice in
-    let normal = rw (c.bytes.ensures) at c.has_single_spaces.ensures c.if-has_single_spaces.true in
-    sym normal ∙ ap normal_form (sym given)
+returns-then-has_single_spaces-clause-text c = search rules
 
 pub returns-then-has_single_spaces-clause-ahead : goal.returns-then-has_single_spaces-clause-ahead
-returns-then-has_single_spaces-clause-ahead c =
-    let stop =
-    region_end-stop region.Name c.take_name_bytes.new.self (c.is_name_end.ensures.0 c.if-is_name_end.true) in
-    sym (c.in_ok-slice.ensures.end ∙ stop)
+returns-then-has_single_spaces-clause-ahead c = grind (arith, nat_tests, region_end-stop)
 
 -- the name that is read unit by unit
 
 pub returns-in-Stop-clause-text : goal.returns-in-Stop-clause-text
-returns-in-Stop-clause-text c =
-    let here =
-    unit_at-front region.Name c.loop-front.reader c.in-Some.front _ c.in-Some.ensures.front c.unit_of-unit.ensures in
-    let none = name_bytes-stop c.loop-front.reader (here ∙ c.in-Stop.is) in
-    let name = c.loop-front.invariant.name in
-    let whole = name.1.form ∙ ap normal_form (sym (name.2 ∙ ap (λ bs. name.0 ++ bs) none ∙ append-nil name.0)) in
-    IfOk-weaker c.whole.result _ _ (λ slice is. is ∙ whole) c.whole.ensures
+returns-in-Stop-clause-text c = search rules
 
 pub returns-in-Stop-clause-ahead : goal.returns-in-Stop-clause-ahead
-returns-in-Stop-clause-ahead c =
-    let here =
-    unit_at-front region.Name c.loop-front.reader c.in-Some.front _ c.in-Some.ensures.front c.unit_of-unit.ensures in
-    if_ok c.whole.result
-    (sym (region_end-stop region.Name c.loop-front.reader (here ∙ c.in-Stop.is)) ∙ c.loop-front.invariant.end)
+returns-in-Stop-clause-ahead c = grind (arith, nat_tests, unit_at-front, if_ok, region_end-stop)
 
 pub loop-front-init : goal.loop-front-init
 loop-front-init c =
@@ -64,36 +45,12 @@ loop-front-preserved c =
     let begins = c.in_ok-slice-2.ensures in
     let units = name_bytes in
     record {
-      end = sym begins.end ∙ ap (region_end region.Name) c.pass.ensures
-          ∙ (sym (region_end-go region.Name c.loop-front.reader c.unit_of-unit.result here c.in_default-unit.not-Stop)
-          ∙ c.loop-front.invariant.end);
-      name =
-          let unit = rw (front.byte, front.next) at given in
-          let name = c.loop-front.invariant.name in
-          let before = name.0 ++ unit_name_bytes c.unit_of-unit.result c.in-Some.front.byte c.in-Some.front.next in
-          let bytes = c.in_ok-slice-2.slice in
-          let rest = units c.take_name_bytes-in-Some.new.self in (
-            before ++ bytes,
-            rw (c.bytes-in-Some.ensures) at c.in_ok-white-3.ensures before (c.in_ok-white-2.ensures name.0 name.1),
-            (
-                name.2
-                ∙ ap (λ bs. name.0 ++ bs)
-                (unit
-                ∙ ap (λ bs. unit_name_bytes c.unit_of-unit.result c.in-Some.front.byte c.in-Some.front.next ++ bs)
-                (ap units (sym c.pass.ensures) ∙ begins.units))
-                ∙ sym (append_assoc name.0
-                (unit_name_bytes c.unit_of-unit.result c.in-Some.front.byte c.in-Some.front.next) (bytes ++ rest))
-                ∙ sym (append_assoc before bytes rest)
-                ),
-          );
+      end = grind (arith, nat_tests, region_end-go);
+      name = grind (arith, nat_tests, append_assoc);
     }
 
 pub returns-clause-ahead : goal.returns-clause-ahead
-returns-clause-ahead c =
-    if_ok c.whole-2.result
-    (c.in_default.ensures.end
-    ∙ (sym (region_end-nothing region.Name)
-    ∙ (sym (ap (region_end region.Name) c.in_default.ensures.end) ∙ c.loop-front.invariant.end)))
+returns-clause-ahead c = grind (arith, nat_tests, if_ok, region_end-nothing)
 
 pub loop-front-smaller : goal.loop-front-smaller
 loop-front-smaller c =

@@ -1,8 +1,7 @@
-use Rattle.std.proofs.Common.{sym, ◌∙◌}
-use Rattle.tangle_text.specs.declared.regions.Region.TheVariants as region
+use Rattle.std.proofs.Common.{arith}
+use Rattle.std.proofs.lemmas.Bool.Decides.{nat_tests}
 use Rattle.tangle_lexer.proofs.lemmas.CutLemmas.{at_once-end}
 use Rattle.tangle_lexer.proofs.quoted.push_verbatim.Goals as goal
 
 pub returns-then-ends_at_once-clause-ahead : goal.returns-then-ends_at_once-clause-ahead
-returns-then-ends_at_once-clause-ahead c =
-    at_once-end region.Verbatim c.args.reader.now (sym c.ends_at_once.ensures ∙ c.if-ends_at_once.true)
+returns-then-ends_at_once-clause-ahead c = grind (arith, nat_tests, at_once-end)

@@ -1,4 +1,5 @@
-use Rattle.std.proofs.Common.{length, ap, sym, subst, ◌∙◌, arith}
+use Rattle.std.proofs.Common.{rules}
+use Rattle.std.proofs.Common.{sym, subst, arith}
 use Rattle.tangle_lexer.specs.Lexemes.{with_line}
 use Rattle.tangle_lexer.specs.Reads.{ReadsOn}
 use Rattle.tangle_lexer.proofs.lemmas.BlockLemmas.{reads-nothing, reads-trans}
@@ -8,15 +9,7 @@ pub returns-then-not-is_c_text-clause-read : goal.returns-then-not-is_c_text-cla
 returns-then-not-is_c_text-clause-read c = λ lines ours. reads-nothing lines _ c.args.from c.args.reader.now ours
 
 pub loop-simple-init : goal.loop-simple-init
-loop-simple-init c = record {
-  read = λ lines ours.
-      subst (λ t. ReadsOn lines c.args.tokens.now.items c.args.tokens.now.items c.args.from c.args.from
-      c.args.reader.now t) (sym c.copy-here.ensures)
-      (reads-nothing lines c.args.tokens.now.items c.args.from c.args.reader.now ours);
-  adds = record { no_head = λ none. none; no_run = λ other none. none };
-  shorter = omega (arith, ap length c.copy-here.ensures);
-  mode = sym c.is_c_text.ensures ∙ c.if-not-is_c_text.false;
-}
+loop-simple-init c = search rules
 
 pub loop-simple-preserved : goal.loop-simple-preserved
 loop-simple-preserved c =

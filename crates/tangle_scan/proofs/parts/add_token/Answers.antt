@@ -1,9 +1,11 @@
+use Rattle.std.proofs.Common.{arith}
+use Rattle.std.proofs.lemmas.Grind.{common_steps}
 use Rattle.std.proofs.Common.{ap, refl, subst}
-use Rattle.tangle_lexer.specs.Runs.{IsRunIn, IsRunOf}
+use Rattle.tangle_lexer.specs.Runs.{IsRunIn}
 use Rattle.tangle_scan.specs.declared.items.Entry.TheVariants as entry
 use Rattle.tangle_scan.specs.declared.parts.PartState.{PartState}
 use Rattle.tangle_scan.specs.Rules.{texts_of}
-use Rattle.tangle_scan.proofs.lemmas.EntryLemmas.{marked-item, marked-end, range-items, range-push}
+use Rattle.tangle_scan.proofs.lemmas.EntryLemmas.{marked-item, range-items, range-push}
 use Rattle.tangle_scan.proofs.lemmas.PartLemmas.{passed-white, passed-inner_end, passed-fault, passed-joined-end, passed-end}
 use Rattle.tangle_scan.proofs.lemmas.PartLemmas.{passed-join, passed-item, passed-run}
 use Rattle.tangle_scan.proofs.lemmas.RuleLemmas.{solid}
@@ -33,15 +35,12 @@ returns-in_ok-add_line_end-in-LineEnd-clause-passed c = λ whole es h.
     c.add_line_end.new.at.counted es c.in_default-last.not-Joined made.counted (rw c.in-LineEnd.is at h))
 
 pub returns-in_ok-add_line_end-in-LineEnd-clause-mark : goal.returns-in_ok-add_line_end-in-LineEnd-clause-mark
-returns-in_ok-add_line_end-in-LineEnd-clause-mark c = λ h.
-    let made = c.in_ok-add_line_end-in-LineEnd.ensures in
-    marked-end c.args.entries.now.items _ c.args.at.now _ _ h made.entries
-    (ap (λ (s : PartState). s.start) made.at) made.mark
+returns-in_ok-add_line_end-in-LineEnd-clause-mark c = grind (arith, common_steps)
 
 pub returns-in_ok-add_line_end-in-LineEnd-clause-runs : goal.returns-in_ok-add_line_end-in-LineEnd-clause-runs
-returns-in_ok-add_line_end-in-LineEnd-clause-runs c = λ h.
+returns-in_ok-add_line_end-in-LineEnd-clause-runs c =
     range-push (texts_of c.args.source.now.lines) c.args.entries.now.items _ _ tt
-    c.in_ok-add_line_end-in-LineEnd.ensures.entries h
+    c.in_ok-add_line_end-in-LineEnd.ensures.entries c.requires.runs
 
 pub returns-in_ok-add_run-in-Run-clause-passed : goal.returns-in_ok-add_run-in-Run-clause-passed
 returns-in_ok-add_run-in-Run-clause-passed c = λ whole es h.
@@ -52,11 +51,10 @@ returns-in_ok-add_run-in-Run-clause-passed c = λ whole es h.
     (subst (IsRunIn (texts_of lines)) c.in-Run.is c.requires.run) (rw c.in-Run.is at h))
 
 pub returns-in_ok-add_run-in-Run-clause-runs : goal.returns-in_ok-add_run-in-Run-clause-runs
-returns-in_ok-add_run-in-Run-clause-runs c = λ h.
+returns-in_ok-add_run-in-Run-clause-runs c =
     let texts = texts_of c.args.source.now.lines in
-    let run : IsRunOf texts c.in-Run.span = subst (IsRunIn texts) c.in-Run.is c.requires.run in
-    range-push texts _ _ (entry.Run c.in-Run.span) run.span c.in_ok-add_run-in-Run.ensures.entries
-    (range-items texts c.args.entries.now.items _ _ refl h)
+    range-push texts _ _ (entry.Run c.in-Run.span) (subst (IsRunIn texts) c.in-Run.is c.requires.run)
+    c.in_ok-add_run-in-Run.ensures.entries (range-items texts c.args.entries.now.items _ _ refl c.requires.runs)
 
 pub returns-in-Join-clause-passed : goal.returns-in-Join-clause-passed
 returns-in-Join-clause-passed c = λ whole es h.
@@ -86,7 +84,7 @@ returns-in_ok-add_item-in_default-clause-mark c = λ h.
     (ap (λ (s : PartState). s.start) made.at) made.mark
 
 pub returns-in_ok-add_item-in_default-clause-runs : goal.returns-in_ok-add_item-in_default-clause-runs
-returns-in_ok-add_item-in_default-clause-runs c = λ h.
+returns-in_ok-add_item-in_default-clause-runs c =
     let texts = texts_of c.args.source.now.lines in
     range-items texts _ _ _ c.in_ok-add_item-in_default.ensures.entries
-    (range-items texts c.args.entries.now.items _ _ refl h)
+    (range-items texts c.args.entries.now.items _ _ refl c.requires.runs)

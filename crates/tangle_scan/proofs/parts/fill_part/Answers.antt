@@ -1,4 +1,5 @@
-use Rattle.std.proofs.Common.{◌||◌, ◌++◌, ◌∷◌, [], append_assoc, append-nil, take, get_or, ap, arith, refl, sym, ◌∙◌, subst, rules}
+use Rattle.std.proofs.lemmas.Grind.{common_steps}
+use Rattle.std.proofs.Common.{◌||◌, ◌++◌, ◌∷◌, [], append_assoc, append-nil, take, get_or, ap, arith, sym, ◌∙◌, subst, rules}
 use Rattle.std.proofs.lemmas.List.{drop_all, drop_more, take_more}
 use Rattle.std.specs.List.{flat_map}
 use Rattle.tangle_scan.specs.WebBuilder.{own_fault}
@@ -9,31 +10,16 @@ use Rattle.tangle_lexer.specs.Runs.{unfolded}
 use Rattle.tangle_scan.specs.Passes.{IsPassed}
 use Rattle.tangle_scan.specs.Rules.{texts_of, part_items}
 use Rattle.tangle_scan.specs.Web.{is_all_macros}
-use Rattle.std.specs.List.{list_any}
-use Rattle.std.proofs.lemmas.List.Folds.{list_any-append}
-use Rattle.std.proofs.Math.Bool.{or-false}
-use Rattle.tangle_scan.specs.Entries.{items_of, entry_is_mark}
-use Rattle.tangle_scan.proofs.lemmas.EntryLemmas.{items-more, range-items, blank-unmarked}
+use Rattle.tangle_scan.specs.Entries.{items_of}
+use Rattle.tangle_scan.proofs.lemmas.EntryLemmas.{items-more, range-items}
 use Rattle.tangle_scan.proofs.lemmas.PartLemmas.{passed-begin, passed-whole}
-use Rattle.tangle_scan.proofs.lemmas.UnfoldedTokens.{no-head-at}
 use Rattle.tangle_scan.proofs.parts.fill_part.Goals as goal
 
 pub loop-token-init : goal.loop-token-init
-loop-token-init c =
-    let counted = c.counted_on-counted.ensures in
-    record {
-      passed = rw c.clear.ensures.items (passed-begin c.args.source.now.lines c.args.line _ _ refl refl
-          counted.origin counted.origin);
-      limit = omega (arith, counted.limit);
-      mark = rw c.clear.ensures.items (record { start = omega arith; now = sym counted.mark; before = sym counted.mark });
-      runs = rw c.clear.ensures.items (λ k d low. absurd (omega (arith, low)));
-      all_macros = refl;
-      faults = search rules;
-    }
+loop-token-init c = search (rules, passed-begin)
 
 pub add_token-requires-clause-no_head : goal.add_token-requires-clause-no_head
-add_token-requires-clause-no_head c =
-    no-head-at c.args.tokens.now c.loop-token.token-index token.Section c.requires.no_head (omega arith)
+add_token-requires-clause-no_head c = grind (arith, common_steps)
 
 pub loop-token-preserved : goal.loop-token-preserved
 loop-token-preserved c =
@@ -51,7 +37,7 @@ loop-token-preserved c =
           (drop_more tokens index token.Section (omega arith)) was.passed);
       limit = omega (arith, added.limit, was.limit);
       mark = added.mark was.mark;
-      runs = added.runs was.runs;
+      runs = added.runs;
       all_macros = added.all_macros
           ∙ (ap (λ b. b || is_all_macros e) was.all_macros ∙ sym (list_any_more is_all_macros tokens index token.Section (omega arith)));
       faults = added.faults
@@ -76,7 +62,4 @@ returns-clause-runs c =
     c.in_ok-add_last_blank.ensures c.loop-token.invariant.runs
 
 pub returns-clause-mark : goal.returns-clause-mark
-returns-clause-mark c =
-    let entries = c.loop-token.entries.items in
-    sym (ap (list_any entry_is_mark) c.in_ok-add_last_blank.ensures
-    ∙ rw (list_any-append entry_is_mark entries, blank-unmarked, or-false) c.loop-token.invariant.mark.now)
+returns-clause-mark c = grind (arith, common_steps)

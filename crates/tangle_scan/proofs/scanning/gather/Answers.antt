@@ -1,5 +1,7 @@
-use Rattle.std.proofs.Common.{◌≡◌, ◌∷◌, [], ◌++◌, ◌∙◌, sym, ap, arith, map, length, append_assoc, append-nil}
-use Rattle.std.proofs.Common.{option_to_list, List, Option, None, Some}
+use Rattle.std.proofs.Common.{rules}
+use Rattle.std.proofs.lemmas.Bool.Decides.{nat_tests}
+use Rattle.std.proofs.Common.{◌≡◌, [], ◌++◌, ◌∙◌, ap, arith, map, length, append_assoc, append-nil}
+use Rattle.std.proofs.Common.{option_to_list, List, Option, None}
 use Rattle.std.specs.Option.{IfNone}
 use Rattle.std.proofs.lemmas.List.Elements.{All-nil}
 use Rattle.std.specs.List.{All}
@@ -25,11 +27,7 @@ other-mode : (m : Mode) → m ≡ mode.Macro → m ≡ mode.CPart → ⊥
 other-mode m macro part = cc
 
 pub add_block-requires-clause-no_run : goal.add_block-requires-clause-no_run
-add_block-requires-clause-no_run c =
-    λ line is.
-    let macro = c.loop-next_head.invariant.in_macro line (c.in-Some.is ∙ ap Some is) in
-    rw c.deref-in-Some.ensures.value
-    (c.in_ok-state-2.ensures.no_run (other-mode c.loop-next_head.state.mode macro))
+add_block-requires-clause-no_run c = search rules
 
 pub loop-next_head-init : goal.loop-next_head-init
 loop-next_head-init c =
@@ -76,68 +74,14 @@ loop-next_head-init c =
     }
 
 pub loop-next_head-preserved : goal.loop-next_head-preserved
-loop-next_head-preserved c =
-    let source = c.args.source.now in
-    let texts = texts_of source.lines in
-    let before = c.loop-next_head in
-    let next = c.in_ok-state-2 in
-    let read = next.ensures in
-    let rest = c.next_block-in-Some.new.reader in
-    let ahead = option_to_list next.field-0-1 ++ tokens_from next.field-0-0 rest in
-    let all = read.tokens
-    ∙ append_assoc (unfolded texts c.next_block-in-Some.new.buffers.tokens.items)
-    (option_to_list next.field-0-1) (tokens_from next.field-0-0 rest) in
-    let gathered = builder_read texts before.builder in
-    let block = block-builder source gathered c.in-Some.head
-    before.state next.field-0-0 before.reader rest _ _ all read.head read.end in
-    let added = c.in_ok-add_block.ensures.builder
-    ∙ ap (λ ts. builder_with source gathered (c.in-Some.head ∷ unfolded texts ts)) c.deref-in-Some.ensures.value in
-    record {
-      count = read.count;
-      head = read.head;
-      end = read.end;
-      ours = read.ours;
-      in_macro = read.in_macro;
-      kept = c.in_ok-add_block.ensures.kept;
-      builder = ap (λ g. builder_with source g ahead) added ∙ (block
-          ∙
-          (ap (λ f. builder_with source gathered (option_to_list f ++ tokens_from before.state before.reader))
-          (sym c.in-Some.is)
-          ∙ before.invariant.builder));
-      occurrences = read.occurrences ∙ before.invariant.occurrences;
-      limit = omega (
-        arith,
-        c.in_ok-add_block.ensures.sections,
-        block-shorter before.reader rest next.field-0-1 read.shorter read.end,
-        before.invariant.limit,
-        ap (λ f. length (option_to_list f)) c.in-Some.is,
-      );
-    }
+loop-next_head-preserved c = grind (arith, nat_tests, append_assoc, block-builder, block-shorter)
 
 nothing-ahead : (next_head : Option Token) (ahead : List Cell)
     → IfNone next_head (ahead ≡ []) → next_head ≡ None → ahead ≡ []
-nothing-ahead None ahead end is = end
-nothing-ahead (Some head) ahead end is = cc
+nothing-ahead next_head ahead end is = grind (arith, nat_tests)
 
 pub returns-clause-builder : goal.returns-clause-builder
-returns-clause-builder c =
-    let source = c.args.source.now in
-    let end = c.loop-next_head in
-    let gathered = builder_read (texts_of source.lines) end.builder in
-    let ahead = nothing-ahead end.next_head end.reader end.invariant.end c.in_default.is in
-    sym
-    (ap (λ f. builder_with source gathered (option_to_list f ++ tokens_from end.state end.reader)) c.in_default.is
-    ∙ (ap (λ text. builder_with source gathered (tokens_from end.state text)) ahead
-    ∙ (ap (builder_with source gathered) (tokens-end end.state) ∙ builder-nothing source gathered)))
-    ∙ end.invariant.builder
+returns-clause-builder c = grind (arith, nat_tests, nothing-ahead, tokens-end, builder-nothing)
 
 pub returns-clause-occurrences : goal.returns-clause-occurrences
-returns-clause-occurrences c =
-    let lines = c.args.source.now.lines in
-    let end = c.loop-next_head in
-    let ahead = nothing-ahead end.next_head end.reader end.invariant.end c.in_default.is in
-    let none : map (occurrence_of lines) (occurrences_from end.state end.reader) ≡ [] =
-    ap (λ text. map (occurrence_of lines) (occurrences_from end.state text)) ahead
-    ∙ ap (map (occurrence_of lines)) (occurrences-end end.state) in
-    sym (append-nil end.buffers.occurrences.items)
-    ∙ (ap (λ ns. end.buffers.occurrences.items ++ ns) (sym none) ∙ end.invariant.occurrences)
+returns-clause-occurrences c = grind (arith, nat_tests, nothing-ahead, occurrences-end, append-nil)

@@ -1,4 +1,5 @@
-use Rattle.std.proofs.Common.{◌∙◌}
+use Rattle.std.proofs.Common.{arith}
+use Rattle.std.proofs.lemmas.Bool.Decides.{nat_tests}
 use Rattle.tangle_scan.proofs.lemmas.ScanLemmas.{web-whole}
 use Rattle.tangle_scan.proofs.laws.WebLaws.{web-line-truth}
 use Rattle.tangle_scan.proofs.laws.WebsAsMeant.{web-as-meant}
@@ -11,9 +12,7 @@ new-requires-clause-well_formed c =
     rw (web-whole c.args.source.now _ _ builder.builder builder.occurrences) (web-well-formed c.args.source.now)
 
 pub returns-clause-web : goal.returns-clause-web
-returns-clause-web c =
-    let builder = c.in_ok-builder.ensures in
-    c.new.ensures ∙ web-whole c.args.source.now _ _ builder.builder builder.occurrences
+returns-clause-web c = grind (arith, nat_tests, web-whole)
 
 pub returns-clause-well_formed : goal.returns-clause-well_formed
 returns-clause-well_formed c = rw (returns-clause-web c) (web-well-formed c.args.source.now)

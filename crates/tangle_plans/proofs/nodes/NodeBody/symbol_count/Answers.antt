@@ -11,6 +11,6 @@ returns c = λ names shape h cap low.
       arith,
       ap own_counts (drop_all c.loop-tag.tag-index body.tags.items
           (omega (arith, c.as_slice-tag-items.ensures.len, c.loop-tag-test.false))),
-      c.loop-tag.invariant cap low,
+      c.loop-tag.invariant.counted,
       body_counted names shape body h,
     )

@@ -1,3 +1,4 @@
+use Rattle.std.proofs.Common.{rules}
 use Rattle.std.proofs.Common.{◌++◌, ◌∷◌, ◌+◌, ap, sym, ◌∙◌, None, Some}
 use Rattle.std.proofs.lemmas.Result.{on_ok_weaker}
 use Rattle.tangle_lexer.specs.declared.tokens.Token.TheVariants as token
@@ -5,7 +6,7 @@ use Rattle.tangle_lexer.specs.Runs.{unfolded}
 use Rattle.tangle_scan.specs.Rules.{texts_of}
 use Rattle.tangle_scan.specs.WebBuilder.{builder_read, builder_with}
 use Rattle.tangle_scan.proofs.lemmas.UnfoldedTokens.{faults-unfolded, unfolded-no_head, unfolded-same}
-use Rattle.tangle_scan.proofs.lemmas.WebBuilderLemmas.{section-gathered, macro-gathered, piece-gathered, no-other-head}
+use Rattle.tangle_scan.proofs.lemmas.WebBuilderLemmas.{section-gathered, macro-gathered, piece-gathered}
 use Rattle.tangle_scan.proofs.web_builder.WebBuilder.add_block.Goals as goal
 
 pub returns-in-Section-clause-builder : goal.returns-in-Section-clause-builder
@@ -65,7 +66,4 @@ returns-in-NamedPart-clause-builder c =
     c.add_piece-in-NamedPart.ensures.piece
 
 pub returns-in_default : goal.returns-in_default
-returns-in_default c =
-    let other = c.in_default in
-    absurd (no-other-head c.args.head c.requires.head other.not-Section
-    other.not-MacroStart other.not-UnnamedPart other.not-NamedPart)
+returns-in_default c = search rules

@@ -1,3 +1,4 @@
+use Rattle.std.proofs.Common.{rules}
 use Rattle.std.proofs.Common.{◌||◌, ◌++◌, ◌∷◌, [], ◌∙◌, ap}
 use Rattle.std.specs.List.{list_any, flat_map}
 use Rattle.tangle_lines.specs.declared.origin.Origin.{Origin}
@@ -8,7 +9,7 @@ use Rattle.tangle_scan.specs.Rules.{texts_of, part_items}
 use Rattle.tangle_scan.specs.Web.{is_all_macros}
 use Rattle.tangle_scan.specs.WebBuilder.{StoredBuilder, WebBuilderRead, builder_read, own_fault}
 use Rattle.tangle_scan.proofs.lemmas.UnfoldedTokens.{all_macros-unfolded, faults-unfolded}
-use Rattle.tangle_scan.proofs.lemmas.StoredPieces.{piece-added, runs-added}
+use Rattle.tangle_scan.proofs.lemmas.StoredPieces.{piece-added}
 use Rattle.tangle_scan.proofs.web_builder.WebBuilder.add_piece.Goals as goal
 
 pub returns-clause-piece : goal.returns-clause-piece
@@ -49,9 +50,4 @@ returns-clause-piece c =
     ) (ap added c.self.view_is)
 
 pub returns-clause-kept : goal.returns-clause-kept
-returns-clause-kept c =
-    let texts = texts_of c.args.source.now.lines in
-    let entries = ap (λ p. p.entries) c.new-piece.ensures in
-    runs-added texts c.args.self.now.pieces c.push.new.self.items c.new-piece.result
-    ((c.in_ok-push.ensures).items ∙ ap (λ g. g.pieces ++ c.new-piece.result ∷ []) c.self.view_is)
-    c.requires.kept (rw entries c.in_ok-entries.ensures.runs)
+returns-clause-kept c = search rules

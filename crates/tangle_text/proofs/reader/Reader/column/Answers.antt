@@ -1,8 +1,7 @@
-use Rattle.std.proofs.Common.{refl}
+use Rattle.std.proofs.Common.{arith}
+use Rattle.std.proofs.lemmas.Bool.Decides.{nat_tests}
 use Rattle.tangle_text.proofs.AheadLemmas.{rest_of-cell}
 use Rattle.tangle_text.proofs.reader.Reader.column.Goals as goal
 
 pub returns-else-self-clause-column : goal.returns-else-self-clause-column
-returns-else-self-clause-column c =
-    let r = c.self.inside in
-    rw (← c.self.view_is, c.if-self.false, rest_of-cell r.source.now.lines r.bytes.now r.line r.column) refl
+returns-else-self-clause-column c = grind (arith, nat_tests, rest_of-cell)

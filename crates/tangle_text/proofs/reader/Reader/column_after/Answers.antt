@@ -1,3 +1,4 @@
+use Rattle.std.proofs.lemmas.Grind.{common_steps}
 use Rattle.std.proofs.Common.{arith, refl}
 use Rattle.tangle_text.proofs.AheadLemmas.{at-byte}
 use Rattle.tangle_text.proofs.reader.Reader.column_after.Goals as goal
@@ -6,5 +7,4 @@ pub returns-clause-column : goal.returns-clause-column
 returns-clause-column c = rw (at-byte c.self.inside c.args.self.now c.self.view_is c.requires).ahead refl
 
 pub returns-clause-short : goal.returns-clause-short
-returns-clause-short c =
-    omega (arith, (at-byte c.self.inside c.args.self.now c.self.view_is c.requires).inside, c.self.invariant)
+returns-clause-short c = grind (arith, common_steps)

@@ -1,8 +1,7 @@
-use Rattle.std.proofs.Common.{refl}
+use Rattle.std.proofs.Common.{arith}
+use Rattle.std.proofs.lemmas.Bool.Decides.{nat_tests}
 use Rattle.tangle_text.proofs.AheadLemmas.{rest_of-cell}
 use Rattle.tangle_text.proofs.reader.Reader.line.Goals as goal
 
 pub returns-else-self : goal.returns-else-self
-returns-else-self c =
-    let r = c.self.inside in
-    rw (← c.self.view_is, c.if-self.false, rest_of-cell r.source.now.lines r.bytes.now r.line r.column) refl
+returns-else-self c = grind (arith, nat_tests, rest_of-cell)

@@ -1,10 +1,7 @@
-use Rattle.std.proofs.Common.{drop, ap, sym, ◌∙◌}
-use Rattle.tangle_text.specs.Text.{byte_at}
+use Rattle.std.proofs.Common.{arith}
+use Rattle.std.proofs.lemmas.Bool.Decides.{nat_tests}
 use Rattle.tangle_text.proofs.AheadLemmas.{byte_at-drop}
 use Rattle.tangle_text.proofs.reader.Reader.peek.Goals as goal
 
 pub returns : goal.returns
-returns c =
-    c.byte.ensures
-    ∙ (ap (byte_at 0) (c.skip.ensures ∙ ap (drop c.args.distance) c.copy-further.ensures)
-    ∙ sym (byte_at-drop c.args.distance c.args.self.now))
+returns c = grind (arith, nat_tests, byte_at-drop)
