@@ -1,14 +1,15 @@
-"""Tries automatic tactics in place of the written proofs of a crate, many in one check, and keeps
-those that prove with fewer lines.
+"""Finds shorter proofs of a crate's lemmas and answers, and writes them in place of the longer.
 
 usage: tests/shorter_proofs.py CRATE [FILE..]
 
-A proof is that of a lemma, or else one equation of a lemma or of an answer. A tactic is given the
-lemmas that the written proof cites. A proof that the check refuses stays as it was. With files it
-tries only those whose path contains one of these words.
+A part of a proof has a goal of its own: the proof of an equation, a branch, a field, what follows a
+`let`. For each part that takes several lines, copies of its lemma are written below the lemma, each
+with a tactic in place of the part. One check tells of all copies which are proved. The largest
+parts that a tactic proves are then replaced. A tactic is given the lemmas that the part cites.
 
-It changes the files of the crate, whose proof has to hold before. `rt tidy` drops the imports that
-nothing needs any more. The last line says how many lines went.
+The crate has to be proved before. With files it tries those whose path contains one of these words.
+`rt fmt` and `rt tidy` come afterwards: the first lays the proofs out, the second drops imports that
+nothing uses any more. The last line says how many lines went.
 """
 import os
 import re
@@ -16,29 +17,25 @@ import subprocess
 import sys
 from collections import namedtuple
 
-WIDTH = 118                     # columns of a line of a proof, as `rt fmt` leaves them
-NAME = r"[^\s(){};,:=]+"
-STATEMENT = re.compile(r'( *)(?:pub )?(%s) :(?: |$)' % NAME)
-ANSWER = re.compile(r'( *)([a-z][\w<>≡-]*)(?: [^=]*)? =(?: |$)')
-WORD = re.compile(r"[A-Za-z_][\w'-]*(?:\.[\w'-]+)*$|\d+$")
-ERROR = re.compile(r'(?:\./)?(proofs/[\w/.+-]+\.antt):(\d+):\d+: error: (?!.*that depend)')
+WIDTH = 105                     # columns of a tactic; `rt fmt` breaks lines of over 118
+STATEMENT = re.compile(r'( *)(?:pub )?([^\s(){};,:=]+) :(?: |$)')
+TOKEN = re.compile(r'--[^\n]*|"(?:[^"\\]|\\.)*"|[()\[\]{},;|]|[^\s()\[\]{},;|"]+')
+ERROR = re.compile(r'(?:\./)?(proofs/[\w/.+-]+\.antt):(\d+):\d+: error: (.*)')
+CLOSING = {'(': ')', '[': ']', '{': '}'}
+TACTICS = {'omega', 'grind', 'search', 'cc', 'simp', 'rw', 'first_of', 'assumption', 'hlevel'}
+RELATIONS = ('≡', '≤', ' < ', '↔', '⊎', '≢', '⊥', 'goal.')
 # What the types of laws begin with where they have no sign of a relation. Definitions have others,
 # and are left as they are.
 LAWS = ('Is', 'Are', 'Has', 'Have', 'Reads', 'All', 'Holds', 'Adds', 'Begins', 'Follows', 'Keeps',
-        'If', 'On', 'Contains', 'Ends', 'Makes', 'Says', 'Reaches', 'Passes', 'Decides', '⊥')
-RELATIONS = ('≡', '≤', ' < ', '↔', '⊎', '≢')
+        'If', 'On', 'Contains', 'Ends', 'Makes', 'Says', 'Reaches', 'Passes', 'Decides')
 IMPORTS = {'arith': 'Rattle.std.proofs.Common', 'rules': 'Rattle.std.proofs.Common',
-           'nat_tests': 'Rattle.std.proofs.lemmas.Bool.Decides',
-           'common_steps': 'Rattle.std.proofs.lemmas.Grind'}
-# Names of proofs that are no lemmas.
-NO_LEMMAS = set(IMPORTS) | {'refl', 'sym', 'ap', 'subst', 'inl', 'inr', 'absurd', 'map', 'length',
-                            'take', 'drop', 'flat_map', 'get_or', 'slice_get', 'suc', 'zero', 'not',
-                            'codes', 'false≢true', 'min', 'max', 'is_some', 'option_to_list'}
+           'nat_tests': 'Rattle.std.proofs.lemmas.Bool.Decides'}
 
-# A lemma or an answer. `equations` are the first line and the line after the last of each.
-Lemma = namedtuple('Lemma', 'name indent statement equations')
-# Lines of a file, and the texts that are tried in their place, one after another.
-Trial = namedtuple('Trial', 'file first end texts')
+# A lemma or an answer: the lines of its statement begin at `first`, and `equations` are the first
+# line and the line after the last of each.
+Lemma = namedtuple('Lemma', 'name first equations')
+# A tactic in place of the text between two offsets of the lines of an equation.
+Trial = namedtuple('Trial', 'file lemma lines start end tactic')
 
 
 def is_blank(line):
@@ -61,11 +58,13 @@ def end_of(lines, first, indent):
         if not (inside or closes or before_more):
             break
         at += 1
+    while is_blank(lines[at - 1]):
+        at -= 1
     return at
 
 
 def is_law(statement):
-    """Whether the type says a property. What it takes is before the last arrow outside brackets."""
+    """Whether the type, after its last arrow outside brackets, says a property."""
     text, depth, last = statement.partition(' :')[2], 0, 0
     for at, letter in enumerate(text):
         depth += (letter in '({[') - (letter in ')}]')
@@ -75,176 +74,175 @@ def is_law(statement):
     return result.startswith(LAWS) or any(sign in result for sign in RELATIONS)
 
 
-def equations_of(lines, at, name, indent):
-    """The equations of a name that follow its statement, from the line `at` on."""
-    found = []
-    while at < len(lines) and re.match(r' *(unfolding|using|--)', lines[at]):
-        at += 1
-    while at < len(lines) and re.match(' {%d}%s ' % (indent, re.escape(name)), lines[at]):
-        end = end_of(lines, at, indent)
-        found.append((at, end))
-        at = end
-        while at < len(lines) and is_blank(lines[at]):
-            at += 1
-    return found
-
-
-def lemmas_of(lines, is_answers):
-    """The lemmas of a file, and its answers, which have the names of goals and no statement."""
+def lemmas_of(lines):
+    """The lemmas and answers of a file."""
     found, at = [], 0
     while at < len(lines):
         start = STATEMENT.match(lines[at])
-        answer = ANSWER.match(lines[at]) if is_answers and not start else None
-        if start:
-            indent, name = len(start.group(1)), start.group(2)
-            end = end_of(lines, at, indent)
-            statement = '\n'.join(lines[at:end])
-            equations = equations_of(lines, end, name, indent)
-            if equations and (is_law(statement) or is_answers):
-                found.append(Lemma(name, indent, statement, equations))
-            at = equations[-1][1] if equations else end
-        elif answer:
-            end = end_of(lines, at, len(answer.group(1)))
-            found.append(Lemma(answer.group(2), len(answer.group(1)), '', [(at, end)]))
-            at = end
-        else:
+        if not start:
             at += 1
+            continue
+        first, indent = at, len(start.group(1))
+        at = end_of(lines, first, indent)
+        statement, equations = '\n'.join(lines[first:at]), []
+        equation = re.compile(' {%d}%s ' % (indent, re.escape(start.group(2))))
+        while at < len(lines) and (is_blank(lines[at]) or equation.match(lines[at])
+                                   or re.match(r' *(unfolding|using) ', lines[at])):
+            if equation.match(lines[at]):
+                equations.append((at, end_of(lines, at, indent)))
+                at = equations[-1][1]
+            else:
+                at += 1
+        if equations and is_law(statement):
+            found.append(Lemma(start.group(2), first, tuple(equations)))
     return found
 
 
-def split_equation(text):
-    """The two sides of an equation; `None` where it has none."""
-    depth = 0
-    for at, letter in enumerate(text):
-        depth += (letter in '({[') - (letter in ')}]')
-        if letter == '=' and depth == 0 and text[at - 1] in ' \n' and text[at + 1:at + 2] in ' \n':
-            return text[:at], text[at + 1:]
-    return None
+class Parts:
+    """The parts of a proof that have goals of their own, as pairs of offsets."""
+
+    def __init__(self, text):
+        self.tokens = [(it.start(), it.end(), it.group()) for it in TOKEN.finditer(text)
+                       if not it.group().startswith('--')]
+        self.at, self.found = 0, []
+        end = self.term(())
+        if end:
+            self.found.append((self.tokens[0][0], end))
+
+    def word(self):
+        return self.tokens[self.at][2] if self.at < len(self.tokens) else ''
+
+    def past(self, wanted):
+        """Goes past the next token outside brackets that `wanted` holds for, or to what closes
+        them. Returns the words on the way."""
+        depth, words = 0, []
+        while self.word():
+            word = self.word()
+            if depth == 0 and (wanted(word) or word in ')]}'):
+                self.at += wanted(word)
+                break
+            depth += (word in '([{') - (word in ')]}')
+            words.append(word)
+            self.at += 1
+        return words
+
+    def term(self, ends):
+        """Reads a term up to one of these words, or to what closes a bracket. Returns its end."""
+        begins, last, before = [], None, ''
+        while self.word() and self.word() not in ends and self.word() not in ')]}':
+            word = self.word()
+            self.at += 1
+            if word == 'let':
+                self.bound_term()
+                begins.append(self.at)
+            elif word == 'λ':
+                self.past(lambda it: it.endswith('.'))
+                begins.append(self.at)
+            elif word in CLOSING:
+                self.inside(word, before)
+            before, last = word, self.tokens[self.at - 1][1]
+        for begin in begins:
+            if begin < self.at:
+                self.found.append((self.tokens[begin][0], last))
+        return last
+
+    def part(self, ends):
+        begin = self.at
+        end = self.term(ends)
+        if end and begin < len(self.tokens):
+            self.found.append((self.tokens[begin][0], end))
+
+    def bound_term(self):
+        has_type = ':' in self.past(lambda it: it == '=')
+        if has_type:
+            self.part(('in',))
+        else:
+            self.term(('in',))
+        self.at += 1
+
+    def inside(self, bracket, before):
+        """Reads what is in brackets, and what closes them."""
+        count = len(self.found)
+        while self.word() and self.word() != CLOSING[bracket]:
+            if bracket == '[':
+                self.past(lambda it: it == '↦')
+            elif bracket == '{':
+                self.past(lambda it: it == '=')
+            if self.word() != CLOSING[bracket]:
+                self.part((',', ';', '|'))
+            if self.word() and self.word() != CLOSING[bracket]:
+                self.at += 1
+        self.at += 1
+        # Entries of a tactic's list have no goals, and braces alone hold arguments.
+        if before in TACTICS or (bracket == '{' and before != 'record'):
+            del self.found[count:]
 
 
-def arguments_of(text):
-    """The words of the left side of an equation after its name, each in brackets as one."""
-    return re.findall(r'\((?:[^()]|\([^()]*\))*\)|\{[^{}]*\}|[^\s(){}]+', text)[1:]
-
-
-def one_equation(lemma, lines):
-    """The left side of one equation for all of a lemma, with the names that its equations have for
-    the arguments; `None` where an argument has no name."""
-    rows = []
-    for first, end in lemma.equations:
-        sides = split_equation('\n'.join(lines[first:end]))
-        rows.append(arguments_of(sides[0]) if sides else None)
-    if None in rows or len({len(row) for row in rows}) != 1:
-        return None
-    bound = re.findall(r"\(([^():]+) : ", lemma.statement)
-    names, given = [], [name for group in bound for name in group.split()]
-    for number, column in enumerate(zip(*rows)):
-        plain = [it for it in column if re.match(r"[a-z]\w*$", it)]
-        name = plain[0] if plain else given[number] if number < len(given) else None
-        if name is None or name in names:
-            return None
-        names.append(name)
-    return ' '.join([lemma.name] + names)
-
-
-def cited_lemmas(lines, found):
+def cited_lemmas(lines, lemmas):
     """The lemmas that the proofs of a file may cite: its own, and those that it imports."""
-    cited = {lemma.name for lemma in found if lemma.statement}
+    cited = {lemma.name for lemma in lemmas}
     for line in lines:
         imported = re.match(r'use Rattle\.(\S+)\.\{(.*)\}', line)
-        if imported and '.proofs.' in imported.group(1):
-            cited |= set(re.findall(r"[a-z][\w'≡≢<>-]*", imported.group(2)))
-    return cited - NO_LEMMAS
+        if imported and '.proofs.' in imported.group(1) and '.Common' not in imported.group(1):
+            cited |= set(re.findall(r"[a-z][\w'≡≢<>≤-]*", imported.group(2)))
+    return cited
 
 
-def citations(text, lemmas, head):
-    """The lemmas in a text, without arguments and with those that the head of its equation has."""
-    words = re.findall(r"[(){};,]|[^\s(){};,]+", text)
-    scope = set(re.findall(r"[A-Za-z_][\w'-]*", head)) | {'_'}
-    bare, given = [], []
-    for at, word in enumerate(words):
-        if word not in lemmas:
-            continue
-        taken = [word]
-        for argument in words[at + 1:]:
-            if not WORD.match(argument) or argument.split('.')[0] not in scope:
-                break
-            taken.append(argument)
-        if word != head.split()[0] and word not in bare:
-            bare.append(word)
-        if (word != head.split()[0] or len(taken) > 1) and ' '.join(taken) not in given:
-            given.append(' '.join(taken))
-    return bare, given
+def tactics_for(text, cited):
+    """The tactics that are tried for a proof."""
+    words = [it.group() for it in TOKEN.finditer(text)]
+    lemmas = list(dict.fromkeys(word for word in words if word in cited))
+    for name, items in (('search', ['rules'] + lemmas), ('grind', ['arith', 'nat_tests'] + lemmas)):
+        one = items[0] if len(items) == 1 else '(%s)' % ', '.join(items)
+        if len(one) < WIDTH:
+            yield '%s %s' % (name, one)
 
 
-def tactics(bare, given, is_answer):
-    """The tactics that are tried for a proof which cites these lemmas."""
-    calls = [('grind', ['arith', 'nat_tests'] + bare), ('grind', ['arith', 'nat_tests'] + given)]
-    if is_answer:
-        calls = [('search', ['rules']), ('grind', ['arith', 'common_steps'])] + calls
-    if given:
-        calls += [('cc', given), ('search', ['rules'] + bare)]
-    for tactic, items in calls:
-        one = items[0] if len(items) == 1 and ' ' not in items[0] else '(%s)' % ', '.join(items)
-        yield '%s %s' % (tactic, one)
+def trials_of(file, lines):
+    """The trials of a file, by the lemma."""
+    lemmas = lemmas_of(lines)
+    cited = cited_lemmas(lines, lemmas)
+    for lemma in lemmas:
+        for first, end in lemma.equations:
+            text = '\n'.join(lines[first:end])
+            sign = re.search(r' =\s', text)
+            if not sign or ' where\n' in text + '\n':
+                continue
+            shift = sign.end() - 1
+            for start, stop in sorted(set(Parts(text[shift:]).found)):
+                if '\n' in text[shift + start:shift + stop]:
+                    for tactic in tactics_for(text[shift + start:shift + stop], cited):
+                        yield Trial(file, lemma, (first, end), shift + start, shift + stop, tactic)
 
 
-def laid_out(head, indent, tactic):
-    """The lines of an equation; none where the tactic is too long for a line."""
-    one = ' ' * indent + head + ' = ' + tactic
-    two = [' ' * indent + head + ' =', ' ' * (indent + 4) + tactic]
-    if len(one) <= WIDTH:
-        return [one]
-    return two if max(map(len, two)) <= WIDTH else []
+def with_tactic(text, trial):
+    return text[:trial.start] + trial.tactic + text[trial.end:]
 
 
-def trial_of(file, lines, lemma, lemmas, ends, head):
-    """What is tried in place of the lines with these ends."""
-    first, end = ends
-    size = sum(not is_blank(line) for line in lines[first:end])
-    bare, given = citations('\n'.join(lines[first:end]), lemmas, head)
-    texts = []
-    for tactic in tactics(bare, given, not lemma.statement or file.endswith('Answers.antt')):
-        text = laid_out(head, lemma.indent, tactic)
-        if text and len(text) < size and text not in texts:
-            texts.append(text)
-    return Trial(file, first, end, texts)
-
-
-def trials_of(file, lines, whole):
-    """The trials of a file: of whole lemmas, or of single equations."""
-    found = lemmas_of(lines, file.endswith(('Answers.antt', 'Invariants.antt')))
-    lemmas, trials = cited_lemmas(lines, found), []
-    for lemma in found:
-        if whole:
-            head = one_equation(lemma, lines) if lemma.statement else None
-            if head:
-                ends = lemma.equations[0][0], lemma.equations[-1][1]
-                trials.append(trial_of(file, lines, lemma, lemmas, ends, head))
-            continue
-        for ends in lemma.equations:
-            sides = split_equation('\n'.join(lines[ends[0]:ends[1]]))
-            if sides:
-                head = ' '.join(sides[0].split())
-                trials.append(trial_of(file, lines, lemma, lemmas, ends, head))
-    return [trial for trial in trials if trial.texts]
+def copy_of(lines, trial, number):
+    """The lines of a lemma with the tactic, under a name of its own."""
+    first, end = trial.lines
+    text = with_tactic('\n'.join(lines[first:end]), trial)
+    whole = lines[trial.lemma.first:first] + text.split('\n')
+    whole += lines[end:trial.lemma.equations[-1][1]]
+    name = r"(?<![\w.'≡≢<>≤-])%s(?![\w'≡≢<>≤-])" % re.escape(trial.lemma.name)
+    text = re.sub(r'^( *)pub ', r'\1', '\n'.join(whole))
+    return re.sub(name, 'copy__%d' % number, text).split('\n')
 
 
 def with_imports(lines):
     """The lines with imports of the sets of lemmas that they name, and how many were added."""
     body = '\n'.join(line for line in lines if not line.startswith('use '))
-    added = []
-    for name, path in IMPORTS.items():
-        here = re.compile(r'[{ ]%s[,}]' % name)
-        if re.search(r'(?<![\w.-])%s(?![\w-])' % name, body):
-            if not any(here.search(line) for line in lines if line.startswith('use ')):
-                added.append('use %s.{%s}' % (path, name))
+    here = [line for line in lines if line.startswith('use ')]
+    added = ['use %s.{%s}' % (path, name) for name, path in IMPORTS.items()
+             if re.search(r'(?<![\w.-])%s(?![\w-])' % name, body)
+             and not any(re.search(r'[{ ]%s[,}]' % name, line) for line in here)]
     at = next((at for at, line in enumerate(lines) if line.startswith('use ')), 0)
     return lines[:at] + added + lines[at:], len(added)
 
 
 class Crate:
-    """The proofs of a crate: the lines of each file as they are known to be proved."""
+    """The files of a crate's proofs, as they are known to be proved."""
 
     def __init__(self, folder, parts):
         self.folder, self.lines = folder, {}
@@ -255,73 +253,88 @@ class Crate:
                     with open(os.path.join(path, name), encoding='utf-8') as source:
                         self.lines[file] = source.read().split('\n')
 
-    def write(self, trials):
-        """Writes all files with these trials, pairs of a trial and its text. Returns the lines that
-        each trial has then, by its file."""
-        ranges = {}
+    def write(self, lines_of):
         for file, lines in self.lines.items():
-            here = sorted((it for it in trials if it[0].file == file), key=lambda it: it[0].first)
-            made, at, places = [], 0, []
-            for trial, text in here:
-                made += lines[at:trial.first]
-                places.append((len(made), len(made) + len(text), trial))
-                made, at = made + text, trial.end
-            made, count = with_imports(made + lines[at:])
-            ranges[file] = [(first + count, end + count, trial) for first, end, trial in places]
             with open(os.path.join(self.folder, file), 'w', encoding='utf-8') as target:
-                target.write('\n'.join(made))
-        return ranges
+                target.write('\n'.join(lines_of.get(file, lines)))
 
-    def refused(self, trials):
-        """The trials that a check of the crate with these refuses; `None` where it refuses the
-        crate for something else."""
-        ranges = self.write(trials)
+    def errors(self):
+        """What a check refuses: triples of a file, a line from 0 on and a message."""
         ran = subprocess.run(['rt', 'check'], cwd=self.folder, text=True, stdin=subprocess.DEVNULL,
                              stdout=subprocess.PIPE, stderr=subprocess.STDOUT)
-        bad = []
-        for file, line in ERROR.findall(ran.stdout):
-            at = int(line) - 1
-            bad += [it for first, end, it in ranges.get(file, []) if first <= at < end]
-        if ran.returncode and not bad:
-            return None
-        return bad
+        found = [(file, int(line) - 1, text) for file, line, text in ERROR.findall(ran.stdout)]
+        if ran.returncode and not found:
+            sys.exit(ran.stdout)
+        return found
 
-    def proved(self, trials, kept):
-        """Those of these trials that hold beside those that are kept."""
-        if not trials:
-            return []
-        bad = self.refused(kept + trials)
-        print('%d tried, %s refused' % (len(trials), '?' if bad is None else len(bad)), flush=True)
-        if bad is None:
-            if len(trials) == 1:
-                return []
-            half = len(trials) // 2
-            first = self.proved(trials[:half], kept)
-            return first + self.proved(trials[half:], kept + first)
-        left = [it for it in trials if it[0] not in bad]
-        return self.proved(left, kept) if bad else trials
+    def with_copies(self, trials):
+        """The files with a copy for each trial, and the trial of each line of a copy."""
+        lines_of, owners = {}, {}
+        for file, lines in self.lines.items():
+            made, owner = [], {}
+            for at in range(len(lines) + 1):
+                for number, trial in enumerate(trials):
+                    if trial.file == file and trial.lemma.equations[-1][1] == at:
+                        copy = copy_of(lines, trial, number)
+                        owner.update({len(made) + 1 + it: trial for it in range(len(copy))})
+                        made += [''] + copy + ['']
+                made += lines[at:at + 1]
+            lines_of[file], count = with_imports(made)
+            owners.update({(file, at + count): trial for at, trial in owner.items()})
+        return lines_of, owners
 
-    def shorten(self, whole):
-        """Tries all lemmas or all equations, and keeps what is proved."""
-        left = [it for file, lines in self.lines.items() for it in trials_of(file, lines, whole)]
-        kept, number = [], 0
-        while any(number < len(trial.texts) for trial in left):
-            now = [(it, it.texts[number]) for it in left if number < len(it.texts)]
-            found = self.proved(now, kept)
-            kept += found
-            left = [it for it in left if it not in [trial for trial, _ in found]]
-            number += 1
-        self.write(kept)
-        for file in self.lines:
-            with open(os.path.join(self.folder, file), encoding='utf-8') as source:
-                self.lines[file] = source.read().split('\n')
-        return sum(trial.end - trial.first - len(text) for trial, text in kept)
+    def proved(self, trials):
+        """The trials that hold. A copy that cannot be read ends the check of its file and of those
+        that import it, so the others are then tried again without it."""
+        while trials:
+            lines_of, owners = self.with_copies(trials)
+            self.write(lines_of)
+            errors = self.errors()
+            refused = {owners.get((file, line)) for file, line, _ in errors}
+            unread = any('copy__' not in text for _, _, text in errors)
+            left = [trial for trial in trials if trial not in refused]
+            print('%d tried, %d proved' % (len(trials), len(left)), flush=True)
+            if not unread or len(left) == len(trials):
+                return left
+            trials = left
+        return []
+
+    def replaced(self, trials):
+        """The files with the largest of these parts replaced, and the trials that were taken."""
+        taken = []
+        for it in sorted(trials, key=lambda it: (it.start - it.end, len(it.tactic))):
+            if not any(it.file == other.file and it.lines == other.lines
+                       and it.start < other.end and other.start < it.end for other in taken):
+                taken.append(it)
+        lines_of = {file: list(lines) for file, lines in self.lines.items()}
+        for it in sorted(taken, key=lambda it: (it.lines, it.start), reverse=True):
+            lines, first = lines_of[it.file], it.lines[0]
+            end = end_of(lines, first, indent_of(lines[first]))
+            lines[first:end] = with_tactic('\n'.join(lines[first:end]), it).split('\n')
+        return {file: with_imports(lines)[0] for file, lines in lines_of.items()}, taken
+
+    def shorten(self):
+        """Replaces what tactics prove. Returns how many lines went."""
+        trials = [it for file, lines in self.lines.items() for it in trials_of(file, lines)]
+        proved = self.proved(trials)
+        while True:
+            lines_of, taken = self.replaced(proved)
+            self.write(lines_of)
+            broken = {(file, name_at(lines_of[file], line)) for file, line, _ in self.errors()}
+            if not broken:
+                return sum(map(len, self.lines.values())) - sum(map(len, lines_of.values()))
+            proved = [it for it in proved if (it.file, it.lemma.name) not in broken]
+
+
+def name_at(lines, at):
+    """The name of the lemma that a line belongs to."""
+    return next((it.name for it in lemmas_of(lines) if it.first <= at < it.equations[-1][1]), None)
 
 
 def main():
     top = os.path.dirname(os.path.dirname(os.path.abspath(__file__)))
     crate = Crate(os.path.join(top, 'crates', sys.argv[1]), sys.argv[2:])
-    print('%d lines fewer' % sum(crate.shorten(whole) for whole in (True, False)))
+    print('%d lines fewer' % crate.shorten())
 
 
 if __name__ == '__main__':

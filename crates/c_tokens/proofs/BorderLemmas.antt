@@ -1,25 +1,26 @@
 -- The elements of two texts with a border between them.
-use Rattle.std.proofs.Common.{◌≡◌, ℕ, ◌-◌, zero, suc, Bool, true, false, List, [], ◌∷◌, ◌++◌, codes, refl, ap, sym, subst}
-use Rattle.std.proofs.Common.{◌∙◌, ◌⊎◌, inl, inr, get_or, take, drop, append_assoc, append-nil, arith}
-use Rattle.std.specs.Prelude.{◌&&◌, ◌||◌, not, ◌==◌, filter}
+use Rattle.std.proofs.Common.{rules}
+use Rattle.std.proofs.Common.{◌≡◌, ℕ, ◌-◌, zero, suc, Bool, true, false, List, [], ◌∷◌, ◌++◌, codes, refl, ap, subst}
+use Rattle.std.proofs.Common.{◌∙◌, ◌⊎◌, inl, inr, get_or, take, drop, append_assoc, arith}
+use Rattle.std.specs.Prelude.{◌&&◌, ◌||◌, not, ◌==◌}
 use Rattle.std.specs.List.{list_any, list_all, concat, flat_map}
-use Rattle.std.proofs.lemmas.Bool.{and_parts, and_from, or_cases, or_left, or_right, or_parts, both_ways, false≢true}
-use Rattle.std.proofs.lemmas.Bool.{cases_Bool, not-true, not_from_false, false_from_ne_true, eqb-true}
+use Rattle.std.proofs.lemmas.Bool.{and_parts, and_from, or_cases, or_left, or_right, or_parts, both_ways}
+use Rattle.std.proofs.lemmas.Bool.{not-true, false_from_ne_true, eqb-true}
 use Rattle.std.proofs.lemmas.List.Elements.{filter-append}
 use Rattle.c_tokens.specs.Bytes.{space, slash, backslash}
-use Rattle.c_tokens.specs.Bytes.{is_hexadecimal, is_word_byte, is_quote, is_sign, is_exponent, is_white}
+use Rattle.c_tokens.specs.Bytes.{is_word_byte, is_quote, is_sign, is_exponent, is_white}
 use Rattle.c_tokens.specs.Grammar.{begins_hexadecimal, begins_universal_name, has_universal_names, is_identifier_byte}
 use Rattle.c_tokens.specs.Grammar.{begins_number, is_number_byte, signs_follow_exponents, is_number, is_quoted, ends_quoted}
 use Rattle.c_tokens.specs.Grammar.{has_prefix, is_punctuator, is_token, is_comment, is_element}
 use Rattle.c_tokens.specs.Grammar.{is_white_character, is_other_character}
-use Rattle.c_tokens.specs.Reading.{spliced, longest, elements_from, elements, tokens}
+use Rattle.c_tokens.specs.Reading.{spliced, longest, elements_from, tokens}
 use Rattle.c_tokens.specs.Touching.{is_separator, is_operator, is_plain}
 use Rattle.c_tokens.specs.Borders.{is_unfinished, is_whole, last_element, last_byte, is_plain_byte, are_never_in_one}
 use Rattle.c_tokens.specs.Borders.{is_at_operator, number_goes_on, is_border_of_bytes, is_border, have_border, keep_lines, are_apart, has_bytes, are_all_apart}
 use Rattle.c_tokens.proofs.ReadingLemmas.{NoLonger, elements-front, elements-append}
 use Rattle.c_tokens.proofs.GrammarLemmas.{identifier-bytes, number-bytes, punctuator-is}
 use Rattle.c_tokens.proofs.GrammarLemmas.{begins_prefix, IsLiteral, literal-word, ends-once}
-use Rattle.c_tokens.proofs.LongerLemmas.{element-cases, all-last, separator-not, operator-not, punctuator-bytes}
+use Rattle.c_tokens.proofs.LongerLemmas.{element-cases, all-last, separator-not, punctuator-bytes}
 use Rattle.c_tokens.proofs.LongerLemmas.{comment-open, two-white, two-other, quote-not}
 use Rattle.c_tokens.proofs.TouchingLemmas.{single-element, comment-element, token-element, one-element, plain-element}
 use Rattle.c_tokens.proofs.TouchingLemmas.{spliced-both}
@@ -44,22 +45,14 @@ record FailsAtBorders (test : ℕ → Bool) : Type 0 where
 gap-fails : (test : ℕ → Bool) → list_all (λ b. not (test b)) (32 ∷ 9 ∷ 10 ∷ 11 ∷ 12 ∷ []) ≡ true →
     list_all (λ b. not (test b)) (codes "()[]{};,~") ≡ true → (d c : ℕ) →
     (is_white d || is_white c || is_separator d || is_separator c) ≡ true → OneFails test d c
-gap-fails test white separators d c h = grind (arith, nat_tests, separator-not, separators, white-not, white)
+gap-fails test white separators d c h = grind (arith, nat_tests, separator-not, white-not)
 
 never-fails : (test : ℕ → Bool) → FailsAtBorders test → (d c : ℕ) → are_never_in_one d c ≡ true → OneFails test d c
-never-fails test f d c h =
-    elim (or_cases (is_white d || is_white c || is_separator d || is_separator c) (c == slash && not (d == slash)) h) [
-      | inr slashes ↦ inr (ap test (eqb-true c slash (and_parts (c == slash) (not (d == slash)) slashes).0) ∙ f.slash)
-      | inl gap ↦ gap-fails test f.white f.separators d c gap
-    ]
+never-fails test f d c h = search rules
 
 operator-fails : (test : ℕ → Bool) → list_all (λ b. not (test b)) (codes "!#%&*+-/:<=>?^|") ≡ true → (d c : ℕ) →
     is_at_operator d c ≡ true → OneFails test d c
-operator-fails test none d c h =
-    elim (or_cases (is_operator d && is_plain_byte c) (is_plain_byte d && is_operator c) h) [
-      | inl first ↦ inl (operator-not test none d (and_parts (is_operator d) (is_plain_byte c) first).0)
-      | inr second ↦ inr (operator-not test none c (and_parts (is_plain_byte d) (is_operator c) second).1)
-    ]
+operator-fails test none d c h = search (rules, or_cases, and_parts)
 
 all-front : (test : ℕ → Bool) (a q : List ℕ) → list_all test (a ++ q) ≡ true → list_all test a ≡ true
 all-front test [] q h = refl
@@ -71,19 +64,9 @@ all-last-byte test x (y ∷ a) h = all-last-byte test y a (and_parts (test x) (l
 
 none-fails : (test : ℕ → Bool) (x : ℕ) (a : List ℕ) (c : ℕ) (q : List ℕ) → list_all test (x ∷ a ++ c ∷ q) ≡ true →
     OneFails test (last_byte x a) c → ⊥
-none-fails test x a c q all fails =
-    elim fails [
-      | inl last ↦ both_ways (test (last_byte x a)) last (all-last-byte test x a (all-front test (x ∷ a) (c ∷ q) all))
-      | inr next ↦ both_ways (test c) next (all-last test (x ∷ a) c q all)
-    ]
+none-fails test x a c q all fails = search (rules, all-last-byte, all-front, all-last)
 
 -- numbers
-
-hexadecimal-word : (b : ℕ) → is_hexadecimal b ≡ true → is_word_byte b ≡ true
-hexadecimal-word b h = grind (arith, h)
-
-hexadecimal-byte : (b : ℕ) → is_hexadecimal b ≡ true → is_identifier_byte b ≡ true
-hexadecimal-byte b h = or_left (is_word_byte b) (b == backslash) (hexadecimal-word b h)
 
 -- a universal character name does not go on over the end of the text
 abbrev Stops : List ℕ → ℕ → Type 0
@@ -91,16 +74,14 @@ Stops [] c = is_identifier_byte c ≡ false
 Stops (b ∷ a) c = OneFails is_identifier_byte (last_byte b a) c
 
 stops-rest : (b : ℕ) (a : List ℕ) (c : ℕ) → is_identifier_byte b ≡ true → Stops (b ∷ a) c → Stops a c
-stops-rest b [] c is (inl last) = absurd (both_ways (is_identifier_byte b) last is)
-stops-rest b [] c is (inr next) = next
-stops-rest b (d ∷ a) c is stops = stops
+stops-rest b a c is stops = search rules
 
 hexadecimal-front : (n : ℕ) (a : List ℕ) (c : ℕ) (q : List ℕ) → Stops a c → begins_hexadecimal n (a ++ c ∷ q) ≡ true →
     begins_hexadecimal n a ≡ true
 hexadecimal-front zero a c q stops h = refl
 hexadecimal-front (suc n) [] c q stops h = grind (arith, nat_tests)
 hexadecimal-front (suc n) (b ∷ a) c q stops h =
-    grind (arith, nat_tests, hexadecimal-front n a c q, stops-rest b a c, hexadecimal-byte b)
+    grind (arith, nat_tests, hexadecimal-front n a c q, stops-rest b a c)
 
 universal-front : (a : List ℕ) (c : ℕ) (q : List ℕ) → Stops a c → begins_universal_name (a ++ c ∷ q) ≡ true →
     begins_universal_name a ≡ true
@@ -108,21 +89,13 @@ universal-front [] c q stops h = grind (arith, nat_tests)
 universal-front (b ∷ a) c q stops h =
     let rest : Stops a c = grind (arith, nat_tests) in
     elim (or_cases (b == 117 && begins_hexadecimal 4 (a ++ c ∷ q)) (b == 85 && begins_hexadecimal 8 (a ++ c ∷ q)) h) [
-      | inl small ↦ grind (arith, nat_tests, hexadecimal-front 4 a c q rest, rest)
-      | inr capital ↦ grind (arith, nat_tests, hexadecimal-front 8 a c q rest, rest)
+      | inl small ↦ grind (arith, nat_tests, hexadecimal-front 4 a c q rest)
+      | inr capital ↦ grind (arith, nat_tests, hexadecimal-front 8 a c q rest)
     ]
 
 name-front : (x : ℕ) (a : List ℕ) (c : ℕ) (q : List ℕ) → Stops (x ∷ a) c →
     (not (x == backslash) || begins_universal_name (a ++ c ∷ q)) ≡ true → (not (x == backslash) || begins_universal_name a) ≡ true
-name-front x a c q stops h =
-    elim (or_cases (not (x == backslash)) (begins_universal_name (a ++ c ∷ q)) h) [
-      | inl other ↦ or_left (not (x == backslash)) (begins_universal_name a) other
-      | inr name ↦ elim (cases_Bool (x == backslash)) [
-        | inr other ↦ or_left (not (x == backslash)) (begins_universal_name a) (not_from_false (x == backslash) other)
-        | inl same ↦ or_right (not (x == backslash)) (begins_universal_name a)
-            (universal-front a c q (stops-rest x a c (or_right (is_word_byte x) (x == backslash) same) stops) name)
-      ]
-    ]
+name-front x a c q stops h = search (rules, universal-front)
 
 names-front : (x : ℕ) (a : List ℕ) (c : ℕ) (q : List ℕ) → Stops (x ∷ a) c → has_universal_names (x ∷ a ++ c ∷ q) ≡ true →
     has_universal_names (x ∷ a) ≡ true
@@ -139,22 +112,16 @@ signs-front (b ∷ c ∷ a) q h = grind (arith, nat_tests, signs-front (c ∷ a)
 
 begins-front : (x : ℕ) (a : List ℕ) (c : ℕ) (q : List ℕ) → is_at_operator (last_byte x a) c ≡ true →
     begins_number (x ∷ a ++ c ∷ q) ≡ true → begins_number (x ∷ a) ≡ true
-begins-front x (y ∷ a) c q at h = h
-begins-front x [] c q at h = grind (arith, nat_tests)
+begins-front x a c q at h = search rules
 
 number-front : (x : ℕ) (a : List ℕ) (c : ℕ) (q : List ℕ) → is_at_operator (last_byte x a) c ≡ true →
     is_number (x ∷ a ++ c ∷ q) ≡ true → is_number (x ∷ a) ≡ true
 number-front x a c q at h =
-    let all : List ℕ = x ∷ a ++ c ∷ q in
+    let all = x ∷ a ++ c ∷ q in
     let outer = and_parts (begins_number all && list_all is_number_byte all && signs_follow_exponents all) (has_universal_names all) h in
     let inner = and_parts (begins_number all && list_all is_number_byte all) (signs_follow_exponents all) outer.0 in
     let first = and_parts (begins_number all) (list_all is_number_byte all) inner.0 in
-    let t : List ℕ = x ∷ a in
-    and_from (begins_number t && list_all is_number_byte t && signs_follow_exponents t) (has_universal_names t)
-    (and_from (begins_number t && list_all is_number_byte t) (signs_follow_exponents t)
-    (and_from (begins_number t) (list_all is_number_byte t) (begins-front x a c q at first.0)
-    (all-front is_number_byte t (c ∷ q) first.1)) (signs-front t (c ∷ q) inner.1))
-    (names-front x a c q (operator-fails is_identifier_byte refl (last_byte x a) c at) outer.1)
+    search (rules, and_from, begins-front, all-front, signs-front, names-front, operator-fails)
 
 -- how a number goes on over an operator
 
@@ -162,37 +129,25 @@ signs-at : (x : ℕ) (a : List ℕ) (c : ℕ) (q : List ℕ) → signs_follow_ex
     (is_exponent (last_byte x a) || not (is_sign c)) ≡ true
 signs-at x [] c q h = (and_parts (is_exponent x || not (is_sign c)) (signs_follow_exponents (c ∷ q)) h).0
 signs-at x (y ∷ a) c q h =
-    signs-at y a c q (and_parts (is_exponent x || not (is_sign y)) (signs_follow_exponents (y ∷ a ++ c ∷ q)) h).1
+    grind (arith, nat_tests, signs-at y a c q)
 
 operator-sign : (o : ℕ) → is_operator o ≡ true → is_number_byte o ≡ true → is_sign o ≡ true
 operator-sign o operator number = grind (arith, nat_tests)
 
-plain-word : (c : ℕ) → is_plain_byte c ≡ true → is_number_byte c ≡ true → is_word_byte c ≡ true
-plain-word c plain number = grind (arith, nat_tests)
-
 number-goes-on : (x : ℕ) (a : List ℕ) (c : ℕ) (q : List ℕ) → is_at_operator (last_byte x a) c ≡ true →
     is_number (x ∷ a ++ c ∷ q) ≡ true → number_goes_on (last_byte x a) c ≡ true
 number-goes-on x a c q at h =
-    let all : List ℕ = x ∷ a ++ c ∷ q in
-    let d : ℕ = last_byte x a in
+    let all = x ∷ a ++ c ∷ q in
+    let d = last_byte x a in
     let bytes = number-bytes all h in
     let of_c : is_number_byte c ≡ true = all-last is_number_byte (x ∷ a) c q bytes in
-    let of_d : is_number_byte d ≡ true = all-last-byte is_number_byte x a (all-front is_number_byte (x ∷ a) (c ∷ q) bytes) in
-    let outer = and_parts (begins_number all && list_all is_number_byte all && signs_follow_exponents all) (has_universal_names all) h in
-    let signs = (and_parts (begins_number all && list_all is_number_byte all) (signs_follow_exponents all) outer.0).1 in
+    let of_d = all-last-byte is_number_byte x a (all-front is_number_byte (x ∷ a) (c ∷ q) bytes) in
+    let signs = (and_parts (begins_number all && list_all is_number_byte all) (signs_follow_exponents all) (and_parts (begins_number all && list_all is_number_byte all && signs_follow_exponents all) (has_universal_names all) h).0).1 in
     elim (or_cases (is_operator d && is_plain_byte c) (is_plain_byte d && is_operator c) at) [
       | inl first ↦
-          let parts = and_parts (is_operator d) (is_plain_byte c) first in
-          or_right (is_exponent d && is_sign c) (is_sign d && is_word_byte c)
-          (and_from (is_sign d) (is_word_byte c) (operator-sign d parts.0 of_d) (plain-word c parts.1 of_c))
+          search (rules, and_parts, or_right, operator-sign)
       | inr second ↦
-          let sign : is_sign c ≡ true = operator-sign c (and_parts (is_plain_byte d) (is_operator c) second).1 of_c in
-          or_left (is_exponent d && is_sign c) (is_sign d && is_word_byte c)
-          (and_from (is_exponent d) (is_sign c)
-          (elim (or_cases (is_exponent d) (not (is_sign c)) (signs-at x a c q signs)) [
-            | inl exponent ↦ exponent
-            | inr none ↦ absurd (both_ways (is_sign c) (not-true (is_sign c) none) sign)
-          ]) sign)
+          search (rules, operator-sign, and_parts, or_cases, signs-at)
     ]
 
 -- punctuators
@@ -217,20 +172,18 @@ punctuator-inside x (y ∷ a) c q h = punctuator-is is_short_or_has_no_gap refl 
 punctuator-border : (x : ℕ) (a : List ℕ) (c : ℕ) (q : List ℕ) → is_punctuator (x ∷ a ++ c ∷ q) ≡ true →
     (are_never_in_one (last_byte x a) c || is_at_operator (last_byte x a) c) ≡ true → ⊥
 punctuator-border x a c q h border =
-    let d : ℕ = last_byte x a in
+    let d = last_byte x a in
     let none = punctuator-bytes (x ∷ a ++ c ∷ q) h in
     elim (or_cases (are_never_in_one d c) (is_at_operator d c) border) [
       | inl never ↦ elim (or_cases (is_white d || is_white c || is_separator d || is_separator c) (c == slash && not (d == slash)) never) [
         | inl gap ↦ none-fails is_in_punctuator x a c q (punctuator-inside x a c q h) (gap-fails is_in_punctuator refl refl d c gap)
         | inr slashes ↦
-            grind (arith, nat_tests, slash, all-last, punctuator-is has_no_later_slash refl (x ∷ a ++ c ∷ q) h)
+            grind (arith, nat_tests, all-last, punctuator-is has_no_later_slash refl (x ∷ a ++ c ∷ q) h)
       ]
       | inr at ↦ elim (or_cases (is_operator d && is_plain_byte c) (is_plain_byte d && is_operator c) at) [
-        | inl first ↦ both_ways (is_plain_byte c) (not-true (is_plain_byte c) (all-last (λ b. not (is_plain_byte b)) (x ∷ a) c q none))
-            (and_parts (is_operator d) (is_plain_byte c) first).1
+        | inl first ↦ search (rules, all-last, and_parts)
         | inr second ↦ both_ways (is_plain_byte d)
-            (not-true (is_plain_byte d)
-            (all-last-byte (λ b. not (is_plain_byte b)) x a (all-front (λ b. not (is_plain_byte b)) (x ∷ a) (c ∷ q) none)))
+            (search (rules, not-true, all-last-byte, all-front))
             (and_parts (is_plain_byte d) (is_operator c) second).0
       ]
     ]
@@ -267,7 +220,7 @@ literal-parts a c q l =
     go (p ∷ ps) (x ∷ a) word has =
         let parts = and_parts (x == p) (has_prefix ps (is_quoted l.quote) (a ++ c ∷ q)) has in
         let words = and_parts (is_word_byte p) (list_all is_word_byte ps) word in
-        let same : x ≡ p = eqb-true x p parts.0 in
+        let same = eqb-true x p parts.0 in
         elim (go ps a words.1 parts.1) [
           | inl opened ↦ inl (opened.0, ap (λ k. k ∷ a) same ∙ ap (λ t. p ∷ t) opened.1, opened.2)
           | inr inside ↦ inr (and_from (is_word_byte x) (list_all is_word_byte a) (ap is_word_byte same ∙ words.0) inside.0, inside.1)
@@ -290,12 +243,9 @@ opened-longer prefix Q z word quote ends white other =
     (opened-first prefix Q z word quote)
     (λ identifier. both_ways (is_identifier_byte Q) (quote-not is_identifier_byte refl refl Q quote)
     (all-last is_identifier_byte prefix Q z (identifier-bytes (prefix ++ Q ∷ z) identifier)))
-    (λ number. both_ways (is_number_byte Q) (quote-not is_number_byte refl refl Q quote)
-    (all-last is_number_byte prefix Q z (number-bytes (prefix ++ Q ∷ z) number)))
+    (search (rules, all-last, number-bytes))
     (λ literal. both_ways (ends_quoted Q z) ends (literal-word prefix Q z word (quote-byte Q quote) literal).1)
-    (λ punctuator. both_ways (is_plain_byte Q)
-    (not-true (is_plain_byte Q) (all-last (λ b. not (is_plain_byte b)) prefix Q z (punctuator-bytes (prefix ++ Q ∷ z) punctuator)))
-    (or_right (is_word_byte Q) (is_quote Q) quote))
+    (λ punctuator. search (rules, all-last, punctuator-bytes, or_right))
 
 -- no front of the bytes after the quote ends with the closing one
 unended : (Q : ℕ) (rest : List ℕ) (c : ℕ) (q : List ℕ) → is_quote Q ≡ true → ends_quoted Q (rest ++ c ∷ q) ≡ true →
@@ -359,15 +309,14 @@ border-met : (after_number : Bool) (d c : ℕ) → is_border_of_bytes after_numb
 border-met after_number d c h =
     elim (or_cases (are_never_in_one d c) (not (after_number && number_goes_on d c) && is_at_operator d c) h) [
       | inl never ↦ or_left (are_never_in_one d c) (is_at_operator d c) never
-      | inr at ↦ or_right (are_never_in_one d c) (is_at_operator d c)
-          (and_parts (not (after_number && number_goes_on d c)) (is_at_operator d c) at).1
+      | inr at ↦ search (rules, and_parts)
     ]
 
 -- no comment goes on after a whole text of two bytes or more
 comment-ended : (x y : ℕ) (a : List ℕ) (c : ℕ) (q : List ℕ) → list_any is_unfinished (elements_from 0 (x ∷ y ∷ a)) ≡ false →
     is_comment (x ∷ y ∷ a ++ c ∷ q) ≡ true → ⊥
 comment-ended x y a c q whole comment =
-    grind (arith, nat_tests, comment-open x y a c q comment, whole, one-element x (y ∷ a), comment-element (x ∷ y ∷ a))
+    grind (arith, nat_tests, comment-open x y a c q comment, one-element x (y ∷ a), comment-element (x ∷ y ∷ a))
 
 comment-border : (x : ℕ) (a : List ℕ) (c : ℕ) (q : List ℕ) → list_any is_unfinished (elements_from 0 (x ∷ a)) ≡ false →
     (are_never_in_one (last_byte x a) c || is_at_operator (last_byte x a) c) ≡ true → is_comment (x ∷ a ++ c ∷ q) ≡ true → ⊥
@@ -380,7 +329,7 @@ literal-border : (x : ℕ) (a : List ℕ) (c : ℕ) (q : List ℕ) → list_any 
 literal-border x a c q whole apart literal =
     elim (literal-parts (x ∷ a) c q literal) [
       | inl o ↦
-          grind (arith, nat_tests, whole, opened-unfinished o.prefix o.quote o.rest c q o.word o.begins o.quotes o.ends)
+          grind (arith, nat_tests, opened-unfinished o.prefix o.quote o.rest c q o.word o.begins o.quotes o.ends)
       | inr inside ↦ apart (all-last-byte is_word_byte x a inside.0) inside.1
     ]
 
@@ -388,19 +337,15 @@ number-border : (before : List ℕ) (x : ℕ) (a : List ℕ) (c : ℕ) (q : List
     is_border_of_bytes (is_number (last_element before (elements_from 0 (x ∷ a)))) (last_byte x a) c ≡ true →
     is_number (x ∷ a ++ c ∷ q) ≡ true → ⊥
 number-border before x a c q border number =
-    let element : List ℕ = last_element before (elements_from 0 (x ∷ a)) in
-    let goes_on : Bool = number_goes_on (last_byte x a) c in
+    let element = last_element before (elements_from 0 (x ∷ a)) in
+    let goes_on = number_goes_on (last_byte x a) c in
     elim (or_cases (are_never_in_one (last_byte x a) c)
     (not (is_number element && goes_on) && is_at_operator (last_byte x a) c) border) [
-      | inl never ↦ none-fails is_number_byte x a c q (number-bytes (x ∷ a ++ c ∷ q) number)
-          (never-fails is_number_byte (record { white = refl; separators = refl; slash = refl }) (last_byte x a) c never)
+      | inl never ↦ search (rules, none-fails, number-bytes, never-fails)
       | inr at ↦
           let parts = and_parts (not (is_number element && goes_on)) (is_at_operator (last_byte x a) c) at in
           let front : is_number (x ∷ a) ≡ true = number-front x a c q parts.1 number in
-          both_ways (is_number element && goes_on) (not-true (is_number element && goes_on) parts.0)
-          (and_from (is_number element) goes_on
-          (ap (λ es. is_number (last_element before es)) (one-element x a (token-element (x ∷ a) (number-token (x ∷ a) front))) ∙ front)
-          (number-goes-on x a c q parts.1 number))
+          search (rules, and_from, one-element, token-element, number-token, number-goes-on)
     ]
 
 bytes-longer : (before : List ℕ) (x : ℕ) (a : List ℕ) (c : ℕ) (q : List ℕ) →
@@ -428,8 +373,8 @@ comment-longer : (before : List ℕ) (x : ℕ) (a : List ℕ) (c : ℕ) (q : Lis
     is_element (x ∷ a ++ c ∷ q) ≡ false
 comment-longer before x [] c q whole comment last = absurd (slash-alone before x comment)
 comment-longer before x (y ∷ a) c q whole comment last =
-    let same : last_byte y a ≡ slash = eqb-true (last_byte y a) slash last in
-    let t : List ℕ = x ∷ y ∷ a ++ c ∷ q in
+    let same = eqb-true (last_byte y a) slash last in
+    let t = x ∷ y ∷ a ++ c ∷ q in
     false_from_ne_true (is_element t) λ is.
     element-cases t (two-white x (y ∷ a) c q) (two-other x (y ∷ a) c q) is
     (comment-ended x y a c q whole)
@@ -443,12 +388,11 @@ border-longer : (before : List ℕ) (x : ℕ) (a : List ℕ) (c : ℕ) (q : List
     list_any is_unfinished (elements_from 0 (x ∷ a)) ≡ false →
     is_border (last_element before (elements_from 0 (x ∷ a))) (last_byte x a) c ≡ true → is_element (x ∷ a ++ c ∷ q) ≡ false
 border-longer before x a c q whole border =
-    let element : List ℕ = last_element before (elements_from 0 (x ∷ a)) in
+    let element = last_element before (elements_from 0 (x ∷ a)) in
     elim (or_cases (is_border_of_bytes (is_number element) (last_byte x a) c) (is_comment element && last_byte x a == slash) border) [
       | inl bytes ↦ bytes-longer before x a c q whole bytes
       | inr comment ↦
-          let parts = and_parts (is_comment element) (last_byte x a == slash) comment in
-          comment-longer before x a c q whole parts.0 parts.1
+          grind (arith, nat_tests, and_parts, comment-longer before x a c q whole)
     ]
 
 -- The elements of both texts. `Borders n a`: no element is unfinished, and a border is at the end.
@@ -463,14 +407,12 @@ record Borders (c n : ℕ) (a : List ℕ) : Type 0 where
   border : IsAtBorder c before n a
 
 border-passed : (c n x : ℕ) (a : List ℕ) → Borders c (suc n) (x ∷ a) → Borders c n a
-border-passed c n x [] b = record { before = b.before; whole = b.whole; border = tt }
-border-passed c n x (y ∷ a) b = record { before = b.before; whole = b.whole; border = b.border }
+border-passed c n x a b = search rules
 
 border-next : (c x : ℕ) (a : List ℕ) → Borders c 0 (x ∷ a) → Borders c (longest is_element (x ∷ a) - 1) a
 border-next c x a b = record {
   before = take (longest is_element (x ∷ a)) (x ∷ a);
-  whole = (or_parts (is_unfinished (take (longest is_element (x ∷ a)) (x ∷ a)))
-      (list_any is_unfinished (elements_from (longest is_element (x ∷ a) - 1) a)) b.whole).1;
+  whole = search (rules, or_parts);
   border = go a b.border;
 }
   where
@@ -483,54 +425,34 @@ pub border-elements : (a b : List ℕ) → list_any is_unfinished (elements_from
     elements_from 0 (a ++ b) ≡ elements_from 0 a ++ elements_from 0 b
 border-elements [] b whole border = refl
 border-elements (x ∷ a) [] whole border =
-    ap (elements_from 0) (append-nil (x ∷ a)) ∙ sym (append-nil (elements_from 0 (x ∷ a)))
+    search rules
 border-elements (x ∷ a) (c ∷ r) whole border =
     elements-append c r (Borders c) (border-passed c) (border-next c)
     (λ x a b q rest same. border-longer b.before x a c q b.whole b.border)
     0 (x ∷ a) (omega arith) (record { before = []; whole = whole; border = border })
 
 pub apart-tokens : (a b : List ℕ) → are_apart a b ≡ true → tokens (a ++ b) ≡ tokens a ++ tokens b
-apart-tokens a b apart =
-    let outer = and_parts (is_whole a && keep_lines a b) (have_border (spliced a) (spliced b)) apart in
-    let inner = and_parts (is_whole a) (keep_lines a b) outer.0 in
-    ap (λ t. filter is_token (elements_from 0 t)) (spliced-both a b inner.1)
-    ∙ ap (filter is_token) (border-elements (spliced a) (spliced b) (not-true (list_any is_unfinished (elements a)) inner.0) outer.1)
-    ∙ filter-append is_token (elements a) (elements b)
+apart-tokens a b apart = search (rules, and_parts, spliced-both, border-elements, not-true, filter-append)
 
 -- texts in a row
 
 -- what is written after a text with bytes changes nothing before that text
 
-keep_lines-more : (a b more : List ℕ) → has_bytes (spliced b) ≡ true → keep_lines a b ≡ true → keep_lines a (b ++ more) ≡ true
-keep_lines-more a [] more some kept = absurd (false≢true some)
-keep_lines-more [] (c ∷ b) more some kept = kept
-keep_lines-more (x ∷ a) (c ∷ b) more some kept = kept
-
 have_border-more : (a b more : List ℕ) → has_bytes b ≡ true → have_border a b ≡ true → have_border a (b ++ more) ≡ true
-have_border-more a [] more some border = absurd (false≢true some)
-have_border-more [] (c ∷ b) more some border = border
-have_border-more (x ∷ a) (c ∷ b) more some border = border
+have_border-more a b more some border = search rules
 
 pub row-tokens : (a : List ℕ) (rest : List (List ℕ)) → are_all_apart (a ∷ rest) ≡ true →
     (spliced (a ++ concat rest) ≡ spliced a ++ spliced (concat rest))
     × (tokens (a ++ concat rest) ≡ tokens a ++ flat_map tokens rest)
 row-tokens a [] apart =
-    (ap spliced (append-nil a) ∙ sym (append-nil (spliced a)), ap tokens (append-nil a) ∙ sym (append-nil (tokens a)))
+    search rules
 row-tokens a (b ∷ rest) apart =
     let parts = and_parts (are_apart a b && has_bytes (spliced b)) (are_all_apart (b ∷ rest)) apart in
     let first = and_parts (are_apart a b) (has_bytes (spliced b)) parts.0 in
     let outer = and_parts (is_whole a && keep_lines a b) (have_border (spliced a) (spliced b)) first.0 in
     let inner = and_parts (is_whole a) (keep_lines a b) outer.0 in
     let later = row-tokens b rest parts.1 in
-    let kept : keep_lines a (b ++ concat rest) ≡ true = keep_lines-more a b (concat rest) first.1 inner.1 in
-    let border : have_border (spliced a) (spliced (b ++ concat rest)) ≡ true =
-    ap (have_border (spliced a)) later.0 ∙ have_border-more (spliced a) (spliced b) (spliced (concat rest)) first.1 outer.1 in (
-      spliced-both a (b ++ concat rest) kept,
-      apart-tokens a (b ++ concat rest)
-          (and_from (is_whole a && keep_lines a (b ++ concat rest)) (have_border (spliced a) (spliced (b ++ concat rest)))
-          (and_from (is_whole a) (keep_lines a (b ++ concat rest)) inner.0 kept) border)
-          ∙ ap (λ ts. tokens a ++ ts) later.1,
-    )
+    search (rules, have_border-more, spliced-both, apart-tokens)
 
 pub all-tokens : (texts : List (List ℕ)) → are_all_apart texts ≡ true → tokens (concat texts) ≡ flat_map tokens texts
 all-tokens [] apart = refl

@@ -1,4 +1,5 @@
 -- What the bytes of a token are, by its kind.
+use Rattle.std.proofs.Common.{rules}
 use Rattle.std.proofs.Common.{arith}
 use Rattle.std.proofs.Common.{◌≡◌, ℕ, Bool, true, false, List, [], ◌∷◌, ◌++◌, codes}
 use Rattle.std.proofs.Common.{inl, inr, refl, ap, ◌∙◌}
@@ -10,7 +11,7 @@ use Rattle.std.proofs.lemmas.Bool.{eqb-true}
 use Rattle.std.proofs.lemmas.Slice.Eq.{bytes_eq-Decides}
 use Rattle.c_tokens.specs.Bytes.{line_feed, backslash, full_stop, double_quote, apostrophe, is_digit, is_word_byte, is_quote}
 use Rattle.c_tokens.specs.Grammar.{is_identifier_byte, is_identifier, begins_number, is_number_byte, is_number}
-use Rattle.c_tokens.specs.Grammar.{signs_follow_exponents, has_universal_names, ends_quoted, is_quoted, is_character}
+use Rattle.c_tokens.specs.Grammar.{ends_quoted, is_quoted, is_character}
 use Rattle.c_tokens.specs.Grammar.{is_string, has_prefix, is_character_constant, is_string_literal, punctuators}
 use Rattle.c_tokens.specs.Grammar.{is_punctuator}
 use Rattle.std.proofs.lemmas.Bool.Decides.{nat_tests}
@@ -27,14 +28,10 @@ listed test (c ∷ bs) all b any = grind (arith, nat_tests, listed test bs)
 -- identifiers and numbers
 
 pub identifier-bytes : (t : List ℕ) → is_identifier t ≡ true → list_all is_identifier_byte t ≡ true
-identifier-bytes [] h = refl
-identifier-bytes (b ∷ bs) h =
-    second (not (is_digit b)) (list_all is_identifier_byte (b ∷ bs)) (has_universal_names (b ∷ bs)) h
+identifier-bytes t h = search rules
 
 pub number-start : (t : List ℕ) → is_number t ≡ true → (begins_number t && list_all is_number_byte t) ≡ true
-number-start t h =
-    (and_parts (begins_number t && list_all is_number_byte t) (signs_follow_exponents t)
-    (and_parts (begins_number t && list_all is_number_byte t && signs_follow_exponents t) (has_universal_names t) h).0).0
+number-start t h = search rules
 
 pub number-bytes : (t : List ℕ) → is_number t ≡ true → list_all is_number_byte t ≡ true
 number-bytes t h = (and_parts (begins_number t) (list_all is_number_byte t) (number-start t h)).1
@@ -48,7 +45,7 @@ one-of : (test : List ℕ → Bool) (t : List ℕ) (ps : List (List ℕ)) → li
     list_any (bytes_eq t) ps ≡ true → test t ≡ true
 one-of test t [] all any = absurd (false≢true any)
 one-of test t (p ∷ ps) all any =
-    grind (arith, nat_tests, bytes_eq-Decides t p, one-of test t ps (and_parts (test p) (list_all test ps) all).1)
+    grind (arith, nat_tests, bytes_eq-Decides t p, one-of test t ps)
 
 pub punctuator-is : (test : List ℕ → Bool) → list_all test punctuators ≡ true → (t : List ℕ) → is_punctuator t ≡ true →
     test t ≡ true
@@ -79,7 +76,7 @@ has_prefix-weaker : (f g : List ℕ → Bool) → ((t : List ℕ) → f t ≡ tr
 has_prefix-weaker f g weaker [] t h = weaker t h
 has_prefix-weaker f g weaker (p ∷ ps) [] h = h
 has_prefix-weaker f g weaker (p ∷ ps) (b ∷ bs) h =
-    grind (arith, nat_tests, has_prefix-weaker f g weaker ps bs (and_parts (b == p) (has_prefix ps f bs) h).1)
+    grind (arith, nat_tests, has_prefix-weaker f g weaker ps bs)
 
 character-quoted : (t : List ℕ) → is_character t ≡ true → is_quoted apostrophe t ≡ true
 character-quoted t h = (and_parts (is_quoted apostrophe t) (not (bytes_eq t (codes "''"))) h).0
@@ -93,14 +90,7 @@ literal quote test is quoted (p ∷ ps) all t any =
     let parts = and_parts (list_all is_word_byte p && begins_prefix p) (list_all (λ p. list_all is_word_byte p && begins_prefix p) ps) all in
     let of_p = and_parts (list_all is_word_byte p) (begins_prefix p) parts.0 in
     elim (or_cases (has_prefix p test t) (list_any (λ p. has_prefix p test t) ps) any) [
-      | inl here ↦ record {
-        prefix = p;
-        quote = quote;
-        word = of_p.0;
-        begins = of_p.1;
-        quotes = is;
-        has = has_prefix-weaker test (is_quoted quote) quoted p t here;
-      }
+      | inl here ↦ search (rules, has_prefix-weaker)
       | inr later ↦ literal quote test is quoted ps parts.1 t later
     ]
 
@@ -150,7 +140,7 @@ literal-word a b bs word other l = go l.prefix a l.word word l.has
         has_prefix prefix (is_quoted l.quote) (a ++ b ∷ bs) ≡ true → (is_quote b ≡ true) × (ends_quoted b bs ≡ true)
     go [] [] words word has =
         let parts = and_parts (b == l.quote) (ends_quoted l.quote bs) has in
-        let same : b ≡ l.quote = eqb-true b l.quote parts.0 in
+        let same = eqb-true b l.quote parts.0 in
         (ap is_quote same ∙ l.quotes, ap (λ k. ends_quoted k bs) same ∙ parts.1)
     go [] (x ∷ a) words word has = grind (arith, nat_tests)
     go (p ∷ ps) [] words word has = grind (arith, nat_tests)

@@ -1,12 +1,13 @@
 -- Texts that are no element: a text that may touch what follows, and more after it.
+use Rattle.std.proofs.Common.{rules}
 use Rattle.std.proofs.Common.{arith}
 use Rattle.std.proofs.Common.{◌≡◌, ℕ, Bool, true, false, List, [], ◌∷◌, ◌++◌, codes}
-use Rattle.std.proofs.Common.{◌⊎◌, inl, inr, refl, ap, ◌∙◌}
-use Rattle.std.specs.Prelude.{◌&&◌, ◌||◌, not, ◌==◌}
+use Rattle.std.proofs.Common.{inl, inr, refl, ap, ◌∙◌}
+use Rattle.std.specs.Prelude.{◌||◌, not, ◌==◌}
 use Rattle.std.specs.List.{list_all}
-use Rattle.std.proofs.lemmas.Bool.{and_parts, or_cases, or_left, or_right, both_ways, false≢true}
+use Rattle.std.proofs.lemmas.Bool.{and_parts, or_cases, or_left, or_right, both_ways}
 use Rattle.std.proofs.lemmas.Bool.{eqb-true, not-true, false_from_ne_true}
-use Rattle.c_tokens.specs.Bytes.{space, slash, asterisk, backslash, full_stop, double_quote, apostrophe, line_feed, is_digit, is_word_byte, is_quote}
+use Rattle.c_tokens.specs.Bytes.{space, slash, asterisk, backslash, double_quote, apostrophe, line_feed, is_digit, is_word_byte, is_quote}
 use Rattle.c_tokens.specs.Grammar.{is_identifier_byte, is_identifier, is_number_byte, is_number, is_quoted, ends_quoted}
 use Rattle.c_tokens.specs.Grammar.{is_character_constant, is_string_literal, is_punctuator, is_other_character, is_token}
 use Rattle.c_tokens.specs.Grammar.{ends_once, is_comment, is_white_character, is_element, has_prefix}
@@ -68,8 +69,7 @@ pub punctuator-bytes : (t : List ℕ) → is_punctuator t ≡ true → list_all 
 punctuator-bytes t h = punctuator-is (list_all (λ b. not (is_plain_byte b))) refl t h
 
 pub comment-first : (b : ℕ) (bs : List ℕ) → is_comment (b ∷ bs) ≡ true → (b == slash) ≡ true
-comment-first b [] h = absurd (false≢true h)
-comment-first b (c ∷ bs) h = grind (arith, nat_tests)
+comment-first b bs h = search rules
 
 pub comment-second : (b c : ℕ) (bs : List ℕ) → is_comment (b ∷ c ∷ bs) ≡ true → (c == asterisk || c == slash) ≡ true
 comment-second b c bs h = grind (arith, nat_tests)
@@ -87,14 +87,11 @@ pub separator-longer : (s c : ℕ) (q : List ℕ) → is_separator s ≡ true �
 separator-longer s c q h = false_from_ne_true (is_element (s ∷ c ∷ q)) λ is.
     element-cases (s ∷ c ∷ q) refl refl is
     (λ comment. both_ways (s == slash) (separator-not (λ b. b == slash) refl s h) (comment-first s (c ∷ q) comment))
-    (λ identifier. both_ways (is_identifier_byte s) (separator-not is_identifier_byte refl s h)
-    (all-last is_identifier_byte [] s (c ∷ q) (identifier-bytes (s ∷ c ∷ q) identifier)))
-    (λ number. both_ways (is_number_byte s) (separator-not is_number_byte refl s h)
-    (all-last is_number_byte [] s (c ∷ q) (number-bytes (s ∷ c ∷ q) number)))
+    (search rules)
+    (grind (arith, nat_tests))
     (λ literal. both_ways (is_quote s || is_prefix_byte s) (separator-not (λ b. is_quote b || is_prefix_byte b) refl s h)
     (literal-first s (c ∷ q) literal))
-    (λ punctuator. both_ways (is_separator s) (not-true (is_separator s)
-    (all-last (λ d. not (is_separator d)) [] s (c ∷ q) (long-punctuator s c q punctuator))) h)
+    (grind (arith, nat_tests, long-punctuator s c q))
 
 -- a separator after more: only a comment takes it
 
@@ -137,15 +134,10 @@ line-space : (a : List ℕ) → is_in_line a ≡ true → is_in_line (a ++ space
 line-space [] h = refl
 line-space (b ∷ a) h = grind (arith, nat_tests, line-space a)
 
-comment-from : (x y : ℕ) (a : List ℕ) → (x == slash) ≡ true →
-    ((y == asterisk && ends_once a) ≡ true) ⊎ ((y == slash && is_in_line a) ≡ true) → is_comment (x ∷ y ∷ a) ≡ true
-comment-from x y a first rest = grind (arith, nat_tests)
-
 -- a comment that goes on after two bytes or more is a comment without that, and would take a space too
 pub comment-open : (x y : ℕ) (a : List ℕ) (c : ℕ) (q : List ℕ) → is_comment (x ∷ y ∷ a ++ c ∷ q) ≡ true →
     (is_comment (x ∷ y ∷ a) ≡ true) × (is_comment (x ∷ y ∷ a ++ space ∷ []) ≡ true)
-comment-open x y a c q is =
-    grind (arith, nat_tests, comment-from, ends_once-front, ends_once-other, line-front, line-space)
+comment-open x y a c q is = search (rules, ends_once-front, ends_once-other, line-front, line-space)
 
 -- a word, and an operator after it
 pub word-longer : (x : ℕ) (a : List ℕ) (o : ℕ) (q : List ℕ) → is_plain_word (x ∷ a) ≡ true → is_operator o ≡ true →
@@ -157,15 +149,10 @@ word-longer x a o q word h = false_from_ne_true (is_element (x ∷ a ++ o ∷ q)
     (λ comment. both_ways (is_word_byte x) (ap is_word_byte (eqb-true x slash (comment-first x (a ++ o ∷ q) comment))) first)
     (λ identifier. both_ways (is_identifier_byte o) (operator-not is_identifier_byte refl o h)
     (all-last is_identifier_byte (x ∷ a) o q (identifier-bytes (x ∷ a ++ o ∷ q) identifier)))
-    (λ number. elim (or_cases (is_digit x) (x == full_stop) (number-first x (a ++ o ∷ q) number)) [
-      | inl digit ↦ both_ways (is_digit x) (not-true (is_digit x) parts.0) digit
-      | inr stop ↦ both_ways (is_word_byte x) (ap is_word_byte (eqb-true x full_stop stop)) first
-    ])
+    (search (rules, number-first, not-true))
     (λ literal. both_ways (is_quote o) (operator-not is_quote refl o h)
     (literal-word (x ∷ a) o q parts.1 (operator-not is_word_byte refl o h) literal).0)
-    (λ punctuator. both_ways (is_plain_byte x) (not-true (is_plain_byte x)
-    (all-last (λ b. not (is_plain_byte b)) [] x (a ++ o ∷ q) (punctuator-bytes (x ∷ a ++ o ∷ q) punctuator)))
-    (or_left (is_word_byte x) (is_quote x) first))
+    (λ punctuator. search (rules, punctuator-bytes, or_left))
 
 -- a quoted text, and anything after it
 
@@ -188,27 +175,19 @@ pub quoted-longer : (x : ℕ) (a : List ℕ) (c : ℕ) (q : List ℕ) → is_quo
 quoted-longer x a c q quote ends = false_from_ne_true (is_element (x ∷ a ++ c ∷ q)) λ is.
     element-cases (x ∷ a ++ c ∷ q) (two-white x a c q) (two-other x a c q) is
     (λ comment. both_ways (x == slash) (quote-not (λ b. b == slash) refl refl x quote) (comment-first x (a ++ c ∷ q) comment))
-    (λ identifier. both_ways (is_identifier_byte x) (quote-not is_identifier_byte refl refl x quote)
-    (all-last is_identifier_byte [] x (a ++ c ∷ q) (identifier-bytes (x ∷ a ++ c ∷ q) identifier)))
-    (λ number. both_ways (is_number_byte x) (quote-not is_number_byte refl refl x quote)
-    (all-last is_number_byte [] x (a ++ c ∷ q) (number-bytes (x ∷ a ++ c ∷ q) number)))
+    (search rules)
+    (search rules)
     (quoted-literal x a c q quote ends)
-    (λ punctuator. both_ways (is_plain_byte x) (not-true (is_plain_byte x)
-    (all-last (λ b. not (is_plain_byte b)) [] x (a ++ c ∷ q) (punctuator-bytes (x ∷ a ++ c ∷ q) punctuator)))
-    (or_right (is_word_byte x) (is_quote x) quote))
+    (λ punctuator. search (rules, punctuator-bytes, or_right))
 
 -- an operator, and a word byte or a quote after it
 pub operator-longer : (o p : ℕ) (q : List ℕ) → is_operator o ≡ true → is_plain_byte p ≡ true → is_element (o ∷ p ∷ q) ≡ false
 operator-longer o p q h plain = false_from_ne_true (is_element (o ∷ p ∷ q)) λ is.
     element-cases (o ∷ p ∷ q) refl refl is
-    (λ comment. elim (or_cases (p == asterisk) (p == slash) (comment-second o p q comment)) [
-      | inl same ↦ both_ways (is_plain_byte p) (ap is_plain_byte (eqb-true p asterisk same)) plain
-      | inr same ↦ both_ways (is_plain_byte p) (ap is_plain_byte (eqb-true p slash same)) plain
-    ])
+    (search (rules, comment-second))
     (λ identifier. both_ways (is_identifier_byte o) (operator-not is_identifier_byte refl o h)
     (all-last is_identifier_byte [] o (p ∷ q) (identifier-bytes (o ∷ p ∷ q) identifier)))
-    (λ number. both_ways (is_digit o || o == full_stop) (operator-not (λ b. is_digit b || b == full_stop) refl o h)
-    (number-first o (p ∷ q) number))
+    (λ number. grind (arith, nat_tests))
     (λ literal. both_ways (is_quote o || is_prefix_byte o) (operator-not (λ b. is_quote b || is_prefix_byte b) refl o h)
     (literal-first o (p ∷ q) literal))
     (λ punctuator. both_ways (is_plain_byte p) (not-true (is_plain_byte p)

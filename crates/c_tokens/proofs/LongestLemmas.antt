@@ -1,4 +1,5 @@
 -- The longest front is the longest, and the elements are the whole text.
+use Rattle.std.proofs.Common.{rules}
 use Rattle.std.proofs.Common.{◌≡◌, ℕ, ◌-◌, ◌<◌, ◌≤◌, zero, suc, Bool, true, List, [], ◌∷◌, ◌++◌, length, take, drop}
 use Rattle.std.proofs.Common.{refl, arith}
 use Rattle.std.specs.List.{concat}
@@ -11,22 +12,22 @@ use Rattle.std.proofs.lemmas.Bool.Decides.{nat_tests}
 
 pub longest-most : (test : List ℕ → Bool) (b : List ℕ) (n : ℕ) → n ≤ length b → test (take n b) ≡ true → n ≤ longest test b
 longest-most test b zero within h = omega arith
-longest-most test [] (suc n) within h = absurd (omega (arith, within))
+longest-most test [] (suc n) within h = absurd (omega arith)
 longest-most test (x ∷ b) (suc zero) within h = grind (arith, nat_tests)
 longest-most test (x ∷ b) (suc (suc n)) within h =
-    more (longest (λ t. test (x ∷ t)) b) (longest-most (λ t. test (x ∷ t)) b (suc n) (omega (arith, within)) h)
+    more (longest (λ t. test (x ∷ t)) b) (longest-most (λ t. test (x ∷ t)) b (suc n) (omega arith) h)
   where
     more : (m : ℕ) → suc n ≤ m → suc (suc n) ≤ counted test x m
-    more m h = rw (longer test x m (omega (arith, h))) (omega (arith, h))
+    more m h = search rules
 
 longest-passes : (test : List ℕ → Bool) (b : List ℕ) → 0 < longest test b → test (take (longest test b) b) ≡ true
-longest-passes test [] h = absurd (omega (arith, h))
+longest-passes test [] h = absurd (omega arith)
 longest-passes test (x ∷ b) h = go (longest (λ t. test (x ∷ t)) b) h (longest-passes (λ t. test (x ∷ t)) b)
   where
     go : (more : ℕ) → 0 < counted test x more → (0 < more → test (x ∷ take more b) ≡ true) →
         test (take (counted test x more) (x ∷ b)) ≡ true
-    go zero h rest = grind (arith, nat_tests)
-    go (suc more) h rest = rw (longer test x (suc more) (omega arith)) (rest (omega arith))
+    go zero h rest = search rules
+    go (suc more) h rest = search (rules, longer)
 
 longest-one : (b : ℕ) (rest : List ℕ) → 1 ≤ longest is_element (b ∷ rest)
 longest-one b rest = longest-most is_element (b ∷ rest) 1 (omega arith) (single-element b)
@@ -43,5 +44,5 @@ elements-all zero (x ∷ a) =
   where
     go : (k : ℕ) → 1 ≤ k → concat (elements_from (k - 1) a) ≡ drop (k - 1) a →
         take k (x ∷ a) ++ concat (elements_from (k - 1) a) ≡ x ∷ a
-    go zero h rest = absurd (omega (arith, h))
-    go (suc k) h rest = grind (arith, nat_tests, take-append-drop k a)
+    go zero h rest = search rules
+    go (suc k) h rest = search (rules, take-append-drop)

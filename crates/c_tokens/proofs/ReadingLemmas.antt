@@ -1,4 +1,5 @@
 -- The longest front that passes a test, and the elements of two texts that are written together.
+use Rattle.std.proofs.Common.{rules}
 use Rattle.std.proofs.Common.{◌≡◌, ℕ, ◌+◌, ◌-◌, ◌<◌, ◌≤◌, zero, suc, Bool, true, false, List, [], ◌∷◌, ◌++◌, length, take}
 use Rattle.std.proofs.Common.{refl, ap, subst, ◌∙◌, get_or, arith}
 use Rattle.std.specs.Prelude.{nat_lt, if◌then◌else◌}
@@ -62,8 +63,7 @@ cut text rest n = take n text ∷ elements_from (n - 1) rest
 -- an element with which no longer one begins is the first element
 pub elements-front : (x : ℕ) (a b : List ℕ) → is_element (x ∷ a) ≡ true → NoLonger is_element (x ∷ a) b →
     elements_from 0 (x ∷ a ++ b) ≡ (x ∷ a) ∷ elements_from 0 b
-elements-front x a b h none =
-    grind (arith, nat_tests, longest-front is_element x a b h none, take_at a b (length a) refl, elements-passed a b)
+elements-front x a b h none = search (rules, longest-front, take_at, elements-passed)
 
 -- The elements of a text and of what follows, if no element has a front of what follows in it.
 -- `Good n a` says so, and stays true from each element to the next.
@@ -75,12 +75,11 @@ module _ (c : ℕ) (r : List ℕ) (Good : ℕ → List ℕ → Type 0)
     pub elements-append : (n : ℕ) (a : List ℕ) → n ≤ length a → Good n a →
         elements_from n (a ++ c ∷ r) ≡ elements_from n a ++ elements_from 0 (c ∷ r)
     elements-append zero [] within good = refl
-    elements-append (suc n) [] within good = absurd (omega (arith, within))
-    elements-append (suc n) (x ∷ a) within good = elements-append n a (omega (arith, within)) (passed n x a good)
+    elements-append (suc n) [] within good = absurd (omega arith)
+    elements-append (suc n) (x ∷ a) within good = elements-append n a (omega arith) (passed n x a good)
     elements-append zero (x ∷ a) within good =
-        let k : ℕ = longest is_element (x ∷ a) in
+        let k = longest is_element (x ∷ a) in
         let fits : k ≤ length (x ∷ a) = longest-within is_element (x ∷ a) in
-        let rest : k - 1 ≤ length a = omega (arith, fits) in
         ap (cut (x ∷ a ++ c ∷ r) (a ++ c ∷ r)) (longest-append is_element (x ∷ a) c r (stays x a good))
         ∙ ap (λ t. t ∷ elements_from (k - 1) (a ++ c ∷ r)) (take-append-le k (x ∷ a) (c ∷ r) fits)
-        ∙ ap (λ es. take k (x ∷ a) ∷ es) (elements-append (k - 1) a rest (next x a good))
+        ∙ ap (λ es. take k (x ∷ a) ∷ es) (elements-append (k - 1) a (omega arith) (next x a good))

@@ -1,24 +1,23 @@
 -- The elements of two texts that may touch.
+use Rattle.std.proofs.Common.{rules}
 use Rattle.std.proofs.Common.{◌≡◌, ℕ, ◌-◌, Bool, true, false, List, [], ◌∷◌, ◌++◌, codes, refl, ap, sym, ◌∙◌}
 use Rattle.std.proofs.Common.{inl, inr, append-nil, arith, length}
-use Rattle.std.specs.Prelude.{◌&&◌, ◌||◌, not, ◌==◌, filter}
+use Rattle.std.specs.Prelude.{◌&&◌, ◌||◌, not, ◌==◌}
 use Rattle.std.specs.List.{list_any, list_all}
 use Rattle.std.specs.Str.{bytes_eq}
 use Rattle.std.proofs.lemmas.Bool.{and_parts, or_cases, or_left, or_right, and_right, false≢true}
-use Rattle.std.proofs.lemmas.Bool.{not_from_false, not-true, false_from_ne_true, eqb-true}
+use Rattle.std.proofs.lemmas.Bool.{not-true, eqb-true}
 use Rattle.std.proofs.lemmas.List.Elements.{filter-append}
 use Rattle.c_tokens.specs.Bytes.{space, backslash, line_feed, double_quote, apostrophe, is_word_byte, is_quote}
-use Rattle.c_tokens.specs.Grammar.{is_identifier_byte, is_identifier, has_universal_names, is_number}
-use Rattle.c_tokens.specs.Grammar.{is_quoted, ends_quoted, is_character, is_string, is_character_constant}
-use Rattle.c_tokens.specs.Grammar.{is_string_literal, is_punctuator, is_token, is_comment}
+use Rattle.c_tokens.specs.Grammar.{is_identifier_byte, is_identifier, has_universal_names}
+use Rattle.c_tokens.specs.Grammar.{is_quoted, ends_quoted, is_character, is_string}
+use Rattle.c_tokens.specs.Grammar.{is_token, is_comment}
 use Rattle.c_tokens.specs.Grammar.{is_white_character, is_element}
 use Rattle.c_tokens.specs.Reading.{spliced, longest, elements_from, elements, tokens, ends_in_comment}
 use Rattle.c_tokens.specs.Touching.{TextKind, is_separator, is_operator, is_one, is_plain_word, is_plain, IsOfKind}
 use Rattle.c_tokens.specs.Borders.{is_plain_byte, last_byte, keep_lines}
 use Rattle.c_tokens.specs.Touching.{kinds_may_touch}
-use Rattle.c_tokens.specs.Touching.TextKind.{Separator, Operator, Plain, Other}
 use Rattle.c_tokens.proofs.ReadingLemmas.{no-longer-nothing, no-longer, elements-front, elements-append}
-use Rattle.c_tokens.proofs.LongerLemmas.{separator-not, operator-not}
 use Rattle.c_tokens.proofs.LongerLemmas.{separator-longer, separator-last, comment-open, word-longer, quoted-longer}
 use Rattle.c_tokens.proofs.LongerLemmas.{operator-longer}
 use Rattle.std.proofs.lemmas.Bool.Decides.{nat_tests}
@@ -46,24 +45,11 @@ word-names [] h = refl
 word-names (b ∷ a) h = grind (arith, nat_tests, word-names a)
 
 word-identifier : (t : List ℕ) → is_plain_word t ≡ true → is_identifier t ≡ true
-word-identifier [] h = h
-word-identifier (b ∷ a) h = grind (arith, nat_tests, word-identifier-bytes (b ∷ a), word-names (b ∷ a))
+word-identifier t h = search (rules, word-identifier-bytes, word-names)
 
 plain-token : (t : List ℕ) → is_plain t ≡ true → is_token t ≡ true
 unfolding is_token
-plain-token t h =
-    let one : Bool = is_identifier t in
-    let two : Bool = one || is_number t in
-    let three : Bool = two || is_character_constant t in
-    let four : Bool = three || is_string_literal t in
-    let five : Bool = four || is_punctuator t in
-    elim (or_cases (is_plain_word t || is_character t) (is_string t) h) [
-      | inr string ↦ grind (arith, nat_tests)
-      | inl first ↦ elim (or_cases (is_plain_word t) (is_character t) first) [
-        | inl word ↦ grind (arith, nat_tests, word-identifier t word)
-        | inr character ↦ grind (arith, nat_tests)
-      ]
-    ]
+plain-token t h = grind (arith, nat_tests, or_cases, word-identifier)
 
 pub plain-element : (t : List ℕ) → is_plain t ≡ true → is_element t ≡ true
 plain-element t h = token-element t (plain-token t h)
@@ -138,102 +124,52 @@ operator-elements o (p ∷ b) operator h =
 
 plain-elements : (a : List ℕ) (o : ℕ) (r : List ℕ) → is_plain a ≡ true → is_operator o ≡ true →
     elements_from 0 (a ++ o ∷ r) ≡ elements_from 0 a ++ elements_from 0 (o ∷ r)
-plain-elements [] o r h operator = absurd (false≢true h)
-plain-elements (b ∷ a) o r h operator =
-    elements-front b a (o ∷ r) (plain-element (b ∷ a) h)
-    (no-longer is_element (b ∷ a) o r (λ q. plain-longer b a o q h operator))
-    ∙ ap (λ es. es ++ elements_from 0 (o ∷ r)) (sym (one-element b a (plain-element (b ∷ a) h)))
+plain-elements a o r h operator = search (rules, elements-front, plain-element, plain-longer, one-element)
 
 plain-closed : (a : List ℕ) → is_plain a ≡ true → list_any is_open (elements_from 0 a) ≡ false
 plain-closed [] h = refl
 plain-closed (b ∷ a) h =
-    ap (list_any is_open) (one-element b a (plain-element (b ∷ a) h))
-    ∙ false_from_ne_true (is_open (b ∷ a) || false) (λ is. elim (or_cases (is_open (b ∷ a)) false is) [
-      | inr none ↦ false≢true none
-      | inl comment ↦ grind (arith, nat_tests)
-    ])
-
-single-closed : (o : ℕ) → list_any is_open (elements_from 0 (o ∷ [])) ≡ false
-single-closed o = grind (arith, nat_tests)
+    grind (arith, nat_tests, one-element, plain-element)
 
 -- backslashes before line feeds
-
-pub spliced-first : (b : ℕ) (bs : List ℕ) → (b == backslash) ≡ false → spliced (b ∷ bs) ≡ b ∷ spliced bs
-spliced-first b [] other = refl
-spliced-first b (c ∷ bs) other = rw other refl
 
 spliced-bytes : (x : ℕ) (a : List ℕ) (c : ℕ) (r : List ℕ) → not (last_byte x a == backslash && c == line_feed) ≡ true →
     spliced (x ∷ a ++ c ∷ r) ≡ spliced (x ∷ a) ++ spliced (c ∷ r)
 spliced-bytes x [] c r kept = rw (not-true (x == backslash && c == line_feed) kept) refl
 spliced-bytes x (d ∷ []) c r kept = grind (arith, nat_tests)
 spliced-bytes x (d ∷ e ∷ a) c r kept =
-    grind (arith, nat_tests, spliced-bytes e a c r kept, spliced-bytes d (e ∷ a) c r kept)
+    grind (arith, nat_tests, spliced-bytes e a c r kept)
 
 pub spliced-both : (a b : List ℕ) → keep_lines a b ≡ true → spliced (a ++ b) ≡ spliced a ++ spliced b
-spliced-both [] b kept = refl
-spliced-both (x ∷ a) [] kept = ap spliced (append-nil (x ∷ a)) ∙ sym (append-nil (spliced (x ∷ a)))
-spliced-both (x ∷ a) (c ∷ r) kept = spliced-bytes x a c r kept
+spliced-both a b kept = search (rules, spliced-bytes)
 
 spliced-append : (a : List ℕ) (c : ℕ) (r : List ℕ) → (c == line_feed) ≡ false → spliced (a ++ c ∷ r) ≡ spliced a ++ spliced (c ∷ r)
-spliced-append [] c r other = refl
-spliced-append (x ∷ a) c r other = spliced-bytes x a c r
-    (not_from_false (last_byte x a == backslash && c == line_feed) (and_right (last_byte x a == backslash) (c == line_feed) other))
+spliced-append a c r other = search (rules, spliced-bytes, and_right)
 
 -- texts
 
 separator-first : (a b : List ℕ) → is_one is_separator a ≡ true → elements (a ++ b) ≡ elements a ++ elements b
-separator-first [] b h = absurd (false≢true h)
-separator-first (s ∷ c ∷ a) b h = absurd (false≢true h)
-separator-first (s ∷ []) b h =
-    ap (elements_from 0) (spliced-first s b (separator-not (λ c. c == backslash) refl s h))
-    ∙ separator-elements s (spliced b) h
-    ∙ ap (λ es. es ++ elements b) (sym (one-element s [] (single-element s)))
+separator-first a b h = search (rules, separator-elements)
 
 separator-second : (a b : List ℕ) → ends_in_comment a ≡ false → is_one is_separator b ≡ true →
     elements (a ++ b) ≡ elements a ++ elements b
-separator-second a [] closed h = absurd (false≢true h)
-separator-second a (s ∷ c ∷ b) closed h = absurd (false≢true h)
-separator-second a (s ∷ []) closed h =
-    grind (arith, nat_tests, spliced-append a s [], separator-not, elements-separator (spliced a) s h closed)
+separator-second a b closed h = search (rules, spliced-append, elements-separator)
 
 operator-plain : (a b : List ℕ) → is_one is_operator a ≡ true → is_plain (spliced b) ≡ true →
     elements (a ++ b) ≡ elements a ++ elements b
-operator-plain [] b h plain = absurd (false≢true h)
-operator-plain (o ∷ c ∷ a) b h plain = absurd (false≢true h)
-operator-plain (o ∷ []) b h plain =
-    ap (elements_from 0) (spliced-first o b (operator-not (λ c. c == backslash) refl o h))
-    ∙ operator-elements o (spliced b) h plain
-    ∙ ap (λ es. es ++ elements b) (sym (one-element o [] (single-element o)))
+operator-plain a b h plain = search (rules, operator-elements, single-element)
 
 plain-operator : (a b : List ℕ) → is_plain (spliced a) ≡ true → is_one is_operator b ≡ true →
     elements (a ++ b) ≡ elements a ++ elements b
-plain-operator a [] plain h = absurd (false≢true h)
-plain-operator a (o ∷ c ∷ b) plain h = absurd (false≢true h)
-plain-operator a (o ∷ []) plain h =
-    grind (arith, nat_tests, spliced-append a o [], operator-not, plain-elements (spliced a) o [] plain h)
+plain-operator a b plain h = search (rules, spliced-append, plain-elements)
 
 one-closed : (test : ℕ → Bool) (a : List ℕ) → is_one test a ≡ true → ends_in_comment a ≡ false
-one-closed test [] h = refl
-one-closed test (b ∷ []) h = single-closed b
-one-closed test (b ∷ c ∷ a) h = absurd (false≢true h)
+one-closed test a h = search rules
 
 touching-elements : (k g : TextKind) (a b : List ℕ) → IsOfKind k a → IsOfKind g b → kinds_may_touch k g ≡ true →
     elements (a ++ b) ≡ elements a ++ elements b
-touching-elements Separator g a b of_a of_b may = separator-first a b of_a
-touching-elements Operator Separator a b of_a of_b may = separator-second a b (one-closed is_operator a of_a) of_b
-touching-elements Plain Separator a b of_a of_b may = separator-second a b (plain-closed (spliced a) of_a) of_b
-touching-elements Other Separator a b of_a of_b may = separator-second a b of_a of_b
-touching-elements Operator Plain a b of_a of_b may = operator-plain a b of_a of_b
-touching-elements Plain Operator a b of_a of_b may = plain-operator a b of_a of_b
-touching-elements Operator Operator a b of_a of_b may = absurd (false≢true may)
-touching-elements Operator Other a b of_a of_b may = absurd (false≢true may)
-touching-elements Plain Plain a b of_a of_b may = absurd (false≢true may)
-touching-elements Plain Other a b of_a of_b may = absurd (false≢true may)
-touching-elements Other Operator a b of_a of_b may = absurd (false≢true may)
-touching-elements Other Plain a b of_a of_b may = absurd (false≢true may)
-touching-elements Other Other a b of_a of_b may = absurd (false≢true may)
+touching-elements k g a b of_a of_b may = search (rules, separator-first, separator-second, plain-closed, operator-plain, plain-operator)
 
 pub touching-tokens : (k g : TextKind) (a b : List ℕ) → IsOfKind k a → IsOfKind g b → kinds_may_touch k g ≡ true →
     tokens (a ++ b) ≡ tokens a ++ tokens b
-touching-tokens k g a b of_a of_b may =
-    ap (filter is_token) (touching-elements k g a b of_a of_b may) ∙ filter-append is_token (elements a) (elements b)
+touching-tokens k g a b of_a of_b may = search (rules, touching-elements, filter-append)

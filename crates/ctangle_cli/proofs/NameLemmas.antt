@@ -1,4 +1,5 @@
 -- The last slash and the dots of a name.
+use Rattle.std.proofs.Common.{rules}
 use Rattle.std.proofs.Common.{◌≡◌, ℕ, ◌+◌, ◌-◌, Bool, false, not, List, [], ◌∷◌, suc, ◌<◌, ◌||◌, length, get_or, take}
 use Rattle.std.proofs.Common.{drop, refl, ap, sym, ◌∙◌, arith, Option, Some, None, is_some}
 use Rattle.std.specs.List.{suffix_len, after_last, before_last, list_any}
@@ -12,17 +13,14 @@ module _ (test : ℕ → Bool) (name : List ℕ) where
   past-last : (k : ℕ) → IsLastByte test name (Some k) → length name - suffix_len (λ b. not (test b)) name ≡ k + 1
   past-last k h =
       let place : k + 1 - 1 ≡ k = omega arith in
-      let last = suffix_len_is (λ b. not (test b)) name (k + 1) 0 (omega (arith, h.0.high))
-      (λ j after within. ap not (false_from_ne_true _ (h.0.after j after within)))
-      (λ _. ap (λ n. not (test (get_or name n 0))) place ∙ ap not h.1) in
-      omega (arith, last, h.0.high)
+      search (rules, suffix_len_is)
 
   past-none : IsLastByte test name None → length name - suffix_len (λ b. not (test b)) name ≡ 0
   past-none h =
       let last = suffix_len_is (λ b. not (test b)) name 0 0 (omega arith)
       (λ j after within. ap not (false_from_ne_true _ (h j after within)))
-      (λ some. absurd (omega (arith, some))) in
-      omega (arith, last)
+      (λ some. absurd (omega arith)) in
+      omega arith
 
   pub after-found : (k : ℕ) → IsLastByte test name (Some k) → drop (k + 1) name ≡ after_last test name
   after-found k h = ap (λ n. drop n name) (sym (past-last k h))
@@ -31,24 +29,19 @@ module _ (test : ℕ → Bool) (name : List ℕ) where
   after-none h = ap (λ n. drop n name) (sym (past-none h))
 
   pub before-found : (k : ℕ) → IsLastByte test name (Some k) → take k name ≡ before_last test name
-  before-found k h =
-      let last : k ≡ length name - suffix_len (λ b. not (test b)) name - 1 = omega (arith, past-last k h) in
-      ap (λ n. take n name) last
+  before-found k h = search (rules, past-last)
 
   pub before-none : IsLastByte test name None → [] ≡ before_last test name
-  before-none h =
-      let last : 0 ≡ length name - suffix_len (λ b. not (test b)) name - 1 = omega (arith, past-none h) in
-      ap (λ n. take n name) last
+  before-none h = search (rules, past-none)
 
 none_passes : (test : ℕ → Bool) (bytes : List ℕ)
     → ((j : ℕ) → j < length bytes → test (get_or bytes j 0) ≡ false) → false ≡ list_any test bytes
 none_passes test [] none = refl
 none_passes test (b ∷ bytes) none =
-    none_passes test bytes (λ j l. none (suc j) (omega (arith, l)))
+    none_passes test bytes (λ j l. none (suc j) (omega arith))
     ∙ ap (λ t. t || list_any test bytes) (sym (none 0 (omega arith)))
 
 -- some byte passes the test if a first one is found
 pub passes-found : (test : ℕ → Bool) (bytes : List ℕ) (r : Option ℕ)
     → IsFirstByte test bytes r → is_some r ≡ list_any test bytes
-passes-found test bytes (Some k) h = sym (list_any_at test bytes k 0 h.0.high h.1)
-passes-found test bytes None h = none_passes test bytes (λ j l. false_from_ne_true _ (h j (omega arith) l))
+passes-found test bytes r h = search (rules, list_any_at, none_passes)

@@ -1,17 +1,15 @@
 -- A run that does nothing does not end with status 3: each such ending writes some bytes, or something fails.
-use Rattle.std.proofs.Common.{◌≡◌, ◌⊎◌, inl, inr, Option, None, Some, ℕ, ◌<◌, take, Bool, true, false, cond, List, []}
-use Rattle.std.proofs.Common.{◌∷◌, ◌++◌, ap, refl, length, length-append, arith}
-use Rattle.std.specs.Prelude.{codes}
+use Rattle.std.proofs.Common.{rules}
+use Rattle.std.proofs.lemmas.Bool.Decides.{nat_tests}
+use Rattle.std.proofs.Common.{◌≡◌, ◌⊎◌, inl, inr, Option, None, Some, ℕ, ◌<◌, take, List, []}
+use Rattle.std.proofs.Common.{◌∷◌, ◌++◌, ap, length, length-append, arith}
 use Rattle.std.specs.Io.KnownBytes.{Appends}
 use Rattle.tangle_streams.specs.Streams.{Stream, Failed, TakesAll, TakesPrefix}
-use Rattle.tangle_faults.specs.Faults.{FaultRead, is_error}
+use Rattle.tangle_faults.specs.Faults.{FaultRead}
 use Rattle.tangle_files.specs.Roles.{RolesRead}
 use Rattle.tangle_folders.specs.Folder.{File, FolderRead}
 use Rattle.tangle_folders.specs.declared.folder.FolderFault.{FolderFault}
-use Rattle.tangle_folders.specs.declared.folder.FolderFault.TheVariants.{NoMemory as FolderMemory}
-use Rattle.tangle_loading.specs.Loading.{LoadEnd}
-use Rattle.tangle_loading.specs.Loading.LoadEnd.{NoMemory}
-use Rattle.ctangle_cli.specs.Messages.{ending_line, fault_lines, no_memory_line, faults_status, unwritten_line}
+use Rattle.ctangle_cli.specs.Messages.{faults_status, unwritten_line}
 use Rattle.ctangle_cli.specs.Run.{NamedEnds, RunEnds, TangledEnds, moment, nothing_done}
 use Rattle.ctangle_cli.specs.Run.RunEnds.{IsMisused, IsCutAtUsage, IsUnnamed, IsNamed}
 use Rattle.ctangle_cli.specs.Run.NamedEnds.{IsUnloaded, IsUntangled, IsTangled}
@@ -36,47 +34,33 @@ silent_after between before bytes some first last = by between.taken first.0 las
     by None first last = first
     by (Some all) first last = elim last [
       | inl w ↦ (let e : 0 ≡ length (all ++ bytes) = ap length w.0 in omega (arith, length-append all bytes))
-      | inr p ↦ elim p.3 [ inl h ↦ omega (arith, h) | inr h ↦ omega (arith, h) ]
+      | inr p ↦ elim p.3 [ inl h ↦ omega arith | inr h ↦ omega arith ]
     ]
 
-silent : (bytes : List ℕ)
-    → 0 < length bytes → TakesAll silent_stream silent_stream bytes ⊎ TakesPrefix silent_stream silent_stream bytes → ⊥
-silent bytes some h = silent_after silent_stream [] bytes some (refl, refl) h
-
-ending_some : (e : LoadEnd) → 0 < length (ending_line (codes "ctangle") e)
-ending_some NoMemory = omega arith
-ending_some ending = omega arith
-
 stop_some : (f : FolderFault) (name : List ℕ) → 0 < length (unwritten_line f name)
-stop_some FolderMemory name = omega arith
-stop_some fault name = omega arith
+stop_some fault name = search rules
 
 small_status : (fs : List FaultRead) → faults_status fs < 3
 small_status [] = omega arith
-small_status (f ∷ fs) = by (is_error f) (small_status fs)
-  where
-    by : (b : Bool) → faults_status fs < 3 → cond b 1 (faults_status fs) < 3
-    by true h = omega arith
-    by false h = h
+small_status (f ∷ fs) = grind (arith, nat_tests, small_status fs)
 
 tangled_not_3 : (outputs : List File) (faults : List FaultRead) (folder : FolderRead)
     → TangledEnds outputs faults (moment folder silent_stream) nothing_done 3 → ⊥
 tangled_not_3 outputs faults folder (IsDone reported created unfailed status) = let h = small_status faults in omega arith
 tangled_not_3 outputs faults folder (IsCutAtFaults reported created status) = no_failure reported.3
 tangled_not_3 outputs faults folder (IsUnwritten stop status) =
-    silent_after stop.between.stream (fault_lines faults) (unwritten_line stop.fault stop.name)
-    (stop_some stop.fault stop.name) stop.faults_reported stop.output_reported
+    search (rules, silent_after, stop_some)
 
 named_not_3 : (roles : RolesRead) → NamedEnds roles nothing_done nothing_done 3 → ⊥
 named_not_3 roles (IsUnloaded ending why reported status) =
-    silent (ending_line (codes "ctangle") ending) (ending_some ending) reported
+    search rules
 named_not_3 roles (IsUntangled files loaded loads reported created status) =
-    silent no_memory_line (ending_some NoMemory) reported
+    search rules
 named_not_3 roles (IsTangled files loaded loads ends) = tangled_not_3 ends.outputs ends.faults loaded ends.ends
 
 pub run_not_3 : (arguments : List (List ℕ)) → RunEnds arguments nothing_done nothing_done 3 → ⊥
 run_not_3 arguments (IsMisused none reported created status) = omega arith
 run_not_3 arguments (IsCutAtUsage none reported created status) = no_failure reported.3
 run_not_3 arguments (IsUnnamed reported created status) =
-    silent (ending_line (codes "ctangle") NoMemory) (ending_some NoMemory) reported
+    search rules
 run_not_3 arguments (IsNamed roles is ends) = named_not_3 roles ends

@@ -1,5 +1,6 @@
 -- Several writes on a stream, one after another.
-use Rattle.std.proofs.Common.{◌≡◌, ◌∙◌, ◌⊎◌, inl, inr, ℕ, ◌+◌, ◌<◌, ◌≤◌, List, [], ◌∷◌, ◌++◌, Result, Ok, Err, ap}
+use Rattle.std.proofs.Common.{rules}
+use Rattle.std.proofs.Common.{◌≡◌, ◌∙◌, ◌⊎◌, ℕ, ◌+◌, ◌<◌, List, [], ◌∷◌, ◌++◌, Result, Ok, Err, ap}
 use Rattle.std.proofs.Common.{subst, sym, refl, length, take, length-append, arith, append_assoc, append-nil}
 use Rattle.std.proofs.Common.{◌≢◌, ◌^◌, get_or, drop}
 use Rattle.std.proofs.lemmas.List.{take-append-le, take-append-drop}
@@ -32,10 +33,7 @@ whole_then_cut a b c xs ys p q =
     )
 
 pub cut_more : (a b : Stream) (xs ys : List ℕ) → TakesPrefix a b xs → TakesPrefix a b (xs ++ ys)
-cut_more a b xs ys p =
-    let less = p.1 in
-    let within : p.0 ≤ length xs = omega arith in
-    (p.0, omega (arith, length-append xs ys), rw take-append-le p.2, p.3)
+cut_more a b xs ys p = search (rules, length-append, take-append-le)
 
 pub whole_from : (a b : Stream) (n : ℕ) (bytes : List ℕ) → IsWritten a b bytes (Ok n) → TakesAll a b bytes
 whole_from a b n bytes h = (h.1, h.2)
@@ -45,8 +43,7 @@ cut_from a b e bytes h = (e.0, h.0, h.1, h.2)
 
 pub tries_from : (a b : Stream) (r : Result ℕ WriteFault) (bytes : List ℕ)
     → IsWritten a b bytes r → TakesAll a b bytes ⊎ TakesPrefix a b bytes
-tries_from a b (Ok n) bytes h = inl (h.1, h.2)
-tries_from a b (Err e) bytes h = inr (e.0, h.0, h.1, h.2)
+tries_from a b r bytes h = search rules
 
 -- parts that are written one after another, in a loop
 module _ {X : Type 0} (bytes_of : X → List ℕ) where
@@ -69,14 +66,7 @@ module _ {X : Type 0} (bytes_of : X → List ℕ) where
       let whole : joined [] xs ≡ joined [] (take (i + 1) xs) ++ rest.0 =
       ap (joined []) (sym (take-append-drop (i + 1) xs))
       ∙ fold-append (λ out x. out ++ bytes_of x) [] (take (i + 1) xs) (drop (i + 1) xs) ∙ rest.1 in
-      rw next (q a (joined [] (take i xs)) p (omega (
-        arith,
-        fits,
-        ap length whole,
-        ap length next,
-        length-append (joined [] (take (i + 1) xs)) rest.0,
-        length-append (joined [] (take i xs)) (bytes_of (get_or xs i d)),
-      )))
+      search (rules, length-append)
 
   module _ (a b c : Stream) (xs : List X) (i : ℕ) (within : i < length xs)
       (d : X) (bytes : List ℕ) (is : bytes ≡ bytes_of (get_or xs i d)) where

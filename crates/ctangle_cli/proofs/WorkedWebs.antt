@@ -1,6 +1,6 @@
 -- Worked webs: their output files and faults are as expected. None of their names contains itself, so the faults of the
 -- graph are those of a graph without cycles.
-use Rattle.std.proofs.Common.{◌≡◌, ℕ, zero, suc, false, List, [], ◌∷◌, ◌++◌, Option, None, Some, refl}
+use Rattle.std.proofs.Common.{◌≡◌, ℕ, zero, suc, false, List, [], ◌∷◌, ◌++◌, Option, None, Some, rules}
 use Rattle.std.specs.Prelude.{codes}
 use Rattle.std.specs.Fmt.{digits}
 use Rattle.tangle_faults.specs.declared.faults.FaultKind.{FaultKind}
@@ -105,20 +105,7 @@ record Changes : Type 0 where
 
 changes : Changes
 unfolding source_at web_at reads_in tokens_from lexeme occurrences_from levels heaviest digits
-changes = record {
-  one_section = refl;
-  no_lines = refl;
-  a_line_changed = refl;
-  a_line_changed_without_marks = refl;
-  a_use_without_marks = refl;
-  a_line_mismatched = refl;
-  an_inclusion_changed = refl;
-  an_inclusion_of_itself = refl;
-  a_change_unused = refl;
-  a_change_without_old_lines = refl;
-  change_codes_out_of_place = refl;
-  inclusions_without_file = refl;
-}
+changes = search rules
 
 -- the text of C parts and macros
 record Parts : Type 0 where
@@ -145,16 +132,7 @@ record Parts : Type 0 where
 
 parts : Parts
 unfolding source_at web_at reads_in tokens_from lexeme occurrences_from levels heaviest digits
-parts = record {
-  macros_at_an_h = refl;
-  a_join_over_lines = refl;
-  a_quoted_text_that_does_not_end = refl;
-  comments_and_constants = refl;
-  macros_over_lines = refl;
-  uses_side_by_side = refl;
-  control_codes_out_of_place = refl;
-  quoted_texts_over_lines = refl;
-}
+parts = search rules
 
 -- names, and bytes of other codes
 record Names : Type 0 where
@@ -184,10 +162,4 @@ record Names : Type 0 where
 
 names : Names
 unfolding source_at web_at reads_in tokens_from lexeme occurrences_from levels heaviest digits
-names = record {
-  names_that_do_not_fit = refl;
-  other_bytes = refl;
-  names_are_escaped = refl;
-  a_use_of_a_name = refl;
-  a_named_file = refl;
-}
+names = search rules

@@ -1,15 +1,17 @@
 -- How creating, writing and closing a file change the list of created files.
-use Rattle.std.proofs.Common.{◌≡◌, ◌∙◌, ◌++◌, inr, ℕ, List, [], ◌∷◌, Option, Some, None, ap, subst, refl, append_assoc}
-use Rattle.std.proofs.Common.{append-nil, take, zero, suc, Result, Ok, Err, OnOk, OnErr}
+use Rattle.std.proofs.Common.{arith}
+use Rattle.std.proofs.Common.{rules}
+use Rattle.std.proofs.lemmas.Bool.Decides.{nat_tests}
+use Rattle.std.proofs.Common.{◌≡◌, ◌∙◌, ◌++◌, ℕ, List, [], ◌∷◌, Option, Some, None, ap, refl, append_assoc}
+use Rattle.std.proofs.Common.{take, zero, suc, Result, Ok, Err, OnOk, OnErr}
 use Rattle.std.specs.Io.KnownBytes.{Appends}
 use Rattle.tangle_folders.specs.declared.folder.FolderFault.{FolderFault}
 use Rattle.tangle_folders.specs.Folder.{Begins, Closes, ClosesWithin, File, with_created, with_last}
-use Rattle.std.specs.Prelude.{Bool, true, false, cond, map, unwrap_or, is_some, IsSome}
+use Rattle.std.specs.Prelude.{Bool, true, false, cond, map, unwrap_or, IsSome}
 use Rattle.std.specs.List.{AllByRecursion, IsDistinct}
 use Rattle.std.specs.Map.{lookup}
 use Rattle.std.specs.Str.{bytes_eq}
-use Rattle.std.proofs.Common.{◌≢◌, sym, inl}
-use Rattle.std.proofs.lemmas.Slice.Eq.{bytes_eq-Decides}
+use Rattle.std.proofs.Common.{◌≢◌, sym}
 use Rattle.std.proofs.lemmas.Map.Keys.{IsDistinct-head, IsDistinct-tail}
 use Rattle.tangle_streams.specs.Streams.{Stream}
 use Rattle.tangle_files.specs.declared.refusal.Refusal.{Refusal}
@@ -27,42 +29,19 @@ with_last-push (x ∷ (y ∷ rest)) f bytes = ap (λ l. x ∷ l) (with_last-push
 
 pub with_created-append : (old : Option (List File)) (xs ys : List File)
     → with_created (with_created old xs) ys ≡ with_created old (xs ++ ys)
-with_created-append None xs ys = refl
-with_created-append (Some old) xs ys = ap Some (append_assoc old xs ys)
+with_created-append old xs ys = search (rules, append_assoc)
 
 -- the created file has the bytes that its sink took
 pub wrote : (a b c : Option (List File)) (s t : Option (List ℕ)) (name bytes : List ℕ)
     → Begins a s → b ≡ with_created a ((name, []) ∷ []) → Appends s t bytes → Closes b c t
     → c ≡ with_created a ((name, bytes) ∷ [])
-wrote None None c s t name bytes first added put closed = closed
-wrote None (Some ys) c s t name bytes first added put closed = absurd (cc)
-wrote (Some xs) None c s t name bytes first added put closed = absurd (cc)
-wrote (Some xs) (Some ys) c s None name bytes first added put closed =
-    absurd (subst (λ u. Appends u None bytes) first put)
-wrote (Some xs) (Some ys) c s (Some all) name bytes first added put closed =
-    let held : all ≡ bytes = subst (λ u. Appends u (Some all) bytes) first put in
-    let made : ys ≡ xs ++ (name, []) ∷ [] = cc in
-    closed
-    ∙ ap Some (ap (λ l. with_last l all) made ∙ with_last-push xs (name, []) all ∙ ap (λ b. xs ++ (name, b) ∷ []) held)
+wrote a b c s t name bytes first added put closed = search (rules, with_last-push)
 
 -- the created file has a prefix of the bytes that its sink took
 pub wrote_within : (a b c : Option (List File)) (s t : Option (List ℕ)) (name bytes : List ℕ)
     → Begins a s → b ≡ with_created a ((name, []) ∷ []) → Appends s t bytes → ClosesWithin b c t
     → (n : ℕ) × (c ≡ with_created a ((name, take n bytes) ∷ []))
-wrote_within None None c s t name bytes first added put closed = (0, closed)
-wrote_within None (Some ys) c s t name bytes first added put closed = absurd (cc)
-wrote_within (Some xs) None c s t name bytes first added put closed = absurd (cc)
-wrote_within (Some xs) (Some ys) c s None name bytes first added put closed =
-    absurd (subst (λ u. Appends u None bytes) first put)
-wrote_within (Some xs) (Some ys) c s (Some all) name bytes first added put closed =
-    let held : all ≡ bytes = subst (λ u. Appends u (Some all) bytes) first put in
-    let made : ys ≡ xs ++ (name, []) ∷ [] = cc in (
-      closed.0,
-      closed.1
-          ∙ ap Some
-          (ap (λ l. with_last l (take closed.0 all)) made ∙ with_last-push xs (name, []) (take closed.0 all)
-          ∙ ap (λ b. xs ++ (name, take closed.0 b) ∷ []) held),
-    )
+wrote_within a b c s t name bytes first added put closed = search (rules, with_last-push)
 
 -- a prefix of a prefix is a prefix
 front_of_front : (n m : ℕ) (xs : List ℕ) → (k : ℕ) × (take n (take m xs) ≡ take k xs)
@@ -78,11 +57,10 @@ pub wrote_prefix : {T : Type 0} (r : Result T FolderFault)
     → OnErr r (ClosesWithin b c t)
     → AddsPrefix a c (name, bytes)
 wrote_prefix (Ok done) a b c s t name bytes m first added put whole prefix =
-    ((name, take m bytes) ∷ [], inr (m, refl), wrote a b c s t name (take m bytes) first added put whole)
+    grind (arith, nat_tests, wrote a b c s t name)
 wrote_prefix (Err fault) a b c s t name bytes m first added put whole prefix =
     let w = wrote_within a b c s t name (take m bytes) first added put prefix in
-    let k = front_of_front w.0 m bytes in
-    ((name, take k.0 bytes) ∷ [], inr (k.0, refl), w.1 ∙ ap (λ l. with_created a ((name, l) ∷ [])) k.1)
+    grind (arith, nat_tests, front_of_front w.0 m bytes)
 
 -- the sink took all the bytes of an output that a session wrote, or a prefix of them
 pub took : (o : Option (List ℕ)) (a b : Stream) (n : ℕ)
@@ -108,7 +86,7 @@ pub record HasWritten (outputs : List File) (old new : Option (List File)) (name
 lookup_here : (done others : List File) (f : File)
     → IsDistinct bytes_eq (map (λ f. f.0) (done ++ f ∷ others)) → lookup (bytes_eq f.0) (done ++ f ∷ others) ≡ Some f.1
 lookup_here [] others f distinct =
-    ap (λ b. cond b (Some f.1) (lookup (bytes_eq f.0) others)) ((bytes_eq-Decides f.0 f.0).1 refl)
+    search rules
 lookup_here (g ∷ done) others f distinct =
     let apart : bytes_eq f.0 g.0 ≡ false =
     other done (IsDistinct-head bytes_eq g.0 (map (λ f. f.0) (done ++ f ∷ others)) distinct) in
@@ -116,14 +94,13 @@ lookup_here (g ∷ done) others f distinct =
     ∙ lookup_here done others f (IsDistinct-tail bytes_eq g.0 (map (λ f. f.0) (done ++ f ∷ others)) distinct)
   where
     turned : (b c : Bool) → bytes_eq g.0 f.0 ≡ b → bytes_eq f.0 g.0 ≡ c → b ≡ false → c ≡ false
-    turned b false p q e = refl
-    turned b true p q e = absurd (let same : g.0 ≡ f.0 = sym ((bytes_eq-Decides f.0 g.0).0 q) in
-        let bad : true ≡ false = sym ((bytes_eq-Decides g.0 f.0).1 same) ∙ (p ∙ e) in cc)
+    turned b false p q e = search rules
+    turned b true p q e = search rules
 
     other : (xs : List File)
         → AllByRecursion (λ y. bytes_eq g.0 y ≡ false) (map (λ f. f.0) (xs ++ f ∷ others)) → bytes_eq f.0 g.0 ≡ false
-    other [] h = turned (bytes_eq g.0 f.0) (bytes_eq f.0 g.0) refl refl h.0
-    other (x ∷ xs) h = other xs h.1
+    other [] h = search rules
+    other (x ∷ xs) h = cc (other xs h.1)
 
 -- the output of this name
 abbrev pub named : List File → List ℕ → File
@@ -152,63 +129,28 @@ next_output outputs old new before name names is distinct h = by h.others (sym i
         let same : name ≡ f.0 = cc in
         let found : lookup (bytes_eq name) outputs ≡ Some f.1 =
         ap (λ k. lookup (bytes_eq k) outputs) same
-        ∙ (ap (lookup (bytes_eq f.0)) all
-        ∙ lookup_here h.done others f (subst (λ l. IsDistinct bytes_eq (map (λ f. f.0) l)) all distinct)) in
-        let whole : f ≡ named outputs name =
-        λ i. (sym same i, ap (λ o. unwrap_or o []) (sym found) i) in
-        record {
-          done = h.done;
-          others = others;
-          all = all ∙ ap (λ g. h.done ++ g ∷ others) whole;
-          is_there = ap is_some found;
-          created = h.created;
-          names_are = cc;
-        }
+        ∙ (search (rules, lookup_here)) in
+        search rules
 
 pub wrote_next : (outputs : List File) (old mid new : Option (List File)) (name : List ℕ) (names : List (List ℕ))
     → IsNext outputs old mid name names
     → new ≡ with_created mid (named outputs name ∷ [])
     → HasWritten outputs old new names
-wrote_next outputs old mid new name names next is = record {
-  done = next.done ++ named outputs name ∷ [];
-  others = next.others;
-  all = next.all ∙ sym (append_assoc next.done (named outputs name ∷ []) next.others);
-  created = is ∙ ap (λ m. with_created m (named outputs name ∷ [])) next.created
-      ∙ with_created-append old next.done (named outputs name ∷ []);
-  names_are = next.names_are;
-}
+wrote_next outputs old mid new name names next is = search (rules, append_assoc, with_created-append)
 
 -- writing stopped at the next output, because memory ran out or the folder failed
 stops_without : (outputs : List File) (old mid new : Option (List File))
     (name : List ℕ) (names : List (List ℕ)) (fault : FolderFault)
     → IsNext outputs old mid name names
     → new ≡ mid → StopsAt outputs old new name fault
-stops_without outputs old mid new name names fault next nothing = record {
-  before = next.done;
-  bytes = unwrap_or (lookup (bytes_eq name) outputs) [];
-  after = next.others;
-  split = next.all;
-  prefix = [];
-  is_prefix = inl refl;
-  no_prefix = λ _. refl;
-  created = nothing ∙ next.created ∙ ap (with_created old) (sym (append-nil next.done));
-}
+stops_without outputs old mid new name names fault next nothing = search rules
 
 stops_with : (outputs : List File) (old mid new : Option (List File))
     (name : List ℕ) (names : List (List ℕ)) (fault : FolderFault)
     → IsNext outputs old mid name names
     → AddsPrefix mid new (named outputs name) → fault ≢ NoMemory
     → StopsAt outputs old new name fault
-stops_with outputs old mid new name names fault next added failed = record {
-  before = next.done;
-  bytes = unwrap_or (lookup (bytes_eq name) outputs) [];
-  after = next.others;
-  split = next.all;
-  prefix = added.0;
-  is_prefix = added.1;
-  no_prefix = λ e. absurd (failed e);
-  created = added.2 ∙ (ap (λ m. with_created m added.0) next.created ∙ with_created-append old next.done added.0);
-}
+stops_with outputs old mid new name names fault next added failed = search (rules, with_created-append)
 
 pub stops_at_next : (outputs : List File) (old mid new : Option (List File))
     (name : List ℕ) (names : List (List ℕ)) (fault : FolderFault)
@@ -216,6 +158,6 @@ pub stops_at_next : (outputs : List File) (old mid new : Option (List File))
     → AddsPrefix mid new (named outputs name) → (fault ≡ NoMemory → new ≡ mid)
     → StopsAt outputs old new name fault
 stops_at_next outputs old mid new name names NoMemory next added nothing =
-    stops_without outputs old mid new name names NoMemory next (nothing refl)
+    search rules
 stops_at_next outputs old mid new name names fault next added nothing =
-    stops_with outputs old mid new name names fault next added (λ e. cc)
+    grind (arith, nat_tests, stops_with outputs old mid new name names fault next added)

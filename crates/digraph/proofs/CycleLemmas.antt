@@ -1,22 +1,21 @@
 -- What the flags of a search mean for nodes that contain themselves.
-use Rattle.std.proofs.Common.{◌≡◌, ◌<◌, ◌+◌, ◌∙◌, ◌↔◌, ℕ, Bool, true, false, List, [], ◌∷◌, ◌++◌, length, get_or, set}
-use Rattle.std.proofs.Common.{sym, subst, arith, get_or-set_other, replicate, Contains}
-use Rattle.std.proofs.Math.Decide.{ℕ_discrete}
+use Rattle.std.proofs.lemmas.List.{get_or-replicate}
+use Rattle.std.proofs.lemmas.List.{get_or_past}
+use Rattle.std.proofs.lemmas.List.{length-replicate}
+use Rattle.std.proofs.Common.{rules}
+use Rattle.std.proofs.lemmas.Bool.Decides.{nat_tests}
+use Rattle.std.proofs.Common.{◌≡◌, ◌<◌, ◌+◌, ◌↔◌, ℕ, Bool, true, false, List, [], ◌∷◌, ◌++◌, length, set}
+use Rattle.std.proofs.Common.{arith, replicate, Contains}
 use Rattle.std.proofs.lemmas.List.{get_or_push, get_or_append_left}
 use Rattle.digraph.specs.Graph.{Graph, HasUse, InRange, row_at}
-use Rattle.digraph.specs.Reach.{Reaches, ContainsItself, ReachesCycle}
+use Rattle.digraph.specs.Reach.{ContainsItself, ReachesCycle}
 use Rattle.digraph.specs.Flags.{IsFlagged, ReachesFlagged, FlagsJust}
 use Rattle.digraph.proofs.GraphLemmas.{node_in, use_in}
-use Rattle.digraph.proofs.ReachLemmas.{flagged_in, none_flagged, true_unless}
+use Rattle.digraph.proofs.ReachLemmas.{flagged_in, true_unless}
 
 -- only this node is flagged
 pub flagged_alone : (size n m : ℕ) → IsFlagged (set (replicate size false) n true) m → m ≡ n
-flagged_alone size n m f = elim (ℕ_discrete m n) [
-  | yes e ↦ e
-  | no other ↦ (let none : get_or (replicate size false) m false ≡ true =
-      sym (get_or-set_other (replicate size false) n m true false other) ∙ f in
-      let both : true ≡ false = sym none ∙ none_flagged size m in absurd (cc))
-]
+flagged_alone size n m f = search (rules, get_or-replicate, get_or_past, length-replicate)
 
 -- if only `n` is flagged, a search for the nodes that reach a flagged one decides whether `n` contains itself
 pub search_says : (graph : Graph) (flags found : List Bool) (n : ℕ) (result : Bool) → InRange graph
@@ -25,8 +24,7 @@ pub search_says : (graph : Graph) (flags found : List Bool) (n : ℕ) (result : 
     → (result ≡ false → (m : ℕ) → Contains (row_at graph n) m → ¬ (IsFlagged found m))
     → (result ≡ true) ↔ ContainsItself (HasUse graph) n
 search_says graph flags found n result range only flagged exact yes_when no_when = (
-  λ is. (let one = yes_when is in let r = (exact one.0 (use_in graph range n one.0 one.1)).0 one.2 in
-      (one.0, one.1, subst (λ k. Reaches (HasUse graph) one.0 k) (only r.0 r.2) r.1)),
+  λ is. (let one = yes_when is in grind (arith, nat_tests, use_in graph range n one.0 one.1)),
   λ c. true_unless result (λ is.
       no_when is c.0 c.1 ((exact c.0 (use_in graph range n c.0 c.1)).1 (n, c.2, flagged))),
 )
@@ -44,12 +42,4 @@ cycles_reached graph flags found size exact reported = λ n h. (
 pub flags_more : (P : ℕ → Type 0) (flags : List Bool) (n : ℕ) (flag : Bool)
     → length flags ≡ n → ((k : ℕ) → k < n → IsFlagged flags k ↔ P k) → ((flag ≡ true) ↔ P n)
     → (k : ℕ) → k < n + 1 → IsFlagged (flags ++ flag ∷ []) k ↔ P k
-flags_more P flags n flag size old says k h = elim (ℕ_discrete k n) [
-  | yes e ↦ (let at : get_or (flags ++ flag ∷ []) k false ≡ flag = get_or_push flags flag false k (size ∙ sym e) in
-      (λ f. subst P (sym e) (says.0 (sym at ∙ f)), λ p. at ∙ says.1 (subst P e p)))
-  | no other ↦ (let low : k < length flags = omega (arith, h, size) in
-      let at : get_or (flags ++ flag ∷ []) k false ≡ get_or flags k false =
-      get_or_append_left flags (flag ∷ []) false k low in
-      let was : IsFlagged flags k ↔ P k = old k (omega (arith, low, size)) in
-      (λ f. was.0 (sym at ∙ f), λ p. at ∙ was.1 p))
-]
+flags_more P flags n flag size old says k h = search (rules, get_or_push, get_or_append_left)

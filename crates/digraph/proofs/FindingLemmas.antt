@@ -15,7 +15,7 @@ reaches_by_use graph flags n m u r = (r.0, on u r.1, r.2)
 module _ (graph : Graph) (flags found : List Bool) (size : length flags ≡ length graph)
     (decided : (n : ℕ) → n < length graph → IsDecided graph flags found n) where
   start_in : (a k : ℕ) → Reaches (HasUse graph) a k → IsFlagged flags k → a < length graph
-  start_in a k here f = omega (arith, size, flagged_in flags a f)
+  start_in a k here f = omega (arith, flagged_in flags a f)
   start_in a k (on {b = m} u r) f = node_in graph a m u
 
   complete : (a k : ℕ) → Reaches (HasUse graph) a k → IsFlagged flags k → IsFlagged found a

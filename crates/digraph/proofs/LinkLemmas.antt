@@ -1,5 +1,7 @@
 -- Rows as links in one list.
-use Rattle.std.proofs.Common.{◌≡◌, ◌≢◌, ◌≤◌, ◌<◌, ◌+◌, ◌-◌, ◌∙◌, ℕ, suc, cond, eqb, List, [], ◌∷◌, ◌++◌, map}
+use Rattle.std.proofs.Common.{rules}
+use Rattle.std.proofs.lemmas.Bool.Decides.{nat_tests}
+use Rattle.std.proofs.Common.{◌≡◌, ◌≤◌, ◌<◌, ◌+◌, ◌-◌, ◌∙◌, ℕ, suc, cond, eqb, List, [], ◌∷◌, ◌++◌, map}
 use Rattle.std.proofs.Common.{length, get_or, set, take, drop, reverse, refl, ap, sym, subst, arith, length-append, All}
 use Rattle.std.proofs.Common.{append_assoc}
 use Rattle.std.proofs.lemmas.Bool.{eq-eqb}
@@ -9,7 +11,6 @@ use Rattle.digraph.specs.Graph.{row_at}
 use Rattle.digraph.specs.Rows.{GrowsBy, IsRowsOf}
 use Rattle.digraph.specs.Links.{chain, rows_of_links, GoesBack, AreLinked}
 use Rattle.digraph.specs.declared.growing.Link.{Link}
-use Rattle.digraph.proofs.RowLemmas.{other_eqb, grows_set}
 
 module _ {X : Type 0} where
   chain_here : (link : Link X) (links : List (Link X))
@@ -18,9 +19,7 @@ module _ {X : Type 0} where
 
   chain_below : (link : Link X) (links : List (Link X)) (place : ℕ)
       → place ≤ length links → chain (link ∷ links) place ≡ chain links place
-  chain_below link links place h =
-      let apart : place ≢ suc (length links) = omega arith in
-      rw (other_eqb place (suc (length links)) apart) refl
+  chain_below link links place h = search rules
 
   pub chain_none : (links : List (Link X)) (place : ℕ) → place ≤ 0 → chain links place ≡ []
   chain_none [] place h = refl
@@ -30,8 +29,7 @@ module _ {X : Type 0} where
       → place ≤ length links → chain (later ++ links) place ≡ chain links place
   chain_under [] links place h = refl
   chain_under (link ∷ later) links place h =
-      chain_below link (later ++ links) place (omega (arith, length-append later links))
-      ∙ chain_under later links place h
+      grind (arith, nat_tests, length-append later links, chain_under later links place h)
 
   -- the links that end in this one
   split : (links : List (Link X)) (k : ℕ) (d : Link X) → k < length links
@@ -51,8 +49,8 @@ module _ {X : Type 0} where
       ∙ (ap (λ n. chain (link ∷ ls) (suc n)) (sym size)
       ∙ (chain_here link ls
       ∙ ap (λ r. r ++ link.entry ∷ [])
-      (sym (chain_under later (link ∷ ls) link.before (omega (arith, size, low))
-      ∙ chain_below link ls link.before (omega (arith, size, low)))))))
+      (sym (chain_under later (link ∷ ls) link.before (omega (arith, size))
+      ∙ chain_below link ls link.before (omega (arith, size)))))))
     where
       link : Link X
       link = get_or links k d
@@ -72,9 +70,7 @@ module _ {X : Type 0} where
   pub chain_step : (links : List (Link X)) (place : ℕ) (link : Link X)
       → GoesBack links → 0 < place → place ≤ length links → link ≡ get_or links (place - 1) link
       → chain (reverse links) place ≡ chain (reverse links) link.before ++ link.entry ∷ []
-  chain_step links place link back some within read =
-      let next : suc (place - 1) ≡ place = omega arith in
-      rw (next, ← read) at (step_at links (place - 1) link back (omega arith))
+  chain_step links place link back some within read = search (rules, step_at)
 
   same_rows : (link : Link X) (links : List (Link X)) (lasts : List ℕ) → All (λ place. place ≤ length links) lasts
       → map (chain (link ∷ links)) lasts ≡ map (chain links) lasts
@@ -82,8 +78,7 @@ module _ {X : Type 0} where
   same_rows link links (place ∷ lasts) low =
       let first : chain (link ∷ links) place ≡ chain links place =
       chain_below link links place (low 0 0 (omega arith)) in
-      let rest = same_rows link links lasts (λ k d h. low (suc k) d (omega (arith, h))) in
-      cc
+      cc (same_rows link links lasts (λ k d h. low (suc k) d (omega arith)))
 
   pub grows_linked : (links : List (Link X)) (lasts : List ℕ) (n : ℕ) (link : Link X) (place : ℕ)
       → AreLinked links lasts → n < length lasts → link.before ≡ get_or lasts n 0 → place ≡ suc (length links)
@@ -91,20 +86,17 @@ module _ {X : Type 0} where
       (rows_of_links links lasts) (rows_of_links (links ++ link ∷ []) (set lasts n place))
   grows_linked links lasts n link place is within e p =
       subst (GrowsBy (λ m. cond (eqb n m) (link.entry ∷ []) []) (rows_of_links links lasts)) (sym made)
-      (grows_set (rows_of_links links lasts) n (link.entry ∷ [])
-      (omega (arith, within, length-map lasts (chain (reverse links)))))
+      (search rules)
     where
       size : length (reverse links) ≡ length links
       size = length-reverse links
 
       low : All (λ m. m ≤ length (reverse links)) lasts
-      low k d h = omega (arith, is.last k d h, size)
+      low k d h = omega (arith, size)
 
       row : chain (link ∷ reverse links) place ≡ row_at (rows_of_links links lasts) n ++ link.entry ∷ []
       row = ap (chain (link ∷ reverse links)) (p ∙ ap suc (sym size))
-          ∙ (chain_here link (reverse links)
-          ∙ ap (λ r. r ++ link.entry ∷ [])
-          (ap (chain (reverse links)) e ∙ sym (get_or-map (chain (reverse links)) lasts n 0 [] within)))
+          ∙ (search (rules, get_or-map))
 
       made : rows_of_links (links ++ link ∷ []) (set lasts n place)
           ≡ set (rows_of_links links lasts) n (row_at (rows_of_links links lasts) n ++ link.entry ∷ [])

@@ -1,5 +1,7 @@
 -- Induction along an order for its nodes, and on the fuel for the nodes that are left out.
-use Rattle.std.proofs.Common.{◌≡◌, ◌<◌, ◌∙◌, ℕ, zero, suc, List, length, take, get_or, sym, subst, arith, Contains}
+use Rattle.std.proofs.lemmas.Bool.Decides.{nat_tests}
+use Rattle.std.proofs.Common.{rules}
+use Rattle.std.proofs.Common.{◌≡◌, ◌<◌, ◌∙◌, ℕ, zero, suc, List, length, take, get_or, subst, arith, Contains}
 use Rattle.std.proofs.Common.{length-take}
 use Rattle.std.proofs.lemmas.List.{get_or_default, get_or-take}
 use Rattle.digraph.specs.Graph.{Graph, HasUse, InRange}
@@ -10,20 +12,14 @@ use Rattle.digraph.proofs.GraphLemmas.{use_in}
 -- an item among the first `k` is at a position below `k`
 earlier : (order : List ℕ) (k m : ℕ)
     → Contains (take k order) m → (j : ℕ) × (j < k) × (j < length order) × (get_or order j 0 ≡ m)
-earlier order k m c =
-    let short : c.0 < length (take k order) = c.1 in
-    let low : c.0 < k = omega (arith, short, length-take k order) in
-    let room : c.0 < length order = omega (arith, short, length-take k order) in
-    (c.0, low, room, get_or_default order c.0 0 m room ∙ sym (get_or-take k order c.0 m low) ∙ c.2)
+earlier order k m c = search (rules, length-take, get_or_default, get_or-take)
 
 module _ (graph : Graph) (order : List ℕ) (after_uses : IsAfterUses graph order)
     (P : ℕ → Type 0) (step : (n : ℕ) → ((m : ℕ) → HasUse graph n m → P m) → P n) where
   below : (bound k : ℕ) → k < bound → k < length order → P (get_or order k 0)
-  below zero k h room = absurd (omega (arith, h))
+  below zero k h room = absurd (omega arith)
   below (suc bound) k h room = step (get_or order k 0) (λ m u.
-      let at = earlier order k m (after_uses.after k m room u) in
-      let low : at.0 < bound = omega (arith, h, at.1) in
-      subst P at.3 (below bound at.0 low at.2))
+      grind (arith, nat_tests, earlier order k m, below bound))
 
   -- if each node has a property where all nodes that it uses have it, then each node in the order has it
   pub along : (n : ℕ) → Contains order n → P n

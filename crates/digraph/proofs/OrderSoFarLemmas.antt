@@ -1,9 +1,10 @@
 -- One more node is added to an order.
+use Rattle.std.proofs.Common.{rules}
 use Rattle.std.proofs.Common.{◌≡◌, ◌≢◌, ◌<◌, ◌≤◌, ◌+◌, ◌∙◌, ℕ, Bool, true, false, List, [], ◌∷◌, ◌++◌, length, take}
 use Rattle.std.proofs.Common.{get_or, set, sym, subst, inl, inr, arith, length-append, length-set, get_or-set_same}
 use Rattle.std.proofs.Common.{get_or-set_other, Contains, All}
 use Rattle.std.proofs.lemmas.List.{get_or_push, get_or_append_left, take_at, take-append-le}
-use Rattle.std.proofs.lemmas.List.Elements.{Contains-append_left, Contains-push, Contains-push_cases, Contains-get_or}
+use Rattle.std.proofs.lemmas.List.Elements.{Contains-append_left, Contains-push, Contains-push_cases}
 use Rattle.std.proofs.lemmas.List.Elements.{All-contains}
 use Rattle.std.proofs.Math.Decide.{ℕ_discrete}
 use Rattle.digraph.specs.Graph.{Graph, HasUse, row_at}
@@ -31,21 +32,16 @@ after_push graph order n p in_graph new listed = record {
         → ((j : ℕ) → j < length order → P (get_or order j 0)) → P n → P (get_or (order ++ n ∷ []) k 0)
     at_push P k h old here = elim (ℕ_discrete k (length order)) [
       | yes e ↦ subst P (sym (get_or_push order n 0 k (sym e))) here
-      | no other ↦ (let low : k < length order = omega (arith, size, h) in
+      | no other ↦ (let low : k < length order = omega (arith, size) in
           subst P (sym (get_or_append_left order (n ∷ []) 0 k low)) (old k low))
     ]
 
     once : (j k : ℕ)
         → j < k → k < length (order ++ n ∷ []) → get_or (order ++ n ∷ []) j 0 ≢ get_or (order ++ n ∷ []) k 0
     once j k less h = elim (ℕ_discrete k (length order)) [
-      | yes e ↦ (let low : j < length order = omega (arith, less, e) in
-          λ same. new (subst (λ v. Contains order v)
-          (sym (get_or_append_left order (n ∷ []) 0 j low) ∙ same ∙ get_or_push order n 0 k (sym e))
-          (Contains-get_or order j 0 low)))
+      | yes e ↦ search (rules, get_or_append_left, get_or_push)
       | no other ↦
-          (let low : k < length order = omega (arith, size, h) in let lower : j < length order = omega (arith, less) in
-          λ same. p.once j k less low
-          (sym (get_or_append_left order (n ∷ []) 0 j lower) ∙ same ∙ get_or_append_left order (n ∷ []) 0 k low))
+          (let low : k < length order = omega (arith, size) in search (rules, get_or_append_left))
     ]
 
     after : (k m : ℕ) → k < length (order ++ n ∷ []) → HasUse graph (get_or (order ++ n ∷ []) k 0) m
@@ -54,7 +50,7 @@ after_push graph order n p in_graph new listed = record {
       | yes e ↦ subst (λ xs. Contains xs m) (sym (take_at order (n ∷ []) k (sym e)))
           (listed m (subst (λ v. HasUse graph v m) (get_or_push order n 0 k (sym e)) u))
       | no other ↦
-          (let low : k < length order = omega (arith, size, h) in let most : k ≤ length order = omega (arith, low) in
+          (let low : k < length order = omega (arith, size) in let most : k ≤ length order = omega arith in
           subst (λ xs. Contains xs m) (sym (take-append-le k order (n ∷ []) most))
           (p.after k m low (subst (λ v. HasUse graph v m) (get_or_append_left order (n ∷ []) 0 k low) u)))
     ]
@@ -65,12 +61,11 @@ pub order_push : (graph : Graph) (flags : List Bool) (order : List ℕ) (n : ℕ
 order_push graph flags order n p in_graph free listed = record {
   size = length-set flags n true ∙ p.size;
   flagged = λ m. (is_inside m, shown m);
-  after_uses = after_push graph order n p.after_uses in_graph
-      (λ c. let both : true ≡ false = sym ((p.flagged n).1 c) ∙ free in absurd (cc)) listed;
+  after_uses = search (rules, after_push);
 }
   where
     room : n < length flags
-    room = omega (arith, p.size, in_graph)
+    room = omega arith
 
     is_inside : (m : ℕ) → IsFlagged (set flags n true) m → Contains (order ++ n ∷ []) m
     is_inside m f = elim (ℕ_discrete m n) [

@@ -1,6 +1,6 @@
 -- One pass over all nodes, which may change a state. Passes are repeated until one changes nothing.
-use Rattle.std.proofs.Common.{◌≡◌, ◌<◌, ◌≤◌, ◌+◌, ℕ, Bool, true, false, sym, subst, arith}
-use Rattle.std.proofs.Math.Decide.{ℕ_discrete}
+use Rattle.std.proofs.Common.{rules}
+use Rattle.std.proofs.Common.{◌≡◌, ◌<◌, ◌≤◌, ◌+◌, ℕ, Bool, true, false, arith}
 
 -- The state after each node below `i` was tried once: `left` is the number of nodes that are left, and was `before`.
 -- If no node changed the state, `Tried` holds of each of them.
@@ -13,22 +13,14 @@ pub record Passed (SoFar : Type 0) (Tried : ℕ → Type 0) (before left : ℕ) 
 -- the next node changed the state
 pub passed_changed : {A B : Type 0} {P Q : ℕ → Type 0} {before left next : ℕ} {any : Bool} {i : ℕ}
     → Passed A P before left any i → B → next < left → Passed B Q before next true (i + 1)
-passed_changed p so_far less = record {
-  so_far = so_far;
-  fewer = omega (arith, p.fewer, less);
-  more = λ _. omega (arith, p.fewer, less);
-  tried = λ e. absurd (let no : true ≡ false = e in cc);
-}
+passed_changed p so_far less = search rules
 
 -- the next node did not change the state
 pub passed_same : {A B : Type 0} {P : ℕ → Type 0} {before left next : ℕ} {any : Bool} {i : ℕ}
     → Passed A P before left any i → B → next ≡ left → P i → Passed B P before next any (i + 1)
 passed_same {P = P} {i = i} p so_far same here = record {
   so_far = so_far;
-  fewer = omega (arith, p.fewer, same);
-  more = λ e. (let less = p.more e in omega (arith, less, same));
-  tried = λ e k h. elim (ℕ_discrete k i) [
-    | yes is ↦ subst P (sym is) here
-    | no other ↦ p.tried e k (omega (arith, h))
-  ];
+  fewer = omega arith;
+  more = λ e. (let less = p.more e in omega arith);
+  tried = search rules;
 }

@@ -1,5 +1,6 @@
 -- A path with as many steps as there are nodes comes to one of them twice.
-use Rattle.std.proofs.Common.{◌≡◌, ◌⊎◌, ◌<◌, ◌↔◌, ◌||◌, ℕ, zero, suc, Bool, true, false, eqb, List, [], ◌∷◌, length}
+use Rattle.std.proofs.lemmas.Bool.Decides.{nat_tests}
+use Rattle.std.proofs.Common.{◌≡◌, ◌⊎◌, ◌<◌, ◌↔◌, ℕ, zero, suc, Bool, true, false, eqb, List, [], ◌∷◌, length}
 use Rattle.std.proofs.Common.{refl, ap, sym, subst, inl, inr, arith, Contains, ◌∙◌}
 use Rattle.std.specs.List.{list_any, AllByRecursion, IsDistinct}
 use Rattle.std.proofs.lemmas.Bool.Decides.{Decides-eqb}
@@ -14,13 +15,7 @@ use Rattle.digraph.proofs.UserLemmas.{tested, passed}
 
 none_equal : (q : ℕ) (xs : List ℕ) → list_any (eqb q) xs ≡ false → AllByRecursion (λ y. eqb q y ≡ false) xs
 none_equal q [] h = tt
-none_equal q (x ∷ xs) h = by (eqb q x) refl h (none_equal q xs)
-  where
-    by : (b : Bool) → eqb q x ≡ b → (b || list_any (eqb q) xs) ≡ false
-        → (list_any (eqb q) xs ≡ false → AllByRecursion (λ y. eqb q y ≡ false) xs)
-        → AllByRecursion (λ y. eqb q y ≡ false) (x ∷ xs)
-    by true e is rest = absurd (let both : true ≡ false = is in cc)
-    by false e is rest = (e, rest is)
+none_equal q (x ∷ xs) h = grind (arith, nat_tests, none_equal q xs)
 
 module _ (graph : Graph) (range : InRange graph) where
   -- the nodes on a path
@@ -61,13 +56,13 @@ module _ (graph : Graph) (range : InRange graph) where
           → list_any (eqb n) (through steps path.0 path.2) ≡ b → IsDistinct eqb (through steps path.0 path.2)
           → IsDistinct eqb (n ∷ through steps path.0 path.2) ⊎ ReachesCycle (HasUse graph) n
       by true is apart = inr (n, here, (path.0, path.1, reached steps path.0 path.2 n is))
-      by false is apart = inl (none_equal n (through steps path.0 path.2) is, apart)
+      by false is apart = grind (arith, nat_tests, none_equal n)
 
   pub comes_again : (n : ℕ) → n < length graph → HasPath (HasUse graph) (length graph) n → ReachesCycle (HasUse graph) n
   comes_again n h path = elim (again (length graph) n path) [
     | inl apart ↦ (let few = length-le_from_distinct_below (through (length graph) n path)
         (length graph) apart (λ q is. reached_in n q (reached (length graph) n path q is) h) in
-        absurd (omega (arith, few, through_size (length graph) n path)))
+        absurd (omega (arith, through_size (length graph) n path)))
     | inr c ↦ c
   ]
 

@@ -1,9 +1,9 @@
 -- Reaching along several uses, and what ranks that never fall exclude.
+use Rattle.std.proofs.Common.{rules}
 use Rattle.std.proofs.Common.{◌≡◌, ◌<◌, ◌≤◌, ◌∙◌, ℕ, Bool, true, false, List, length, get_or, set, refl, sym}
-use Rattle.std.proofs.Common.{subst, arith, All, get_or-set_other, length-set, replicate}
-use Rattle.std.proofs.Math.Decide.{ℕ_discrete, dec_lt}
-use Rattle.std.proofs.lemmas.List.{get_or_past, get_or-replicate, length-replicate}
-use Rattle.std.proofs.lemmas.List.Elements.{All-contains}
+use Rattle.std.proofs.Common.{subst, arith, All, get_or-set_other, length-set}
+use Rattle.std.proofs.Math.Decide.{ℕ_discrete}
+use Rattle.std.proofs.lemmas.List.{get_or_past}
 use Rattle.digraph.specs.Graph.{Graph, HasUse, row_at}
 use Rattle.digraph.specs.Reach.{Reaches, here, on, ContainsItself}
 use Rattle.digraph.specs.Flags.{FlagsOnly, IsFlagged}
@@ -22,11 +22,7 @@ ranks_rise graph ranks rising a b (on {b = m} u r) = omega (arith, rising a m u,
 -- a node whose rank is below those of all nodes that it uses does not contain itself
 pub not_itself : (graph : Graph) (ranks : List ℕ) (n low : ℕ) → NeverFalls graph ranks
     → All (λ m. low ≤ get_or ranks m 0) (row_at graph n) → get_or ranks n 0 < low → ContainsItself (HasUse graph) n → ⊥
-not_itself graph ranks n low rising above less c =
-    let step : low ≤ get_or ranks c.0 0 =
-    All-contains (λ m. low ≤ get_or ranks m 0) (row_at graph n) c.0 above c.1 in
-    let back : get_or ranks c.0 0 ≤ get_or ranks n 0 = ranks_rise graph ranks rising c.0 n c.2 in
-    absurd (omega arith)
+not_itself graph ranks n low rising above less c = search (rules, ranks_rise)
 
 -- one more node with the property is flagged
 pub only_set : {HasIt : ℕ → Type 0} (graph : Graph) (flags : List Bool) (n : ℕ)
@@ -40,19 +36,8 @@ only_set {HasIt} graph flags n only has = record {
 }
 
 pub flagged_in : (flags : List Bool) (n : ℕ) → IsFlagged flags n → n < length flags
-flagged_in flags n f = elim (dec_lt n (length flags)) [
-  | yes low ↦ low
-  | no past ↦ (let none : get_or flags n false ≡ false = get_or_past flags n false (omega (arith, past)) in
-      let both : true ≡ false = sym f ∙ none in absurd (cc))
-]
+flagged_in flags n f = search (rules, get_or_past)
 
 pub true_unless : (b : Bool) → ((e : b ≡ false) → ⊥) → b ≡ true
 true_unless true h = refl
 true_unless false h = absurd (h refl)
-
--- no node is flagged at first
-pub none_flagged : (size m : ℕ) → get_or (replicate size false) m false ≡ false
-none_flagged size m = elim (dec_lt m size) [
-  | yes low ↦ get_or-replicate size m false false low
-  | no past ↦ get_or_past (replicate size false) m false (omega (arith, past, length-replicate size false))
-]

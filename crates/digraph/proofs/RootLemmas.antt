@@ -1,4 +1,5 @@
 -- Flags of the nodes that roots reach, and of those that reach roots, and what both together mean for a node.
+use Rattle.std.proofs.Common.{rules}
 use Rattle.std.proofs.Common.{◌≡◌, ◌⊎◌, ◌∙◌, ℕ, Bool, List, length, get_or, sym, subst, inl, inr, Contains}
 use Rattle.digraph.specs.Graph.{Graph, HasUse, row_at}
 use Rattle.digraph.specs.Reach.{Reaches, here, on, ContainsItself}
@@ -35,9 +36,4 @@ root_is_reached graph roots flags n p leads =
 pub by_root : (graph : Graph) (roots : List ℕ) (from to : List Bool) (n : ℕ)
     → FromRoots graph roots from → ToRoots graph roots to
     → IsFlagged from n → LeadsTo roots to (row_at graph n) (get_or roots n 0) → ContainsItself (HasUse graph) n
-by_root graph roots from to n p q flagged leads = (
-  leads.0,
-  leads.1,
-  reaches_trans (HasUse graph) leads.0 (get_or roots n 0) n
-      (subst (λ r. Reaches (HasUse graph) leads.0 r) leads.2 (q.sound leads.0 leads.3)) (p.sound n flagged),
-)
+by_root graph roots from to n p q flagged leads = search (rules, reaches_trans)

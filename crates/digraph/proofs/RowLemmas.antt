@@ -1,10 +1,8 @@
 -- Rows in one list, and rows that grow.
-use Rattle.std.proofs.Common.{◌≡◌, ◌≢◌, ◌≤◌, ◌<◌, ◌+◌, ◌-◌, ◌∙◌, ℕ, zero, suc, cond, eqb, false, List, [], ◌∷◌, ◌++◌}
-use Rattle.std.proofs.Common.{length, get_or, set, take, drop, refl, ap, sym, arith, append_assoc, append-nil}
-use Rattle.std.proofs.Common.{length-drop, length-set, get_or-set_same, get_or-set_other}
-use Rattle.std.proofs.Math.Decide.{ℕ_discrete}
-use Rattle.std.proofs.lemmas.Bool.Decides.{nat_tests}
-use Rattle.std.proofs.lemmas.Bool.{eq-eqb}
+use Rattle.std.proofs.Common.{rules}
+use Rattle.std.proofs.Common.{◌≡◌, ◌≤◌, ◌<◌, ◌+◌, ◌-◌, ℕ, zero, suc, cond, eqb, List, [], ◌∷◌, ◌++◌}
+use Rattle.std.proofs.Common.{length, get_or, set, take, drop, refl, ap, arith, append_assoc}
+use Rattle.std.proofs.Common.{length-drop}
 use Rattle.std.proofs.lemmas.List.{drop_at, take_all, drop-append-le, take-append-le}
 use Rattle.digraph.specs.Graph.{row_at}
 use Rattle.digraph.specs.Rows.{rows_between, AreEnds, IsRowsOf, GrowsBy}
@@ -16,7 +14,7 @@ length-rows_between entries start (end ∷ ends) = ap suc (length-rows_between e
 
 start_in : (size start : ℕ) (ends : List ℕ) → AreEnds size start ends → start ≤ size
 start_in size start [] is = omega arith
-start_in size start (end ∷ ends) is = omega (arith, is.0, start_in size end ends is.1)
+start_in size start (end ∷ ends) is = omega (arith, start_in size end ends is.1)
 
 -- where row `n` begins and ends
 pub row_within : (size start : ℕ) (ends : List ℕ) (n : ℕ) → AreEnds size start ends → n < length ends
@@ -42,46 +40,23 @@ pub rows_push : {X : Type 0} (entries row : List X) (start : ℕ) (ends : List �
     → AreEnds (length entries) start ends → end ≡ length entries + length row
     → rows_between (entries ++ row) start (ends ++ end ∷ []) ≡ rows_between entries start ends ++ row ∷ []
 rows_push entries row start [] end is e =
-    rw (drop_at entries row start (sym is)) (ap (λ r. r ∷ []) (take_all (end - start) row (omega (arith, is, e))))
+    search (rules, drop_at, take_all)
 rows_push entries row start (first ∷ ends) end is e =
     let low : first ≤ length entries = start_in (length entries) first ends is.1 in
-    let begins : start ≤ length entries = omega (arith, is.0) in
+    let begins : start ≤ length entries = omega arith in
     let short : first - start ≤ length (drop start entries) = omega (arith, length-drop start entries) in
     rw (drop-append-le start entries row begins, take-append-le (first - start) (drop start entries) row short)
     (ap (λ rows. take (first - start) (drop start entries) ∷ rows) (rows_push entries row first ends end is.1 e))
 
-pub other_eqb : (n m : ℕ) → n ≢ m → eqb n m ≡ false
-other_eqb n m apart = grind (arith, nat_tests)
-
 -- an entry is pushed to one row
 pub grows_set : {X : Type 0} (rows : List (List X)) (n : ℕ) (extra : List X)
     → n < length rows → GrowsBy (λ m. cond (eqb n m) extra []) rows (set rows n (row_at rows n ++ extra))
-grows_set rows n extra within = record {
-  size = length-set rows n (row_at rows n ++ extra);
-  row = λ m h. elim (ℕ_discrete m n) [
-    | yes e ↦ (ap (λ k. get_or (set rows n (row_at rows n ++ extra)) k []) e
-        ∙ get_or-set_same rows n (row_at rows n ++ extra) [] within)
-        ∙ (λ i. row_at rows (sym e i) ++ cond (sym (eq-eqb n m (sym e)) i) extra [])
-    | no other ↦ get_or-set_other rows n m (row_at rows n ++ extra) [] other
-        ∙ (sym (append-nil (row_at rows m))
-        ∙ ap (λ b. row_at rows m ++ cond b extra []) (sym (other_eqb n m (λ e. other (sym e)))))
-  ];
-}
+grows_set rows n extra within = search rules
 
 pub rows_grow : {X : Type 0} (count : ℕ) (f g h : ℕ → List X) (old new : List (List X))
     → IsRowsOf count f old → GrowsBy g old new → ((n : ℕ) → n < count → h n ≡ f n ++ g n) → IsRowsOf count h new
-rows_grow count f g h old new is more sum = record {
-  size = more.size ∙ is.size;
-  row = λ n l. let inside : n < length old = omega (arith, is.size) in
-      more.row n inside ∙ (ap (λ r. r ++ g n) (is.row n l) ∙ sym (sum n l));
-}
+rows_grow count f g h old new is more sum = search rules
 
 pub grows_more : {X : Type 0} (f g h : ℕ → List X) (old mid new : List (List X))
     → GrowsBy f old mid → GrowsBy g mid new → ((n : ℕ) → h n ≡ f n ++ g n) → GrowsBy h old new
-grows_more f g h old mid new first second sum = record {
-  size = second.size ∙ first.size;
-  row = λ n l. let inside : n < length mid = omega (arith, first.size) in
-      second.row n inside
-      ∙ (ap (λ r. r ++ g n) (first.row n l)
-      ∙ (append_assoc (row_at old n) (f n) (g n) ∙ ap (λ r. row_at old n ++ r) (sym (sum n))));
-}
+grows_more f g h old mid new first second sum = search (rules, append_assoc)

@@ -1,5 +1,8 @@
 -- Numbers reach each other exactly if their titles do.
-use Rattle.std.proofs.Common.{◌≡◌, ◌<◌, ◌↔◌, ℕ, length, refl, sym, subst}
+use Rattle.std.proofs.Common.{arith}
+use Rattle.std.proofs.Common.{rules}
+use Rattle.std.proofs.lemmas.Bool.Decides.{nat_tests}
+use Rattle.std.proofs.Common.{◌≡◌, ◌<◌, ◌↔◌, ℕ, length, sym, subst}
 use Rattle.digraph.specs.Graph.{Graph, HasUse}
 use Rattle.digraph.specs.Reach.{Reaches, here, on, ContainsItself, ReachesCycle}
 use Rattle.digraph.specs.Titles.{IsTitled}
@@ -22,10 +25,7 @@ module _ {X : Type 0} (graph : Graph) (Uses : X → X → Type 0) (title : ℕ �
   contains_up n c = (title c.0, titled.sound n c.0 c.1, reaches_up c.0 n c.2)
 
   contains_down : (n : ℕ) → n < length graph → ContainsItself Uses (title n) → ContainsItself (HasUse graph) n
-  contains_down n h c =
-      let next = titled.complete n c.0 h c.1 in
-      let end = reaches_down c.0 (title n) c.2 next.0 next.2 next.3 in
-      (next.0, next.1, subst (λ k. Reaches (HasUse graph) next.0 k) (titled.once end.0 n end.2 h end.3) end.1)
+  contains_down n h c = grind (arith, nat_tests, reaches_down)
 
   pub contains_alike : (n : ℕ) → n < length graph → ContainsItself (HasUse graph) n ↔ ContainsItself Uses (title n)
   contains_alike n h = (contains_up n, contains_down n h)
@@ -33,6 +33,5 @@ module _ {X : Type 0} (graph : Graph) (Uses : X → X → Type 0) (title : ℕ �
   pub cycle_alike : (n : ℕ) → n < length graph → ReachesCycle (HasUse graph) n ↔ ReachesCycle Uses (title n)
   cycle_alike n h = (
     λ c. (title c.0, reaches_up n c.0 c.1, contains_up c.0 c.2),
-    λ c. (let end = reaches_down (title n) c.0 c.1 n h refl in
-        (end.0, end.1, contains_down end.0 end.2 (subst (λ k. ContainsItself Uses k) (sym end.3) c.2))),
+    search (rules, reaches_down, contains_down),
   )

@@ -1,4 +1,6 @@
 -- One more node of the order is flagged or not.
+use Rattle.std.proofs.Common.{rules}
+use Rattle.std.proofs.lemmas.Bool.Decides.{nat_tests}
 use Rattle.std.proofs.Common.{◌≡◌, ◌≢◌, ◌∙◌, ◌+◌, ◌<◌, ◌↔◌, ℕ, ◌||◌, Bool, true, false, List, [], ◌∷◌, ◌++◌, length, take}
 use Rattle.std.proofs.Common.{◌⊎◌, get_or, set, ap, sym, subst, inl, inr, arith, Contains}
 use Rattle.std.proofs.Common.{get_or-set_same, get_or-set_other, length-take}
@@ -9,8 +11,8 @@ use Rattle.std.proofs.lemmas.List.Folds.{Any-from_list_any, list_any-from_Any}
 use Rattle.std.proofs.lemmas.List.Elements.{Contains-push_cases}
 use Rattle.tangle_plans.specs.Shapes.{Title, Named, Shapes, Uses}
 use Rattle.tangle_plans.specs.Shapes as title
-use Rattle.digraph.specs.Nodes.{Node, program}
-use Rattle.digraph.specs.Reach.{Reaches, here, on}
+use Rattle.digraph.specs.Nodes.{Node}
+use Rattle.digraph.specs.Reach.{here, on}
 use Rattle.tangle_graph.specs.Ordering.{IsOrderIn}
 use Rattle.tangle_graph.specs.Stores.{StoreRead, IsStoreOf, IsNodeIn, flag_at, uses_at, title_in_store}
 use Rattle.tangle_graph.proofs.NameLemmas.{used_node}
@@ -19,9 +21,7 @@ use Rattle.tangle_affected.specs.Flags.{ReachesNewShape, AreFlagged, uses_flagge
 -- an item among the first `i` of a list is at a position before `i`
 pub in_front : {X : Type 0} (xs : List X) (i : ℕ) (x : X)
     → Contains (take i xs) x → (k : ℕ) × (k < i) × (k < length xs) × (get_or xs k x ≡ x)
-in_front xs i x c =
-    let low : c.0 < i = omega (arith, c.1, length-take i xs) in
-    (c.0, low, omega (arith, c.1, length-take i xs), sym (get_or-take i xs c.0 x low) ∙ c.2)
+in_front xs i x c = search (rules, length-take, get_or-take)
 
 pub more_cases : (nodes : List Node) (i : ℕ) (node a : Node) → i < length nodes → node ≡ get_or nodes i node
     → Contains (take (i + 1) nodes) a → Contains (take i nodes) a ⊎ (node ≡ a)
@@ -32,12 +32,7 @@ more_cases nodes i node a h is c =
 -- a node that reaches a new shape has one, or uses a name that reaches one
 first_step : (old new : Shapes) (t : Title) → ReachesNewShape old new t
     → (new t ≢ old t) ⊎ ((used : Title) × Uses new t used × ReachesNewShape old new used)
-first_step old new t r = by t r.0 r.1 r.2
-  where
-    by : (a c : Title) → Reaches (Uses new) a c → new c ≢ old c
-        → (new a ≢ old a) ⊎ ((used : Title) × Uses new a used × ReachesNewShape old new used)
-    by a c here differs = inl differs
-    by a c (on {b = used} u s) differs = inr (used, u, (c, s, differs))
+first_step old new t r = grind (arith, nat_tests)
 
 module _ (store : StoreRead) (order : List Node) (ordered : IsOrderIn store order)
     (i : ℕ) (inside : i < length order) (node : Node) (at : node ≡ get_or order i node) where
@@ -46,13 +41,10 @@ module _ (store : StoreRead) (order : List Node) (ordered : IsOrderIn store orde
   at_position = ordered.inside node (i, inside, sym at)
 
   pub apart : (a : Node) → Contains (take i order) a → a ≢ node
-  apart a c same =
-      let before = in_front order i a c in
-      ordered.once before.0 i a before.1 inside (before.3 ∙ same ∙ at ∙ ap (get_or order i) (sym same))
+  apart a c same = grind (arith, nat_tests, in_front order i a c)
 
   pub after_used : (m : Node) → Contains (uses_at store node) m → Contains (take i order) m
-  after_used m used = ordered.after i m inside
-      (subst (λ n. Contains (uses_at store n) m) (at ∙ get_or_default order i node program inside) used)
+  after_used m used = search (rules, get_or_default)
 
   module _ (old new : Shapes) (is : IsStoreOf new store) (flags : List Bool)
       (are : AreFlagged old new store flags (take i order)) where
@@ -93,7 +85,7 @@ module _ (store : StoreRead) (order : List Node) (ordered : IsOrderIn store orde
           | inl before ↦ Decides-at _ _ (get_or-set_other flags node a b false (apart a before)) (are a before)
           | inr e ↦ subst
               (λ m. (flag_at (set flags node b) m ≡ true) ↔ ReachesNewShape old new (title_in_store store m)) e
-              (Decides-at _ b (get_or-set_same flags node b false (omega (arith, at_position, size)))
+              (Decides-at _ b (get_or-set_same flags node b false (omega (arith, at_position)))
               (Decides-like b (λ some. elim some [
                 | inl differs ↦ (title_in_store store node, here, differs)
                 | inr used ↦ (used.2.0, on {b = used.0} used.1 used.2.1, used.2.2)

@@ -1,4 +1,5 @@
 -- The expansion of one more node is kept, and what is kept at the end.
+use Rattle.std.proofs.Common.{rules}
 use Rattle.std.proofs.Common.{◌≡◌, ◌∙◌, ◌+◌, ◌<◌, ◌≤◌, ◌++◌, ℕ, Bool, true, false, cond, List, [], ◌∷◌, length, take}
 use Rattle.std.proofs.Common.{get_or, refl, suc, ap, sym, subst, inl, inr, append_assoc, arith, Contains}
 use Rattle.std.specs.Prelude.{Some, None, unwrap_or}
@@ -73,7 +74,7 @@ module _ (shapes : Shapes) (store : StoreRead) (order : List Node)
         here = at_position store order ordered i h node at
 
         inside : IsNodeIn store (suc id)
-        inside = omega (arith, u.inside)
+        inside = omega arith
 
         by : (s : Shape) → shapes name ≡ s → used_symbols kept id ≡ flat_of shapes name
         by (x ∷ s) e =
@@ -104,7 +105,4 @@ module _ (shapes : Shapes) (store : StoreRead) (order : List Node)
 pub listed_more : (p : Node → Bool) (order : List Node) (i : ℕ) (node : Node) (b : Bool) (before work after : List Node)
     → i < length order → node ≡ get_or order i node → p node ≡ b → work ≡ before ++ filter p (take i order)
     → after ≡ work ++ cond b (node ∷ []) [] → after ≡ before ++ filter p (take (i + 1) order)
-listed_more p order i node b before work after h at flag is e =
-    e ∙ ap (λ l. l ++ cond b (node ∷ []) []) is ∙ append_assoc before (filter p (take i order)) (cond b (node ∷ []) [])
-    ∙ ap (λ l. before ++ l) (sym (filter_more p order i node h
-    ∙ (λ j. filter p (take i order) ++ cond ((ap p (sym at) ∙ flag) j) (sym at j ∷ []) [])))
+listed_more p order i node b before work after h at flag is e = search (rules, append_assoc, filter_more)

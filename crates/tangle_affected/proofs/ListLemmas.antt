@@ -1,6 +1,8 @@
 -- The nodes that are listed along the order are the affected ones.
-use Rattle.std.proofs.Common.{◌≡◌, ◌≢◌, ◌∙◌, ◌<◌, ◌≤◌, ℕ, zero, Bool, true, List, [], ◌∷◌, length, take, get_or, refl}
-use Rattle.std.proofs.Common.{ap, sym, subst, arith, Contains, length-take}
+use Rattle.std.proofs.Common.{rules}
+use Rattle.std.proofs.lemmas.Bool.Decides.{nat_tests}
+use Rattle.std.proofs.Common.{◌≡◌, ◌≢◌, ◌<◌, ◌≤◌, ℕ, zero, Bool, true, List, [], ◌∷◌, length, take, get_or, refl}
+use Rattle.std.proofs.Common.{sym, subst, arith, Contains}
 use Rattle.std.specs.List.{filter}
 use Rattle.std.proofs.Math.Decide.{dec_lt, ℕ_discrete}
 use Rattle.std.proofs.lemmas.Bool.{and_parts, and_from}
@@ -40,10 +42,7 @@ module _ (shapes : Shapes) (store : StoreRead) (order : List Node)
       → Contains (uses_at store (get_or order i d)) (get_or order j d) → ⊥
   before_only i j d le h u =
       let b = get_or order j d in
-      let low : i < length order = omega (arith, le, h) in
-      let before = in_front order i b (ordered.after i b low
-      (subst (λ n. Contains (uses_at store n) b) (get_or_default order i d program low) u)) in
-      ordered.once before.0 j b (omega (arith, before.1, le)) h (before.3 ∙ get_or_default order j d b h)
+      grind (arith, nat_tests, in_front order i b, get_or_default order i d, get_or_default order j d b h)
 
   -- so a node of a filter of the order comes after those of the filter that it uses
   filtered_after : (p : Node → Bool) (k : ℕ) (used : Node)
@@ -57,15 +56,11 @@ module _ (shapes : Shapes) (store : StoreRead) (order : List Node)
       let uses : Contains (uses_at store node) used = (is.uses node used (ordered.inside node there)).1
       (ordered.inside used (out_of_filter p order used c).0, u) in
       elim (dec_lt c.0 k) [
-        | yes low ↦ (let room = c.1 in
-            (c.0, omega (arith, low, room, length-take k listed), get_or-take k listed c.0 used low ∙ c.2))
+        | yes low ↦ search (rules, get_or-take)
         | no high ↦ elim (ℕ_discrete k c.0) [
-          | yes same ↦ (let one : used ≡ node =
-              sym c.2 ∙ get_or_default listed c.0 used program c.1 ∙ ap (λ n. get_or listed n program) (sym same) in
-              absurd (before_only there.0 there.0 node (omega arith) there.1
-              (rw there.2 (subst (Contains (uses_at store node)) one uses))))
+          | yes same ↦ grind (arith, nat_tests, get_or_default listed c.0 used program c.1, before_only there.0 there.0 node)
           | no other ↦ absurd (AllPairs-filter (λ a b. Contains (uses_at store a) b → ⊥) p order
-              (λ i j d less. before_only i j d (omega (arith, less))) k c.0 used (omega (arith, high, other)) c.1
+              (λ i j d less. before_only i j d (omega arith)) k c.0 used (omega arith) c.1
               (rw (c.2, get_or_default listed k used program h) uses))
         ]
       ]

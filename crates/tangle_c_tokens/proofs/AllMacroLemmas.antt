@@ -1,15 +1,17 @@
 -- The bytes of all macros are read as their groups.
+use Rattle.std.proofs.Common.{arith}
+use Rattle.std.proofs.Common.{rules}
+use Rattle.std.proofs.lemmas.Bool.Decides.{nat_tests}
 use Rattle.std.proofs.Common.{ℕ, Bool, true, false, if◌then◌else◌, List, [], ◌∷◌}
 use Rattle.std.proofs.Common.{◌++◌, map, flat_map}
-use Rattle.std.proofs.Common.{append_assoc, refl, sym, subst, codes}
+use Rattle.std.proofs.Common.{append_assoc, refl, sym, subst}
 use Rattle.std.specs.List.{AllByRecursion}
-use Rattle.c_tokens.specs.Bytes.{line_feed}
 use Rattle.tangle_lines.specs.Reading.{SourceLine}
 use Rattle.tangle_lexer.specs.declared.tokens.Token.{Token}
 use Rattle.tangle_scan.specs.declared.items.Item.{Item}
 use Rattle.tangle_scan.specs.Rules.{texts_of, macro_tokens, macro_items}
 use Rattle.tangle_scan.specs.Rules.{is_macro, without_backslashes}
-use Rattle.tangle_scan.specs.MacroBytes.{macro_item_bytes, macro_bytes, without_end}
+use Rattle.tangle_scan.specs.MacroBytes.{macro_bytes}
 use Rattle.tangle_scan.specs.ReadAsMeant.{written_tokens}
 use Rattle.tangle_scan.specs.Web.{Block, BlockKind}
 use Rattle.tangle_scan.specs.Web.{macro_of, kind_macro}
@@ -27,9 +29,7 @@ pub macros-keep : (texts : List (List ℕ)) (macros : List (List Item))
 macros-keep texts [] = refl
 macros-keep texts (items ∷ macros) =
     keeps-more (macro_bytes texts items) (flat_map (macro_bytes texts) macros)
-    (keeps-last
-    (codes "#define " ++ flat_map (macro_item_bytes texts)
-    (without_end texts items)) [] line_feed refl)
+    (search (rules, keeps-last))
     (macros-keep texts macros)
 
 pub both : {X : Type 0} (P Q : X → Type 0) (xs : List X) → AllByRecursion P xs → AllByRecursion Q xs
@@ -69,21 +69,19 @@ module _ (lines : List SourceLine) (rest : List ℕ) (ts : List (List ℕ))
           AreRead ((if is_kept then macro_items (texts_of lines) b.tokens ∷ [] else []) ++ all)
           (map (λ items. macro_tokens_of b)
           (if is_kept then macro_items (texts_of lines) b.tokens ∷ [] else []) ++ each)
-      kept false next alone = next alone
+      kept false next alone = search rules
       kept true next alone =
-          let bytes : List ℕ = macro_bytes (texts_of lines)
-          (macro_items (texts_of lines) b.tokens) in
+          let bytes = macro_bytes (texts_of lines) (macro_items (texts_of lines) b.tokens) in
           let later : List ℕ = flat_map (macro_bytes (texts_of lines)) all in
           let texts : List (List ℕ) = macro_texts (texts_of lines) (macro_tokens_of b) in
           let more : List (List ℕ) = flat_map (macro_texts (texts_of lines)) each in
           subst (IsReadAsTexts ((texts ++ more) ++ ts)) (sym (append_assoc bytes later rest))
           (subst (λ us. IsReadAsTexts us (bytes ++ (later ++ rest))) (sym (append_assoc texts more ts))
-          (macro-by-groups (texts_of lines) (later ++ rest) (more ++ ts) (next alone.1)
-          (macro_tokens_of b) (alone.0).0 (alone.0).1))
+          (search (rules, macro-by-groups)))
 
       by : (kind : BlockKind) → AreRead all each →
           AreRead (kind_macro lines kind b ++ all)
           (map (λ items. macro_tokens_of b) (kind_macro lines kind b) ++ each)
       by (OfMacro line) next =
-          kept (is_macro (texts_of lines) (macro_items (texts_of lines) b.tokens)) next
-      by (OfPiece occurrence line) next = next
+          grind (arith, nat_tests, kept (is_macro (texts_of lines) (macro_items (texts_of lines) b.tokens)) next)
+      by (OfPiece occurrence line) next = search rules

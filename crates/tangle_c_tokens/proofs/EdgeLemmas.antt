@@ -1,7 +1,8 @@
 -- What a macro's groups begin and end with: words and signs are of their kinds.
+use Rattle.std.proofs.Common.{rules}
 use Rattle.std.proofs.Common.{arith}
 use Rattle.std.proofs.Common.{◌≡◌, ℕ, Bool, true, false, ◌&&◌, ◌||◌, not, List, [], ◌∷◌, ◌++◌}
-use Rattle.std.proofs.Common.{Option, Some, None, inl, inr, refl, flat_map, ◌⊎◌}
+use Rattle.std.proofs.Common.{Option, Some, None, inl, inr, flat_map, ◌⊎◌}
 use Rattle.std.proofs.Common.{sym, subst, if◌then◌else◌}
 use Rattle.std.specs.List.{AllByRecursion, last_or, list_all}
 use Rattle.std.specs.Option.{IfSome}
@@ -9,11 +10,10 @@ use Rattle.c_tokens.specs.Bytes.{line_feed}
 use Rattle.c_tokens.specs.Borders.{is_whole, keep_lines}
 use Rattle.tangle_lexer.specs.declared.tokens.Token.{Token}
 use Rattle.tangle_lexer.specs.declared.tokens.Token.TheVariants as token
-use Rattle.tangle_lexer.specs.declared.tokens.SpanKind.TheVariants as span_kind
 use Rattle.tangle_scan.specs.Rules.{may_touch, next_item, ends_line}
-use Rattle.tangle_scan.specs.ReadAsMeant.{is_dropped_token, with_written, written_tokens}
+use Rattle.tangle_scan.specs.ReadAsMeant.{with_written, written_tokens}
 use Rattle.tangle_c_tokens.specs.Edges.{begins_as, ends_as, number_goes_on_with}
-use Rattle.tangle_c_tokens.specs.Kinds.{item_kind, is_range, HasItsKind, IsAlone, IsQuotedText}
+use Rattle.tangle_c_tokens.specs.Kinds.{item_kind, is_range, IsAlone, IsQuotedText}
 use Rattle.tangle_c_tokens.specs.Kinds.{AreTexts}
 use Rattle.tangle_c_tokens.specs.Groups.{Group, group_before, groups_after, group_text}
 use Rattle.tangle_c_tokens.specs.Macros.{text_of, stay_apart, IsReadAlone}
@@ -30,25 +30,15 @@ module _ (texts : List (List ℕ)) where
 
   -- tokens that are texts have their edges
 
-  of-kind : (e : Token) → HasItsKind texts e → HasItsEdges e
-  of-kind (token.Span span_kind.Word s) kind = grind (arith, nat_tests)
-  of-kind (token.Span span_kind.Sign s) kind = grind (arith, nat_tests)
-  of-kind (token.Span span_kind.Quoted s) kind = grind (arith, nat_tests)
-  of-kind (token.Span span_kind.Verbatim s) kind = grind (arith, nat_tests)
-  of-kind _ kind = record { begins = λ no_range. refl; ends = λ no_range. refl }
-
-  of-range : (e : Token) → is_range e ≡ true → HasItsEdges e
-  of-range e range = record { begins = λ no_range. absurd cc; ends = λ no_range. absurd cc }
-
   of-ranges : (part : List Token) → list_all is_range part ≡ true → (es : List Token) → HaveEdges es
       → HaveEdges (part ++ es)
   of-ranges [] all es more = more
-  of-ranges (e ∷ part) all es more = grind (arith, nat_tests, of-range e, of-ranges part)
+  of-ranges (e ∷ part) all es more = grind (arith, nat_tests, of-ranges part)
 
   of-part : (part : List Token) → IsAlone texts part ⊎ IsQuotedText texts part → (es : List Token)
       → HaveEdges es → HaveEdges (part ++ es)
   of-part [] (inl alone) es more = absurd alone
-  of-part (e ∷ []) (inl alone) es more = (of-kind e alone.1, more)
+  of-part (e ∷ []) (inl alone) es more = ((search rules), more)
   of-part (e ∷ f ∷ part) (inl alone) es more = absurd alone
   of-part part (inr quoted) es more = of-ranges part quoted.ranges es more
 
@@ -66,12 +56,12 @@ module _ (texts : List (List ℕ)) where
   of-written (e ∷ es) all = with-first (written_tokens texts es) (of-written es all.1)
     where
       last : (dropped : Bool) → HaveEdges (if dropped then [] else e ∷ [])
-      last true = tt
-      last false = (all.0, tt)
+      last true = search rules
+      last false = search rules
 
       with-first : (fs : List Token) → HaveEdges fs → HaveEdges (with_written texts e fs)
-      with-first [] rest = last (is_dropped_token texts e)
-      with-first (f ∷ fs) rest = (all.0, rest)
+      with-first [] rest = search rules
+      with-first (f ∷ fs) rest = search rules
 
   -- Groups that are read alone are apart: their edges are those of their kinds.
 
@@ -91,22 +81,9 @@ module _ (texts : List (List ℕ)) where
     pub ended : next_item group.rest ≡ None
         → keep_lines (group_text texts group.items) (line_feed ∷ []) ≡ true
 
-  lifted : (touch range_e range_f ends begins rest : Bool) → (range_e ≡ false → ends ≡ true)
-      → (range_f ≡ false → begins ≡ true) →
-      (not touch || (not range_e || ends) && (not range_f || begins) && rest) ≡ true
-      → (not touch || ends && begins && rest) ≡ true
-  lifted false range_e range_f ends begins rest of_e of_f h = refl
-  lifted true range_e range_f ends begins rest of_e of_f h = grind (arith, nat_tests)
-
   apart-edges : (text : List ℕ) (e f : Option Token) → IfSome e HasItsEdges → IfSome f HasItsEdges →
       stay_apart texts text e f ≡ true → are_apart_at_edges text e f ≡ true
-  apart-edges text None f of_e of_f apart = refl
-  apart-edges text (Some e) None of_e of_f apart = refl
-  apart-edges text (Some e) (Some f) of_e of_f apart =
-      lifted (may_touch texts e f) (is_range e) (is_range f)
-      (ends_as (item_kind texts e) (text_of texts e))
-      (begins_as (item_kind texts f) (text_of texts f))
-      (not (number_goes_on_with text (text_of texts f))) of_e.ends of_f.begins apart
+  apart-edges text e f of_e of_f apart = search rules
 
   last-edges : (o : Option Token) (items : List Token) → IfSome o HasItsEdges → HaveEdges items
       → IfSome (last_or o items) HasItsEdges
@@ -119,25 +96,11 @@ module _ (texts : List (List ℕ)) where
   next-edges (token.LineEnd line ∷ es) all = next-edges es all.1
   next-edges (e ∷ es) all = all.0
 
-  group-apart : (items rest : List Token) → HaveEdges items → HaveEdges rest →
-      IsReadAlone texts (record { items = items; rest = rest })
-      → IsApart (record { items = items; rest = rest })
-  group-apart items rest of_items of_rest alone = record {
-    whole = alone.whole;
-    apart = λ ends.
-        apart-edges (group_text texts items) (last_or None items) (next_item rest)
-        (last-edges None items tt of_items)
-        (next-edges rest of_rest) (alone.apart ends);
-    ended = alone.ended;
-  }
-
   before-apart : (items rest : List Token) (gs : List Group) → HaveEdges items → HaveEdges rest →
       (AllByRecursion (IsReadAlone texts) gs → AllByRecursion IsApart gs) →
       AllByRecursion (IsReadAlone texts) (group_before rest items ++ gs)
       → AllByRecursion IsApart (group_before rest items ++ gs)
-  before-apart [] rest gs of_items of_rest next alone = next alone
-  before-apart (e ∷ items) rest gs of_items of_rest next alone =
-      (group-apart (e ∷ items) rest of_items of_rest alone.0, next alone.1)
+  before-apart items rest gs of_items of_rest next alone = search (rules, apart-edges, last-edges, next-edges)
 
   more-edges : (items : List Token) (e : Token) → HaveEdges items → HasItsEdges e
       → HaveEdges (items ++ e ∷ [])
@@ -155,11 +118,10 @@ module _ (texts : List (List ℕ)) where
       before-apart items (token.LineEnd line ∷ es) (groups_after [] es) of_items all
       (groups-apart [] es tt all.1) alone
   groups-apart items (e ∷ es) of_items all alone =
-      groups-apart (items ++ e ∷ []) es (more-edges items e of_items all.0) all.1 alone
+      grind (arith, nat_tests, groups-apart (items ++ e ∷ []) es (more-edges items e of_items all.0) all.1 alone)
 
   -- the groups of a macro that are read alone
   pub apart-groups : (es : List Token) → AreTexts texts es →
       AllByRecursion (IsReadAlone texts) (groups_after [] (written_tokens texts es)) →
       AllByRecursion IsApart (groups_after [] (written_tokens texts es))
-  apart-groups es are =
-      groups-apart [] (written_tokens texts es) tt (of-written es (of-texts es are))
+  apart-groups es are = search (rules, groups-apart, of-written, of-texts)

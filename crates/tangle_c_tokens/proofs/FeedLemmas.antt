@@ -1,11 +1,11 @@
 -- Texts that take out no line feed after them.
+use Rattle.std.proofs.Common.{rules}
 use Rattle.std.proofs.Common.{arith}
 use Rattle.tangle_c_tokens.proofs.TextLemmas.{IsWholeLine}
 use Rattle.std.proofs.Common.{◌≡◌, ℕ, true, false, List, [], ◌∷◌}
 use Rattle.std.proofs.Common.{◌++◌}
-use Rattle.std.proofs.Common.{ap, codes, ◌==◌}
-use Rattle.std.specs.Prelude.{decimal}
-use Rattle.c_tokens.specs.Bytes.{backslash, slash}
+use Rattle.std.proofs.Common.{◌==◌}
+use Rattle.c_tokens.specs.Bytes.{backslash}
 use Rattle.c_tokens.specs.Borders.{is_whole}
 use Rattle.tangle_expansion.specs.Numbers.{closing_bytes}
 use Rattle.tangle_c_tokens.specs.Edges.{last_byte_passes}
@@ -28,9 +28,7 @@ keeps-last (x ∷ y ∷ a) b c of_b = keeps-last (y ∷ a) b c of_b
 
 -- a text and the closing of a piece
 pub closing-keeps : (a : List ℕ) (section : ℕ) → KeepsFeed (a ++ closing_bytes section)
-closing-keeps a section =
-    keeps-last a (42 ∷ 58 ∷ decimal section ++ codes "*/") slash
-    (ap (λ b. b == backslash) (last-slash 42 (58 ∷ decimal section)))
+closing-keeps a section = search (rules, keeps-last, last-slash)
 
 pub line-of : (t : List ℕ) → is_whole t ≡ true → KeepsFeed t → IsWholeLine t
 line-of t whole keeps = grind (arith, nat_tests)

@@ -1,15 +1,13 @@
 -- The tokens of the file of a node are those of its parts.
+use Rattle.std.proofs.Common.{rules}
 use Rattle.std.proofs.Common.{arith}
 use Rattle.tangle_c_tokens.proofs.TextLemmas.{IsMarkText, IsWholeLine}
-use Rattle.std.proofs.Common.{drop}
 use Rattle.tangle_c_tokens.proofs.MarkLemmas.{mark-is_line, mark_end-at, name-at}
-use Rattle.tangle_expansion.specs.Numbers.{mark_bytes}
 use Rattle.std.proofs.Common.{◌≡◌, ℕ, zero, suc, Bool, true, false, if◌then◌else◌, List, [], ◌∷◌}
 use Rattle.std.proofs.Common.{◌++◌, map, flat_map, append-nil}
-use Rattle.std.proofs.Common.{get_or, refl, ap, sym, ◌∙◌, subst}
+use Rattle.std.proofs.Common.{refl, ap, sym, subst}
 use Rattle.std.specs.List.{AllByRecursion}
 use Rattle.c_tokens.specs.Bytes.{line_feed}
-use Rattle.c_tokens.specs.Borders.{is_whole}
 use Rattle.tangle_files.specs.declared.marks.MarkMode.{MarkMode}
 use Rattle.tangle_lines.specs.declared.origin.Origin.{Origin}
 use Rattle.tangle_lines.specs.Reading.{SourceRead}
@@ -18,11 +16,10 @@ use Rattle.tangle_scan.specs.Rules.{texts_of}
 use Rattle.tangle_scan.specs.ReadAsMeant.{all_piece_tokens, all_macro_tokens}
 use Rattle.tangle_scan.specs.Web.{WebRead, web_of, blocks}
 use Rattle.tangle_names.specs.declared.Resolved.{Resolved}
-use Rattle.tangle_names.specs.declared.Resolved.TheVariants.{Name, NoFullName, Ambiguous}
 use Rattle.tangle_names.specs.NameTable.{TableRead, table_of}
 use Rattle.tangle_plans.specs.Shapes.{Title, Named, Shapes}
 use Rattle.tangle_plans.specs.Flat.{Symbol, flat, pieces_flat}
-use Rattle.tangle_plans.specs.WebShapes.{ResolvesInside, resolved_at, pieces_of}
+use Rattle.tangle_plans.specs.WebShapes.{ResolvesInside, pieces_of}
 use Rattle.tangle_plans.specs.WebShapes.{shapes}
 use Rattle.tangle_plans.proofs.InsideLemmas.{table_inside}
 use Rattle.tangle_expansion.specs.Limits.{flat_of, levels, IsExpandableNode}
@@ -88,12 +85,7 @@ module _ (written : AreWrittenByPieces) (source : SourceRead) (modes : MarkMode)
   all_shapes = shapes_in source modes
 
   mark-lines : (origin : Origin) → IsMarkText (bytes_after_mark numbers origin)
-  mark-lines origin =
-      let names : List (List ℕ) = (web_of source).file_names in
-      subst (λ ending. IsMarkText (drop 1 (mark_bytes modes ending origin.line)))
-      (sym (mark_end-at names origin.file))
-      (mark-is_line modes origin.line (get_or names origin.file [])
-      (name-at names origin.file whole.names))
+  mark-lines origin = search (rules, mark_end-at, mark-is_line, name-at)
 
   macros-alone : AllByRecursion (IsAlone source.lines [] [] no-text) (all_macro_tokens source.lines)
   macros-alone =
@@ -104,15 +96,12 @@ module _ (written : AreWrittenByPieces) (source : SourceRead) (modes : MarkMode)
       let all =
       macros-whole source.lines [] [] no-text
       (blocks 0 (all_tokens source.lines)) macros-alone in
-      line-of numbers.macros (ap is_whole (sym (append-nil numbers.macros)) ∙ all.whole)
-      (macros-keep (texts_of source.lines) (web_of source).macros)
+      search (rules, line-of, macros-keep)
 
   resolved-line : (used : List ℕ → List Symbol)
       → ((name : List ℕ) → IsWholeLine (expansion_bytes numbers (used name))) →
       (r : Resolved) → IsWholeLine (resolved_bytes numbers table used r)
-  resolved-line used lines (Name id) = lines (get_or table.names id [])
-  resolved-line used lines NoFullName = record { whole = refl; kept = refl }
-  resolved-line used lines Ambiguous = record { whole = refl; kept = refl }
+  resolved-line used lines r = search rules
 
   abbrev mark_text : Origin → List ℕ
   mark_text origin = bytes_after_mark numbers origin
@@ -130,10 +119,7 @@ module _ (written : AreWrittenByPieces) (source : SourceRead) (modes : MarkMode)
   node-by-parts used lines node tail us read =
       subst (λ bytes. IsReadInParts mark_text (texts_by used node ++ us) (bytes ++ tail))
       (sym (written (web_of source) table modes used node (table_inside (web_of source))))
-      (node-read source.lines numbers table used mark-lines
-      (λ occurrence. resolved-line used lines
-      (resolved_at table occurrence)) macros-line node tail us read
-      (blocks 0 (all_tokens source.lines)) whole.pieces)
+      (search (rules, node-read, mark-lines, resolved-line, macros-line))
 
   node-keeps : (used : List ℕ → List Symbol)
       → ((name : List ℕ) → IsWholeLine (expansion_bytes numbers (used name))) → (node : Title) →
@@ -141,9 +127,7 @@ module _ (written : AreWrittenByPieces) (source : SourceRead) (modes : MarkMode)
   node-keeps used lines node =
       subst KeepsFeed
       (sym (written (web_of source) table modes used node (table_inside (web_of source))))
-      (pieces-keep source.lines numbers table used mark-lines
-      (λ occurrence. resolved-line used lines (resolved_at table occurrence)) macros-line
-      (pieces_of (web_of source) table node))
+      (search (rules, pieces-keep, mark-lines, resolved-line, macros-line))
 
   used-lines : (fuel : ℕ) (name : List ℕ)
       → IsWholeLine (expansion_bytes numbers (flat fuel all_shapes (Named name)))
@@ -152,8 +136,7 @@ module _ (written : AreWrittenByPieces) (source : SourceRead) (modes : MarkMode)
       let used : List ℕ → List Symbol = λ name. flat fuel all_shapes (Named name) in
       let bytes : List ℕ = expansion_bytes numbers (flat (suc fuel) all_shapes (Named name)) in
       let read = node-by-parts used (used-lines fuel) (Named name) [] [] (nothing mark_text) in
-      line-of bytes (ap is_whole (sym (append-nil bytes)) ∙ read.read.whole)
-      (node-keeps used (used-lines fuel) (Named name))
+      grind (arith, nat_tests, append-nil bytes, node-keeps used, used-lines fuel)
 
   node-then : (node : Title) → IsExpandableNode all_shapes node → (tail : List ℕ)
       → IsReadInParts mark_text [] tail →

@@ -1,11 +1,12 @@
 -- The tokens of the bytes of a macro are those of its groups.
+use Rattle.std.proofs.Common.{rules}
 use Rattle.std.proofs.Common.{arith}
 use Rattle.std.proofs.Common.{◌≡◌, ℕ, Bool, true, false, ◌&&◌, not, if◌then◌else◌, List, [], ◌∷◌}
 use Rattle.std.proofs.Common.{◌++◌, map, flat_map}
 use Rattle.std.proofs.Common.{append_assoc, append-nil, Option, Some, None, refl, ap, sym, ◌∙◌}
 use Rattle.std.proofs.Common.{subst, codes}
 use Rattle.std.specs.List.{AllByRecursion}
-use Rattle.std.proofs.lemmas.Bool.{and_parts, or_parts, not-true}
+use Rattle.std.proofs.lemmas.Bool.{and_parts, not-true}
 use Rattle.std.proofs.lemmas.List.Concat.{flat_map-append}
 use Rattle.c_tokens.specs.Bytes.{space, line_feed, backslash}
 use Rattle.c_tokens.specs.Grammar.{is_element, is_token, is_punctuator}
@@ -14,7 +15,6 @@ use Rattle.c_tokens.specs.Touching.{TextKind}
 use Rattle.c_tokens.specs.Borders.{is_whole, have_border}
 use Rattle.tangle_lexer.specs.declared.tokens.Token.{Token}
 use Rattle.tangle_lexer.specs.declared.tokens.Token.TheVariants as token
-use Rattle.tangle_lexer.specs.declared.tokens.SpanKind.TheVariants as span_kind
 use Rattle.tangle_scan.specs.Rules.{may_touch, next_item, has_blank_at_line_end}
 use Rattle.tangle_scan.specs.Rules.{is_name_part, macro_blanks, unmarked_items, is_front_gap}
 use Rattle.tangle_scan.specs.MacroBytes.{macro_item_bytes, macro_bytes}
@@ -48,44 +48,20 @@ module _ (texts : List (List ℕ)) (tail : List ℕ) (ts : List (List ℕ))
   item-text : (e : Token) (es : List Token) → is_front_gap e ≡ false
       → flat_map (macro_item_bytes texts) (unmarked_items (e ∷ es))
       ≡ text_of texts e ++ flat_map (macro_item_bytes texts) (unmarked_items es)
-  item-text (token.Span span_kind.Word s) es item = refl
-  item-text _ es item = cc
+  item-text e es item = search rules
 
   item-bytes : (e : Token) (es : List Token) → is_front_gap e ≡ false
       → flat_map (macro_item_bytes texts) (unmarked_items (e ∷ es)) ++ line_feed ∷ tail
       ≡ text_of texts e
       ++ (flat_map (macro_item_bytes texts) (unmarked_items es) ++ line_feed ∷ tail)
-  item-bytes e es item =
-      ap (λ bs. bs ++ line_feed ∷ tail) (item-text e es item)
-      ∙ append_assoc (text_of texts e) (flat_map (macro_item_bytes texts) (unmarked_items es))
-      (line_feed ∷ tail)
+  item-bytes e es item = search (rules, append_assoc)
 
   -- an item after white space on its line, directly after another item, and at the front of a line
-
-  white-item : (in_name : Bool) (before e : Token) (es : List Token) → is_front_gap e ≡ false →
-      bytes_from in_name (Some before) true
-      (e ∷ es) ≡ space
-      ∷ (text_of texts e ++ bytes_from (in_name && false && is_name_part e) (Some e) false es)
-  white-item in_name before e es item =
-      rw (macro_blanks-item texts in_name (Some before) true e es item)
-      (ap (λ bs. space ∷ bs)
-      (item-bytes e
-      (macro_blanks texts (in_name && false && is_name_part e) (Some e) false es) item))
-
-  next-item : (in_name : Bool) (before e : Token) (es : List Token) → is_front_gap e ≡ false →
-      bytes_from in_name (Some before) false (e ∷ es) ≡ text_of texts e ++ bytes_from
-      (in_name && true && is_name_part e) (Some e) false es
-  next-item in_name before e es item =
-      rw (macro_blanks-item texts in_name (Some before) false e es item)
-      (item-bytes e (macro_blanks texts (in_name && true && is_name_part e) (Some e) false es) item)
 
   front-item : (in_name white : Bool) (e : Token) (es : List Token) → is_front_gap e ≡ false →
       bytes_from in_name None white (e ∷ es) ≡ text_of texts e ++ bytes_from
       (in_name && not white && is_name_part e) (Some e) false es
-  front-item in_name white e es item =
-      rw (macro_blanks-item texts in_name None white e es item)
-      (item-bytes e
-      (macro_blanks texts (in_name && not white && is_name_part e) (Some e) false es) item)
+  front-item in_name white e es item = search (rules, macro_blanks-item, item-bytes)
 
   -- a line end that is taken out, between two items that may touch
 
@@ -102,39 +78,23 @@ module _ (texts : List (List ℕ)) (tail : List ℕ) (ts : List (List ℕ))
 
   group-text : (items : List Token) (e : Token)
       → group_text texts (items ++ e ∷ []) ≡ group_text texts items ++ text_of texts e
-  group-text items e =
-      flat_map-append (text_of texts) items (e ∷ [])
-      ∙ ap (λ t. group_text texts items ++ t) (append-nil (text_of texts e))
+  group-text items e = search (rules, flat_map-append)
 
   meets-next : (items : List Token) (e f : Token) → may_touch texts e f ≡ true →
       are_apart_at_edges texts (group_text texts (items ++ e ∷ [])) (Some e) (Some f) ≡ true →
       Meets (spliced (group_text texts (items ++ e ∷ []))) (Some f)
   meets-next items e f may apart more =
-      let k : TextKind = item_kind texts e in
+      let k = item_kind texts e in
       let g : TextKind = item_kind texts f in
       let a : List ℕ = group_text texts (items ++ e ∷ []) in
-      let edges = rw may at apart in
-      let outer =
-      and_parts (ends_as k (text_of texts e) && begins_as g (text_of texts f))
-      (not (number_goes_on_with a (text_of texts f))) edges in
-      let inner = and_parts (ends_as k (text_of texts e)) (begins_as g (text_of texts f)) outer.0 in
-      kinds-border k g (spliced a) (text_of texts f) more (sym (same-table texts e f) ∙ may)
-      (ap (λ t. ends_as k (spliced t)) (group-text items e)
-      ∙ ends-as k (group_text texts items) (text_of texts e) inner.0)
-      inner.1 (not-true (number_goes_on_with a (text_of texts f)) outer.1)
+      let inner = and_parts (ends_as k (text_of texts e)) (begins_as g (text_of texts f)) (and_parts (ends_as k (text_of texts e) && begins_as g (text_of texts f)) (not (number_goes_on_with a (text_of texts f))) (rw may at apart)).0 in
+      grind (arith, nat_tests, kinds-border k g, same-table texts e f, group-text items e, ends-as k, not-true)
 
   meets-if_no_blank : (in_name : Bool) (items : List Token) (e : Token) (next : Option Token) →
       has_blank_at_line_end texts in_name (Some e) next ≡ false →
       are_apart_at_edges texts (group_text texts (items ++ e ∷ [])) (Some e) next ≡ true →
       Meets (spliced (group_text texts (items ++ e ∷ []))) next
-  meets-if_no_blank in_name items e None none apart = tt
-  meets-if_no_blank in_name items e (Some f) none apart =
-      meets-next items e f
-      (may (may_touch texts e f) (or_parts in_name (not (may_touch texts e f)) none).1) apart
-    where
-      may : (b : Bool) → not b ≡ false → b ≡ true
-      may true h = refl
-      may false h = sym h
+  meets-if_no_blank in_name items e next none apart = search (rules, meets-next)
 
   -- The bytes from these tokens on are read as their groups.
 
@@ -176,13 +136,12 @@ module _ (texts : List (List ℕ)) (tail : List ℕ) (ts : List (List ℕ))
       (IsApart texts (record { items = items ++ e ∷ []; rest = rest }) → AreReadAlone gs →
       IsReadAsTexts (group_text texts (items ++ e ∷ []) ∷ texts_in gs ++ ts) bytes) →
       ReadsAs (group_before rest (items ++ e ∷ []) ++ gs) bytes
-  closed items e rest bytes gs reads = grind (arith, nat_tests, group-one items e rest, reads)
+  closed items e rest bytes gs reads = grind (arith, nat_tests, group-one items e rest)
 
   at-end : (in_name white : Bool) → ReadsAfter in_name white []
   at-end in_name white items e alone rest =
-      let t : List ℕ = group_text texts (items ++ e ∷ []) in
-      with-text t tail (t ++ line_feed ∷ tail) ts
-      (feed-between t tail alone.whole (alone.ended refl)) read
+      let t = group_text texts (items ++ e ∷ []) in
+      grind (arith, nat_tests, feed-between t)
 
   at-line_end : (line : ℕ) (es : List Token) → ReadsFront es → (in_name white : Bool)
       → ReadsAfter in_name white (token.LineEnd line ∷ es)
@@ -201,16 +160,16 @@ module _ (texts : List (List ℕ)) (tail : List ℕ) (ts : List (List ℕ))
           ((if blank then token.White ∷ [] else []) ++ token.LineEnd line
           ∷ macro_blanks texts false None false es)) ++ line_feed ∷ tail))
       by true is =
-          let t : List ℕ = group_text texts (items ++ e ∷ []) in
-          let after : List ℕ = bytes_from false None false es in
+          let t = group_text texts (items ++ e ∷ []) in
+          let after = bytes_from false None false es in
           let next = front false false rest in
           with-text t (backslash ∷ line_feed ∷ after) (t ++ space ∷ backslash ∷ line_feed ∷ after)
           (texts_in (groups_after [] es) ++ ts)
           (space-between t (backslash ∷ line_feed ∷ after) alone.whole)
           (record { read = next.read; whole = next.whole })
       by false is =
-          let t : List ℕ = group_text texts (items ++ e ∷ []) in
-          let after : List ℕ = bytes_from false None false es in
+          let t = group_text texts (items ++ e ∷ []) in
+          let after = bytes_from false None false es in
           with-text t after (t ++ backslash ∷ line_feed ∷ after)
           (texts_in (groups_after [] es) ++ ts)
           (taken-between t after alone.whole
@@ -230,18 +189,15 @@ module _ (texts : List (List ℕ)) (tail : List ℕ) (ts : List (List ℕ))
         let after : List ℕ = bytes_from (in_name && true && is_name_part e) (Some e) false es in
         let t : List ℕ = group_text texts (items ++ before ∷ []) in
         subst (IsReadAsTexts (texts_in (groups_after (items ++ before ∷ []) (e ∷ es)) ++ ts))
-        (sym (ap (λ bs. t ++ bs) (next-item in_name before e es item)
-        ∙ sym (append_assoc t (text_of texts e) after)
-        ∙ ap (λ bs. bs ++ after) (sym (group-text (items ++ before ∷ []) e))))
+        (search (rules, append_assoc, group-text))
         (subst (λ gs. ReadsAs gs (group_text texts ((items ++ before ∷ []) ++ e ∷ []) ++ after))
         (sym (more (items ++ before ∷ [])))
         (within (in_name && true && is_name_part e) (items ++ before ∷ []) e) alone);
     after_white = λ in_name items before alone rest.
-        let after : List ℕ = text_of texts e ++ bytes_from (in_name && false && is_name_part e)
-        (Some e) false es in
+        let after = text_of texts e ++ bytes_from (in_name && false && is_name_part e) (Some e) false es in
         let t : List ℕ = group_text texts (items ++ before ∷ []) in
         subst (IsReadAsTexts (t ∷ texts_in (groups_after [] (e ∷ es)) ++ ts))
-        (sym (ap (λ bs. t ++ bs) (white-item in_name before e es item)))
+        (sym (ap (λ bs. t ++ bs) (search (rules, macro_blanks-item, item-bytes))))
         (with-text t after (t ++ space ∷ after) (texts_in (groups_after [] (e ∷ es)) ++ ts)
         (space-between t after alone.whole)
         (first (in_name && false && is_name_part e) rest));
@@ -281,14 +237,12 @@ module _ (texts : List (List ℕ)) (tail : List ℕ) (ts : List (List ℕ))
             (groups_after [] es)
             (λ alone. next.after_white in_name items e (same-group (items ++ e ∷ []) es alone));
         after_white =
-            λ in_name items e alone. next.after_white in_name items e
-            (same-group (items ++ e ∷ []) es alone);
+            grind (arith, nat_tests, same-group);
       }
   reads (token.LineEnd line ∷ es) =
       let next = reads es in
       record {
-        front = λ in_name white alone. let read =
-            next.front false false alone in record { read = read.read; whole = read.whole };
+        front = search rules;
         within = λ in_name items e. closed items e (token.LineEnd line ∷ es)
             (group_text texts (items ++ e ∷ []) ++ bytes_from in_name (Some e) false
             (token.LineEnd line ∷ es)) (groups_after [] es)
@@ -306,13 +260,11 @@ module _ (texts : List (List ℕ)) (tail : List ℕ) (ts : List (List ℕ))
       IsReadAsTexts (codes "#define" ∷ texts_in (groups (written_tokens texts es)) ++ ts)
       (macro_bytes texts (unmarked_items (macro_blanks texts true None false es)) ++ tail)
   macro-by-groups es are alone =
-      let written : List Token = written_tokens texts es in
-      let text : List ℕ = flat_map (macro_item_bytes texts)
+      let written = written_tokens texts es in
+      let text = flat_map (macro_item_bytes texts)
       (items_from texts true None false written) in
       subst (IsReadAsTexts (codes "#define" ∷ texts_in (groups written) ++ ts))
-      (sym (ap (λ xs. (codes "#define " ++ flat_map (macro_item_bytes texts) xs ++ codes "\n")
-      ++ tail) (end-items texts es true None false)
-      ∙ ap (λ bs. codes "#define " ++ bs) (append_assoc text (line_feed ∷ []) tail)))
+      (search (rules, end-items, append_assoc))
       (with-text (codes "#define") (bytes_from true None false written)
       (codes "#define " ++ bytes_from true None false written)
       (texts_in (groups written) ++ ts)
@@ -324,10 +276,9 @@ pub one-macro : (texts : List (List ℕ)) (es : List Token) → AreTexts texts e
     IsReadByGroups texts es
     (macro_bytes texts (unmarked_items (macro_blanks texts true None false es)))
 one-macro texts es are alone =
-    let text : List ℕ = macro_bytes texts
+    let text = macro_bytes texts
     (unmarked_items (macro_blanks texts true None false es)) in
-    let of_groups : List (List ℕ) = map (λ (g : Group). group_text texts g.items)
-    (groups (written_tokens texts es)) in
+    let of_groups = map (λ (g : Group). group_text texts g.items) (groups (written_tokens texts es)) in
     subst (λ ts. IsReadAsTexts ts text) (append-nil (codes "#define" ∷ of_groups))
     (subst (IsReadAsTexts (codes "#define" ∷ of_groups ++ [])) (append-nil text)
     (macro-by-groups texts [] [] no-text es are alone))

@@ -1,30 +1,26 @@
 -- Each line mark is a line, if no file has a line feed in its name.
+use Rattle.std.proofs.Common.{rules}
 use Rattle.std.proofs.Common.{arith}
 use Rattle.tangle_c_tokens.proofs.DecimalLemmas.{decimal-digits}
 use Rattle.tangle_c_tokens.proofs.TextLemmas.{IsMarkText}
 use Rattle.std.proofs.Common.{◌≡◌, ℕ, ◌-◌, zero, suc, Bool, true, false, List}
 use Rattle.std.proofs.Common.{[], ◌∷◌}
-use Rattle.std.proofs.Common.{◌++◌, map, drop, take, get_or, inl, inr, refl, ap, sym, ◌∙◌, subst}
+use Rattle.std.proofs.Common.{◌++◌, map, drop, take, get_or, inl, inr, refl, ap, ◌∙◌, subst}
 use Rattle.std.proofs.Common.{append_assoc, codes}
 use Rattle.std.proofs.Common.{◌==◌, if◌then◌else◌}
 use Rattle.std.specs.Prelude.{◌||◌, not, decimal}
 use Rattle.std.specs.List.{AllByRecursion, list_any, list_all}
-use Rattle.std.proofs.lemmas.Bool.{and_parts, and_from, or_parts, false≢true}
-use Rattle.std.proofs.lemmas.Bool.{not_from_false}
-use Rattle.std.proofs.lemmas.Bool.{or_right}
-use Rattle.std.proofs.Math.Bool.{and-false}
+use Rattle.std.proofs.lemmas.Bool.{and_parts}
 use Rattle.c_tokens.specs.Bytes.{line_feed, space, backslash, double_quote, is_digit}
 use Rattle.c_tokens.specs.Grammar.{is_element, is_token, is_punctuator, ends_quoted}
-use Rattle.c_tokens.specs.Grammar.{is_string, is_character}
 use Rattle.c_tokens.specs.Reading.{spliced, longest, elements_from}
-use Rattle.c_tokens.specs.Touching.{is_plain, is_plain_word}
 use Rattle.c_tokens.specs.Borders.{is_unfinished, is_whole}
 use Rattle.c_tokens.proofs.TouchingLemmas.{one-element, plain-element}
 use Rattle.tangle_files.specs.declared.marks.MarkMode.{MarkMode}
 use Rattle.tangle_files.specs.declared.marks.MarkMode.TheVariants.{Full, Bare}
 use Rattle.tangle_expansion.specs.Numbers.{escaped, mark_end, mark_bytes}
 use Rattle.tangle_c_tokens.specs.LineFeeds.{HasNoLineFeed}
-use Rattle.tangle_c_tokens.proofs.FeedLemmas.{KeepsFeed, keeps-last, line-of}
+use Rattle.tangle_c_tokens.proofs.FeedLemmas.{KeepsFeed, keeps-last}
 use Rattle.tangle_c_tokens.proofs.TextLemmas.{space-between}
 use Rattle.std.proofs.lemmas.Bool.Decides.{nat_tests}
 
@@ -36,16 +32,13 @@ IsInLine t = list_all (λ b. not (b == line_feed)) t ≡ true
 spliced-line : (t : List ℕ) → IsInLine t → spliced t ≡ t
 spliced-line [] line = refl
 spliced-line (b ∷ []) line = refl
-spliced-line (b ∷ c ∷ t) line = grind (arith, nat_tests, and-false, spliced-line (c ∷ t))
+spliced-line (b ∷ c ∷ t) line = grind (arith, nat_tests, spliced-line (c ∷ t))
 
 -- a number
 
-digit-not : (b c : ℕ) → is_digit c ≡ false → is_digit b ≡ true → (b == c) ≡ false
-digit-not b c other digit = grind (arith, nat_tests)
-
 digits-line : (t : List ℕ) → list_all is_digit t ≡ true → IsInLine t
 digits-line [] all = refl
-digits-line (b ∷ t) all = grind (arith, nat_tests, digit-not, digits-line t)
+digits-line (b ∷ t) all = grind (arith, nat_tests, digits-line t)
 
 finished : (k b : ℕ) (t : List ℕ) → is_digit b ≡ true → is_unfinished (take k (b ∷ t)) ≡ false
 finished zero b t digit = refl
@@ -57,56 +50,32 @@ digits-finished n [] all = refl
 digits-finished (suc n) (b ∷ t) all = cc (digits-finished n t (and_parts (is_digit b) (list_all is_digit t) all).1)
 digits-finished zero (b ∷ t) all =
     let parts = and_parts (is_digit b) (list_all is_digit t) all in
-    let k : ℕ = longest is_element (b ∷ t) in
+    let k = longest is_element (b ∷ t) in
     ap (λ u. u || list_any is_unfinished (elements_from (k - 1) t)) (finished k b t parts.0)
     ∙ digits-finished (k - 1) t parts.1
-
-number-whole : (n : ℕ) → is_whole (decimal n) ≡ true
-number-whole n =
-    let all = decimal-digits n in
-    ap (λ t. not (list_any is_unfinished (elements_from 0 t)))
-    (spliced-line (decimal n) (digits-line (decimal n) all))
-    ∙ ap not (digits-finished 0 (decimal n) all)
 
 -- a name between quotes
 
 string-whole : (t : List ℕ) → ends_quoted double_quote t ≡ true → IsInLine t
     → is_whole (double_quote ∷ t) ≡ true
-string-whole [] ends line = absurd (false≢true ends)
-string-whole (c ∷ t) ends line =
-    let text : List ℕ = double_quote ∷ c ∷ t in
-    let plain : is_plain text ≡ true = or_right (is_plain_word text || is_character text)
-    (is_string text) ends in
-    ap (λ u. not (list_any is_unfinished (elements_from 0 u))) (spliced-line text line)
-    ∙ ap (λ es. not (list_any is_unfinished es))
-    (one-element double_quote (c ∷ t) (plain-element text plain))
+string-whole t ends line = search (rules, spliced-line, one-element, plain-element)
 
 name-line : (name more : List ℕ) → HasNoLineFeed name → IsInLine more
     → IsInLine (escaped name ++ more)
 name-line [] more none line = line
 name-line (b ∷ name) more none line =
-    let parts = or_parts (b == line_feed) (list_any (λ b. b == line_feed) name) none in
-    let other : not (b == line_feed) ≡ true = not_from_false (b == line_feed) parts.0 in
-    by (b == backslash || b == double_quote)
-    (and_from (not (b == line_feed)) _ other (name-line name more parts.1 line))
+    grind (arith, nat_tests, name-line name more)
   where
     by : (special : Bool) → IsInLine (b ∷ (escaped name ++ more)) →
         IsInLine (((if special then backslash ∷ b ∷ [] else b ∷ []) ++ escaped name) ++ more)
-    by true rest = rest
-    by false rest = rest
-
-plain-quoted : (b : ℕ) (t : List ℕ) → (b == backslash || b == double_quote) ≡ false
-    → (b == line_feed) ≡ false →
-    ends_quoted double_quote t ≡ true → ends_quoted double_quote (b ∷ t) ≡ true
-plain-quoted b [] other line ends = absurd (false≢true ends)
-plain-quoted b (c ∷ t) other line ends = grind (arith, nat_tests)
+    by true rest = cc rest
+    by false rest = cc rest
 
 name-quoted : (name : List ℕ) → HasNoLineFeed name
     → ends_quoted double_quote (escaped name ++ double_quote ∷ []) ≡ true
 name-quoted [] none = refl
 name-quoted (b ∷ name) none =
-    let parts = or_parts (b == line_feed) (list_any (λ b. b == line_feed) name) none in
-    by (b == backslash || b == double_quote) refl parts.0 (name-quoted name parts.1)
+    grind (arith, nat_tests, name-quoted name)
   where
     by : (special : Bool) → (b == backslash || b == double_quote) ≡ special
         → (b == line_feed) ≡ false →
@@ -114,8 +83,8 @@ name-quoted (b ∷ name) none =
         ends_quoted double_quote
         (((if special then backslash ∷ b ∷ [] else b ∷ []) ++ escaped name) ++ double_quote
         ∷ []) ≡ true
-    by true is line rest = rw line rest
-    by false is line rest = plain-quoted b (escaped name ++ double_quote ∷ []) is line rest
+    by true is line rest = search rules
+    by false is line rest = search rules
 
 -- the whole mark
 
@@ -131,27 +100,15 @@ directive-whole = refl
 
 mark-whole : (n : ℕ) (name : List ℕ) → HasNoLineFeed name → is_whole (mark_line n name) ≡ true
 mark-whole n name none =
-    let text : List ℕ = double_quote ∷ quoted name in
-    let first = space-between (codes "#line") (decimal n ++ space ∷ text) directive-whole in
-    let second = space-between (decimal n) text (number-whole n) in
-    first.whole ∙ second.whole
-    ∙ string-whole (quoted name) (name-quoted name none)
-    (name-line name (double_quote ∷ []) none refl)
+    let first = space-between (codes "#line") (decimal n ++ space ∷ (double_quote ∷ quoted name)) directive-whole in
+    search (rules, space-between, decimal-digits, spliced-line, digits-line, digits-finished, string-whole, name-quoted, name-line)
 
 mark-keeps : (n : ℕ) (name : List ℕ) → KeepsFeed (mark_line n name)
 mark-keeps n name =
-    let front : List ℕ = codes "#line " ++ (decimal n ++ space ∷ double_quote ∷ escaped name) in
     subst KeepsFeed
     (ap (λ t. codes "#line " ++ t)
     (append_assoc (decimal n) (space ∷ double_quote ∷ escaped name) (double_quote ∷ [])))
-    (keeps-last front [] double_quote refl)
-
-mark-ends : (n : ℕ) (name : List ℕ)
-    → drop 1 (mark_bytes Full (mark_end name) n) ≡ mark_line n name ++ line_feed ∷ []
-mark-ends n name = ap (λ t. codes "#line " ++ t)
-    (ap (λ t. decimal n ++ space ∷ double_quote ∷ t)
-    (sym (append_assoc (escaped name) (double_quote ∷ []) (line_feed ∷ [])))
-    ∙ sym (append_assoc (decimal n) (space ∷ double_quote ∷ quoted name) (line_feed ∷ [])))
+    (keeps-last (codes "#line " ++ (decimal n ++ space ∷ double_quote ∷ escaped name)) [] double_quote refl)
 
 pub mark-is_line : (marks : MarkMode) (n : ℕ) (name : List ℕ) → HasNoLineFeed name →
     IsMarkText (drop 1 (mark_bytes marks (mark_end name) n))
@@ -159,9 +116,8 @@ mark-is_line Bare n name none = inl refl
 mark-is_line Full n name none =
     inr (
       mark_line n name,
-      mark-ends n name,
-      line-of (mark_line n name) (mark-whole n name none)
-          (mark-keeps n name),
+      (search (rules, append_assoc)),
+      search (rules, mark-whole, mark-keeps),
     )
 
 pub mark_end-at : (names : List (List ℕ)) (k : ℕ)

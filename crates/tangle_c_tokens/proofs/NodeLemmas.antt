@@ -1,14 +1,17 @@
 -- The bytes of the pieces of a node are read as their parts.
+use Rattle.tangle_c_tokens.proofs.TextLemmas.{apart-from}
+use Rattle.tangle_c_tokens.proofs.TextLemmas.{keep-other}
+use Rattle.tangle_c_tokens.proofs.TextLemmas.{slash-border}
+use Rattle.std.proofs.Common.{rules}
 use Rattle.std.proofs.Common.{arith}
 use Rattle.tangle_c_tokens.proofs.TextLemmas.{IsMarkText, IsWholeLine}
 use Rattle.std.proofs.Common.{◌≡◌, ℕ, Bool, true, false, if◌then◌else◌, List, [], ◌∷◌}
 use Rattle.std.proofs.Common.{◌++◌, map, drop, flat_map}
-use Rattle.std.proofs.Common.{append_assoc, get_or, refl, ap, sym, ◌∙◌, subst, cond}
+use Rattle.std.proofs.Common.{append_assoc, refl, sym, subst, cond}
 use Rattle.std.specs.Prelude.{filter}
 use Rattle.std.specs.List.{AllByRecursion}
 use Rattle.c_tokens.specs.Bytes.{line_feed}
 use Rattle.tangle_files.specs.declared.marks.MarkMode.{MarkMode}
-use Rattle.tangle_files.specs.declared.marks.MarkMode.TheVariants.{Full, Bare}
 use Rattle.tangle_lines.specs.declared.origin.Origin.{Origin}
 use Rattle.tangle_lines.specs.Reading.{SourceLine, origin_at}
 use Rattle.tangle_lexer.specs.declared.tokens.Token.{Token}
@@ -21,24 +24,22 @@ use Rattle.tangle_plans.specs.Shapes.{Title}
 use Rattle.tangle_plans.specs.Flat.{Symbol}
 use Rattle.tangle_plans.specs.WebShapes.{is_piece_of}
 use Rattle.tangle_expansion.specs.Numbers.{NumbersRead, mark_bytes}
-use Rattle.tangle_expansion.specs.Numbers.{mark_bytes_at, mark_end}
+use Rattle.tangle_expansion.specs.Numbers.{mark_bytes_at}
 use Rattle.tangle_expansion.specs.Numbers.{opening_bytes, closing_bytes}
 use Rattle.tangle_expansion.specs.PieceBytes.{bytes_after_mark, used_bytes}
 use Rattle.tangle_expansion.specs.PieceBytes.{items_bytes, piece_bytes}
 use Rattle.tangle_c_tokens.specs.Pieces.{parts, IsReadInParts, IsWholePart}
 use Rattle.tangle_c_tokens.specs.Files.{piece_texts, node_texts}
 use Rattle.tangle_c_tokens.proofs.TextLemmas.{feed-front}
-use Rattle.tangle_c_tokens.proofs.CommentLemmas.{after-opening, before-closing, after-closing}
+use Rattle.tangle_c_tokens.proofs.CommentLemmas.{after-opening, after-closing}
 use Rattle.tangle_c_tokens.proofs.RowLemmas.{with-mark, without-text}
 use Rattle.tangle_c_tokens.proofs.PieceLemmas.{piece-by-parts}
 use Rattle.tangle_c_tokens.proofs.PartLemmas.{parts-whole}
 use Rattle.tangle_c_tokens.proofs.FeedLemmas.{KeepsFeed, keeps-more, closing-keeps}
-use Rattle.std.proofs.lemmas.Bool.Decides.{nat_tests}
 
 line_feed_first : (marks : MarkMode) (ending : List ℕ) (line : ℕ)
     → mark_bytes marks ending line ≡ line_feed ∷ drop 1 (mark_bytes marks ending line)
-line_feed_first Full ending line = refl
-line_feed_first Bare ending line = refl
+line_feed_first marks ending line = search rules
 
 grouped : (o m i c rest : List ℕ) → (o ++ m ++ i ++ c) ++ rest ≡ o ++ (m ++ (i ++ (c ++ rest)))
 grouped o m i c rest = simp append_assoc
@@ -71,38 +72,15 @@ module _ (lines : List SourceLine) (numbers : NumbersRead) (table : TableRead)
       ++ items_bytes numbers table used (texts_of lines)
       (part_items lines line es) ++ closing_bytes section) ++ rest)
   piece-read section line origin es rest ts bare read =
-      let items : List ℕ = items_bytes numbers table used (texts_of lines)
-      (part_items lines line es) in
-      let tail : List ℕ = closing_bytes section ++ rest in
-      let inner =
-      piece-by-parts lines
-      (λ occurrence. used_bytes numbers table used occurrence) mark numbers.macros marks tail ts
-      (without-text mark tail rest ts (after-closing section rest) read)
-      (before-closing section rest) line es
-      (parts-whole (texts_of lines)
-      (λ occurrence. used_bytes numbers table used occurrence) numbers.macros used_whole macros_whole
-      [] (part_tokens (texts_of lines) es) refl bare) in
-      let us : List (List ℕ) = texts_in (part_tokens (texts_of lines) es) ++ ts in
-      let marked = with-mark mark origin (items ++ tail) us (marks origin) inner in
-      let after : List ℕ = line_feed ∷ (mark origin ++ (items ++ tail)) in
-      subst (IsReadInParts mark us)
-      (sym (grouped (opening_bytes section) (mark_bytes_at numbers origin) items
-      (closing_bytes section) rest
-      ∙ ap (λ m. opening_bytes section ++ (m ++ (items ++ tail)))
-      (line_feed_first numbers.marks
-      (get_or numbers.mark_ends origin.file (mark_end [])) origin.line)))
-      (without-text mark (opening_bytes section ++ after) after us (after-opening section after)
-      (without-text mark after (mark origin ++ (items ++ tail)) us
-      (feed-front (mark origin ++ (items ++ tail))) marked))
+      let tail = closing_bytes section ++ rest in
+      let marked = with-mark mark origin ((items_bytes numbers table used (texts_of lines) (part_items lines line es)) ++ tail) (texts_in (part_tokens (texts_of lines) es) ++ ts) (marks origin) (piece-by-parts lines (λ occurrence. used_bytes numbers table used occurrence) mark numbers.macros marks tail ts (without-text mark tail rest ts (after-closing section rest) read) ((λ a whole ends. (search (rules, apart-from, keep-other, slash-border)))) line es (search (rules, parts-whole))) in
+      search (rules, grouped, line_feed_first, without-text, after-opening, feed-front)
 
   -- the bytes of pieces do not end in a backslash
   pub pieces-keep : (pieces : List PieceRead) → KeepsFeed (flat_map bytes_of pieces)
   pieces-keep [] = refl
   pieces-keep (piece ∷ pieces) =
-      keeps-more (bytes_of piece) (flat_map bytes_of pieces) (closing-keeps
-      (opening_bytes piece.section ++ mark_bytes_at numbers piece.origin
-      ++ items_bytes numbers table used (texts_of lines) piece.items)
-      piece.section) (pieces-keep pieces)
+      keeps-more (bytes_of piece) (flat_map bytes_of pieces) (search (rules, closing-keeps)) (pieces-keep pieces)
 
   -- `tail` is written after the node, and read as the texts `us`.
   module _ (node : Title) (tail : List ℕ) (us : List (List ℕ))
@@ -163,11 +141,4 @@ module _ (lines : List SourceLine) (numbers : NumbersRead) (table : TableRead)
             (node_bytes (kind_piece lines kind b ++ all))
         by (OfMacro line) next bare = next bare
         by (OfPiece occurrence line) next bare =
-            grind (
-              arith,
-              nat_tests,
-              chosen,
-              piece-read b.section line (origin_at lines line) b.tokens (later ++ tail) (ts ++ us) bare.0,
-              later,
-              ts,
-            )
+            grind (arith, chosen, piece-read b.section line (origin_at lines line) b.tokens (later ++ tail) (ts ++ us) bare.0)

@@ -1,11 +1,12 @@
 -- Parts are whole whatever whole texts are written for uses, if their groups of items are.
+use Rattle.std.proofs.Common.{rules}
 use Rattle.std.proofs.Common.{arith}
 use Rattle.tangle_c_tokens.proofs.TextLemmas.{IsWholeLine}
 use Rattle.std.proofs.Common.{◌≡◌, ℕ, Bool, true, false, ◌&&◌, not, if◌then◌else◌, List, [], ◌∷◌}
 use Rattle.std.proofs.Common.{◌++◌, refl, sym, subst, None}
 use Rattle.std.proofs.Common.{append-nil}
 use Rattle.std.specs.List.{AllByRecursion, last_or, list_all}
-use Rattle.std.proofs.lemmas.Bool.{and_from, false≢true}
+use Rattle.std.proofs.lemmas.Bool.{and_from}
 use Rattle.tangle_lexer.specs.declared.tokens.Token.{Token}
 use Rattle.tangle_lexer.specs.declared.tokens.Token.TheVariants as token
 use Rattle.tangle_scan.specs.Rules.{is_continued, ends_line}
@@ -31,14 +32,12 @@ module _ (texts : List (List ℕ)) (used : ℕ → List ℕ) (macros : List ℕ)
   same-item : (e : Token) → not (is_use e) ≡ true →
       token_bytes texts (written_for texts (λ occurrence. []) []) e ≡ token_bytes texts
       (written_for texts used macros) e
-  same-item (token.UseOf line occurrence) item = absurd (false≢true item)
-  same-item (token.AllMacros line) item = absurd (false≢true item)
-  same-item _ item = refl
+  same-item e item = search rules
 
   same-text : (items : List Token) → AreItems items
       → part_text texts (λ occurrence. []) [] items ≡ part_text texts used macros items
   same-text [] are = refl
-  same-text (e ∷ items) are = grind (arith, nat_tests, same-item, same-text items)
+  same-text (e ∷ items) are = grind (arith, nat_tests, same-text items)
 
   whole-group : (items rest : List Token) → AreItems items
       → IsBare (record { items = items; rest = rest }) →
@@ -67,8 +66,8 @@ module _ (texts : List (List ℕ)) (used : ℕ → List ℕ) (macros : List ℕ)
     where
       alone : (items : List Token) → AreItems items → AllByRecursion IsBare (group_before [] items)
           → AllByRecursion IsWhole (group_before [] items)
-      alone [] are bare = tt
-      alone (e ∷ items) are bare = (whole-group (e ∷ items) [] are bare.0, tt)
+      alone [] are bare = search rules
+      alone (e ∷ items) are bare = search (rules, whole-group)
   parts-whole items (token.White ∷ es) are bare =
       by (is_continued texts (last_or None items) && ends_line es) (parts-whole items es are)
       (parts-whole [] es refl) bare
@@ -84,9 +83,9 @@ module _ (texts : List (List ℕ)) (used : ℕ → List ℕ) (macros : List ℕ)
           AllByRecursion IsWhole
           (if b then parts_after texts items es else group_before
           (token.White ∷ es) items ++ parts_after texts [] es)
-      by true same next bare = same bare
+      by true same next bare = search rules
       by false same next bare =
-          whole-groups items (token.White ∷ es) (parts_after texts [] es) are bare next
+          search (rules, whole-groups)
   parts-whole items (token.LineEnd line ∷ es) are bare =
       by (is_continued texts (last_or None items))
       (parts-whole (items ++ token.LineEnd line ∷ []) es
@@ -107,36 +106,26 @@ module _ (texts : List (List ℕ)) (used : ℕ → List ℕ) (macros : List ℕ)
           AllByRecursion IsWhole
           (if b then parts_after texts more es else group_before
           (token.LineEnd line ∷ es) items ++ parts_after texts [] es)
-      by true same next bare = same bare
+      by true same next bare = search rules
       by false same next bare =
-          whole-groups items (token.LineEnd line ∷ es) (parts_after texts [] es) are bare next
+          search (rules, whole-groups)
   parts-whole items (token.UseOf line occurrence ∷ es) are bare =
-      let e : Token = token.UseOf line occurrence in
+      let e = token.UseOf line occurrence in
       let of_use = use-line (used occurrence) (used_whole occurrence) in
       whole-groups items (e ∷ es)
       (record { items = e ∷ []; rest = es } ∷ parts_after texts [] es) are bare
       (λ rest. (
-        record {
-          whole = of_use.whole;
-          kept = λ follows. of_use.kept;
-          ended =
-              λ last closed. absurd (false≢true closed);
-        },
+        search rules,
         parts-whole [] es refl rest.1,
       ))
   parts-whole items (token.AllMacros line ∷ es) are bare =
-      let e : Token = token.AllMacros line in
+      let e = token.AllMacros line in
       let of_use = use-line macros macros_whole in
       whole-groups items (e ∷ es)
       (record { items = e ∷ []; rest = es } ∷ parts_after texts [] es) are bare
       (λ rest. (
-        record {
-          whole = of_use.whole;
-          kept = λ follows. of_use.kept;
-          ended =
-              λ last closed. absurd (false≢true closed);
-        },
+        search rules,
         parts-whole [] es refl rest.1,
       ))
   parts-whole items (e ∷ es) are bare =
-      parts-whole (items ++ e ∷ []) es (more-items items e are refl) bare
+      grind (arith, nat_tests, parts-whole (items ++ e ∷ []) es (more-items items e are refl) bare)

@@ -1,13 +1,14 @@
 -- The tokens of the bytes of a piece are those of its parts.
+use Rattle.std.proofs.Common.{rules}
 use Rattle.std.proofs.Common.{arith}
 use Rattle.tangle_c_tokens.proofs.TextLemmas.{IsMarkText}
 use Rattle.std.proofs.Common.{◌≡◌, ℕ, ◌+◌, Bool, true, false, ◌&&◌, ◌==◌, if◌then◌else◌, List}
 use Rattle.std.proofs.Common.{[], ◌∷◌, ◌++◌, map, flat_map}
 use Rattle.std.proofs.Common.{append_assoc, append-nil, Option, Some, None, is_some, ◌⊎◌, inl, inr}
 use Rattle.std.proofs.Common.{refl, ap, sym, ◌∙◌, subst}
-use Rattle.std.proofs.Math.Bool.{and-true, and-false}
+use Rattle.std.proofs.Math.Bool.{and-true}
 use Rattle.std.specs.List.{AllByRecursion}
-use Rattle.std.proofs.lemmas.Bool.{and_parts, or_left, or_right, false≢true}
+use Rattle.std.proofs.lemmas.Bool.{and_parts, or_left, or_right}
 use Rattle.std.proofs.lemmas.List.Concat.{flat_map-append}
 use Rattle.c_tokens.specs.Bytes.{space, line_feed, slash}
 use Rattle.c_tokens.specs.Reading.{spliced}
@@ -16,7 +17,6 @@ use Rattle.tangle_lines.specs.declared.origin.Origin.{Origin}
 use Rattle.tangle_lines.specs.Reading.{SourceLine, origin_at}
 use Rattle.tangle_lexer.specs.declared.tokens.Token.{Token}
 use Rattle.tangle_lexer.specs.declared.tokens.Token.TheVariants as token
-use Rattle.tangle_lexer.specs.declared.tokens.SpanKind.TheVariants as span_kind
 use Rattle.tangle_scan.specs.declared.items.Item.{Item}
 use Rattle.tangle_scan.specs.Rules.{texts_of, is_open, is_continued, ends_line, is_front_gap}
 use Rattle.tangle_scan.specs.Rules.{blanks, next_line}
@@ -86,14 +86,7 @@ module _ (lines : List SourceLine) (used : ℕ → List ℕ) (mark : Origin → 
       flat_map item_bytes (items_by_origin lines before counted (e ∷ es))
       ≡ bytes_of e ++ flat_map item_bytes
       (items_by_origin lines (Some e) (counted_after_token lines counted e) es)
-  item-text before counted (token.Span span_kind.Word s) es item = refl
-  item-text before counted (token.UseOf line occurrence) es item =
-      ap (λ bytes. space ∷ bytes)
-      (sym (append_assoc (used occurrence) (line_feed ∷ mark (origin_at lines line)) _))
-  item-text before counted (token.AllMacros line) es item =
-      ap (λ bytes. line_feed ∷ bytes)
-      (sym (append_assoc macros (line_feed ∷ mark (origin_at lines line)) _))
-  item-text before counted _ es item = cc
+  item-text before counted e es item = search (rules, append_assoc)
 
   -- the bytes of an item, and of a blank before it
   text-item : (before : Option Token) (white : Bool) (counted : Origin) (e : Token)
@@ -102,12 +95,7 @@ module _ (lines : List SourceLine) (used : ℕ → List ℕ) (mark : Origin → 
       → text_from before white counted (e ∷ es)
       ≡ blank_bytes (is_some before && white)
       ++ (bytes_of e ++ text_from (Some e) false (counted_after_token lines counted e) es)
-  text-item before white counted e es item =
-      let rest = blanks texts (Some e) false es in
-      rw (blanks-item texts before white e es item)
-      (text-blank before counted (is_some before && white) (e ∷ rest)
-      ∙ ap (λ bs. blank_bytes (is_some before && white) ++ bs)
-      (item-text before counted e rest item))
+  text-item before white counted e es item = search (rules, blanks-item, item-text)
 
   -- the same with what is written after the piece
   abbrev bytes_from : Option Token → Bool → Origin → List Token → List ℕ
@@ -119,16 +107,10 @@ module _ (lines : List SourceLine) (used : ℕ → List ℕ) (mark : Origin → 
       → bytes_from before white counted (e ∷ es)
       ≡ blank_bytes (is_some before && white)
       ++ (bytes_of e ++ bytes_from (Some e) false (counted_after_token lines counted e) es)
-  bytes-item before white counted e es item =
-      let after : List ℕ = text_from (Some e) false (counted_after_token lines counted e) es in
-      ap (λ bs. bs ++ tail) (text-item before white counted e es item)
-      ∙ append_assoc (blank_bytes (is_some before && white)) (bytes_of e ++ after) tail
-      ∙ ap (λ bs. blank_bytes (is_some before && white) ++ bs)
-      (append_assoc (bytes_of e) after tail)
+  bytes-item before white counted e es item = search (rules, append_assoc)
 
   text-more : (items : List Token) (e : Token) → text (items ++ e ∷ []) ≡ text items ++ text_of e
-  text-more items e = flat_map-append text_of items (e ∷ [])
-      ∙ ap (λ t. text items ++ t) (append-nil (text_of e))
+  text-more items e = search (rules, flat_map-append)
 
   -- The tokens that follow are read, if their parts are whole.
 
@@ -187,14 +169,14 @@ module _ (lines : List SourceLine) (used : ℕ → List ℕ) (mark : Origin → 
       → AreWhole ps →
       IsReadInParts mark (text (items ++ e ∷ []) ∷ texts_in ps ++ ts) bytes) →
       ReadsAs (group_before rest (items ++ e ∷ []) ++ ps) bytes
-  closed items e rest bytes ps reads = grind (arith, nat_tests, ps, bytes, group-one items e rest, rest, reads)
+  closed items e rest bytes ps reads = grind (arith, nat_tests, group-one items e rest)
 
   -- a part at the end of a piece that no blank follows ends in no slash
   ended-part : (items : List Token) (e : Token) (rest : List Token) → is_use e ≡ false →
       IsWholePart texts used macros (record { items = items ++ e ∷ []; rest = rest }) →
       next_item rest ≡ None → is_open texts (Some e) ≡ false
       → has_slash (text (items ++ e ∷ [])) ≡ false
-  ended-part items e rest item whole last closed = grind (arith, nat_tests, last-item None items e, closed)
+  ended-part items e rest item whole last closed = grind (arith, nat_tests, last-item None items e)
 
   -- the end of a piece
 
@@ -219,17 +201,10 @@ module _ (lines : List SourceLine) (used : ℕ → List ℕ) (mark : Origin → 
     within = λ counted items e item.
         subst (λ ps. ReadsAs ps (text (items ++ e ∷ []) ++ bytes_from (Some e) false counted []))
         (sym (group-one items e []))
-        (λ whole. with-part mark (text (items ++ e ∷ []))
-        (text (items ++ e ∷ []) ++ bytes_from (Some e) false counted []) tail ts
-        (end-read (text (items ++ e ∷ [])) (Some e) false counted (whole.0).whole
-        (ended-part items e [] item whole.0 refl)) tail_read);
-    after_white = λ counted items e ends whole kept ended rest.
-        with-part mark (text (items ++ e ∷ []))
-        (text (items ++ e ∷ []) ++ bytes_from (Some e) true counted []) tail ts
-        (end-read (text (items ++ e ∷ [])) (Some e) true counted whole (ended refl)) tail_read;
+        (λ whole. search (rules, with-part, end-read, ended-part));
+    after_white = search (rules, with-part, end-read);
     continued =
-        λ counted items e item is. absurd
-        (false≢true (sym (and-false (is_continued texts (Some e))) ∙ is));
+        search rules;
   }
 
   -- white space
@@ -291,25 +266,19 @@ module _ (lines : List SourceLine) (used : ℕ → List ℕ) (mark : Origin → 
           let origin = origin_at lines (line + 1) in
           rw (ends, at) (record {
             rest = mark origin ++ bytes_from None false origin es;
-            is = ap (λ bs. line_feed ∷ bs)
-                (append_assoc (mark origin) (text_from None false origin es) tail);
-            read = with-mark mark origin (bytes_from None false origin es) us (marks origin)
-                (next origin);
+            is = search (rules, append_assoc);
+            read = search (rules, with-mark);
           })
 
   line_end-after : (line : ℕ) (es : List Token) → ReadsFront es → (white : Bool)
       → ReadsAfter white (token.LineEnd line ∷ es)
   line_end-after line es next white counted items e ends whole kept ended rest =
-      let t : List ℕ = text (items ++ e ∷ []) in
+      let t = text (items ++ e ∷ []) in
       let bytes =
       line_end-bytes line es (texts_in (parts_after texts [] es) ++ ts)
       (λ counted. next None false counted refl rest)
       (Some e) white counted (sym (and-true (is_continued texts (Some e))) ∙ ends) in
-      with-part mark t (t ++ bytes_from (Some e) white counted (token.LineEnd line ∷ es)) bytes.rest
-      (texts_in (parts_after texts [] es) ++ ts)
-      (follows-same t bytes.rest (t ++ bytes_from (Some e) white counted (token.LineEnd line ∷ es))
-      (t ++ line_feed ∷ bytes.rest)
-      (ap (λ bs. t ++ bs) bytes.is) (feed-between t bytes.rest whole (kept refl))) bytes.read
+      grind (arith, nat_tests, with-part, feed-between t bytes.rest whole)
 
   line_end-continued : (line : ℕ) (es : List Token) → ReadsWithin es
       → (counted : Origin) (items : List Token) (e : Token) (white : Bool) →
@@ -317,12 +286,11 @@ module _ (lines : List SourceLine) (used : ℕ → List ℕ) (mark : Origin → 
       ReadsAs (parts_after texts ((items ++ e ∷ []) ++ token.LineEnd line ∷ []) es)
       (text (items ++ e ∷ []) ++ bytes_from (Some e) white counted (token.LineEnd line ∷ es))
   line_end-continued line es next counted items e white is =
-      let t : List ℕ = text (items ++ e ∷ []) in
-      let after : List ℕ = bytes_from (Some (token.LineEnd line)) false (next_line counted) es in
+      let t = text (items ++ e ∷ []) in
+      let after = bytes_from (Some (token.LineEnd line)) false (next_line counted) es in
       rw is
       (subst (ReadsAs (parts_after texts ((items ++ e ∷ []) ++ token.LineEnd line ∷ []) es))
-      (ap (λ bs. bs ++ after) (text-more (items ++ e ∷ []) (token.LineEnd line))
-      ∙ append_assoc t (line_feed ∷ []) after)
+      (search (rules, text-more, append_assoc))
       (next (next_line counted) (items ++ e ∷ []) (token.LineEnd line) refl))
 
   reads-line_end : (line : ℕ) (es : List Token) → Reads es → Reads (token.LineEnd line ∷ es)
@@ -332,11 +300,7 @@ module _ (lines : List SourceLine) (used : ℕ → List ℕ) (mark : Origin → 
         line_end-bytes line es (texts_in (parts_after texts [] es) ++ ts)
         (λ counted. next.front None false counted refl whole)
         before white counted ends in
-        without-text mark (bytes_from before white counted (token.LineEnd line ∷ es)) bytes.rest
-        (texts_in (parts_after texts [] es) ++ ts)
-        (follows-same [] bytes.rest (bytes_from before white counted (token.LineEnd line ∷ es))
-        (line_feed ∷ bytes.rest) bytes.is
-        (feed-front bytes.rest)) bytes.read;
+        search (rules, feed-front);
     within = λ counted items e item. subst (λ o. ReadsAs
         (if is_continued texts o then parts_after texts
         ((items ++ e ∷ []) ++ token.LineEnd line ∷ []) es
@@ -350,9 +314,7 @@ module _ (lines : List SourceLine) (used : ℕ → List ℕ) (mark : Origin → 
         else group_before (token.LineEnd line ∷ es) (items ++ e ∷ []) ++ parts_after texts [] es)
         (text (items ++ e ∷ []) ++ bytes_from (Some e) true counted (token.LineEnd line ∷ es)))
         (sym (last-item None items e))
-        (let continued : is_continued texts
-        (Some e) ≡ true = (and_parts (is_continued texts (Some e)) true is).0 in
-        subst (λ b. ReadsAs
+        (let continued = (and_parts (is_continued texts (Some e)) true is).0 in subst (λ b. ReadsAs
         (if b then parts_after texts ((items ++ e ∷ []) ++ token.LineEnd line ∷ []) es
         else group_before (token.LineEnd line ∷ es) (items ++ e ∷ []) ++ parts_after texts [] es)
         (text (items ++ e ∷ []) ++ bytes_from (Some e) true counted (token.LineEnd line ∷ es)))
@@ -398,10 +360,7 @@ module _ (lines : List SourceLine) (used : ℕ → List ℕ) (mark : Origin → 
         (texts_in (parts_after texts [] (e ∷ es)) ++ ts) (first counted whole));
     within = λ counted items before of_item whole.
         subst (IsReadInParts mark (texts_in (parts_after texts (items ++ before ∷ []) (e ∷ es)) ++ ts))
-        (sym (ap (λ bs. text (items ++ before ∷ []) ++ bs)
-        (bytes-item (Some before) false counted e es item ∙ ap (λ bs. bs ++ after counted) same)
-        ∙ sym (append_assoc (text (items ++ before ∷ [])) (text_of e) (after counted))
-        ∙ ap (λ bs. bs ++ after counted) (sym (text-more (items ++ before ∷ []) e))))
+        (grind (arith, nat_tests, append_assoc, text-more))
         (subst (λ ps. ReadsAs ps (text ((items ++ before ∷ []) ++ e ∷ []) ++ after counted))
         (sym (more (items ++ before ∷ [])))
         (next (counted_after_token lines counted e) (items ++ before ∷ []) e no_use) whole);
@@ -412,14 +371,11 @@ module _ (lines : List SourceLine) (used : ℕ → List ℕ) (mark : Origin → 
         (follows-same (text (items ++ before ∷ [])) (bytes_of e ++ after counted)
         (text (items ++ before ∷ []) ++ bytes_from (Some before) true counted (e ∷ es))
         (text (items ++ before ∷ []) ++ space ∷ (bytes_of e ++ after counted))
-        (ap (λ bs. text (items ++ before ∷ []) ++ bs)
-        (bytes-item (Some before) true counted e es item))
+        (grind (arith, nat_tests, bytes-item))
         (space-between (text (items ++ before ∷ [])) (bytes_of e ++ after counted) whole))
         (first counted rest);
     continued = λ counted items before of_item is.
-        absurd (false≢true
-        (sym (ap (λ b. is_continued texts (Some before) && b) line_goes_on
-        ∙ and-false (is_continued texts (Some before))) ∙ is));
+        search rules;
   }
     where
       after : Origin → List ℕ
@@ -452,8 +408,7 @@ module _ (lines : List SourceLine) (used : ℕ → List ℕ) (mark : Origin → 
     first = space;
     origin = origin_at lines line;
     white = inl refl;
-    is = ap (λ t. space ∷ (t ++ line_feed ∷ mark (origin_at lines line)))
-        (sym (append-nil (used occurrence)));
+    is = search rules;
     stands_alone = refl;
     ends = refl;
   }
@@ -463,8 +418,7 @@ module _ (lines : List SourceLine) (used : ℕ → List ℕ) (mark : Origin → 
     first = line_feed;
     origin = origin_at lines line;
     white = inr (refl, λ es. refl);
-    is = ap (λ t. line_feed ∷ (t ++ line_feed ∷ mark (origin_at lines line)))
-        (sym (append-nil macros));
+    is = search rules;
     stands_alone = refl;
     ends = refl;
   }
@@ -493,8 +447,7 @@ module _ (lines : List SourceLine) (used : ℕ → List ℕ) (mark : Origin → 
         (follows-same (text (items ++ before ∷ [])) (core counted)
         (text (items ++ before ∷ []) ++ bytes_from (Some before) false counted (e ∷ es))
         (text (items ++ before ∷ []) ++ u.first ∷ core counted)
-        (ap (λ bs. text (items ++ before ∷ []) ++ bs)
-        (bytes-item (Some before) false counted e es item ∙ bytes counted))
+        (search (rules, bytes-item))
         (between items before counted whole u.white))
         (core-read counted rest)));
     after_white = λ counted items before ends whole kept ended.
@@ -504,17 +457,9 @@ module _ (lines : List SourceLine) (used : ℕ → List ℕ) (mark : Origin → 
         with-part mark (text (items ++ before ∷ []))
         (text (items ++ before ∷ []) ++ bytes_from (Some before) true counted (e ∷ es))
         (bytes_of e ++ after counted) (texts_in ps ++ ts)
-        (follows-same (text (items ++ before ∷ [])) (bytes_of e ++ after counted)
-        (text (items ++ before ∷ []) ++ bytes_from (Some before) true counted (e ∷ es))
-        (text (items ++ before ∷ []) ++ space ∷ (bytes_of e ++ after counted))
-        (ap (λ bs. text (items ++ before ∷ []) ++ bs)
-        (bytes-item (Some before) true counted e es item))
-        (space-between (text (items ++ before ∷ [])) (bytes_of e ++ after counted) whole))
+        (search (rules, bytes-item, space-between))
         (use-read counted rest));
-    continued = λ counted items before of_item is.
-        absurd (false≢true
-        (sym (ap (λ b. is_continued texts (Some before) && b) line_goes_on
-        ∙ and-false (is_continued texts (Some before))) ∙ is));
+    continued = search rules;
   }
     where
       ps : List Group
@@ -532,23 +477,14 @@ module _ (lines : List SourceLine) (used : ℕ → List ℕ) (mark : Origin → 
 
       core-read : (counted : Origin) → ReadsAs ps (core counted)
       core-read counted whole =
-          grind (
-            arith,
-            nat_tests,
-            with-part mark (text (e ∷ [])) (core counted) (mark u.origin ++ after counted) (texts_in (parts_after texts [] es) ++ ts),
-            core counted,
-            after counted,
-            follows-same (text (e ∷ [])) (mark u.origin ++ after counted) (core counted) ((text (e ∷ [])) ++ line_feed ∷ (mark u.origin ++ after counted)) (append_assoc (text (e ∷ [])) (line_feed ∷ mark u.origin) (after counted)),
-            feed-between (text (e ∷ [])) (mark u.origin ++ after counted),
-            with-mark mark u.origin (after counted) (texts_in (parts_after texts [] es) ++ ts) (marks u.origin) (next (Some e) false (counted_after_token lines counted e) u.ends whole.1),
-          )
+          grind (arith, with-part mark (text (e ∷ [])) (core counted) (mark u.origin ++ after counted) (texts_in (parts_after texts [] es) ++ ts), follows-same (text (e ∷ [])) (mark u.origin ++ after counted) (core counted) ((text (e ∷ [])) ++ line_feed ∷ (mark u.origin ++ after counted)) (append_assoc (text (e ∷ [])) (line_feed ∷ mark u.origin) (after counted)), feed-between (text (e ∷ [])) (mark u.origin ++ after counted), with-mark mark u.origin (after counted) (texts_in (parts_after texts [] es) ++ ts) (marks u.origin) (next (Some e) false (counted_after_token lines counted e) u.ends whole.1))
 
       without-white : (counted : Origin) (first : ℕ) → IsFirst e first
           → Follows [] (core counted) (first ∷ core counted)
       without-white counted first (inl same) =
-          grind (arith, nat_tests, Follows [] (core counted), core counted, space-front (core counted))
+          grind (arith, nat_tests, space-front (core counted))
       without-white counted first (inr feed) =
-          grind (arith, nat_tests, Follows [] (core counted), core counted, feed-front (core counted))
+          grind (arith, nat_tests, feed-front (core counted))
 
       use-read : (counted : Origin) → ReadsAs ps (bytes_of e ++ after counted)
       use-read counted whole =
@@ -569,8 +505,7 @@ module _ (lines : List SourceLine) (used : ℕ → List ℕ) (mark : Origin → 
       between items before counted whole (inr feed) =
           subst (λ b. Follows (text (items ++ before ∷ [])) (core counted)
           (text (items ++ before ∷ []) ++ b ∷ core counted)) (sym feed.0)
-          (feed-between (text (items ++ before ∷ [])) (core counted) whole.whole
-          (whole.kept (or_right _ _ (feed.1 es))))
+          (search (rules, feed-between, or_right))
 
   reads : (es : List Token) → Reads es
   reads [] = reads-end
@@ -578,8 +513,7 @@ module _ (lines : List SourceLine) (used : ℕ → List ℕ) (mark : Origin → 
   reads (token.LineEnd line ∷ es) = reads-line_end line es (reads es)
   reads (token.UseOf line occurrence ∷ es) =
       let next =
-      reads es in reads-use (token.UseOf line occurrence) es refl refl (λ items. refl)
-      (use-of line occurrence) next.front
+      reads es in search (rules, reads-use, use-of)
   reads (token.AllMacros line ∷ es) =
       grind (arith, nat_tests, reads es, reads-use (token.AllMacros line) es refl refl, all-macros line)
   reads (e ∷ es) = grind (arith, nat_tests, reads es, reads-item e es refl refl refl)

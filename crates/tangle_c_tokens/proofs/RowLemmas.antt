@@ -1,4 +1,5 @@
 -- Rows of parts and line marks, from their end on.
+use Rattle.std.proofs.Common.{rules}
 use Rattle.std.proofs.Common.{arith}
 use Rattle.tangle_c_tokens.proofs.TextLemmas.{IsMarkText}
 use Rattle.std.proofs.Common.{ℕ, List, [], ◌∷◌, ◌++◌, map, ap, refl}
@@ -23,8 +24,7 @@ module _ (mark : Origin → List ℕ) where
   with-mark origin rest ts is_mark read = record {
     row = OfMark origin ∷ read.row;
     in_row = read.in_row;
-    read = with-text (mark origin) rest (mark origin ++ rest) (map (passage_text mark) read.row)
-        (mark-between (mark origin) rest is_mark) read.read;
+    read = search (rules, with-text, mark-between);
   }
 
   pub without-text : (bytes rest : List ℕ) (ts : List (List ℕ)) → Follows [] rest bytes

@@ -1,22 +1,22 @@
 -- The tokens of two texts with white space between them, or with a line end that is taken out.
+use Rattle.std.proofs.Common.{rules}
 use Rattle.std.proofs.Common.{arith}
 use Rattle.std.proofs.Common.{◌⊎◌}
-use Rattle.std.proofs.Common.{◌≡◌, ℕ, Bool, true, false, List, [], ◌∷◌, ◌++◌, refl, ap, sym, subst}
+use Rattle.std.proofs.Common.{◌≡◌, ℕ, Bool, true, false, List, [], ◌∷◌, ◌++◌, refl, sym, subst}
 use Rattle.std.proofs.Common.{inl, inr, ◌∙◌, append-nil, append_assoc}
-use Rattle.std.specs.Prelude.{◌&&◌, ◌||◌, not, ◌==◌, filter, if◌then◌else◌}
+use Rattle.std.specs.Prelude.{◌&&◌, ◌==◌, if◌then◌else◌}
 use Rattle.std.specs.List.{list_any}
-use Rattle.std.proofs.Math.Bool.{and-false}
-use Rattle.std.proofs.lemmas.Bool.{and_parts, and_from, or_left, or_right, not_from_false}
-use Rattle.std.proofs.lemmas.Bool.{false≢true, or_parts, not-true}
+use Rattle.std.proofs.lemmas.Bool.{or_right, not_from_false}
+use Rattle.std.proofs.lemmas.Bool.{false≢true, not-true}
 use Rattle.std.proofs.lemmas.List.Elements.{filter-append}
 use Rattle.c_tokens.specs.Bytes.{line_feed, space, slash, backslash, is_white}
-use Rattle.c_tokens.specs.Grammar.{is_token, is_element, is_punctuator, is_number, is_comment}
-use Rattle.c_tokens.specs.Reading.{spliced, elements, elements_from, tokens}
+use Rattle.c_tokens.specs.Grammar.{is_token, is_element, is_punctuator, is_number}
+use Rattle.c_tokens.specs.Reading.{spliced, tokens}
 use Rattle.c_tokens.specs.Touching.{TextKind, kinds_may_touch, is_separator, is_operator}
 use Rattle.c_tokens.specs.Touching.TextKind.{Separator, Operator, Plain, Other}
-use Rattle.c_tokens.specs.Borders.{number_goes_on, is_unfinished, is_whole, last_element, last_byte}
-use Rattle.c_tokens.specs.Borders.{are_never_in_one, is_at_operator}
-use Rattle.c_tokens.specs.Borders.{is_border_of_bytes, is_border, have_border, keep_lines}
+use Rattle.c_tokens.specs.Borders.{number_goes_on, is_whole, last_byte}
+use Rattle.c_tokens.specs.Borders.{is_at_operator}
+use Rattle.c_tokens.specs.Borders.{is_border, have_border, keep_lines}
 use Rattle.c_tokens.specs.Borders.{is_plain_byte}
 use Rattle.c_tokens.proofs.BorderLemmas.{border-elements}
 use Rattle.c_tokens.proofs.TouchingLemmas.{spliced-both}
@@ -40,101 +40,53 @@ none-append : (test : List ℕ → Bool) (xs ys : List (List ℕ)) → list_any 
     → list_any test (xs ++ ys) ≡ list_any test ys
 none-append test [] ys none = refl
 none-append test (x ∷ xs) ys none =
-    let parts = or_parts (test x) (list_any test xs) none in
-    ap (λ b. b || list_any test (xs ++ ys)) parts.0 ∙ none-append test xs ys parts.1
+    grind (arith, nat_tests, none-append test xs ys)
 
 pub apart-from : (a b : List ℕ) → is_whole a ≡ true → keep_lines a b ≡ true
     → have_border (spliced a) (spliced b) ≡ true →
     Follows a b (a ++ b)
-apart-from a b whole kept border =
-    let ended : list_any is_unfinished (elements a) ≡ false = not-true
-    (list_any is_unfinished (elements a)) whole in
-    let all : elements (a ++ b) ≡ elements a ++ elements b =
-    ap (elements_from 0) (spliced-both a b kept)
-    ∙ border-elements (spliced a) (spliced b) ended border in
-    record {
-      read = ap (filter is_token) all ∙ filter-append is_token (elements a) (elements b);
-      whole = ap (λ es. not (list_any is_unfinished es)) all
-          ∙ ap not (none-append is_unfinished (elements a) (elements b) ended);
-    }
+apart-from a b whole kept border = search (rules, not-true, spliced-both, border-elements, filter-append, none-append)
 
 -- borders
 
 operator-border : (element : List ℕ) (d c : ℕ) → (is_number element && number_goes_on d c) ≡ false
     → is_at_operator d c ≡ true → is_border element d c ≡ true
-operator-border element d c none at =
-    let last_number_goes_on : Bool = is_number element && number_goes_on d c in
-    or_left (is_border_of_bytes (is_number element) d c) (is_comment element && d == slash)
-    (or_right (are_never_in_one d c) (not last_number_goes_on && is_at_operator d c)
-    (and_from (not last_number_goes_on) (is_at_operator d c) (not_from_false last_number_goes_on none) at))
-
--- either byte is white space or a separator
-gap-border : (element : List ℕ) (d c : ℕ)
-    → (is_white d || is_white c || is_separator d || is_separator c) ≡ true →
-    is_border element d c ≡ true
-gap-border element d c h = grind (arith, nat_tests)
+operator-border element d c none at = search (rules, or_right, not_from_false)
 
 pub white-next : (a : List ℕ) (w : ℕ) (b : List ℕ) → is_white w ≡ true
     → have_border a (w ∷ b) ≡ true
-white-next [] w b white = refl
-white-next (x ∷ a) w b white = grind (arith, nat_tests)
+white-next a w b white = search rules
 
 -- a slash after another byte than a slash
 pub slash-border : (a b : List ℕ) → last_byte_passes (λ d. d == slash) a ≡ false
     → have_border a (slash ∷ b) ≡ true
-slash-border [] b ends = refl
-slash-border (x ∷ a) b ends = grind (arith, nat_tests)
+slash-border a b ends = search rules
 
 white-before : (w : ℕ) (b : List ℕ) → is_white w ≡ true → have_border (w ∷ []) b ≡ true
-white-before w [] white = refl
-white-before w (c ∷ b) white = grind (arith, nat_tests)
+white-before w b white = search rules
 
 -- A border is where two texts may touch by their kinds, unless a number is before an operator or
 -- ends in one.
 
 separator-before : (a b : List ℕ) → last_byte_passes is_separator a ≡ true → have_border a b ≡ true
-separator-before [] b ends = refl
-separator-before (x ∷ a) [] ends = refl
-separator-before (x ∷ a) (c ∷ b) ends =
-    let d : ℕ = last_byte x a in
-    gap-border (last_element [] (elements_from 0 (x ∷ a))) d c
-    (or_left (is_white d || is_white c || is_separator d) (is_separator c)
-    (or_right (is_white d || is_white c) (is_separator d) ends))
+separator-before a b ends = search (rules, or_right)
 
 separator-next : (a b : List ℕ) → first_byte_passes is_separator b ≡ true → have_border a b ≡ true
-separator-next [] b begins = refl
-separator-next (x ∷ a) [] begins = refl
-separator-next (x ∷ a) (c ∷ b) begins =
-    let d : ℕ = last_byte x a in
-    gap-border (last_element [] (elements_from 0 (x ∷ a))) d c
-    (or_right (is_white d || is_white c || is_separator d) (is_separator c) begins)
+separator-next a b begins = search (rules, or_right)
 
 operator-before : (a b : List ℕ) → last_number_goes_on a b ≡ false → last_byte_passes is_operator a ≡ true
     → first_byte_passes is_plain_byte b ≡ true → have_border a b ≡ true
-operator-before [] b none ends begins = refl
-operator-before (x ∷ a) [] none ends begins = refl
-operator-before (x ∷ a) (c ∷ b) none ends begins =
-    let d : ℕ = last_byte x a in
-    operator-border (last_element [] (elements_from 0 (x ∷ a))) d c none
-    (or_left (is_operator d && is_plain_byte c) (is_plain_byte d && is_operator c)
-    (and_from (is_operator d) (is_plain_byte c) ends begins))
+operator-before a b none ends begins = search (rules, operator-border)
 
 operator-next : (a b : List ℕ) → last_number_goes_on a b ≡ false → last_byte_passes is_plain_byte a ≡ true
     → first_byte_passes is_operator b ≡ true → have_border a b ≡ true
-operator-next [] b none ends begins = refl
-operator-next (x ∷ a) [] none ends begins = refl
-operator-next (x ∷ a) (c ∷ b) none ends begins =
-    let d : ℕ = last_byte x a in
-    operator-border (last_element [] (elements_from 0 (x ∷ a))) d c none
-    (or_right (is_operator d && is_plain_byte c) (is_plain_byte d && is_operator c)
-    (and_from (is_plain_byte d) (is_operator c) ends begins))
+operator-next a b none ends begins = search (rules, or_right)
 
 -- the bytes at the edges of a text without its taken-out line ends
 
 pub spliced-other : (b : ℕ) (bs : List ℕ) → (b == backslash) ≡ false
     → spliced (b ∷ bs) ≡ b ∷ spliced bs
-spliced-other b [] other = refl
-spliced-other b (c ∷ bs) other = rw other refl
+spliced-other b bs other = search rules
 
 begins-front : (test : ℕ → Bool) → test backslash ≡ false → (t more : List ℕ)
     → first_byte_passes test t ≡ true →
@@ -144,8 +96,7 @@ begins-front test none (b ∷ t) more begins = grind (arith, nat_tests)
 
 ends-after : (test : ℕ → Bool) (b : ℕ) (bs : List ℕ) → last_byte_passes test bs ≡ true
     → last_byte_passes test (b ∷ bs) ≡ true
-ends-after test b [] ends = absurd (false≢true ends)
-ends-after test b (c ∷ bs) ends = ends
+ends-after test b bs ends = search rules
 
 ends-append : (test : ℕ → Bool) (a t : List ℕ) → last_byte_passes test t ≡ true
     → last_byte_passes test (a ++ t) ≡ true
@@ -162,15 +113,15 @@ ends-spliced test none (b ∷ c ∷ bs) ends =
   where
     rest : (bs : List ℕ) → last_byte_passes test (c ∷ bs) ≡ true → (c == line_feed) ≡ true
         → last_byte_passes test bs ≡ true
-    rest [] ends feed = grind (arith, nat_tests)
-    rest (d ∷ bs) ends feed = ends
+    rest [] ends feed = search rules
+    rest (d ∷ bs) ends feed = cc ends
 
     by : (taken : Bool) → (b == backslash && c == line_feed) ≡ taken
         → last_byte_passes test (spliced (c ∷ bs)) ≡ true →
         ((c == line_feed) ≡ true → last_byte_passes test (spliced bs) ≡ true) →
         last_byte_passes test (if taken then spliced bs else b ∷ spliced (c ∷ bs)) ≡ true
-    by true is left later = later (and_parts (b == backslash) (c == line_feed) is).1
-    by false is left later = ends-after test b (spliced (c ∷ bs)) left
+    by true is left later = search rules
+    by false is left later = search (rules, ends-after)
 
 -- what a number goes on with does not depend on what is after the second text
 same-next : (test : ℕ → Bool) → test backslash ≡ false → (a t more : List ℕ)
@@ -178,28 +129,15 @@ same-next : (test : ℕ → Bool) → test backslash ≡ false → (a t more : L
 same-next test none a [] more begins = absurd (false≢true begins)
 same-next test none a (b ∷ t) more begins = grind (arith, nat_tests)
 
-begins-as : (g : TextKind) (t more : List ℕ) → begins_as g t ≡ true
-    → begins_as g (spliced (t ++ more)) ≡ true
-begins-as Separator t more begins = begins-front is_separator refl t more begins
-begins-as Operator t more begins = begins-front is_operator refl t more begins
-begins-as Plain t more begins = begins-front is_plain_byte refl t more begins
-begins-as Other t more begins = refl
-
 pub ends-as : (k : TextKind) (a t : List ℕ) → ends_as k t ≡ true
     → ends_as k (spliced (a ++ t)) ≡ true
-ends-as Separator a t ends =
-    ends-spliced is_separator refl (a ++ t) (ends-append is_separator a t ends)
-ends-as Operator a t ends =
-    ends-spliced is_operator refl (a ++ t) (ends-append is_operator a t ends)
-ends-as Plain a t ends =
-    ends-spliced is_plain_byte refl (a ++ t) (ends-append is_plain_byte a t ends)
-ends-as Other a t ends = refl
+ends-as k a t ends = search (rules, ends-spliced, ends-append)
 
 pub kinds-border : (k g : TextKind) (a t more : List ℕ) → kinds_may_touch k g ≡ true
     → ends_as k a ≡ true → begins_as g t ≡ true → last_number_goes_on a t ≡ false
     → have_border a (spliced (t ++ more)) ≡ true
 kinds-border k g a t more may ends begins none =
-    by k g may ends begins (begins-as g t more begins)
+    by k g may ends begins (search rules)
   where
     b : List ℕ
     b = spliced (t ++ more)
@@ -225,13 +163,11 @@ kinds-border k g a t more may ends begins none =
 -- white space, and texts before it
 
 keep-first : (w : ℕ) (rest : List ℕ) → (w == backslash) ≡ false → keep_lines (w ∷ []) rest ≡ true
-keep-first w [] other = refl
-keep-first w (c ∷ rest) other = rw other refl
+keep-first w rest other = search rules
 
 pub keep-other : (a : List ℕ) (w : ℕ) (rest : List ℕ) → (w == line_feed) ≡ false
     → keep_lines a (w ∷ rest) ≡ true
-keep-other [] w rest other = refl
-keep-other (x ∷ a) w rest other = rw (other, and-false (last_byte x a == backslash)) refl
+keep-other a w rest other = search rules
 
 pub space-front : (rest : List ℕ) → Follows [] rest (space ∷ rest)
 unfolding is_element is_token is_punctuator
@@ -252,9 +188,7 @@ feed-front rest =
 pub space-between : (a rest : List ℕ) → is_whole a ≡ true → Follows a rest (a ++ space ∷ rest)
 space-between a rest whole =
     follows-more a (space ∷ rest) rest (a ++ space ∷ rest)
-    (apart-from a (space ∷ rest) whole (keep-other a space rest refl)
-    (ap (have_border (spliced a)) (spliced-other space rest refl)
-    ∙ white-next (spliced a) space (spliced rest) refl))
+    (search (rules, apart-from, keep-other, spliced-other, white-next))
     (space-front rest)
 
 -- the last byte takes out no line feed after it
@@ -262,16 +196,13 @@ abbrev pub keeps_line_feed : List ℕ → Bool
 keeps_line_feed text = keep_lines text (line_feed ∷ [])
 
 keep-feed : (a rest : List ℕ) → keeps_line_feed a ≡ true → keep_lines a (line_feed ∷ rest) ≡ true
-keep-feed [] rest kept = kept
-keep-feed (x ∷ a) rest kept = kept
+keep-feed a rest kept = search rules
 
 pub feed-between : (a rest : List ℕ) → is_whole a ≡ true → keeps_line_feed a ≡ true
     → Follows a rest (a ++ line_feed ∷ rest)
 feed-between a rest whole kept =
     follows-more a (line_feed ∷ rest) rest (a ++ line_feed ∷ rest)
-    (apart-from a (line_feed ∷ rest) whole (keep-feed a rest kept)
-    (ap (have_border (spliced a)) (spliced-other line_feed rest refl)
-    ∙ white-next (spliced a) line_feed (spliced rest) refl))
+    (search (rules, apart-from, keep-feed, spliced-other, white-next))
     (feed-front rest)
 
 -- a line end that is taken out
@@ -286,29 +217,13 @@ keep-taken [] (c ∷ rest) = refl
 keep-taken (x ∷ a) [] = refl
 keep-taken (x ∷ a) (c ∷ rest) = rw (last-taken x a) refl
 
-pub spliced-taken : (a rest : List ℕ)
-    → spliced (a ++ backslash ∷ line_feed ∷ rest) ≡ spliced a ++ spliced rest
-spliced-taken a rest =
-    spliced-both a (backslash ∷ line_feed ∷ rest) (keep-other a backslash (line_feed ∷ rest) refl)
-
 pub taken-between : (a rest : List ℕ) → is_whole a ≡ true
     → have_border (spliced a) (spliced rest) ≡ true →
     Follows a rest (a ++ backslash ∷ line_feed ∷ rest)
 taken-between a rest whole border =
-    let all : List ℕ = a ++ backslash ∷ line_feed ∷ [] in
-    let same : spliced all ≡ spliced a = spliced-taken a [] ∙ append-nil (spliced a) in
-    let apart =
-    apart-from all rest
-    (ap (λ t. not (list_any is_unfinished (elements_from 0 t))) same ∙ whole)
-    (keep-taken a rest)
-    (ap (λ t. have_border t (spliced rest)) same ∙ border) in
-    let bytes : a ++ backslash ∷ line_feed ∷ rest ≡ all ++ rest = sym
-    (append_assoc a (backslash ∷ line_feed ∷ []) rest) in
-    record {
-      read = ap tokens bytes ∙ apart.read
-          ∙ ap (λ t. filter is_token (elements_from 0 t) ++ tokens rest) same;
-      whole = ap is_whole bytes ∙ apart.whole;
-    }
+    let all = a ++ backslash ∷ line_feed ∷ [] in
+    let same : spliced all ≡ spliced a = (search (rules, spliced-both, keep-other)) ∙ append-nil (spliced a) in
+    grind (arith, nat_tests, apart-from all rest, keep-taken a rest, append_assoc a)
 
 -- Texts that a line feed may follow: whole ones, of which it takes out no backslash at their end. A
 -- line mark is such a text with its line feed, or empty.
@@ -324,18 +239,8 @@ IsMarkText text =
 pub mark-between : (m rest : List ℕ) → IsMarkText m → Follows m rest (m ++ rest)
 mark-between m rest (inl none) = rw none (record { read = refl; whole = refl })
 mark-between m rest (inr some) =
-    let line : List ℕ = some.0 in
-    let whole = some.2 in
-    let apart = feed-between line rest whole.whole whole.kept in
-    let bytes : m ++ rest ≡ line ++ line_feed ∷ rest = ap (λ t. t ++ rest) some.1
-    ∙ append_assoc line (line_feed ∷ []) rest in
-    let alone = feed-between line [] whole.whole whole.kept in
-    record {
-      read = ap tokens bytes ∙ apart.read
-          ∙ ap (λ ts. ts ++ tokens rest)
-          (sym (append-nil (tokens line)) ∙ sym alone.read ∙ ap tokens (sym some.1));
-      whole = ap is_whole bytes ∙ apart.whole;
-    }
+    let line = some.0 in
+    grind (arith, nat_tests, append_assoc line, feed-between line, append-nil)
 
 -- texts, one after another
 

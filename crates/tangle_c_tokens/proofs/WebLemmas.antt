@@ -1,4 +1,7 @@
 -- The macros of a web are read by groups.
+use Rattle.std.proofs.Common.{arith}
+use Rattle.std.proofs.Common.{rules}
+use Rattle.std.proofs.lemmas.Bool.Decides.{nat_tests}
 use Rattle.std.proofs.Common.{Bool, true, false, List, [], ◌∷◌, ◌++◌, map, flat_map, if◌then◌else◌}
 use Rattle.std.specs.List.{AllByRecursion, AllZip}
 use Rattle.tangle_lines.specs.Reading.{SourceLine, SourceRead}
@@ -42,14 +45,14 @@ module _ (lines : List SourceLine) where
           → AreRead ((if is_kept then macro_items (texts_of lines) b.tokens ∷ [] else []) ++ all)
           (map (λ items. macro_tokens_of b)
           (if is_kept then macro_items (texts_of lines) b.tokens ∷ [] else []) ++ each)
-      kept true rest are = (one-macro (texts_of lines) (macro_tokens_of b) are.0, rest are.1)
-      kept false rest are = rest are
+      kept true rest are = search (rules, one-macro)
+      kept false rest are = search rules
 
       by : (kind : BlockKind) → AreRead all each → AreRead (kind_macro lines kind b ++ all)
           (map (λ items. macro_tokens_of b) (kind_macro lines kind b) ++ each)
       by (OfMacro line) rest =
-          kept (is_macro (texts_of lines) (macro_items (texts_of lines) b.tokens)) rest
-      by (OfPiece occurrence line) rest = rest
+          grind (arith, nat_tests, kept (is_macro (texts_of lines) (macro_items (texts_of lines) b.tokens)) rest)
+      by (OfPiece occurrence line) rest = search rules
 
 pub macros-by-groups : (source : SourceRead) → MacrosAreReadByGroups source (web_of source)
 macros-by-groups source no_feeds =

@@ -1,8 +1,8 @@
 -- Macros of which C reads the tokens of the groups, and one for each premise that reads otherwise
 -- without it.
+use Rattle.std.proofs.Common.{rules}
 use Rattle.std.proofs.Common.{arith}
 use Rattle.std.proofs.Common.{◌≡◌, ℕ, true, false, List, [], ◌∷◌, ◌++◌, flat_map, codes, None, Some}
-use Rattle.std.proofs.Common.{refl}
 use Rattle.std.specs.Prelude.{◌==◌, if◌then◌else◌}
 use Rattle.std.specs.List.{AllByRecursion}
 use Prim.Native.String.{String}
@@ -101,103 +101,60 @@ abbrev AreRead : List Token → String → String → Type 0
 AreRead es read of_groups =
     (tokens (bytes es) ≡ words read) × (tokens_of_groups es ≡ words of_groups)
 
--- A macro over two lines, of which the second touches the first: a plus sign, and then a word.
-
 abbrev over_lines : List Token
 over_lines = name ∷ left ∷ argument ∷ right ∷ token.White ∷ one ∷ plus ∷ line_end ∷ letter ∷ []
-
-over_lines_written : IsWritten over_lines "#define f(x) 1+\\\ne\n"
-over_lines_written = refl
 
 over_lines_alone : AllByRecursion (IsReadAlone texts) (groups (written_tokens texts over_lines))
 unfolding is_element is_token is_punctuator
 over_lines_alone = grind (arith, nat_tests)
 
-over_lines_read : AreRead over_lines "# define f ( x ) 1 + e" "# define f ( x ) 1 + e"
-unfolding is_element is_token is_punctuator
-over_lines_read = (refl, refl)
-
--- A group that opens a comment: `/@&*` and a word after it.
-
 abbrev comment : List Token
 comment = name ∷ token.White ∷ slash ∷ asterisk ∷ token.White ∷ argument ∷ []
-
-comment_written : IsWritten comment "#define f /* x\n"
-comment_written = refl
-
-comment_read : AreRead comment "# define f" "# define f x"
-unfolding is_element is_token is_punctuator
-comment_read = (refl, refl)
-
-comment_refused : is_whole (group_text texts (slash ∷ asterisk ∷ [])) ≡ false
-unfolding is_element is_token is_punctuator
-comment_refused = refl
-
--- A number of several items that goes on with a sign, and one that goes on with a word after a
--- sign.
 
 abbrev number_before : List Token
 number_before = name ∷ token.White ∷ one ∷ full_stop ∷ letter ∷ line_end ∷ plus ∷ one ∷ []
 
-number_before_written : IsWritten number_before "#define f 1.e\\\n+1\n"
-number_before_written = refl
-
-number_before_read : AreRead number_before "# define f 1.e+1" "# define f 1.e + 1"
-unfolding is_element is_token is_punctuator
-number_before_read = (refl, refl)
-
 abbrev number_in_sign : List Token
 number_in_sign = name ∷ token.White ∷ number ∷ plus ∷ line_end ∷ argument ∷ []
-
-number_in_sign_written : IsWritten number_in_sign "#define f 1e+\\\nx\n"
-number_in_sign_written = refl
-
-number_in_sign_read : AreRead number_in_sign "# define f 1e+x" "# define f 1e+ x"
-unfolding is_element is_token is_punctuator
-number_in_sign_read = (refl, refl)
-
-numbers_refused :
-    (stay_apart texts (group_text texts (one ∷ full_stop ∷ letter ∷ [])) (Some letter)
-    (Some plus) ≡ false)
-    × (stay_apart texts (group_text texts (number ∷ plus ∷ [])) (Some plus) (Some argument) ≡ false)
-unfolding is_element is_token is_punctuator
-numbers_refused = (refl, refl)
-
--- Another number does not go on: `1.f`, and then a plus sign.
-number_ended : stay_apart texts (group_text texts (one ∷ full_stop ∷ name ∷ [])) (Some name)
-    (Some plus) ≡ true
-unfolding is_element is_token is_punctuator
-number_ended = refl
-
--- A header name, which does not end as a quoted text does, before an operator.
 
 abbrev header_name : List Token
 header_name = name ∷ token.White ∷ header ∷ line_end ∷ equals ∷ []
 
-header_name_written : IsWritten header_name "#define f <x>\\\n=\n"
-header_name_written = refl
-
-header_name_read : AreRead header_name "# define f < x >=" "# define f < x > ="
-unfolding is_element is_token is_punctuator
-header_name_read = (refl, refl)
-
-header_name_refused : stay_apart texts (group_text texts (header ∷ [])) (Some header)
-    (Some equals) ≡ false
-unfolding is_element is_token is_punctuator
-header_name_refused = refl
-
--- A verbatim text at the end of a macro that ends in a backslash.
-
 abbrev backslash_at_end : List Token
 backslash_at_end = name ∷ token.White ∷ backslash_text ∷ []
 
-backslash_at_end_written : IsWritten backslash_at_end "#define f \\\n"
-backslash_at_end_written = refl
+record Examples : Type 0 where
+  -- A macro over two lines, of which the second touches the first: a plus sign, and then a word.
+  pub over_lines_written : IsWritten over_lines "#define f(x) 1+\\\ne\n"
+  pub over_lines_read : AreRead over_lines "# define f ( x ) 1 + e" "# define f ( x ) 1 + e"
+  -- A group that opens a comment: `/@&*` and a word after it.
+  pub comment_written : IsWritten comment "#define f /* x\n"
+  pub comment_read : AreRead comment "# define f" "# define f x"
+  pub comment_refused : is_whole (group_text texts (slash ∷ asterisk ∷ [])) ≡ false
+  -- A number of several items that goes on with a sign, and one that goes on with a word after a
+  -- sign.
+  pub number_before_written : IsWritten number_before "#define f 1.e\\\n+1\n"
+  pub number_before_read : AreRead number_before "# define f 1.e+1" "# define f 1.e + 1"
+  pub number_in_sign_written : IsWritten number_in_sign "#define f 1e+\\\nx\n"
+  pub number_in_sign_read : AreRead number_in_sign "# define f 1e+x" "# define f 1e+ x"
+  pub numbers_refused :
+      (stay_apart texts (group_text texts (one ∷ full_stop ∷ letter ∷ [])) (Some letter)
+      (Some plus) ≡ false)
+      × (stay_apart texts (group_text texts (number ∷ plus ∷ [])) (Some plus) (Some argument) ≡ false)
+  -- Another number does not go on: `1.f`, and then a plus sign.
+  pub number_ended : stay_apart texts (group_text texts (one ∷ full_stop ∷ name ∷ [])) (Some name)
+      (Some plus) ≡ true
+  -- A header name, which does not end as a quoted text does, before an operator.
+  pub header_name_written : IsWritten header_name "#define f <x>\\\n=\n"
+  pub header_name_read : AreRead header_name "# define f < x >=" "# define f < x > ="
+  pub header_name_refused : stay_apart texts (group_text texts (header ∷ [])) (Some header)
+      (Some equals) ≡ false
+  -- A verbatim text at the end of a macro that ends in a backslash.
+  pub backslash_at_end_written : IsWritten backslash_at_end "#define f \\\n"
+  pub backslash_at_end_read : AreRead backslash_at_end "# define f" "# define f \\"
+  pub backslash_at_end_refused : keep_lines (group_text texts (backslash_text ∷ []))
+      (line_feed ∷ []) ≡ false
 
-backslash_at_end_read : AreRead backslash_at_end "# define f" "# define f \\"
+examples : Examples
 unfolding is_element is_token is_punctuator
-backslash_at_end_read = (refl, refl)
-
-backslash_at_end_refused : keep_lines (group_text texts (backslash_text ∷ []))
-    (line_feed ∷ []) ≡ false
-backslash_at_end_refused = refl
+examples = search rules

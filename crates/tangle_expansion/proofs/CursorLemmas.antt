@@ -1,19 +1,21 @@
 -- One more tag of a body is written.
+use Rattle.std.proofs.Common.{rules}
+use Rattle.std.proofs.lemmas.Bool.Decides.{nat_tests}
 use Rattle.std.proofs.Common.{◌≡◌, ◌∙◌, ℕ, ◌+◌, ◌-◌, ◌^◌, ◌<◌, ◌≤◌, true, min, List, [], ◌∷◌, ◌++◌, map, take}
-use Rattle.std.proofs.Common.{drop, length, get_or, refl, ap, sym, append_assoc, arith, drop-drop, length-drop}
+use Rattle.std.proofs.Common.{drop, length, get_or, ap, sym, append_assoc, arith, drop-drop, length-drop}
 use Rattle.std.proofs.lemmas.List.{drop_all, drop_min, take_min}
 use Rattle.std.proofs.Math.Seq.{take-add}
 use Rattle.std.proofs.lemmas.Grind.{flat_map-append}
 use Rattle.tangle_files.specs.Bytes.{space}
 use Rattle.tangle_plans.specs.Flat.{Symbol, Byte}
-use Rattle.tangle_plans.specs.Meaning.{title_of, left_over, with_used, tags_flat}
+use Rattle.tangle_plans.specs.Meaning.{title_of, left_over, with_used}
 use Rattle.tangle_plans.specs.Flat.{own_symbols}
 use Rattle.tangle_plans.specs.declared.nodes.NodeBody.{NodeBody}
 use Rattle.tangle_plans.specs.declared.tags.ItemKind.{ItemKind}
 use Rattle.tangle_plans.specs.declared.tags.ItemKind.TheVariants as tag
 use Rattle.tangle_plans.specs.declared.tags.ItemTag.{ItemTag}
 use Rattle.tangle_plans.proofs.DropLemmas.{drop_at}
-use Rattle.tangle_expansion.specs.Numbers.{NumbersRead, symbol_bytes, expansion_bytes}
+use Rattle.tangle_expansion.specs.Numbers.{NumbersRead, expansion_bytes}
 use Rattle.tangle_expansion.specs.Writing.{bytes_between, has_bytes_alone, IsAfterTag, symbols_from, bytes_from, from_use}
 use Rattle.tangle_expansion.specs.declared.cursor.Cursor.{Cursor}
 use Rattle.tangle_expansion.proofs.WrittenLemmas.{bytes_then}
@@ -32,25 +34,16 @@ between_more bytes start end size next fits low is =
     let rest = drop start bytes in
     let same : min (end - start + size) (length rest) ≡ min (next - start) (length rest)
     = omega (arith, length-drop start bytes) in
-    ap (λ l. take (end - start) rest ++ take size l)
-    (ap (λ n. drop n bytes) (let e : end ≡ start + (end - start) = omega (arith, low) in e)
-    ∙ sym (drop-drop (end - start) start bytes))
-    ∙ sym (take-add (end - start) size rest)
-    ∙ sym (take_min (end - start + size) rest) ∙ ap (λ n. take n rest) same ∙ take_min (next - start) rest
+    search (rules, drop-drop, take-add, take_min)
 
 bytes_fit : (body : NodeBody) → length body.bytes.items < 2 ^ 64
-bytes_fit body = omega (arith, body.bytes.ok)
+bytes_fit body = omega arith
 
 -- the bytes from a use on
 use_bytes : (numbers : NumbersRead) (rest : List (List Symbol) → List Symbol) (used : List (List Symbol))
     → expansion_bytes numbers (with_used tag.Use (Byte space ∷ []) used rest)
     ≡ from_use numbers (λ us. expansion_bytes numbers (rest us)) used
-use_bytes numbers rest [] = refl
-use_bytes numbers rest (symbols ∷ used) = ap (λ l. space ∷ l) (flat_map-append (symbol_bytes numbers) symbols (rest used))
-
-left_over_is : (used : List (List Symbol)) → left_over used ≡ with_used tag.Use (Byte space ∷ []) used left_over
-left_over_is [] = refl
-left_over_is (symbols ∷ used) = refl
+use_bytes numbers rest used = search (rules, flat_map-append)
 
 module _ (body : NodeBody) (at : Cursor) where
   -- the symbols from a tag on are those of the tag, and then those from the next one on
@@ -59,18 +52,7 @@ module _ (body : NodeBody) (at : Cursor) where
       → symbols_from body at used
       ≡ map Byte (take t.size (drop at.start body.bytes.items))
       ++ with_used t.kind (own_symbols (title_of body.name) at.piece at.marks t.kind) used (symbols_from body next)
-  symbols_next t next used h is after =
-      let node = title_of body.name in
-      let bytes = body.bytes.items in
-      let tags = body.tags.items in
-      let start : drop t.size (drop at.start bytes) ≡ drop next.start bytes =
-      drop-drop t.size at.start bytes
-      ∙ sym (ap (λ n. drop n bytes) after.start ∙ drop_saturated bytes (at.start + t.size) (bytes_fit body)) in
-      ap (λ ts. tags_flat node at.piece at.marks (drop at.start bytes) ts used) (drop_at tags at.tag t h is)
-      ∙ ap
-      (λ (rest : List (List Symbol) → List Symbol). map Byte (take t.size (drop at.start bytes))
-      ++ with_used t.kind (own_symbols node at.piece at.marks t.kind) used rest)
-      (λ i us. tags_flat node (sym after.piece i) (sym after.marks i) (start i) (drop (sym after.tag i) tags) us)
+  symbols_next t next used h is after = search (rules, drop-drop, drop_saturated, drop_at)
 
 -- from a tag on, after bytes that were passed
 module _ (numbers : NumbersRead) (body : NodeBody) (at next : Cursor) (t : ItemTag)
@@ -97,31 +79,22 @@ module _ (numbers : NumbersRead) (body : NodeBody) (at next : Cursor) (t : ItemT
 
   alone : (k : ItemKind) → has_bytes_alone k ≡ true → (used : List (List Symbol)) (rest : List (List Symbol) → List Symbol)
       → with_used k (own k) used rest ≡ rest used
-  alone tag.Run e used rest = refl
-  alone _ e used rest = cc
+  alone k e used rest = search rules
 
   -- bytes alone
   pub passes_bytes : has_bytes_alone t.kind ≡ true → Passes (λ k. symbols_from body next)
-  passes_bytes e used =
-      passes used
-      ∙ ap (λ l. bytes_between body.bytes.items start next.start ++ expansion_bytes numbers l)
-      (alone t.kind e used (symbols_from body next))
+  passes_bytes e used = search (rules, passes)
 
   no_use : (k : ItemKind) → (k ≡ tag.Use → ⊥) → (used : List (List Symbol)) (rest : List (List Symbol) → List Symbol)
       → with_used k (own k) used rest ≡ own k ++ rest used
-  no_use tag.Use none used rest = absurd (none refl)
-  no_use _ none used rest = refl
+  no_use k none used rest = search rules
 
   -- symbols of the tag's own
   pub passes_symbols : (t.kind ≡ tag.Use → ⊥) → (used : List (List Symbol))
       → bytes_between body.bytes.items start at.start ++ bytes_from body at numbers used
       ≡ bytes_between body.bytes.items start next.start
       ++ (expansion_bytes numbers (own t.kind) ++ bytes_from body next numbers used)
-  passes_symbols none used =
-      passes used
-      ∙ ap (λ l. bytes_between body.bytes.items start next.start ++ l)
-      (ap (expansion_bytes numbers) (no_use t.kind none used (symbols_from body next))
-      ∙ flat_map-append (symbol_bytes numbers) (own t.kind) (symbols_from body next used))
+  passes_symbols none used = search (rules, passes, flat_map-append)
 
   -- a use
   pub passes_use : t.kind ≡ tag.Use → (used : List (List Symbol))
@@ -136,8 +109,5 @@ module _ (numbers : NumbersRead) (body : NodeBody) (at next : Cursor) (t : ItemT
 pub stops_at_end : (numbers : NumbersRead) (body : NodeBody) (at : Cursor) → length body.tags.items ≤ at.tag
     → (used : List (List Symbol)) → bytes_from body at numbers used ≡ from_use numbers (bytes_from body at numbers) used
 stops_at_end numbers body at end used =
-    let ended : (used : List (List Symbol)) → symbols_from body at used ≡ left_over used = λ used.
-    ap (λ ts. tags_flat (title_of body.name) at.piece at.marks (drop at.start body.bytes.items) ts used)
-    (drop_all at.tag body.tags.items end) in
-    ap (expansion_bytes numbers) (ended used ∙ left_over_is used) ∙ use_bytes numbers left_over used
-    ∙ ap (λ rest. from_use numbers rest used) (λ i us. expansion_bytes numbers (sym (ended us) i))
+    let ended : (used : List (List Symbol)) → symbols_from body at used ≡ left_over used = search (rules, drop_all) in
+    grind (arith, nat_tests, use_bytes numbers left_over used)

@@ -1,5 +1,6 @@
 -- A body that determines the shape of its node gives the expansion of the node.
-use Rattle.std.proofs.Common.{◌<◌, ◌≡◌, ◌∙◌, ℕ, List, [], map, sym}
+use Rattle.std.proofs.Common.{rules}
+use Rattle.std.proofs.Common.{◌<◌, ◌≡◌, ℕ, List, [], map}
 use Rattle.std.specs.Prelude.{slice_index_or, Contains}
 use Rattle.std.proofs.lemmas.Simd.{map-map}
 use Rattle.tangle_plans.specs.Shapes.{Shapes, Named}
@@ -15,9 +16,4 @@ pub body_expands : (names : List (List ℕ)) (shapes : Shapes) (levels : ℕ) (b
     → depth levels shapes (body_title body) < levels
     → ((id : ℕ) → Contains (body_uses body) id → symbols id ≡ flat levels shapes (Named (slice_index_or names id [])))
     → body_flat body (map symbols (body_uses body)) ≡ flat levels shapes (body_title body)
-body_expands names shapes levels body symbols h shallow fit =
-    let used = λ (name : List ℕ). flat levels shapes (Named name) in
-    let by_name = λ (id : ℕ). slice_index_or names id [] in
-    held_flat names (shapes (body_title body)) body used (map symbols (body_uses body)) h
-    (map_same symbols (λ id. used (by_name id)) (body_uses body) fit ∙ sym (map-map used by_name (body_uses body)))
-    ∙ sym (flat_by_uses levels shapes (body_title body) shallow)
+body_expands names shapes levels body symbols h shallow fit = search (rules, held_flat, map_same, map-map, flat_by_uses)

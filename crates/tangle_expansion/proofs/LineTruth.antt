@@ -1,8 +1,10 @@
 -- In a whole output, each byte of an item is at its own origin.
+use Rattle.std.proofs.Common.{rules}
+use Rattle.std.proofs.lemmas.Bool.Decides.{nat_tests}
 use Rattle.std.proofs.Common.{◌∙◌, drop-drop, get_or, sym, arith}
 use Rattle.std.proofs.Common.{◌≡◌, ℕ, ◌+◌, zero, suc, Bool, true, false, List, [], ◌∷◌, ◌++◌, map, drop, get_or}
-use Rattle.std.proofs.Common.{Option, None, Some, refl, ap, subst, arith}
-use Rattle.std.specs.Prelude.{filter, flat_map, if◌then◌else◌, slice_index_or}
+use Rattle.std.proofs.Common.{Option, None, Some, ap, subst, arith}
+use Rattle.std.specs.Prelude.{filter, flat_map, if◌then◌else◌}
 use Rattle.std.specs.List.{AllZip, zip}
 use Rattle.std.proofs.lemmas.List.{get_or-drop}
 use Rattle.tangle_lines.specs.declared.origin.Origin.{Origin}
@@ -13,18 +15,17 @@ use Rattle.tangle_scan.specs.LineTruth.{with_line_end, counted_items, Location, 
 use Rattle.tangle_scan.specs.LineTruth.{PiecesAreAtTheirLines}
 use Rattle.tangle_scan.specs.Web.{WebRead, PieceRead}
 use Rattle.tangle_names.specs.declared.Resolved.{Resolved}
-use Rattle.tangle_names.specs.declared.Resolved.TheVariants.{Name}
 use Rattle.tangle_names.specs.NameTable.{table_of}
 use Rattle.tangle_plans.specs.Shapes.{Title, Named, ShapeItem}
 use Rattle.tangle_plans.specs.Flat.{Symbol, Byte, items_flat, pieces_flat, flat}
 use Rattle.tangle_plans.specs.WebShapes.{is_piece_of, use_of, resolved_at, shape_item, shape_of, shapes}
 use Rattle.tangle_plans.proofs.InsideLemmas.{table_inside}
-use Rattle.tangle_expansion.specs.Limits.{levels, flat_of}
+use Rattle.tangle_expansion.specs.Limits.{flat_of}
 use Rattle.tangle_expansion.specs.Outputs.{IsTrueToLines}
 use Rattle.tangle_expansion.proofs.NumberLemmas.{node_numbers_of}
-use Rattle.tangle_expansion.specs.Numbers.{NumbersRead, no_origin, no_numbers, numbers_of}
+use Rattle.tangle_expansion.specs.Numbers.{NumbersRead, no_origin, numbers_of}
 use Rattle.tangle_expansion.specs.Numbers.{expansion_bytes}
-use Rattle.tangle_expansion.specs.Numbers.{node_numbers, numbers_at, origin_of_mark, numbers_of_piece, item_origins}
+use Rattle.tangle_expansion.specs.Numbers.{node_numbers, numbers_at, numbers_of_piece, item_origins}
 use Rattle.tangle_expansion.specs.Location.{ByteClass, OfItem, Other, origin_after, AreAtTheirOrigins}
 use Rattle.tangle_expansion.specs.Location.{resolved_classes, items_classes, classes}
 use Rattle.tangle_files.specs.declared.marks.MarkMode.TheVariants.{Full}
@@ -35,8 +36,7 @@ Agrees None q = Unit {0}
 Agrees (Some origin) q = q ≡ Some origin
 
 Agrees-line_end : (p q : Option Origin) → Agrees p q → Agrees (with_line_end p) (with_line_end q)
-Agrees-line_end None q h = tt
-Agrees-line_end (Some origin) q h = ap with_line_end h
+Agrees-line_end p q h = search rules
 
 Agrees-at : (p q : Option Origin) (origin : Origin) → Agrees p q → p ≡ Some origin → q ≡ Some origin
 Agrees-at p q origin h e = subst (λ t. Agrees t q) e h
@@ -56,7 +56,7 @@ module _ (numbers : NumbersRead) where
       → AreAtTheirOrigins numbers q (map Byte bytes ++ ys) (map (λ b. OfItem origin in_stretch) bytes ++ ds)
   bytes_are_located q origin in_stretch [] ys ds own h = h
   bytes_are_located q origin in_stretch (b ∷ bytes) ys ds own h =
-      (own, bytes_are_located q origin in_stretch bytes ys ds own h)
+      grind (arith, nat_tests, bytes_are_located q origin in_stretch bytes ys ds own h)
 
 -- the first of the items from a position on, as the next mark of a piece, and the rest
 pub next_of : {X : Type 0} (d : X) (xs : List X) (k : ℕ) (first : X) (rest : List X)
@@ -79,10 +79,7 @@ module _ (web : WebRead) (lines : List SourceLine)
       → (q : Option Origin) (r : Resolved)
       → AreAtTheirOrigins numbers q (items_flat used node piece marks (use_of (table_of web) r ∷ items))
       (Other ∷ resolved_classes (table_of web) used_classes r ++ ds)
-  use_is_located node piece marks items ds h q (Name id) =
-      let name = slice_index_or (table_of web).names id [] in
-      (tt, located-append numbers q (used name) (used_classes name) (items_flat used node piece marks items) ds (all name q) h)
-  use_is_located node piece marks items ds h q _ = (tt, h q)
+  use_is_located node piece marks items ds h q r = search (rules, located-append)
 
   items_are_located : (node : Title) (piece marks : ℕ) (p q : Option Origin)
       → Agrees p q → (items : List Item) (ss : List Location)
@@ -97,7 +94,7 @@ module _ (web : WebRead) (lines : List SourceLine)
   items_are_located node piece marks p q agrees (item.LineEnd ∷ items) ss origins own =
       (tt, items_are_located node piece marks _ _ (Agrees-line_end p q agrees) items ss origins own)
   items_are_located node piece marks p q agrees (item.Blank ∷ items) ss origins own =
-      (tt, items_are_located node piece marks p q agrees items ss origins own)
+      grind (arith, nat_tests, items_are_located node piece marks p q agrees items ss origins own)
   items_are_located node piece marks p q agrees (item.LineMark origin ∷ items) ss origins own =
       let next =
       next_of no_origin (numbers_at numbers node piece).origins (marks + 1) origin (flat_map item_origins items) origins in
@@ -151,16 +148,8 @@ module _ (web : WebRead) (lines : List SourceLine)
           (if t then (p, e) ∷ filter (λ p. is_piece_of (table_of web) node p.0) (zip pieces locations)
           else filter (λ p. is_piece_of (table_of web) node p.0) (zip pieces locations)))
       by true is more =
-          let next = next_of no_numbers (node_numbers numbers node) piece (numbers_of_piece p)
-          (map numbers_of_piece (of_node node pieces)) is in
-          let mark : origin_of_mark numbers node piece 0 ≡ p.origin = ap (λ n. get_or n.origins 0 no_origin) next.0 in
-          let marks : drop (0 + 1) (numbers_at numbers node piece).origins ≡ flat_map item_origins p.items =
-          ap (λ n. drop 1 n.origins) next.0 in
-          let items = located-append numbers (Some (origin_of_mark numbers node piece 0)) _ _ _ _
-          (items_are_located node piece 0 (Some p.origin) _ (ap Some mark) p.items e marks own.0)
-          (λ r. more (piece + 1) next.1 r) in
-          (tt, (tt, items))
-      by false is more = more piece is q
+          search (rules, next_of, located-append, items_are_located)
+      by false is more = search rules
 
 -- the expansion of a node, with any fuel and from any counted origin on
 pub node_is_located : (source : SourceRead) (web : WebRead) (fuel : ℕ) (node : Title) (q : Option Origin)
@@ -179,5 +168,4 @@ node_is_located source web (suc fuel) node q own =
 pub true_to_lines : (source : SourceRead) (web : WebRead) (node : Title) → PiecesAreAtTheirLines source web
     → IsTrueToLines source web node
     (expansion_bytes (numbers_of web (table_of web) Full) (flat_of (shapes web (table_of web)) node))
-true_to_lines source web node own =
-    record { written = refl; origins = node_is_located source web levels node None own }
+true_to_lines source web node own = search (rules, node_is_located)

@@ -1,10 +1,10 @@
 -- The numbers that are stored of pieces are those of the pieces.
-use Rattle.std.proofs.Common.{◌≡◌, ◌∙◌, ◌<◌, ℕ, List, [], ◌∷◌, map}
-use Rattle.std.proofs.Common.{length, refl, ap, All, get_or}
+use Rattle.std.proofs.Common.{rules}
+use Rattle.std.proofs.Common.{◌≡◌, ◌<◌, ℕ, List, [], ◌∷◌, map}
+use Rattle.std.proofs.Common.{length, refl, All}
 use Rattle.std.specs.Prelude.{slice_index_or}
 use Rattle.std.proofs.lemmas.List.{get_or-map}
 use Rattle.std.proofs.lemmas.List.Elements.{All-head, All-tail}
-use Rattle.digraph.specs.Graph.{row_at}
 use Rattle.tangle_scan.specs.Web.{PieceRead}
 use Rattle.tangle_plans.specs.Nodes.{no_piece, pieces_at}
 use Rattle.tangle_expansion.specs.Numbers.{numbers_of_piece}
@@ -16,10 +16,7 @@ module _ (numbers : PieceNumbers) (pieces : List PieceRead)
     (origins : numbers.origins ≡ map (λ p. (numbers_of_piece p).origins) pieces) where
   position_numbers : (n : ℕ) → n < length pieces
       → numbers_of_position numbers n ≡ numbers_of_piece (slice_index_or pieces n no_piece)
-  position_numbers n low =
-      let section = ap (λ l. get_or l n 0) sections ∙ get_or-map (λ p. p.section) pieces n no_piece 0 low in
-      let marks = ap (λ l. row_at l n) origins ∙ get_or-map (λ p. (numbers_of_piece p).origins) pieces n no_piece [] low in
-      λ i. record { section = section i; origins = marks i }
+  position_numbers n low = search (rules, get_or-map)
 
   row_numbers : (row : List ℕ) → All (λ n. n < length pieces) row
       → map (numbers_of_position numbers) row ≡ map numbers_of_piece (pieces_at pieces row)

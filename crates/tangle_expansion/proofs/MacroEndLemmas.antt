@@ -1,6 +1,7 @@
 -- The items of a macro without those that are dropped at its end.
-use Rattle.std.proofs.Common.{◌≡◌, ℕ, ◌-◌, ◌<◌, ◌≤◌, suc, Bool, true, false, List, [], ◌∷◌, ◌++◌, length, take, get_or}
-use Rattle.std.proofs.Common.{All, refl, ap, ◌∙◌, arith}
+use Rattle.std.proofs.Common.{rules}
+use Rattle.std.proofs.Common.{◌≡◌, ℕ, ◌-◌, ◌<◌, ◌≤◌, Bool, true, false, List, [], ◌∷◌, ◌++◌, length, take, get_or}
+use Rattle.std.proofs.Common.{All, refl, ap, ◌∙◌}
 use Rattle.std.proofs.Math.Seq.{take-suc}
 use Rattle.std.proofs.lemmas.List.Elements.{All-cons, All-head, All-tail}
 use Rattle.tangle_scan.specs.declared.items.Item.{Item}
@@ -35,9 +36,7 @@ module _ (texts : List (List ℕ)) where
   -- a prefix, and its last item
   parted : (xs : List Item) (n : ℕ) (d : Item)
       → 0 < n → n ≤ length xs → take n xs ≡ take (n - 1) xs ++ get_or xs (n - 1) d ∷ []
-  parted xs n d some within =
-      let is : n ≡ suc (n - 1) = omega arith in
-      ap (λ k. take k xs) is ∙ take-suc xs (n - 1) d (omega arith)
+  parted xs n d some within = search (rules, take-suc)
 
   -- a prefix whose last item is dropped
   pub dropped_at : (xs : List Item) (n : ℕ) (d : Item)

@@ -1,4 +1,5 @@
 -- The numbers of a node are those of its pieces.
+use Rattle.std.proofs.Common.{rules}
 use Rattle.std.proofs.Common.{◌≡◌, ◌≤◌, ◌∙◌, ◌+◌, ℕ, suc, Bool, true, false, cond, List, [], ◌∷◌, map, length, get_or}
 use Rattle.std.proofs.Common.{Option, None, Some, refl, ap, sym, arith}
 use Rattle.std.specs.Prelude.{filter, nat_lt}
@@ -8,11 +9,10 @@ use Rattle.std.specs.Str.{bytes_eq}
 use Rattle.std.proofs.lemmas.List.{get_or_past, get_or-map, length-map}
 use Rattle.std.proofs.lemmas.List.Sums.{fails_before_first, passes_at_first}
 use Rattle.std.proofs.lemmas.Slice.Eq.{bytes_eq-Decides}
-use borrow.Author.Tests.{ltb-true, ltb-false}
+use borrow.Author.Tests.{ltb-true}
 use Rattle.digraph.specs.Graph.{row_at}
 use Rattle.tangle_scan.specs.Web.{WebRead, PieceRead}
 use Rattle.tangle_names.specs.declared.Resolved.{Resolved}
-use Rattle.tangle_names.specs.declared.Resolved.TheVariants.{Name}
 use Rattle.tangle_names.specs.NameTable.{TableRead}
 use Rattle.tangle_plans.specs.Shapes.{Title, Program, Named}
 use Rattle.tangle_plans.specs.WebShapes.{is_node, node_of, node_of_occurrence, is_piece_of, pieces_of, resolved_at}
@@ -23,8 +23,7 @@ use Rattle.tangle_files.specs.declared.marks.MarkMode.{MarkMode}
 module _ (table : TableRead) (name : List ℕ)
     (none : length table.names ≤ position_or_len (bytes_eq name) table.names) where
   no_node : (r : Resolved) → IsNameBelow (length table.names) r → is_node table (Named name) (node_of table r) ≡ false
-  no_node (Name id) h = fails_before_first (bytes_eq name) table.names id [] (omega (arith, h, none))
-  no_node _ h = refl
+  no_node r h = search (rules, fails_before_first)
 
   no_piece : ResolvesInside table → (o : Option ℕ) → is_node table (Named name) (node_of_occurrence table o) ≡ false
   no_piece inside None = refl
@@ -33,7 +32,7 @@ module _ (table : TableRead) (name : List ℕ)
   no_pieces : ResolvesInside table → (pieces : List PieceRead) → filter (is_piece_of table (Named name)) pieces ≡ []
   no_pieces inside [] = refl
   no_pieces inside (p ∷ pieces) =
-      rw (no_piece inside p.occurrence) (no_pieces inside pieces)
+      cc (no_piece inside p.occurrence, no_pieces inside pieces)
 
 pub node_numbers_of : (web : WebRead) (table : TableRead) (marks : MarkMode) → ResolvesInside table → (node : Title)
     → node_numbers (numbers_of web table marks) node ≡ map numbers_of_piece (pieces_of web table node)
@@ -57,10 +56,8 @@ node_numbers_of web table marks inside (Named name) = by (nat_lt k (length names
         (option_map_or suc (cond t (Some k) None) (length names + 1)) ≡ of_each (of_name name)
     by true e =
         let low = ltb-true k (length names) e in
-        get_or-map of_each (map of_name names) k [] [] (omega (arith, low, length-map names of_name))
+        get_or-map of_each (map of_name names) k [] [] (omega (arith, length-map names of_name))
         ∙ ap of_each (get_or-map of_name names k [] [] low
         ∙ ap of_name (sym ((bytes_eq-Decides name (get_or names k [])).0 (passes_at_first (bytes_eq name) names [] low))))
     by false e =
-        get_or_past (of_each (pieces_of web table Program) ∷ map of_each (map of_name names)) (length names + 1) []
-        (omega (arith, length-map names of_name, length-map (map of_name names) of_each))
-        ∙ ap of_each (sym (no_pieces table name (ltb-false k (length names) e) inside web.pieces))
+        search (rules, get_or_past, length-map, no_pieces)

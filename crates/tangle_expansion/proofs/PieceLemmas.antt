@@ -1,4 +1,5 @@
 -- The bytes of a node are those of its pieces.
+use Rattle.std.proofs.Common.{rules}
 use Rattle.std.proofs.Common.{◌≡◌, ◌∙◌, ℕ, ◌+◌, List, [], ◌∷◌, ◌++◌, map, drop, get_or, refl, ap, sym, append_assoc}
 use Rattle.std.proofs.Common.{append-nil}
 use Rattle.std.proofs.lemmas.Grind.{flat_map-append}
@@ -16,8 +17,7 @@ use Rattle.tangle_plans.specs.Shapes.{Title, ShapeItem}
 use Rattle.tangle_plans.specs.Flat.{Symbol, MarkOf, items_flat, pieces_flat}
 use Rattle.tangle_plans.specs.WebShapes.{resolved_at, shape_item, shape_of, use_of}
 use Rattle.tangle_files.specs.declared.marks.MarkMode.{MarkMode}
-use Rattle.tangle_files.specs.declared.marks.MarkMode.TheVariants.{Full, Bare}
-use Rattle.tangle_expansion.specs.Numbers.{NumbersRead, symbol_bytes, closing_bytes, expansion_bytes, item_origins, mark_bytes, mark_end}
+use Rattle.tangle_expansion.specs.Numbers.{NumbersRead, symbol_bytes, closing_bytes, expansion_bytes, item_origins, mark_bytes}
 use Rattle.tangle_expansion.specs.Numbers.{mark_bytes_at, no_origin, no_numbers, node_numbers, numbers_at, numbers_of_piece}
 use Rattle.tangle_expansion.specs.Numbers.{PieceNumbersRead, opening_bytes, origin_of_mark}
 use Rattle.tangle_expansion.specs.PieceBytes.{bytes_after_mark, items_bytes, piece_bytes, resolved_bytes, used_bytes}
@@ -35,18 +35,14 @@ piece_then opening mark inner after whole items closing rest e f g = rw (e, f, g
 
 line_feed_first : (marks : MarkMode) (file : List ℕ) (line : ℕ)
     → mark_bytes marks file line ≡ line_feed ∷ drop 1 (mark_bytes marks file line)
-line_feed_first Full file line = refl
-line_feed_first Bare file line = refl
+line_feed_first marks file line = search rules
 
 module _ (numbers : NumbersRead) where
   mark_then : (node : Title) (piece mark : ℕ) (origin : Origin) (rest : List Symbol)
       → origin_of_mark numbers node piece mark ≡ origin
       → expansion_bytes numbers (MarkOf node piece mark ∷ rest)
       ≡ (line_feed ∷ bytes_after_mark numbers origin) ++ expansion_bytes numbers rest
-  mark_then node piece mark origin rest is =
-      ap (λ o. mark_bytes_at numbers o ++ expansion_bytes numbers rest) is
-      ∙ ap (λ l. l ++ expansion_bytes numbers rest)
-      (line_feed_first numbers.marks (get_or numbers.mark_ends origin.file (mark_end [])) origin.line)
+  mark_then node piece mark origin rest is = search rules
 
   module _ (texts : List (List ℕ)) (table : TableRead) (used : List ℕ → List Symbol) (node : Title) where
     use_then : (piece marks : ℕ) (items : List ShapeItem) (r : Resolved)

@@ -1,5 +1,7 @@
 -- The expansion of a node follows from the shapes that the node reaches.
-use Rattle.std.proofs.Common.{◌≡◌, ◌≢◌, ◌∙◌, ℕ, ◌<◌, ◌≤◌, zero, suc, min, List, [], ◌∷◌, map, length, refl, ap, sym, arith}
+use Rattle.std.proofs.Common.{rules}
+use Rattle.std.proofs.lemmas.Bool.Decides.{nat_tests}
+use Rattle.std.proofs.Common.{◌≡◌, ◌≢◌, ◌∙◌, ℕ, ◌<◌, ◌≤◌, zero, suc, min, List, [], ◌∷◌, map, refl, ap, sym, arith}
 use Rattle.std.specs.Prelude.{Contains, sum_by}
 use Rattle.std.proofs.lemmas.List.Sums.{sum_by-cons}
 use Rattle.digraph.specs.Reach.{Reaches, here, on, ContainsItself, ReachesCycle}
@@ -44,15 +46,14 @@ module _ (cap : ℕ) (f g : List ℕ → ℕ) where
       × (min (suc cap) (pieces_depth f pieces) ≡ min (suc cap) (pieces_depth g pieces))
   pieces_alike [] same = (refl, refl)
   pieces_alike (items ∷ pieces) same =
-      let alike = names_alike (shape_names (items ∷ pieces)) same in
-      (omega (arith, alike.0), omega (arith, alike.1))
+      grind (arith, nat_tests, names_alike (shape_names (items ∷ pieces)) same)
 
 -- no depth exceeds the fuel
 
 greatest_bound : (cap : ℕ) (f : List ℕ → ℕ) → ((name : List ℕ) → f name ≤ cap)
     → (names : List (List ℕ)) → greatest_by f names ≤ cap
 greatest_bound cap f h [] = omega arith
-greatest_bound cap f h (name ∷ names) = omega (arith, h name, greatest_bound cap f h names)
+greatest_bound cap f h (name ∷ names) = omega (arith, greatest_bound cap f h names)
 
 pieces_depth-bound : (cap : ℕ) (f : List ℕ → ℕ) → ((name : List ℕ) → f name ≤ cap)
     → (pieces : Shape) → pieces_depth f pieces ≤ suc cap
@@ -61,8 +62,7 @@ pieces_depth-bound cap f h (items ∷ pieces) = omega (arith, greatest_bound cap
 
 depth-bound : (fuel : ℕ) (shapes : Shapes) (node : Title) → depth fuel shapes node ≤ fuel
 depth-bound zero shapes node = omega arith
-depth-bound (suc fuel) shapes node = pieces_depth-bound fuel (λ name. depth fuel shapes (Named name))
-    (λ name. depth-bound fuel shapes (Named name)) (shapes node)
+depth-bound (suc fuel) shapes node = grind (arith, nat_tests, pieces_depth-bound fuel, depth-bound fuel shapes)
 
 -- in the old shapes, each node that the node reaches in the new ones has the same shape
 abbrev pub SameReached : Shapes → Shapes → Title → Type 0
@@ -82,23 +82,17 @@ depth-same zero old new node same = refl
 depth-same (suc fuel) old new node same =
     let alike = pieces_alike fuel (λ name. depth fuel new (Named name)) (λ name. depth fuel old (Named name)) (new node)
     (λ name u. ap (min fuel) (depth-same fuel old new (Named name) (λ other r. same other (on u r)))) in
-    omega (
-      arith,
-      alike.1,
-      depth-bound (suc fuel) new node,
-      depth-bound (suc fuel) old node,
-      ap (pieces_depth (λ name. depth fuel old (Named name))) (same node here),
-    )
+    omega (arith, depth-bound (suc fuel) new node, depth-bound (suc fuel) old node, ap (pieces_depth (λ name. depth fuel old (Named name))) (same node here))
 
 -- the expansion of a node that is not too deep, from those of the used names with the same fuel
 pub flat_by_uses : (fuel : ℕ) (shapes : Shapes) (node : Title) → depth fuel shapes node < fuel
     → flat fuel shapes node ≡ pieces_flat (λ name. flat fuel shapes (Named name)) node 0 (shapes node)
-flat_by_uses zero shapes node h = absurd (omega (arith, h))
+flat_by_uses zero shapes node h = absurd (omega arith)
 flat_by_uses (suc fuel) shapes node h =
     pieces_flat-same (λ name. flat fuel shapes (Named name))
     (λ name. flat (suc fuel) shapes (Named name)) node (shapes node)
     (λ name u. flat_by_uses fuel shapes (Named name)
-    (omega (arith, h, pieces_depth-use (λ other. depth fuel shapes (Named other)) (shapes node) name u)))
+    (omega (arith, pieces_depth-use (λ other. depth fuel shapes (Named other)) (shapes node) name u)))
 
 -- with one level more, a capped weight and a capped depth are the same
 settles : (cap : ℕ) (shapes : Shapes) (node : Title)
@@ -108,7 +102,7 @@ settles zero shapes node = (omega arith, omega arith)
 settles (suc cap) shapes node = (
   (let alike = pieces_alike cap (λ name. weight (suc cap) shapes (Named name)) (λ name. weight cap shapes (Named name))
       (shapes node) (λ name u. (settles cap shapes (Named name)).0) in
-      omega (arith, alike.0, weight-suc (suc cap) shapes node, weight-suc cap shapes node)),
+      omega (arith, weight-suc (suc cap) shapes node, weight-suc cap shapes node)),
   (pieces_alike cap (λ name. depth (suc cap) shapes (Named name)) (λ name. depth cap shapes (Named name))
       (shapes node) (λ name u. (settles cap shapes (Named name)).1)).1,
 )
@@ -120,7 +114,7 @@ pub weight_by_uses : (cap : ℕ) (shapes : Shapes) (node : Title)
 weight_by_uses cap shapes node =
     let alike = pieces_alike cap (λ name. weight cap shapes (Named name))
     (λ name. min cap (weight cap shapes (Named name))) (shapes node) (λ name u. omega arith) in
-    omega (arith, alike.0, weight-suc cap shapes node, (settles cap shapes node).0)
+    omega (arith, weight-suc cap shapes node, (settles cap shapes node).0)
 
 -- the capped depth, from those of the used names
 pub depth_by_uses : (fuel : ℕ) (shapes : Shapes) (node : Title)
@@ -150,10 +144,4 @@ used_expandable levels limit shapes node name e u has =
     let shallow = pieces_depth-use (λ m. depth levels shapes (Named m)) (shapes node) name u in
     let deep = depth_by_uses levels shapes node in
     let light = pieces_weight-use (λ m. weight levels shapes (Named m)) (shapes node) name u in
-    let weighs = pieces_length (λ m. flat levels shapes (Named m)) node 0 (shapes node) in
-    let long = ap length (flat_by_uses levels shapes node e.shallow) in
-    record {
-      has_piece = has;
-      shallow = omega (arith, e.shallow, deep, shallow);
-      light = omega (arith, e.light, light, weighs, long);
-    }
+    search (rules, pieces_length, flat_by_uses)

@@ -1,11 +1,11 @@
 -- Few bytes are written for each symbol.
+use Rattle.std.proofs.Common.{rules}
 use Rattle.std.proofs.Common.{ℕ, ◌^◌, ◌<◌, ◌≤◌, zero, suc, Bool, true, false, List, [], ◌∷◌, ◌++◌}
 use Rattle.std.proofs.Common.{length, arith, length-append, get_or, All, map, ◌≡◌, ◌+◌}
-use Rattle.std.specs.Prelude.{codes, decimal}
+use Rattle.std.specs.Prelude.{decimal}
 use Rattle.std.proofs.lemmas.List.Elements.{All-nil}
 use Rattle.std.specs.List.{AllByRecursion}
 use Rattle.std.proofs.lemmas.Fmt.{length-decimal-le}
-use Rattle.std.proofs.Math.Nat.{mul-le-mul_right}
 use Rattle.tangle_plans.specs.Shapes.{Title}
 use Rattle.tangle_plans.proofs.EachLemmas.{all_or}
 use Rattle.tangle_plans.specs.Flat.{Symbol, Byte, Opening, MarkOf, Closing, AllMacros}
@@ -18,19 +18,16 @@ use Rattle.tangle_expansion.specs.PieceNumbers.{numbers_of_position}
 use Rattle.tangle_expansion.specs.declared.numbers.Numbers.TheInside.{Inside}
 use Rattle.tangle_expansion.specs.Numbers.{mark_bytes, mark_end, symbol_bytes, expansion_bytes}
 use Rattle.tangle_files.specs.declared.marks.MarkMode.{MarkMode}
-use Rattle.tangle_files.specs.declared.marks.MarkMode.TheVariants.{Full, Bare}
 use Rattle.tangle_expansion.specs.SymbolLimits.{longest_symbol, SymbolsAreShort, IsLow}
 use Rattle.tangle_expansion.proofs.WrittenLemmas.{written-short}
 
 decimal_short : (n : ℕ) → n < 2 ^ 64 → length (decimal n) ≤ 20
-decimal_short n h = length-decimal-le 20 n (omega arith) (omega (arith, h)) h
+decimal_short n h = length-decimal-le 20 n (omega arith) (omega arith) h
 
 mark_short : (marks : MarkMode) (ending : List ℕ) (line : ℕ)
     → length ending < 2 ^ 64 → line < 2 ^ 32 → length (mark_bytes marks ending line) ≤ longest_symbol
 unfolding longest_symbol
-mark_short Full ending line h low =
-    omega (arith, h, decimal_short line (omega (arith, low)), length-append (decimal line) ending)
-mark_short Bare ending line h low = omega arith
+mark_short marks ending line h low = search (rules, decimal_short, length-append)
 
 -- what holds of each item that is made, and of the default, holds of whatever is read from the list
 made_or : {X Y : Type 0} (P : Y → Type 0) (f : X → Y) (d : Y) → ((x : X) → P (f x)) → P d
@@ -60,27 +57,17 @@ module _ (n : Inside) where
   unfolding longest_symbol
   symbols_short (Byte b) = omega arith
   symbols_short (Opening node piece) =
-      let section = (numbers_at (numbers_read n) node piece).section in
-      omega (
-        arith,
-        decimal_short section (pieces_short node piece).section,
-        length-append (decimal section) (codes ":*/"),
-      )
+      search (rules, decimal_short, pieces_short, length-append)
   symbols_short (MarkOf node piece mark) =
       let origin = origin_of_mark (numbers_read n) node piece mark in
       mark_short n.marks (get_or (numbers_read n).mark_ends origin.file (mark_end [])) origin.line
       (made_or (λ (ending : List ℕ). length ending < 2 ^ 64) (λ e. e.items) (mark_end [])
-      (λ e. omega (arith, e.ok)) (omega arith) n.mark_ends.items origin.file)
+      (λ e. omega arith) (omega arith) n.mark_ends.items origin.file)
       (all_or IsLow (numbers_at (numbers_read n) node piece).origins no_origin (omega arith)
       (pieces_short node piece).origins mark)
   symbols_short (Closing node piece) =
-      let section = (numbers_at (numbers_read n) node piece).section in
-      omega (
-        arith,
-        decimal_short section (pieces_short node piece).section,
-        length-append (decimal section) (codes "*/"),
-      )
-  symbols_short AllMacros = omega (arith, n.macros.ok)
+      search (rules, decimal_short, pieces_short, length-append)
+  symbols_short AllMacros = omega arith
 
 pub numbers_hold : (n : Inside) → length n.rows.value ≡ length n.names + 1 → NumbersInvariant n
 numbers_hold n size = record { rows = size; short = symbols_short n }
@@ -95,11 +82,7 @@ pub light_fits : (numbers : NumbersRead) → SymbolsAreShort numbers → (symbol
     → length symbols ≤ heaviest → length (expansion_bytes numbers symbols) ≤ 2 ^ 90
 unfolding longest_symbol heaviest
 light_fits numbers h symbols light =
-    omega (
-      arith,
-      written-short numbers longest_symbol symbols (all_symbols numbers h symbols),
-      mul-le-mul_right longest_symbol light,
-    )
+    omega (arith, written-short numbers longest_symbol symbols (all_symbols numbers h symbols))
 
 -- at most 2 ^ 66 bytes come before those of a node
 pub front_fits : (numbers : NumbersRead) → SymbolsAreShort numbers → (has_macros : Bool)

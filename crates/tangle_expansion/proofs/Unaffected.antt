@@ -1,5 +1,6 @@
 -- A node that is expandable after an edit, and not affected by it, was expandable before, with the same symbols.
-use Rattle.std.proofs.Common.{◌≡◌, ◌∙◌, ℕ, length, refl, ap, arith}
+use Rattle.std.proofs.Common.{rules}
+use Rattle.std.proofs.Common.{◌≡◌, ℕ, refl, ap}
 use mathlib.Core.HLevel.{Discrete, ×_discrete}
 use mathlib.Core.List.{List-discrete}
 use native.Mathlib.Decide.{ℕ_discrete}
@@ -46,17 +47,10 @@ stays levels limit old new node expandable unaffected =
       | no f ↦ absurd (unaffected (record { expandable = expandable; cause = other; reaches = r; changed = f }))
     ] in
     let shape : new node ≡ old node = same node here in
-    let symbols : flat levels new node ≡ flat levels old node = flat-same levels old new node same in (
-      record {
-        has_piece = λ e. expandable.has_piece (shape ∙ e);
-        shallow = omega (arith, expandable.shallow, depth-same levels old new node same);
-        light = omega (arith, expandable.light, ap length symbols);
-      },
-      symbols,
-    )
+    let symbols : flat levels new node ≡ flat levels old node = flat-same levels old new node same in
+    search (rules, depth-same)
 
 -- an expandable node reaches no name that contains itself
 pub no_cycle : (levels limit : ℕ) (shapes : Shapes) (node : Title)
     → IsExpandable levels limit shapes node → ReachesCycle (Uses shapes) node → ⊥
-no_cycle levels limit shapes node expandable c =
-    absurd (omega (arith, (cycle_deep_and_heavy levels shapes node c).0, expandable.shallow))
+no_cycle levels limit shapes node expandable c = search (rules, cycle_deep_and_heavy)

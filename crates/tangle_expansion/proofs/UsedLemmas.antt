@@ -1,8 +1,9 @@
 -- A used name is less deep than its user, and weighs less.
-use Rattle.std.proofs.Common.{◌≤◌, ℕ, suc, List, [], ◌∷◌, ap, inl, inr, arith}
+use Rattle.std.proofs.lemmas.Bool.Decides.{nat_tests}
+use Rattle.std.proofs.Common.{◌≤◌, ℕ, suc, List, [], ◌∷◌, arith}
 use Rattle.std.specs.Prelude.{Contains, sum_by}
 use Rattle.std.proofs.lemmas.List.Sums.{sum_by-cons}
-use Rattle.tangle_names.proofs.ContainsLemmas.{cons_cases, no_item}
+use Rattle.tangle_names.proofs.ContainsLemmas.{no_item}
 use Rattle.tangle_plans.specs.Shapes.{Title, Program, Named, Shape, Shapes, Uses, shape_names}
 use Rattle.tangle_plans.specs.Flat.{greatest_by, pieces_weight, pieces_depth, weight, depth}
 use Rattle.tangle_expansion.proofs.Weights.{weight-suc}
@@ -11,11 +12,7 @@ module _ (f : List ℕ → ℕ) where
   at_most : (names : List (List ℕ)) (name : List ℕ)
       → Contains names name → (f name ≤ sum_by f names) × (f name ≤ greatest_by f names)
   at_most [] name c = absurd (no_item name c)
-  at_most (first ∷ names) name c = elim (cons_cases first names name c) [
-    | inl e ↦ (omega (arith, ap f e, sum_by-cons f first names), omega (arith, ap f e))
-    | inr d ↦ (let more = at_most names name d in
-        (omega (arith, more.0, sum_by-cons f first names), omega (arith, more.1)))
-  ]
+  at_most (first ∷ names) name c = grind (arith, nat_tests, sum_by-cons, at_most names name)
 
   pub pieces_depth-use : (pieces : Shape) (name : List ℕ)
       → Contains (shape_names pieces) name → suc (f name) ≤ pieces_depth f pieces
@@ -33,15 +30,10 @@ pub deeper : (steps : ℕ) (shapes : Shapes) (a b : Title)
     → Uses shapes a b → steps ≤ depth steps shapes b → suc steps ≤ depth (suc steps) shapes a
 deeper steps shapes a Program u h = absurd u
 deeper steps shapes a (Named name) u h =
-    omega (arith, h, pieces_depth-use (λ other. depth steps shapes (Named other)) (shapes a) name u)
+    omega (arith, pieces_depth-use (λ other. depth steps shapes (Named other)) (shapes a) name u)
 
 pub heavier : (steps : ℕ) (shapes : Shapes) (a b : Title)
     → Uses shapes a b → steps ≤ weight steps shapes b → suc steps ≤ weight (suc steps) shapes a
 heavier steps shapes a Program u h = absurd u
 heavier steps shapes a (Named name) u h =
-    omega (
-      arith,
-      h,
-      weight-suc steps shapes a,
-      pieces_weight-use (λ other. weight steps shapes (Named other)) (shapes a) name u,
-    )
+    omega (arith, weight-suc steps shapes a, pieces_weight-use (λ other. weight steps shapes (Named other)) (shapes a) name u)

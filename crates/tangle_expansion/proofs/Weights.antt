@@ -1,12 +1,12 @@
 -- The weight of a node is that of its own symbols, and the weights of the names that it uses.
+use Rattle.std.proofs.Common.{rules}
 use Rattle.std.proofs.Common.{◌≡◌, ℕ, ◌+◌, suc, List, [], ◌∷◌, ◌++◌, map, length, refl, arith, length-append}
 use Rattle.std.specs.Prelude.{sum_by, flat_map}
 use Rattle.std.proofs.lemmas.List.{length-map}
-use Rattle.std.proofs.lemmas.List.Sums.{sum_by-cons, sum_by-append}
-use Rattle.tangle_plans.specs.Shapes.{Title, Program, Named, ShapeItem, Written, Use, Shape, Shapes, item_names, shape_names}
-use Rattle.tangle_plans.specs.Shapes as kind
+use Rattle.std.proofs.lemmas.List.Sums.{sum_by-append}
+use Rattle.tangle_plans.specs.Shapes.{Title, Program, Named, ShapeItem, Shape, Shapes, item_names, shape_names}
 use Rattle.tangle_plans.specs.Tags.{item_bytes, item_tag, piece_end, shape_bytes, shape_tags}
-use Rattle.tangle_plans.specs.Flat.{Symbol, Byte, marks_after_shape_item, item_flat, items_flat, pieces_flat, flat}
+use Rattle.tangle_plans.specs.Flat.{Symbol, marks_after_shape_item, item_flat, items_flat, pieces_flat, flat}
 use Rattle.tangle_plans.specs.Flat.{own_symbols, own_counts, pieces_weight, weight}
 use Rattle.tangle_plans.proofs.CountLemmas.{own_counts-append}
 
@@ -18,10 +18,7 @@ module _ (used : List ℕ → List Symbol) (node : Title) where
       → length (item_flat used node piece marks item)
       ≡ length (item_bytes item) + length (own_symbols Program 0 0 (item_tag item).kind)
       + sum_by used_weight (item_names item)
-  item_length piece marks (Written kind.Word bytes) = omega (arith, length-map bytes Byte)
-  item_length piece marks (Written _ bytes) = omega (arith, length-map bytes Byte)
-  item_length piece marks (Use name) = omega (arith, sum_by-cons used_weight name [])
-  item_length piece marks _ = refl
+  item_length piece marks item = search (rules, length-map)
 
   items_length : (piece marks : ℕ) (items : List ShapeItem)
       → length (items_flat used node piece marks items)

@@ -1,4 +1,5 @@
 -- Several writes, one after another.
+use Rattle.std.proofs.Common.{rules}
 use Rattle.std.proofs.Common.{◌≡◌, ◌∙◌, ◌^◌, ◌<◌, ℕ, List, [], ◌++◌, refl, ap, sym, append_assoc, append-nil, arith, length}
 use Rattle.std.proofs.Common.{length-append}
 use Rattle.std.specs.Prelude.{Result, Ok}
@@ -9,15 +10,12 @@ use Rattle.tangle_expansion.specs.Writing.{Wrote}
 
 pub writes_then : (a b c : Stream) (r s t : Result ℕ WriteFault) (xs ys : List ℕ)
     → IsWrittenAfter a b r xs s → IsWrittenAfter b c s ys t → IsWrittenAfter a c r (xs ++ ys) t
-writes_then a b c r s t xs ys first second = λ old done so_far fits.
-    let front = first old done so_far (omega (arith, length-append xs ys, fits)) in
-    rw append_assoc at
-    (second old (done ++ xs) front (omega (arith, length-append done xs, length-append xs ys, fits)))
+writes_then a b c r s t xs ys first second = search (rules, length-append, append_assoc)
 
 -- what is written after nothing is written whole
 pub written_whole : (a b : Stream) (r : Result ℕ WriteFault) (bytes : List ℕ)
     → length bytes < 2 ^ 128 → IsWrittenAfter a b (Ok 0) bytes r → IsWritten a b bytes r
-written_whole a b r bytes fits h = h a [] (IsWritten-none a) (omega (arith, fits))
+written_whole a b r bytes fits h = h a [] (IsWritten-none a) (omega arith)
 
 -- one part after another
 
@@ -34,8 +32,7 @@ wrote_then a b c r s t left rest whole w v = record {
 
 pub wrote_more : (a b c : Stream) (r s t : Result ℕ WriteFault) (left xs rest whole : List ℕ)
     → Wrote a b r s left whole → left ≡ xs ++ rest → IsWrittenAfter b c s xs t → Wrote a c r t rest whole
-wrote_more a b c r s t left xs rest whole w e p =
-    wrote_then a b c r s t left rest whole w (record { done = xs; writes = p; split = sym e })
+wrote_more a b c r s t left xs rest whole w e p = search (rules, wrote_then)
 
 pub wrote_same : (a b : Stream) (r s : Result ℕ WriteFault) (left rest whole : List ℕ)
     → Wrote a b r s left whole → left ≡ rest → Wrote a b r s rest whole

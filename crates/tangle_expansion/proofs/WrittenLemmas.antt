@@ -1,6 +1,6 @@
 -- The bytes of lists of symbols.
+use Rattle.std.proofs.lemmas.Bool.Decides.{nat_tests}
 use Rattle.std.proofs.Common.{◌*◌, arith, length-append, ◌≡◌, ℕ, ◌≤◌, List, [], ◌∷◌, ◌++◌, map, length, refl, ap}
-use native.Mathlib.Nat.{suc-mul}
 use Rattle.std.specs.List.{AllByRecursion}
 use Rattle.tangle_plans.specs.Flat.{Symbol, Byte}
 use Rattle.tangle_expansion.specs.Numbers.{NumbersRead, symbol_bytes, expansion_bytes}
@@ -16,10 +16,4 @@ pub written-short : (numbers : NumbersRead) (b : ℕ) (symbols : List Symbol)
     → length (expansion_bytes numbers symbols) ≤ length symbols * b
 written-short numbers b [] h = omega arith
 written-short numbers b (p ∷ symbols) h =
-    omega (
-      arith,
-      h.0,
-      written-short numbers b symbols h.1,
-      length-append (symbol_bytes numbers p) (expansion_bytes numbers symbols),
-      suc-mul (length symbols) b,
-    )
+    grind (arith, nat_tests, written-short numbers b symbols h.1, length-append)

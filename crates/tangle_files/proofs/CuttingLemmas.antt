@@ -1,14 +1,16 @@
 -- Bytes are cut at the first line feed, and a line at its last byte that is no space.
+use Rattle.std.proofs.Common.{rules}
+use Rattle.std.proofs.lemmas.Bool.Decides.{nat_tests}
 use Rattle.std.proofs.Common.{◌≡◌, ℕ, zero, suc, ◌<◌, ◌≤◌, ◌==◌, Bool, true, false, cond, List, [], ◌∷◌, length, get_or}
-use Rattle.std.proofs.Common.{take, drop, refl, ap, sym, ◌∙◌, arith, ◌+◌, ◌-◌, ◌++◌, ◌||◌, map, length-drop}
+use Rattle.std.proofs.Common.{take, drop, refl, ap, sym, ◌∙◌, arith, ◌+◌, ◌-◌, ◌++◌, length-drop}
 use Rattle.std.proofs.Common.{length-append, append_assoc}
 use Rattle.std.specs.List.{list_any}
-use Rattle.std.proofs.Common.{◌≢◌, subst, ⊎_elim}
+use Rattle.std.proofs.Common.{subst}
 use Rattle.std.proofs.lemmas.List.{take_all, drop_all, drop-drop, take-take, length-take, get_or-drop}
-use Rattle.std.proofs.lemmas.Bool.{le-ltb, cases_eq, false≢true, false_from_ne_true}
+use Rattle.std.proofs.lemmas.Bool.{false_from_ne_true}
 use Rattle.memchr.specs.Find.{Nowhere, Passes, is_byte, places_between, places_from}
 use Rattle.tangle_files.specs.Lines.{raw_lines, trimmed, cut, before_first_line, before_trimmed}
-use Rattle.std.proofs.Common.{None, append-nil}
+use Rattle.std.proofs.Common.{None}
 use Rattle.tangle_files.specs.Adding.{cut_refusal, is_too_long, longest_line, most_lines}
 use Rattle.tangle_files.specs.Sharing.{slice_of}
 
@@ -57,27 +59,12 @@ raw_lines_whole (b ∷ bs) some none = raw_lines_none b bs none
 -- there are no more lines than bytes
 pub length-raw_lines : (bs : List ℕ) → length (raw_lines bs) ≤ length bs
 length-raw_lines [] = omega arith
-length-raw_lines (b ∷ bs) = by (b == 10) (length-raw_lines bs)
-  where
-    by : (t : Bool) → length (raw_lines bs) ≤ length bs
-        → length (cond t ([] ∷ raw_lines bs) (before_first_line b (raw_lines bs))) ≤ length (b ∷ bs)
-    by true h = omega arith
-    by false h = grow (raw_lines bs) h
-      where
-        grow : (ls : List (List ℕ)) → length ls ≤ length bs → length (before_first_line b ls) ≤ length (b ∷ bs)
-        grow [] h = omega arith
-        grow (l ∷ ls) h = omega arith
+length-raw_lines (b ∷ bs) = grind (arith, nat_tests, length-raw_lines bs)
 
 -- a trimmed line is a prefix of the line
 pub trimmed_is_front : (bs : List ℕ) → take (length (trimmed bs)) bs ≡ trimmed bs
 trimmed_is_front [] = refl
-trimmed_is_front (b ∷ bs) = by (trimmed bs) (trimmed_is_front bs) (b == 32) refl
-  where
-    by : (t : List ℕ) → take (length t) bs ≡ t → (s : Bool)
-        → (b == 32) ≡ s → take (length (before_trimmed b t)) (b ∷ bs) ≡ before_trimmed b t
-    by [] e true is = rw is refl
-    by [] e false is = rw is refl
-    by (c ∷ cs) e s is = ap (λ l. b ∷ l) e
+trimmed_is_front (b ∷ bs) = grind (arith, nat_tests, trimmed_is_front bs)
 
 -- the places from a position on, by the first of them
 module _ (test : ℕ → Bool) (hay : List ℕ) where
@@ -92,27 +79,6 @@ module _ (test : ℕ → Bool) (hay : List ℕ) where
   ArePlaces i n [] = Nowhere (Passes test hay) i (i + n)
   ArePlaces i n (e ∷ es) = FirstPlace i n e es
 
-  -- where the first place does not pass, what is true from the next place on is true from it on
-  from_next : (i n : ℕ) (es : List ℕ) → test (get_or hay i 0) ≡ false → ArePlaces (i + 1) n es → ArePlaces i (suc n) es
-  from_next i n es is h = by es h
-    where
-      passed : (k : ℕ) → (k ≢ i → ¬ Passes test hay k) → ¬ Passes test hay k
-      passed k others passes =
-          ⊎_elim (λ same. false≢true (sym is ∙ subst (λ m. test (get_or hay m 0) ≡ true) same passes))
-          (λ other. others other passes) (cases_eq k i)
-
-      by : (es : List ℕ) → ArePlaces (i + 1) n es → ArePlaces i (suc n) es
-      by [] h = λ k low high. passed k (λ other. h k (omega arith) (omega arith))
-      by (e ∷ es) h =
-          let size : i + 1 + n ≡ i + suc n = omega arith in
-          record {
-            low = omega (arith, h.low);
-            high = omega (arith, h.high);
-            before = λ k low high. passed k (λ other. h.before k (omega arith) high);
-            here = h.here;
-            rest = h.rest ∙ ap (λ m. places_from test hay (e + 1) (m - (e + 1))) size;
-          }
-
   are_places : (i n : ℕ) → ArePlaces i n (places_from test hay i n)
   unfolding places_from
   are_places i zero = λ k low high. absurd (omega arith)
@@ -121,15 +87,8 @@ module _ (test : ℕ → Bool) (hay : List ℕ) where
       by : (b : Bool) → test (get_or hay i 0) ≡ b → ArePlaces (i + 1) n (places_from test hay (i + 1) n)
           → ArePlaces i (suc n) (cond b (i ∷ places_from test hay (i + 1) n) (places_from test hay (i + 1) n))
       by true is h =
-          let size : n ≡ i + suc n - (i + 1) = omega arith in
-          record {
-            low = omega arith;
-            high = omega arith;
-            before = λ k low high. absurd (omega arith);
-            here = is;
-            rest = ap (places_from test hay (i + 1)) size;
-          }
-      by false is h = from_next i n (places_from test hay (i + 1) n) is h
+          search rules
+      by false is h = search rules
 
 -- the next line of a text ends at the next line feed
 pub record EndsAt (text : List ℕ) (start end : ℕ) (feeds : List ℕ) : Type 0 where
@@ -143,9 +102,9 @@ pub next_line : (text : List ℕ) (start end : ℕ) (feeds left : List ℕ)
 next_line text start end feeds left first is =
     let n = length text - start in
     let r = subst (ArePlaces (is_byte 10) text start n) (sym is ∙ first) (are_places (is_byte 10) text start n) in
-    let whole : start + (length text - start) ≡ length text = omega (arith, r.low, r.high) in
+    let whole : start + (length text - start) ≡ length text = omega arith in
     let low : start ≤ end = r.low in
-    let high : end < length text = omega (arith, r.high) in
+    let high : end < length text = omega arith in
     let at : start + (end - start) ≡ end = omega arith in
     record {
       low = low;
@@ -163,14 +122,7 @@ next_line text start end feeds left first is =
 pub last_line : (text : List ℕ) (start : ℕ) (left : List ℕ) → start < length text
     → left ≡ [] → left ≡ places_between (is_byte 10) text start (length text)
     → raw_lines (drop start text) ≡ take (length text - start) (drop start text) ∷ raw_lines (drop (length text + 1) text)
-last_line text start left within last is =
-    let n = length text - start in
-    let none = subst (ArePlaces (is_byte 10) text start n) (sym is ∙ last) (are_places (is_byte 10) text start n) in
-    raw_lines_whole (drop start text) (omega (arith, length-drop start text))
-    (λ k l. rw get_or-drop (false_from_ne_true _
-    (none (start + k) (omega arith) (omega (arith, l, length-drop start text)))))
-    ∙ ap (λ l. l ∷ []) (sym (take_all (length text - start) (drop start text) (omega (arith, length-drop start text))))
-    ∙ ap (λ l. take (length text - start) (drop start text) ∷ raw_lines l) (sym (drop_all (length text + 1) text (omega arith)))
+last_line text start left within last is = search (rules, are_places, raw_lines_whole, length-drop, get_or-drop, take_all, drop_all)
 
 trimmed_shorter : (bs : List ℕ) → length (trimmed bs) ≤ length bs
 trimmed_shorter bs = omega (arith, ap length (trimmed_is_front bs), length-take (length (trimmed bs)) bs)
@@ -179,23 +131,14 @@ trimmed_shorter bs = omega (arith, ap length (trimmed_is_front bs), length-take 
 pub line_fits : (text line : List ℕ) (start end : ℕ)
     → line ≡ trimmed (take (end - start) (drop start text)) → start ≤ end → end ≤ length text
     → start + length line ≤ length text
-line_fits text line start end is low high =
-    omega (
-      arith,
-      ap length is,
-      trimmed_shorter (take (end - start) (drop start text)),
-      length-take (end - start) (drop start text),
-    )
+line_fits text line start end is low high = search (rules, trimmed_shorter, length-take)
 
 -- it is the slice of its size
 pub trimmed_slice : (text line : List ℕ) (start end : ℕ)
     → line ≡ trimmed (take (end - start) (drop start text)) → slice_of text start (length line) ≡ line
 trimmed_slice text line start end is =
     let whole = take (end - start) (drop start text) in
-    let fits : length line ≤ end - start =
-    omega (arith, ap length is, trimmed_shorter whole, length-take (end - start) (drop start text)) in
-    sym (take-take (length line) (end - start) (drop start text) fits)
-    ∙ ap (λ m. take (length m) whole) is ∙ trimmed_is_front whole ∙ sym is
+    grind (arith, nat_tests, length-take, take-take, trimmed_is_front whole)
 
 -- `lines` are the lines of the text before `start`, and they keep the limits
 pub record IsCutUpTo (text : List ℕ) (start : ℕ) (lines : List (List ℕ)) : Type 0 where
@@ -209,25 +152,9 @@ pub one_more_line : (text : List ℕ) (start end : ℕ) (lines next : List (List
     → end ≤ length text → next ≡ lines ++ trimmed (take (end - start) (drop start text)) ∷ []
     → length (trimmed (take (end - start) (drop start text))) ≤ longest_line → length lines < most_lines
     → IsCutUpTo text start lines → IsCutUpTo text (end + 1) next
-one_more_line text start end lines next raw high more size below_limit h =
-    let line = trimmed (take (end - start) (drop start text)) in
-    let rest = cut (drop (end + 1) text) in
-    let lines_here : cut (drop start text) ≡ line ∷ rest = ap (map trimmed) raw in
-    let fine : is_too_long line ≡ false = le-ltb longest_line (length line) size in
-    record {
-      made = ap (λ l. l ++ rest) more ∙ append_assoc lines (line ∷ []) rest ∙ ap (λ l. lines ++ l) (sym lines_here) ∙ h.made;
-      short =
-          ap (λ b. b || list_any is_too_long rest) (sym fine) ∙ ap (list_any is_too_long) (sym lines_here) ∙ h.short;
-      few = omega (arith, below_limit, ap length more, length-append lines (line ∷ []));
-      within = omega (arith, high);
-    }
+one_more_line text start end lines next raw high more size below_limit h = search (rules, append_assoc, length-append)
 
 -- once all of the text is cut, it is within the limits
 pub all_cut : (text : List ℕ) (lines : List (List ℕ))
     → IsCutUpTo text (length text + 1) lines → (lines ≡ cut text) × (cut_refusal text ≡ None)
-all_cut text lines h =
-    let none = drop_all (length text + 1) text (omega arith) in
-    let whole = sym (append-nil lines) ∙ ap (λ rest. lines ++ cut rest) (sym none) ∙ h.made in
-    let short = sym h.short ∙ ap (λ rest. list_any is_too_long (cut rest)) none in
-    let few = le-ltb most_lines (length (cut text)) (omega (arith, h.few, ap length whole)) in
-    (whole, rw (short, few) refl)
+all_cut text lines h = search (rules, drop_all)

@@ -1,5 +1,8 @@
 -- The table of files after an edit.
-use Rattle.std.proofs.Common.{◌≡◌, ℕ, ◌+◌, ◌<◌, Bool, true, false, cond, List, [], ◌∷◌, ◌++◌, take, length, set, map}
+use Rattle.std.proofs.Common.{arith}
+use Rattle.std.proofs.Common.{rules}
+use Rattle.std.proofs.lemmas.Bool.Decides.{nat_tests}
+use Rattle.std.proofs.Common.{◌≡◌, ℕ, ◌+◌, ◌<◌, List, [], ◌∷◌, ◌++◌, take, length, set, map}
 use Rattle.std.proofs.Common.{refl, sym, ap, ◌∙◌, None, Some, IfSome, subst}
 use Rattle.std.specs.Map.{lookup, set_value, remove_entry}
 use Rattle.std.specs.Str.{bytes_eq}
@@ -16,16 +19,7 @@ map-set_value : (name : List ℕ) (es : List (Vec ℕ Global × SharedLines)) (w
     → map file_of (set_value (λ k. bytes_eq name k.items) es w)
     ≡ set_value (bytes_eq name) (map file_of es) w.value.items
 map-set_value name [] w = refl
-map-set_value name (e ∷ es) w = by (bytes_eq name e.0.items) (map-set_value name es w)
-  where
-    by : (b : Bool)
-        → map file_of (set_value (λ k. bytes_eq name k.items) es w)
-        ≡ set_value (bytes_eq name) (map file_of es) w.value.items
-        → map file_of (cond b ((e.0, w) ∷ es) (e ∷ set_value (λ k. bytes_eq name k.items) es w))
-        ≡ cond b ((e.0.items, w.value.items) ∷ map file_of es)
-        (file_of e ∷ set_value (bytes_eq name) (map file_of es) w.value.items)
-    by true h = refl
-    by false h = ap (λ l. file_of e ∷ l) h
+map-set_value name (e ∷ es) w = grind (arith, nat_tests, map-set_value name es w)
 
 -- a look-up in the table that finds lines finds them among the files
 pub lines_of-found : (t : Table) (name : List ℕ) (v : SharedLines)
@@ -42,17 +36,13 @@ pub files_of-written : (old new : Table) (name : List ℕ) (v w : SharedLines) (
     → Some v ≡ lookup (λ k. bytes_eq name k.items) old.entries → w.value.items ≡ splice v.value.items
     → new.entries ≡ set_value (λ k. bytes_eq name k.items) old.entries w
     → files_of new ≡ with_lines_edited (files_of old) name splice
-files_of-written old new name v w splice found is written =
-    rw (lines_of-found old name v found)
-    (ap (map file_of) written ∙ map-set_value name old.entries w ∙ ap (set_value (bytes_eq name) (files_of old)) is)
+files_of-written old new name v w splice found is written = search (rules, lines_of-found, map-set_value)
 
 -- lines that replace equal ones change nothing
 pub files_of-same : (old new : Table) (name : List ℕ) (v w : SharedLines)
     → Some v ≡ lookup (λ k. bytes_eq name k.items) old.entries → w.value.items ≡ v.value.items
     → new.entries ≡ set_value (λ k. bytes_eq name k.items) old.entries w → files_of new ≡ files_of old
-files_of-same old new name v w found is written =
-    ap (map file_of) written ∙ map-set_value name old.entries w ∙ ap (set_value (bytes_eq name) (files_of old)) is
-    ∙ set_value_same (bytes_eq name) (files_of old) v.value.items (lines_of-found old name v found)
+files_of-same old new name v w found is written = search (rules, map-set_value, set_value_same, lines_of-found)
 
 -- a line that is set replaces the old one
 pub spliced-set : (lines : List (List ℕ)) (start : ℕ) (line : List ℕ)
@@ -71,14 +61,7 @@ of-found t name v P found h = subst (λ o. IfSome o P) (lines_of-found t name v 
 map-remove_entry : (name : List ℕ) (es : List (Vec ℕ Global × SharedLines))
     → map file_of (remove_entry (λ k. bytes_eq name k.items) es) ≡ remove_entry (bytes_eq name) (map file_of es)
 map-remove_entry name [] = refl
-map-remove_entry name (e ∷ es) = by (bytes_eq name e.0.items) (map-remove_entry name es)
-  where
-    by : (b : Bool)
-        → map file_of (remove_entry (λ k. bytes_eq name k.items) es) ≡ remove_entry (bytes_eq name) (map file_of es)
-        → map file_of (cond b es (e ∷ remove_entry (λ k. bytes_eq name k.items) es))
-        ≡ cond b (map file_of es) (file_of e ∷ remove_entry (bytes_eq name) (map file_of es))
-    by true h = refl
-    by false h = ap (λ l. file_of e ∷ l) h
+map-remove_entry name (e ∷ es) = grind (arith, nat_tests, map-remove_entry name es)
 
 pub files_of-discarded : (old new : Table) (name : List ℕ)
     → new.entries ≡ remove_entry (λ k. bytes_eq name k.items) old.entries

@@ -1,13 +1,14 @@
 -- An edit that is not refused keeps the limits of a table.
+use Rattle.std.proofs.Common.{rules}
+use Rattle.std.proofs.lemmas.Bool.Decides.{nat_tests}
 use Rattle.std.proofs.Common.{◌≡◌, ℕ, ◌+◌, ◌-◌, ◌≤◌, Bool, true, false, cond, not, List, [], ◌∷◌, ◌++◌}
-use Rattle.std.proofs.Common.{take, drop, refl, sym, subst, ◌∙◌, Option, None, Some, IfSome, arith, length, length-append}
-use Rattle.std.specs.Prelude.{nat_le}
+use Rattle.std.proofs.Common.{refl, sym, subst, Option, None, Some, IfSome, arith, length, length-append}
 use Rattle.std.specs.List.{All, AllByRecursion, IsDistinct}
 use Rattle.std.specs.Option.{option_map_or}
 use Rattle.std.specs.Map.{set_value, remove_entry, keys_of, values_of}
 use Rattle.std.specs.Str.{bytes_eq}
-use Rattle.std.proofs.lemmas.Bool.{leb-false, leb-true, and_parts, not-false}
-use Rattle.std.proofs.lemmas.List.{length-take-le, length-drop}
+use Rattle.std.proofs.lemmas.Bool.{leb-false}
+use Rattle.std.proofs.lemmas.List.{length-drop}
 use Rattle.std.proofs.lemmas.List.Elements.{All-append, All-nil, All-cons, All-head, All-tail, All-map}
 use Rattle.std.proofs.lemmas.List.Elements.{All-from_recursion, recursion_from_All}
 use Rattle.std.proofs.lemmas.Map.{length-set_value, keys-set_value}
@@ -16,13 +17,13 @@ use Rattle.std.proofs.lemmas.Map.Views.{All-values-set_value, All-map-remove_ent
 use Rattle.tangle_files.specs.declared.edits.Edit.{Edit}
 use Rattle.tangle_files.specs.declared.edits.Edit.TheVariants.{Insert, Remove, Replace, Create, Discard, Marks}
 use Rattle.tangle_files.specs.declared.refusal.Refusal.{Refusal}
-use Rattle.tangle_files.specs.declared.refusal.Refusal.TheVariants.{BadName, TooManyLines, UnknownFile, NoSuchLine}
+use Rattle.tangle_files.specs.declared.refusal.Refusal.TheVariants.{UnknownFile, NoSuchLine}
 use Rattle.tangle_files.specs.Lines.{FileTable, lines_of, trimmed}
-use Rattle.tangle_files.specs.Adding.{is_name, most_files, most_lines, name_refusal, HasDistinctNames, IsWithinLimits}
+use Rattle.tangle_files.specs.Adding.{most_files, most_lines, name_refusal, HasDistinctNames, IsWithinLimits}
 use Rattle.tangle_files.specs.Edits.{edit_refusal, insert_refusal, is_line_number, refusal_if, refusal_in}
-use Rattle.tangle_files.specs.Edits.{replace_refusal, text_refusal}
+use Rattle.tangle_files.specs.Edits.{replace_refusal}
 use Rattle.tangle_files.specs.Edited.{edited, spliced, with_lines_edited}
-use Rattle.tangle_files.proofs.TableLemmas.{both_none, distinct-with_file, last_few, new_name}
+use Rattle.tangle_files.proofs.TableLemmas.{distinct-with_file, last_few, new_name}
 
 not_refused : (b : Bool) (e : Refusal) → refusal_if b e ≡ None → b ≡ false
 not_refused true e h = absurd (cc)
@@ -30,22 +31,18 @@ not_refused false e h = refl
 
 -- a number that is not refused is that of a line
 numbered : (at last : ℕ) → refusal_if (not (is_line_number at last)) NoSuchLine ≡ None → (1 ≤ at) × (at ≤ last)
-numbered at last h =
-    let parts = and_parts (nat_le 1 at) (nat_le at last) (not-false _ (not_refused _ NoSuchLine h)) in
-    (leb-true 1 at parts.0, leb-true at last parts.1)
+numbered at last h = search rules
 
 -- if an edit of lines is not refused, there are lines, and `of_lines` does not refuse the edit
 found : (o : Option (List (List ℕ))) (of_lines : List (List ℕ) → Option Refusal)
     → None ≡ option_map_or of_lines o (Some UnknownFile)
     → (lines : List (List ℕ)) × ((o ≡ Some lines) × (None ≡ of_lines lines))
-found None of_lines h = absurd (cc)
-found (Some lines) of_lines h = (lines, (refl, h))
+found o of_lines h = search rules
 
 found_in : (files : FileTable) (name : List ℕ) (of_lines : List (List ℕ) → Option Refusal)
     → None ≡ refusal_in files name of_lines
     → (lines : List (List ℕ)) × ((lines_of files name ≡ Some lines) × (None ≡ of_lines lines))
-found_in files name of_lines h =
-    found (lines_of files name) of_lines (both_none (refusal_if (not (is_name name)) BadName) _ h).1
+found_in files name of_lines h = search rules
 
 abbrev HasFewLines : (List ℕ × List (List ℕ)) → Type 0
 HasFewLines file = length file.1 ≤ most_lines
@@ -81,17 +78,12 @@ few_lines-found files name lines is h =
 
 length-spliced : (lines : List (List ℕ)) (start : ℕ) (new_lines : List (List ℕ)) (end : ℕ) → start ≤ length lines
     → length (spliced lines start new_lines end) ≡ (start + length new_lines) + (length lines - end)
-length-spliced lines start new_lines end within =
-    length-append (take start lines ++ new_lines) (drop end lines)
-    ∙ rw (length-append (take start lines) new_lines, length-take-le start lines within, length-drop end lines) refl
+length-spliced lines start new_lines end within = search (rules, length-append, length-drop)
 
 length-remove_entry : (files : FileTable) (name : List ℕ) → length (remove_entry (bytes_eq name) files) ≤ length files
 length-remove_entry [] name = omega arith
 length-remove_entry (f ∷ fs) name =
-    elim (bytes_eq name f.0) as (λ b. length (cond b fs (f ∷ remove_entry (bytes_eq name) fs)) ≤ length (f ∷ fs)) [
-      | true ↦ omega arith
-      | false ↦ omega (arith, length-remove_entry fs name)
-    ]
+    grind (arith, nat_tests, length-remove_entry fs name)
 
 distinct-remove_entry : (files : FileTable) (name : List ℕ)
     → HasDistinctNames files → HasDistinctNames (remove_entry (bytes_eq name) files)
@@ -111,32 +103,17 @@ distinct-remove_entry (f ∷ fs) name h =
 -- an edit of lines that is not refused keeps the limit of lines
 few_after_insert : (lines : List (List ℕ)) (at : ℕ) (text : List ℕ) → None ≡ insert_refusal lines at text
     → length (spliced lines (at - 1) (trimmed text ∷ []) (at - 1)) ≤ most_lines
-few_after_insert lines at text h =
-    let first = both_none (refusal_if (not (is_line_number at (length lines + 1))) NoSuchLine) _ h in
-    let second = both_none (text_refusal text) _ first.1 in
-    let number = numbered at (length lines + 1) first.0 in
-    let below_limit = leb-false most_lines (length lines) (not_refused _ TooManyLines (sym second.1)) in
-    omega (
-      arith,
-      number,
-      below_limit,
-      length-spliced lines (at - 1) (trimmed text ∷ []) (at - 1) (omega (arith, number)),
-    )
+few_after_insert lines at text h = search (rules, length-spliced)
 
 few_after_remove : (lines : List (List ℕ)) (at : ℕ)
     → length lines ≤ most_lines → None ≡ refusal_if (not (is_line_number at (length lines))) NoSuchLine
     → length (spliced lines (at - 1) [] at) ≤ most_lines
-few_after_remove lines at few h =
-    let number = numbered at (length lines) (sym h) in
-    omega (arith, number, few, length-spliced lines (at - 1) [] at (omega (arith, number)))
+few_after_remove lines at few h = search (rules, length-spliced)
 
 few_after_replace : (lines : List (List ℕ)) (at : ℕ) (text : List ℕ)
     → length lines ≤ most_lines → None ≡ replace_refusal lines at text
     → length (spliced lines (at - 1) (trimmed text ∷ []) at) ≤ most_lines
-few_after_replace lines at text few h =
-    let first = both_none (refusal_if (not (is_line_number at (length lines))) NoSuchLine) _ h in
-    let number = numbered at (length lines) first.0 in
-    omega (arith, number, few, length-spliced lines (at - 1) (trimmed text ∷ []) at (omega (arith, number)))
+few_after_replace lines at text few h = search (rules, length-spliced)
 
 within-created : (files : FileTable) (name : List ℕ)
     → None ≡ name_refusal files name → IsWithinLimits files → IsWithinLimits (files ++ (name, []) ∷ [])
@@ -144,7 +121,7 @@ within-created files name h within =
     let new = new_name files name (sym h) in
     let below_limit = leb-false most_files (length files) new.below_limit in
     record {
-      count = omega (arith, below_limit, length-append files ((name, []) ∷ []));
+      count = omega (arith, length-append files ((name, []) ∷ []));
       names = distinct-with_file files name [] new.absent within.names;
       lines = All-append HasFewLines files _ within.lines (last_few (name, []) (omega arith));
     }
@@ -154,22 +131,20 @@ pub IsWithinLimits-edited : (files : FileTable) (edit : Edit)
     → None ≡ edit_refusal files edit → IsWithinLimits files → IsWithinLimits (edited files edit)
 IsWithinLimits-edited files (Insert file at text) h within =
     let lines = found_in files file.items (λ lines. insert_refusal lines at text.items) h in
-    within-spliced files file.items (λ lines. spliced lines (at - 1) (trimmed text.items ∷ []) (at - 1))
-    lines.0 lines.1.0 (few_after_insert lines.0 at text.items lines.1.1) within
+    search (rules, within-spliced, few_after_insert)
 IsWithinLimits-edited files (Remove file at) h within =
     let lines = found_in files file.items (λ lines. refusal_if (not (is_line_number at (length lines))) NoSuchLine) h in
-    let few = few_lines-found files file.items lines.0 lines.1.0 within.lines in
-    within-spliced files file.items (λ lines. spliced lines (at - 1) [] at)
-    lines.0 lines.1.0 (few_after_remove lines.0 at few lines.1.1) within
+    search (rules, few_lines-found, within-spliced, few_after_remove)
 IsWithinLimits-edited files (Replace file at text) h within =
     let lines = found_in files file.items (λ lines. replace_refusal lines at text.items) h in
-    let few = few_lines-found files file.items lines.0 lines.1.0 within.lines in
-    within-spliced files file.items (λ lines. spliced lines (at - 1) (trimmed text.items ∷ []) at)
-    lines.0 lines.1.0 (few_after_replace lines.0 at text.items few lines.1.1) within
+    search (rules, few_lines-found, within-spliced, few_after_replace)
 IsWithinLimits-edited files (Create file) h within = within-created files file.items h within
 IsWithinLimits-edited files (Discard file) h within =
     record {
-      count = let less = length-remove_entry files file.items in let few = within.count in omega (arith, less, few);
+      count =
+          let less = length-remove_entry files file.items in
+          let few = within.count in
+          omega arith;
       names = distinct-remove_entry files file.items within.names;
       lines = few-files (remove_entry (bytes_eq file.items) files)
           (All-map-remove_entry (bytes_eq file.items) (λ file. file.1) (λ lines. length lines ≤ most_lines) files

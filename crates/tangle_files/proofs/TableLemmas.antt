@@ -1,11 +1,12 @@
 -- A look-up in the table is a look-up among the files.
-use Rattle.std.proofs.Common.{◌≡◌, ℕ, zero, suc, ◌+◌, ◌||◌, Bool, true, false, cond, not, List, [], ◌∷◌, ◌++◌, map}
-use Rattle.std.proofs.Common.{refl, sym, ap, subst, ◌∙◌, Option, None, Some, is_some, true≢false, arith, length-append}
+use Rattle.std.proofs.Common.{rules}
+use Rattle.std.proofs.lemmas.Bool.Decides.{nat_tests}
+use Rattle.std.proofs.Common.{◌≡◌, ℕ, zero, suc, ◌+◌, ◌||◌, Bool, true, false, cond, List, [], ◌∷◌, ◌++◌, map}
+use Rattle.std.proofs.Common.{refl, sym, ap, subst, ◌∙◌, Option, None, Some, arith, length-append}
 use Rattle.indexmap.specs.IndexMap.{insert_entry}
-use Rattle.tangle_files.specs.Adding.{is_name, has_file, most_files, most_lines, is_too_long, add_refusal, name_refusal}
-use Rattle.tangle_files.specs.Adding.{cut_refusal, or_else, with_file, HasDistinctNames, IsWithinLimits}
+use Rattle.tangle_files.specs.Adding.{has_file, most_files, most_lines, is_too_long, add_refusal, name_refusal}
+use Rattle.tangle_files.specs.Adding.{with_file, HasDistinctNames, IsWithinLimits}
 use Rattle.std.specs.Option.{option_map}
-use Rattle.tangle_files.specs.declared.refusal.Refusal.{Refusal}
 use Rattle.std.specs.Prelude.{position, nat_lt, nat_le, length, slice_get, ◌≤◌}
 use Rattle.std.specs.List.{position_or_len, list_any, All, AllZip, IsDistinct, each_same}
 use Rattle.std.specs.Vec.{vec_len}
@@ -32,16 +33,7 @@ pub lines_of-entries : (name : List ℕ) (es : List (Vec ℕ Global × SharedLin
     → lines_of (map file_of es) name ≡ option_map (λ v. v.value.items) (lookup (λ k. bytes_eq name k.items) es)
 lines_of-entries name [] = refl
 lines_of-entries name (e ∷ es) =
-    option_map-cond (λ v. v.value.items) (bytes_eq name e.0.items) e.1 _ _ (lines_of-entries name es)
-
--- if `cond` gives `None`, its condition is false and its other branch is `None`
-none_from_cond : {X : Type 0} (b : Bool) (x : X) (o : Option X) → cond b (Some x) o ≡ None → (b ≡ false) × (o ≡ None)
-none_from_cond true x o h = absurd (cc)
-none_from_cond false x o h = (refl, h)
-
-pub none_from_is_some : {X : Type 0} (o : Option X) → is_some o ≡ false → o ≡ None
-none_from_is_some None h = refl
-none_from_is_some (Some x) h = absurd (true≢false h)
+    grind (arith, nat_tests, lines_of-entries name es)
 
 -- what holds of a file that is not refused
 pub record IsAccepted (files : FileTable) (name bytes : List ℕ) : Type 0 where
@@ -50,36 +42,17 @@ pub record IsAccepted (files : FileTable) (name bytes : List ℕ) : Type 0 where
   pub short : list_any is_too_long (cut bytes) ≡ false
   pub few : nat_lt most_lines (length (cut bytes)) ≡ false
 
--- if `or_else` gives `None`, neither of the two refusals applies
-pub both_none : (a b : Option Refusal) → None ≡ or_else a b → (a ≡ None) × (None ≡ b)
-both_none None b h = (refl, h)
-both_none (Some e) b h = absurd (cc)
-
 -- what holds of a name that is not refused
 pub record IsNew (files : FileTable) (name : List ℕ) : Type 0 where
   pub absent : lines_of files name ≡ None
   pub below_limit : nat_le most_files (length files) ≡ false
 
 pub new_name : (files : FileTable) (name : List ℕ) → name_refusal files name ≡ None → IsNew files name
-new_name files name h =
-    let named = none_from_cond (not (is_name name)) _ _ h in
-    let new = none_from_cond (has_file files name) _ _ named.1 in
-    let below_limit = none_from_cond (nat_le most_files (length files)) _ _ new.1 in
-    record { absent = none_from_is_some (lines_of files name) new.0; below_limit = below_limit.0 }
+new_name files name h = search rules
 
 pub accepted : (files : FileTable) (name bytes : List ℕ)
     → None ≡ add_refusal files name bytes → IsAccepted files name bytes
-accepted files name bytes h =
-    let refusals = both_none (name_refusal files name) (cut_refusal bytes) h in
-    let new = new_name files name refusals.0 in
-    let short = none_from_cond (list_any is_too_long (cut bytes)) _ _ (sym refusals.1) in
-    let few = none_from_cond (nat_lt most_lines (length (cut bytes))) _ _ short.1 in
-    record { absent = new.absent; below_limit = new.below_limit; short = short.0; few = few.0 }
-
--- if a name is not refused, only the lines of the file can be
-pub refused_by_lines : (files : FileTable) (name bytes : List ℕ)
-    → name_refusal files name ≡ None → add_refusal files name bytes ≡ cut_refusal bytes
-refused_by_lines files name bytes h = ap (λ refusal. or_else refusal (cut_refusal bytes)) h
+accepted files name bytes h = search rules
 
 -- the limit of lines, for a list of one file
 pub last_few : (f : List ℕ × List (List ℕ))
@@ -110,8 +83,7 @@ other_names : (files : FileTable) (name : List ℕ)
     → lines_of files name ≡ None → list_any (bytes_eq name) (map (λ file. file.0) files) ≡ false
 other_names [] name none = refl
 other_names (f ∷ fs) name none =
-    let h = none_from_cond (bytes_eq name f.0) _ _ none in
-    ap (λ b. b || list_any (bytes_eq name) (map (λ file. file.0) fs)) h.0 ∙ other_names fs name h.1
+    grind (arith, nat_tests, other_names fs name)
 
 pub distinct-with_file : (files : FileTable) (name : List ℕ) (lines : List (List ℕ))
     → lines_of files name ≡ None → HasDistinctNames files → HasDistinctNames (files ++ (name, lines) ∷ [])
@@ -155,35 +127,27 @@ pub map-insert_entry : (es : List (Vec ℕ Global × SharedLines)) (k : Vec ℕ 
     ≡ map file_of es ++ (k.items, v.value.items) ∷ []
 map-insert_entry [] k v none = refl
 map-insert_entry (e ∷ es) k v none =
-    let h = none_from_cond (bytes_eq k.items e.0.items) _ _ none in
-    rw h.0 (ap (λ l. file_of e ∷ l) (map-insert_entry es k v h.1))
+    grind (arith, nat_tests, map-insert_entry es k v)
 
 pub files_of-with_file : (files : FileTable) (name bytes : List ℕ)
     (old new : Table) (k : Vec ℕ Global) (v : SharedLines)
     → None ≡ add_refusal files name bytes → files_of old ≡ files → k.items ≡ name → v.value.items ≡ cut bytes
     → new.entries ≡ insert_entry (λ x y. bytes_eq x.items y.items) old.entries k v
     → files_of new ≡ with_file files name bytes
-files_of-with_file files name bytes old new k v none is key value inserted =
-    ap (map file_of) inserted
-    ∙ map-insert_entry old.entries k v (rw (key, is) (accepted files name bytes none).absent)
-    ∙ (λ i. is i ++ (key i, value i) ∷ [])
+files_of-with_file files name bytes old new k v none is key value inserted = search (rules, map-insert_entry)
 
 position_or_len-entries : (name : List ℕ) (es : List (Vec ℕ Global × SharedLines))
     → position_or_len (λ (f : List ℕ × List (List ℕ)). bytes_eq name f.0) (map file_of es)
     ≡ position_or_len (λ (k : Vec ℕ Global). bytes_eq name k.items) (map (λ e. e.0) es)
 position_or_len-entries name [] = refl
 position_or_len-entries name (e ∷ es) =
-    ap (λ n. cond (not (bytes_eq name e.0.items)) (1 + n) 0) (position_or_len-entries name es)
+    grind (arith, nat_tests, position_or_len-entries name es)
 
 -- a name is at the same position in the table as among the files
 pub position-entries : (name : List ℕ) (es : List (Vec ℕ Global × SharedLines))
     → position (λ (f : List ℕ × List (List ℕ)). bytes_eq name f.0) (map file_of es)
     ≡ position (λ (k : Vec ℕ Global). bytes_eq name k.items) (map (λ e. e.0) es)
-position-entries name es =
-    let at = position_or_len-entries name es in
-    let len : length (map file_of es) ≡ length (map (λ e. e.0) es) =
-    length-map es file_of ∙ sym (length-map es (λ e. e.0)) in
-    λ i. cond (nat_lt (at i) (len i)) (Some (at i)) None
+position-entries name es = cc (position_or_len-entries name es, length-map es file_of ∙ sym (length-map es (λ e. e.0)))
 
 pub file_number-entries : (t : Table) (files : FileTable) (name : List ℕ) → files_of t ≡ files
     → file_number files name ≡ position (λ (k : Vec ℕ Global). bytes_eq name k.items) (map (λ e. e.0) t.entries)

@@ -1,6 +1,7 @@
 -- Bodies of nodes, and bodies that are read by their number.
+use Rattle.std.proofs.Common.{rules}
 use Rattle.std.proofs.Common.{◌≡◌, ◌≢◌, ◌∙◌, ◌<◌, ◌↔◌, ℕ, zero, suc, Bool, true, false, not, List, [], ◌∷◌, length}
-use Rattle.std.proofs.Common.{refl, ap, sym, subst, arith, true≢false, map, get_or}
+use Rattle.std.proofs.Common.{refl, ap, sym, subst, arith, map, get_or}
 use Rattle.std.specs.Prelude.{Contains, slice_get, Some}
 use Rattle.std.specs.Global.{Global}
 use Rattle.std.specs.declared.rc.Rc.{Rc}
@@ -25,17 +26,16 @@ part_read f bodies n body at =
     ∙ ap f (get_or_from_slice_get bodies n body body at)
 
 pub some_at : {X : Type 0} (xs : List X) (n : ℕ) → n < length xs → (x : X) × (slice_get xs n ≡ Some x)
-some_at [] n h = absurd (omega (arith, h))
+some_at [] n h = absurd (omega arith)
 some_at (x ∷ xs) zero h = (x, refl)
-some_at (x ∷ xs) (suc n) h = some_at xs n (omega (arith, h))
+some_at (x ∷ xs) (suc n) h = some_at xs n (omega arith)
 
 -- a body that is read by its number
 pub read : (bodies : List (Rc NodeBody Global)) (n : ℕ) (body : Rc NodeBody Global)
     → n < length bodies → body ≡ get_or bodies n body → slice_get (node_bodies bodies) n ≡ Some body.value
 read bodies n body low same = slice_get_read (node_bodies bodies) (length bodies) n body.value
     (sym (length-map bodies (λ (t : Rc NodeBody Global). t.value))) low
-    (ap (λ (t : Rc NodeBody Global). t.value) same
-    ∙ sym (get_or-map (λ (t : Rc NodeBody Global). t.value) bodies n body body.value low))
+    (search (rules, get_or-map))
 
 -- the names with the numbers that a body has are those that its node uses
 module _ (shapes : Shapes) (names : List (List ℕ))
@@ -56,11 +56,5 @@ module _ (shapes : Shapes) (names : List (List ℕ))
 pub new_unless_same : (names old_names : List (List ℕ)) (body before : NodeBody) (s t : Shape) (same : Bool)
     → ((same ≡ true) ↔ HaveOneShape names old_names (body_items body) (body_items before))
     → HoldsShape names s body → HoldsShape old_names t before → ((not same ≡ true) ↔ (s ≢ t))
-new_unless_same names old_names body before s t true decides held had = (
-  (λ e. absurd (true≢false (sym e))),
-  λ apart. absurd (apart ((bodies_decide names old_names body before s t held had).0 (decides.0 refl))),
-)
-new_unless_same names old_names body before s t false decides held had = (
-  (λ e same. true≢false (sym (decides.1 ((bodies_decide names old_names body before s t held had).1 same)))),
-  λ apart. refl,
-)
+new_unless_same names old_names body before s t true decides held had = search (rules, bodies_decide)
+new_unless_same names old_names body before s t false decides held had = search rules

@@ -1,9 +1,8 @@
 -- A body whose uses have the symbols that are kept gives the expansion of its node.
-use Rattle.std.proofs.Common.{◌≡◌, ◌∙◌, ◌<◌, ◌↔◌, true, List, length, map, ap, sym, subst, arith, true≢false}
+use Rattle.std.proofs.Common.{rules}
+use Rattle.std.proofs.Common.{◌≡◌, ◌<◌, ◌↔◌, true, List, length, map, arith}
 use Rattle.std.specs.Prelude.{Some}
-use Rattle.std.proofs.Math.Decide.{dec_lt}
 use Rattle.std.proofs.lemmas.List.{get_or_past}
-use Rattle.std.proofs.lemmas.List.Elements.{All-contains}
 use Rattle.digraph.specs.Nodes.{Node}
 use Rattle.tangle_plans.specs.Meaning.{body_flat}
 use Rattle.tangle_plans.specs.NodeBodies.{body_uses}
@@ -13,32 +12,25 @@ use Rattle.tangle_expansion.specs.Kept.{used_symbols}
 use Rattle.tangle_expansion.specs.Limits.{IsExpandableNode, flat_of, levels}
 use Rattle.tangle_expansion.specs.declared.kept.Kept.{Kept}
 use Rattle.tangle_expansion.proofs.FilledLemmas.{body_expands}
-use Rattle.tangle_graph.specs.Measures.{measure_at, no_piece_measure}
+use Rattle.tangle_graph.specs.Measures.{measure_at}
 use Rattle.tangle_graph.specs.Stores.{StoreRead, IsNodeIn, IsStoreOf, KeepsUsed, body_at, is_expandable_at}
 use Rattle.tangle_graph.specs.Stores.{title_in_store}
 use Rattle.tangle_graph.specs.declared.measures.Measure.{Measure}
 use Rattle.tangle_graph.proofs.BodyLemmas.{used_name}
-use Rattle.tangle_graph.proofs.StoreLemmas.{expandable_is}
 
 -- an expandable node is a node of the store
 pub measured_in : (measures : List Measure) (node : Node)
     → (measure_at measures node).is_expandable ≡ true → node < length measures
-measured_in measures node e = elim (dec_lt node (length measures)) [
-  | yes low ↦ low
-  | no past ↦ absurd (true≢false (sym e ∙ ap (λ (m : Measure). m.is_expandable)
-      (get_or_past measures node no_piece_measure (omega (arith, past)))))
-]
+measured_in measures node e = search (rules, get_or_past)
 
 module _ (shapes : Shapes) (store : StoreRead) (is : IsStoreOf shapes store) (node : Node) where
   pub expandable_in : is_expandable_at store node ≡ true → IsNodeIn store node
-  expandable_in e = (let low = measured_in store.measures node e in omega (arith, low, is.measures_size))
+  expandable_in e = (let low = measured_in store.measures node e in omega arith)
 
   -- the flag of a node says whether it is expandable
   pub expandable_at : IsNodeIn store node
       → (is_expandable_at store node ≡ true) ↔ IsExpandableNode shapes (title_in_store store node)
-  expandable_at inside = subst (λ b. (b ≡ true) ↔ IsExpandableNode shapes (title_in_store store node))
-      (sym (ap (λ (m : Measure). m.is_expandable) (is.measures node inside)))
-      (expandable_is shapes (title_in_store store node))
+  expandable_at inside = search rules
 
 pub expanded_right : (shapes : Shapes) (store : StoreRead) (kept : Kept) (node : Node) (body : NodeBody)
     → IsStoreOf shapes store → is_expandable_at store node ≡ true → KeepsUsed shapes store kept node
@@ -49,7 +41,4 @@ expanded_right shapes store kept node body is e keeps at =
     let own = is.bodies.each node body at in
     rw (← own.title) (body_expands store.names shapes levels body (used_symbols kept)
     (rw own.title own.shape) (rw own.title ((expandable_at shapes store is node here).0 e).shallow)
-    (λ id c. keeps id (record {
-      inside = All-contains (λ k. k < length store.names) (body_uses body) id own.inside c;
-      uses = used_name shapes store.names node body own id c;
-    })))
+    (λ id c. keeps id (search (rules, used_name))))

@@ -1,4 +1,5 @@
 -- The rows that grouping makes are the pieces of each node, and uses by number are uses by title.
+use Rattle.std.proofs.lemmas.Bool.Decides.{nat_tests}
 use Rattle.std.proofs.Common.{◌≡◌, ◌∙◌, ◌<◌, ◌≤◌, ◌+◌, ℕ, suc, List, [], length, map, ap, sym, subst, arith}
 use Rattle.std.proofs.Common.{All, Contains}
 use Rattle.std.specs.List.{IsDistinct}
@@ -40,13 +41,13 @@ module _ (web : WebRead) (table : TableRead) (ours : table ≡ table_of web) whe
     pub pieces_are : (n : ℕ) → n ≤ length table.names
         → pieces_at web.pieces (row_at rows n) ≡ pieces_of web table (title_at table.names n)
     pieces_are n low =
-        ap (pieces_at web.pieces) (grouped.row n (omega (arith, low)))
+        ap (pieces_at web.pieces) (grouped.row n (omega arith))
         ∙ positions_read (is_piece_of table (title_at table.names n)) [] web.pieces no_piece
 
     -- the positions of pieces are numbers of pieces
     pub pieces_inside : All (All (λ i. i < length web.pieces)) rows
     pieces_inside = All-from_get_or (All (λ i. i < length web.pieces)) rows []
-        (λ n h. subst (All (λ i. i < length web.pieces)) (sym (grouped.row n (omega (arith, h, grouped.size))))
+        (λ n h. subst (All (λ i. i < length web.pieces)) (sym (grouped.row n (omega arith)))
         (positions_below (is_piece_of table (title_at table.names n)) 0 (length web.pieces) web.pieces (omega arith)))
 
 module _ (shapes : Shapes) (names : List (List ℕ)) (bodies : List NodeBody) (uses : Graph)
@@ -59,17 +60,16 @@ module _ (shapes : Shapes) (names : List (List ℕ)) (bodies : List NodeBody) (u
       → Contains (body_uses body) id → HasUse uses n (suc id)
   use_up n id body at c =
       ((used.once n (omega (arith, slice_get_within bodies n body at, length-map bodies body_uses))).same (suc id)).1
-      (into_map suc (row_at (map body_uses bodies) n) id
-      (subst (λ r. Contains r id) (sym (part_read body_uses bodies n body at)) c))
+      (grind (arith, nat_tests, into_map suc, part_read body_uses bodies n body at))
 
   pub sound : (n m : ℕ) → HasUse uses n m → Uses shapes (title_at names n) (title_at names m)
   sound n m u =
-      let inside : n < length uses = node_in uses n m u in
-      let own = some_at bodies n (omega (arith, inside, uses_count, are.size)) in
+      let inside = node_in uses n m u in
+      let own = some_at bodies n (omega (arith, uses_count)) in
       let body = own.0 in
       let is = are.each n body own.1 in
       let found = out_of_map suc (row_at (map body_uses bodies) n) m
-      (((used.once n (omega (arith, inside, used.size))).same m).0 u) in
+      (((used.once n (omega arith)).same m).0 u) in
       let c = subst (λ r. Contains r found.0) (part_read body_uses bodies n body own.1) found.1 in
       let within = All-contains (λ id. id < length names) (body_uses body) found.0 is.inside c in
       subst (Uses shapes (title_at names n))
@@ -80,10 +80,6 @@ module _ (shapes : Shapes) (names : List (List ℕ)) (bodies : List NodeBody) (u
       → (m : ℕ) × HasUse uses n m × (m < length uses) × (title_at names m ≡ t)
   complete n title.Program h u = absurd u
   complete n (Named name) h u =
-      let own = some_at bodies n (omega (arith, h, uses_count, are.size)) in
-      let found = name_used shapes names n own.0 (are.each n own.0 own.1) name u in (
-        suc found.0,
-        use_up n found.0 own.0 own.1 found.1,
-        omega (arith, found.2, uses_count),
-        title_inside names found.0 found.2 ∙ ap Named found.3,
-      )
+      let own = some_at bodies n (omega (arith, uses_count)) in
+      let found = name_used shapes names n own.0 (are.each n own.0 own.1) name u in
+      grind (arith, nat_tests, use_up n found.0 own.0 own.1 found.1, uses_count, title_inside names found.0 found.2)

@@ -1,16 +1,15 @@
 -- The rows of the names that bodies use, each once.
-use Rattle.std.proofs.Common.{◌≡◌, ◌∙◌, ◌<◌, ◌+◌, ◌++◌, ◌∷◌, ℕ, suc, false, not, List, [], length, take, map, get_or}
+use Rattle.std.proofs.Common.{rules}
+use Rattle.std.proofs.lemmas.Bool.Decides.{nat_tests}
+use Rattle.std.proofs.Common.{◌≡◌, ◌∙◌, ◌<◌, ◌+◌, ◌++◌, ◌∷◌, ℕ, suc, List, [], length, take, map, get_or}
 use Rattle.std.proofs.Common.{ap, sym, subst, arith, All, Contains, length-append}
 use Rattle.std.specs.Global.{Global}
 use Rattle.std.specs.declared.rc.Rc.{Rc}
 use Rattle.std.specs.List.Sorted.{IsStrictlyIncreasing}
-use Rattle.std.specs.Str.{bytes_eq}
 use Rattle.std.proofs.Math.Decide.{dec_lt}
 use Rattle.std.proofs.lemmas.List.{get_or-map, get_or_append_left, get_or_push, length-map, map-append, take_more}
-use Rattle.std.proofs.lemmas.Slice.Eq.{bytes_eq-Decides}
-use Rattle.std.proofs.lemmas.Option.{slice_get-get_or, slice_get_within}
+use Rattle.std.proofs.lemmas.Option.{slice_get-get_or}
 use Rattle.std.proofs.lemmas.List.Elements.{All-contains, All-map, All-from_get_or, Contains-get_or}
-use Rattle.std.proofs.lemmas.Bool.{not-false}
 use Rattle.tangle_names.proofs.ContainsLemmas.{into_map, out_of_map}
 use Rattle.tangle_plans.specs.NodeBodies.{body_uses}
 use Rattle.tangle_plans.specs.Shapes.{Shapes}
@@ -28,13 +27,12 @@ pub uses_inside : (shapes : Shapes) (names : List (List ℕ)) (bodies : List (Rc
 uses_inside shapes names bodies are =
     All-map (All (λ id. suc id < length bodies)) body_uses (node_bodies bodies) (λ k d h i e low. (
     let own = are.each k (get_or (node_bodies bodies) k d) (slice_get-get_or (node_bodies bodies) k d h) in
-    let inside = own.inside i e low in
-    omega (arith, inside, are.size, length-map bodies (λ (t : Rc NodeBody Global). t.value))))
+    search (rules, length-map)))
 
 module _ (ids : List (List ℕ)) (rows : Graph) (are : AreUsesOf ids rows) where
   pub each_increasing : All IsStrictlyIncreasing rows
   each_increasing = All-from_get_or IsStrictlyIncreasing rows []
-      (λ n h. (are.once n (omega (arith, h, are.size))).increasing)
+      (λ n h. (are.once n (omega arith)).increasing)
 
   -- the nodes of the names are nodes of the graph
   pub each_in_range : All (All (λ id. suc id < length ids)) ids → InRange rows
@@ -51,9 +49,8 @@ module _ (ids : List (List ℕ)) (rows : Graph) (are : AreUsesOf ids rows) where
 pub once_more : (all once : List ℕ) → IsOnceEach all once → IsOnceEach (map suc all) (map suc once)
 once_more all once is = record {
   increasing = λ k h. (
-      let low : k + 1 < length once = omega (arith, h, length-map once suc) in
-      let less = is.increasing k low in
-      omega (arith, less, get_or-map suc once k 0 0 (omega (arith, low)), get_or-map suc once (k + 1) 0 0 low));
+      let low : k + 1 < length once = omega (arith, length-map once suc) in
+      grind (arith, nat_tests, get_or-map suc once k, get_or-map suc once));
   same = λ m. (
     λ c. (let found = out_of_map suc once m c in
         subst (Contains (map suc all)) found.2 (into_map suc all found.0 ((is.same found.0).0 found.1))),
@@ -65,15 +62,13 @@ once_more all once is = record {
 pub uses_push : (ids : List (List ℕ)) (rows : Graph) (used row : List ℕ)
     → AreUsesOf ids rows → IsOnceEach (map suc used) row → AreUsesOf (ids ++ used ∷ []) (rows ++ row ∷ [])
 uses_push ids rows used row are is = record {
-  size = omega (arith, are.size, length-append rows (row ∷ []), length-append ids (used ∷ []));
+  size = omega (arith, length-append rows (row ∷ []), length-append ids (used ∷ []));
   once = λ n h. elim (dec_lt n (length ids)) [
     | yes low ↦ subst (λ r. IsOnceEach (map suc r) (row_at (rows ++ row ∷ []) n))
         (sym (get_or_append_left ids (used ∷ []) [] n low))
         (subst (IsOnceEach (map suc (row_at ids n)))
-        (sym (get_or_append_left rows (row ∷ []) [] n (omega (arith, low, are.size)))) (are.once n low))
-    | no past ↦ (let end : length ids ≡ n = omega (arith, past, h, length-append ids (used ∷ [])) in
-        subst (λ r. IsOnceEach (map suc r) (row_at (rows ++ row ∷ []) n)) (sym (get_or_push ids used [] n end))
-        (subst (IsOnceEach (map suc used)) (sym (get_or_push rows row [] n (are.size ∙ end))) is))
+        (sym (get_or_append_left rows (row ∷ []) [] n (omega arith))) (are.once n low))
+    | no past ↦ search (rules, length-append, get_or_push)
   ];
 }
 
@@ -85,18 +80,8 @@ pub once_all : (P : ℕ → Type 0) (bodies : List (Rc NodeBody Global)) (i : �
     → All P once
 once_all P bodies i body once low same all is =
     let had = read bodies i body low same in
-    let used : All P (body_uses body.value) = subst (All P) (part_read body_uses (node_bodies bodies) i body.value had)
-    (all i [] (omega (
-      arith,
-      slice_get_within (node_bodies bodies) i body.value had,
-      length-map (node_bodies bodies) body_uses,
-    ))) in
-    All-from_get_or P once 0 (λ k h. All-contains P (body_uses body.value) (get_or once k 0) used
+    All-from_get_or P once 0 (λ k h. All-contains P (body_uses body.value) (get_or once k 0) (grind (arith, nat_tests, part_read body_uses, length-map))
     ((is.same (get_or once k 0)).0 (Contains-get_or once k 0 h)))
-
--- lists of numbers that a test finds equal
-pub same_by_test : (xs ys : List ℕ) → not (bytes_eq xs ys) ≡ false → xs ≡ ys
-same_by_test xs ys e = (bytes_eq-Decides xs ys).0 (not-false (bytes_eq xs ys) e)
 
 -- one more body
 pub uses_more : (bodies : List (Rc NodeBody Global)) (i : ℕ) (body : Rc NodeBody Global)

@@ -1,5 +1,6 @@
 -- Nodes found by name, and their shapes.
-use Rattle.std.proofs.Common.{◌≡◌, ◌≢◌, ◌∙◌, ℕ, suc, Bool, List, [], ◌∷◌, Some, None, ap, refl, arith}
+use Rattle.std.proofs.Common.{rules}
+use Rattle.std.proofs.Common.{◌≡◌, ◌≢◌, ◌∙◌, ℕ, suc, Bool, List, [], ◌∷◌, None, ap, refl, arith}
 use Rattle.std.specs.Prelude.{Option, IsSome}
 use Rattle.digraph.specs.Nodes.{Node, program}
 use Rattle.tangle_plans.specs.Shapes.{Title, Named, Shape, Shapes, Uses}
@@ -31,19 +32,18 @@ pub used_node : (shapes : Shapes) (store : StoreRead) (node : Node) (name : List
     → IsNodeIn store node → Uses shapes (title_in_store store node) (Named name)
     → (a : Node) × IsNodeIn store a × (title_in_store store a ≡ Named name)
 used_node shapes store node name is inside u =
-    let own = some_at store.bodies node (omega (arith, inside, is.bodies.size)) in
+    let own = some_at store.bodies node (omega arith) in
     let found = name_used shapes store.names node own.0 (is.bodies.each node own.0 own.1) name u in
-    (suc found.0, omega (arith, found.2), title_inside store.names found.0 found.2 ∙ ap Named found.3)
+    (suc found.0, omega arith, title_inside store.names found.0 found.2 ∙ ap Named found.3)
 
 -- the flags of the bodies of a store are those of its new shapes
 pub new_shapes_of : (old store : StoreRead) (names : List (List ℕ)) (bodies : List NodeBody) (flags : List Bool)
     → store.names ≡ names → store.bodies ≡ bodies → AreNewBodies old names bodies flags → AreNewShapes old store flags
 new_shapes_of old store names bodies flags named same are = λ before after before_is after_is node inside.
     let new : AreNewBodies old store.names store.bodies flags = rw (named, same) are in
-    let own = some_at store.bodies node (omega (arith, inside, after_is.bodies.size)) in
+    let own = some_at store.bodies node (omega arith) in
     new node own.0 own.1 before (after (title_in_store store node)) before_is
     (after_is.bodies.each node own.0 own.1).shape
 
 pub some_unless : {X : Type 0} (o : Option X) → (o ≡ None → ⊥) → IsSome o
-some_unless None h = absurd (h refl)
-some_unless (Some x) h = refl
+some_unless o h = search rules

@@ -1,12 +1,12 @@
 -- Nodes and their titles.
+use Rattle.std.proofs.Common.{rules}
 use Rattle.std.proofs.Common.{◌≡◌, ◌∙◌, ◌<◌, ◌≤◌, ℕ, zero, suc, true, List, [], length, get_or, refl, ap, sym}
 use Rattle.std.proofs.Common.{arith, Some, None, false, true≢false}
-use Rattle.std.specs.List.{position, position_or_len}
+use Rattle.std.specs.List.{position}
 use Rattle.std.specs.List.{IsDistinct}
 use Rattle.std.specs.Str.{bytes_eq}
 use Rattle.std.proofs.Math.Decide.{dec_lt, ℕ_discrete}
 use Rattle.std.proofs.lemmas.Option.{slice_get-get_or}
-use Rattle.std.proofs.lemmas.Grind.{common_steps}
 use Rattle.std.proofs.lemmas.List.Sums.{fails_before_first}
 use Rattle.std.proofs.lemmas.Map.Keys.{apart_from_distinct}
 use Rattle.std.proofs.lemmas.Slice.Eq.{bytes_eq-Decides}
@@ -26,7 +26,7 @@ once_named names n m distinct hn hm e = elim (ℕ_discrete n m) [
   | yes same ↦ same
   | no other ↦ elim (dec_lt n m) [
     | yes low ↦ absurd (later n m low hm e)
-    | no high ↦ absurd (later m n (omega (arith, high, other)) hn (sym e))
+    | no high ↦ absurd (later m n (omega arith) hn (sym e))
   ]
 ]
   where
@@ -39,17 +39,11 @@ pub once_titled : (names : List (List ℕ)) (n m : ℕ)
     → IsDistinct bytes_eq names → n ≤ length names → m ≤ length names → title_at names n ≡ title_at names m → n ≡ m
 once_titled names zero zero distinct hn hm e = refl
 once_titled names zero (suc m) distinct hn hm e =
-    absurd (let both : title.Program ≡ Named (get_or names m []) = e ∙ title_inside names m (omega (arith, hm)) in cc)
+    search (rules, title_inside)
 once_titled names (suc n) zero distinct hn hm e =
-    absurd (let both : title.Program ≡ Named (get_or names n []) =
-    sym e ∙ title_inside names n (omega (arith, hn)) in cc)
+    search (rules, title_inside)
 once_titled names (suc n) (suc m) distinct hn hm e =
-    let low : n < length names = omega (arith, hn) in
-    let within : m < length names = omega (arith, hm) in
-    let both : Named (get_or names n []) ≡ Named (get_or names m []) =
-    sym (title_inside names n low) ∙ e ∙ title_inside names m within in
-    let same : get_or names n [] ≡ get_or names m [] = cc in
-    ap suc (once_named names n m distinct low within same)
+    search (rules, title_inside, once_named)
 
 pub name_only : (n id : ℕ) → name_of_node n ≡ Some id → n ≡ suc id
 name_only zero id e = absurd (let both : None ≡ Some id = e in cc)
@@ -60,10 +54,4 @@ pub title_absent : (names : List (List ℕ)) (text : List ℕ) (n : ℕ)
     → position (bytes_eq text) names ≡ None → n ≤ length names → title_at names n ≡ Named text → ⊥
 title_absent names text zero none h e = absurd (let both : title.Program ≡ Named text = e in cc)
 title_absent names text (suc id) none h e =
-    let low : id < length names = omega (arith, h) in
-    let both : Named (get_or names id []) ≡ Named text = sym (title_inside names id low) ∙ e in
-    let same : text ≡ get_or names id [] = cc in
-    let past : length names ≤ position_or_len (bytes_eq text) names = grind (arith, common_steps) in
-    let passes = (bytes_eq-Decides text (get_or names id [])).1 same in
-    let fails = fails_before_first (bytes_eq text) names id [] (omega (arith, low, past)) in
-    let apart : true ≡ false = sym passes ∙ fails in absurd (cc)
+    search (rules, title_inside, fails_before_first)

@@ -1,13 +1,16 @@
 -- Values computed for each node along an order, in which a node comes after those that it uses.
+use Rattle.std.proofs.Common.{arith}
+use Rattle.std.proofs.Common.{rules}
+use Rattle.std.proofs.lemmas.Bool.Decides.{nat_tests}
 use Rattle.std.proofs.Common.{◌≡◌, ◌∙◌, ◌<◌, ◌+◌, ◌⊎◌, ℕ, List, [], ◌∷◌, ◌++◌, length, take}
-use Rattle.std.proofs.Common.{get_or, set, ap, sym, subst, inl, inr, get_or-set_same}
+use Rattle.std.proofs.Common.{get_or, set, ap, sym, subst, inl, inr}
 use Rattle.std.proofs.Common.{get_or-set_other}
 use Rattle.std.specs.Prelude.{Contains}
 use Rattle.std.proofs.Math.Decide.{ℕ_discrete}
 use Rattle.std.proofs.lemmas.List.{take_more}
 use Rattle.std.proofs.lemmas.List.Elements.{Contains-push, Contains-push_cases, Contains-append_left}
-use Rattle.tangle_names.proofs.ContainsLemmas.{cons_cases, here as at_head, no_item, there}
-use Rattle.tangle_graph.specs.Measures.{IsMeasured, measure_at, no_piece_measure}
+use Rattle.tangle_names.proofs.ContainsLemmas.{here as at_head, no_item, there}
+use Rattle.tangle_graph.specs.Measures.{IsMeasured, no_piece_measure}
 use Rattle.tangle_graph.specs.declared.measures.Measure.{Measure}
 
 -- a number is in a list or not
@@ -15,10 +18,7 @@ pub among : (xs : List ℕ) (n : ℕ) → Contains xs n ⊎ ((c : Contains xs n)
 among [] n = inr (no_item n)
 among (x ∷ xs) n = elim (ℕ_discrete x n) [
   | yes same ↦ inl (subst (Contains (x ∷ xs)) same (at_head x xs))
-  | no other ↦ elim (among xs n) [
-    | inl c ↦ inl (there x xs n c)
-    | inr none ↦ inr (λ c. elim (cons_cases x xs n c) [ inl e ↦ other e | inr d ↦ none d ])
-  ]
+  | no other ↦ grind (arith, nat_tests, among xs n, there x xs n)
 ]
 
 -- one more node of the order has its own measure
@@ -26,13 +26,10 @@ pub measured_next : (value : ℕ → Measure) (other : Measure) (values : List M
     (v : Measure) → i < length order → n ≡ get_or order i 0 → n < length values → v ≡ value n → (m : ℕ)
     → IsMeasured value other values (take i order) m → IsMeasured value other (set values n v) (take (i + 1) order) m
 measured_next value other values order i n v h at low e m was =
-    let more : take (i + 1) order ≡ take i order ++ n ∷ [] =
-    take_more order i 0 h ∙ ap (λ k. take i order ++ k ∷ []) (sym at) in
-    rw more (elim (ℕ_discrete m n) [
+    rw (take_more order i 0 h ∙ ap (λ k. take i order ++ k ∷ []) (sym at)) (elim (ℕ_discrete m n) [
       | yes same ↦ inl (
         subst (Contains (take i order ++ n ∷ [])) (sym same) (Contains-push (take i order) n),
-        ap (measure_at (set values n v)) same ∙ get_or-set_same values n v no_piece_measure low
-            ∙ e ∙ ap value (sym same),
+        search rules,
       )
       | no apart ↦ (let stays = get_or-set_other values n m v no_piece_measure apart in
           elim was [

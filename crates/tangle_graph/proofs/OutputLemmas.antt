@@ -1,27 +1,25 @@
 -- What holds of each output file of a web.
+use Rattle.std.proofs.Common.{rules}
 use Rattle.std.proofs.Common.{◌≡◌, ◌<◌, ◌||◌, ℕ, Bool, true, false, List, [], ◌∷◌, length, map, filter}
-use Rattle.std.proofs.Common.{refl, sym, subst, inl, inr, arith}
+use Rattle.std.proofs.Common.{sym, subst, inl, inr, arith}
 use Rattle.std.specs.Prelude.{not, if◌then◌else◌, Contains, All}
 use Rattle.std.specs.List.{range_with_len}
 use Rattle.std.specs.Str.{bytes_eq}
 use Rattle.std.proofs.lemmas.Bool.{and_parts}
-use Rattle.std.proofs.lemmas.List.Elements.{All-contains, All-filter}
-use Rattle.std.proofs.lemmas.List.Elements.{Contains-append_cases, Contains-push_cases}
+use Rattle.std.proofs.lemmas.List.Elements.{All-contains}
+use Rattle.std.proofs.lemmas.List.Elements.{Contains-append_cases}
 use Rattle.tangle_scan.specs.Web.{WebRead}
 use Rattle.tangle_names.specs.NameTable.{TableRead}
 use Rattle.tangle_names.proofs.ContainsLemmas.{out_of_filter, out_of_map}
 use Rattle.tangle_expansion.specs.Limits.{IsExpandableNode}
 use Rattle.tangle_expansion.specs.Outputs.{OutputRead}
-use Rattle.tangle_plans.specs.ItemTags.{uses_resolved}
-use Rattle.tangle_plans.specs.WebShapes.{name_at, shapes, resolved_at, ResolvesInside}
+use Rattle.tangle_plans.specs.WebShapes.{name_at, shapes, ResolvesInside}
 use Rattle.tangle_plans.specs.Shapes.{Named, Shapes}
 use Rattle.tangle_plans.specs.Shapes as title
 use Rattle.tangle_plans.specs.Nodes.{title_at}
-use Rattle.tangle_graph.specs.Grouping.{has_number_in}
 use Rattle.tangle_graph.specs.Nodes.{IsNodeOf}
 use Rattle.tangle_graph.specs.Outputs.{shape_has_piece, is_expandable, file_names, first_file_name}
-use Rattle.tangle_graph.specs.Outputs.{main_output, named_file, main_file, is_written, outputs, first_file_occurrence}
-use Rattle.tangle_graph.proofs.GroupLemmas.{resolved_below}
+use Rattle.tangle_graph.specs.Outputs.{main_output, named_file, main_file, is_written, outputs}
 use Rattle.tangle_graph.proofs.ListLemmas.{all_flat}
 use Rattle.tangle_graph.proofs.NodeLemmas.{title_inside}
 use Rattle.tangle_graph.proofs.StoreLemmas.{expandable_is, no_pieces}
@@ -33,17 +31,13 @@ pub record IsFit (shapes : Shapes) (names : List (List ℕ)) (output : OutputRea
   pub none : output.has_piece ≡ false → shapes (title_at names output.node) ≡ []
 
 one_where : {X : Type 0} (b : Bool) (x y : X) → Contains (if b then x ∷ [] else []) y → (b ≡ true) × (x ≡ y)
-one_where true x y c = elim (Contains-push_cases [] x y c) [
-  | inl none ↦ absurd (omega (arith, none.1))
-  | inr same ↦ (refl, same)
-]
-one_where false x y c = absurd (omega (arith, c.1))
+one_where true x y c = search rules
+one_where false x y c = absurd (omega arith)
 
 module _ (web : WebRead) (table : TableRead) (resolves : ResolvesInside table) where
   pub names_below : All (λ id. id < length table.names) (file_names web table)
   names_below = all_flat (λ id. id < length table.names) (first_file_name table)
-      (λ k. All-filter (λ id. has_number_in k (first_file_occurrence table id)) (λ id. id < length table.names)
-      (uses_resolved (resolved_at table k)) (resolved_below (length table.names) (resolved_at table k) (resolves k)))
+      (search rules)
       (range_with_len 0 (length web.occurrences))
 
   module _ (out : List ℕ) where
@@ -84,7 +78,5 @@ module _ (web : WebRead) (table : TableRead) (resolves : ResolvesInside table) w
           | inr named ↦ (let found =
               out_of_map (named_file table) (filter (is_written web table out) (file_names web table)) output named in
               let passes = out_of_filter (is_written web table out) (file_names web table) found.0 found.1 in
-              let low =
-              All-contains (λ id. id < length table.names) (file_names web table) found.0 names_below passes.0 in
-              subst (IsFit (shapes web table) table.names) found.2 (named_fits found.0 low passes.1))
+              subst (IsFit (shapes web table) table.names) found.2 (named_fits found.0 (All-contains (λ id. id < length table.names) (file_names web table) found.0 names_below passes.0) passes.1))
         ]

@@ -1,16 +1,17 @@
 -- Bodies that are made of the pieces of a node.
-use Rattle.std.proofs.Common.{◌≡◌, ◌≢◌, ◌∙◌, ◌<◌, ◌↔◌, ◌==◌, ℕ, not, true, List, [], length, map, get_or}
-use Rattle.std.proofs.Common.{refl, ap, sym, subst, arith}
+use Rattle.std.proofs.Common.{rules}
+use Rattle.std.proofs.Common.{◌≡◌, ◌≢◌, ◌∙◌, ◌<◌, ◌↔◌, ◌==◌, ℕ, not, true, List, [], length}
+use Rattle.std.proofs.Common.{refl, ap, sym, subst}
 use Rattle.std.specs.Prelude.{All}
 use Rattle.std.proofs.lemmas.List.{length-map}
 use Rattle.digraph.specs.Graph.{row_at}
 use Rattle.digraph.specs.Nodes.{Node}
 use Rattle.tangle_scan.specs.Web.{PieceRead}
-use Rattle.tangle_plans.specs.Nodes.{pieces_at, no_piece, title_at}
+use Rattle.tangle_plans.specs.Nodes.{pieces_at, title_at}
 use Rattle.tangle_plans.specs.NodeBodies.{ItemsRead, AreItemsOf, HaveOneShape, HoldsShape, body_items, body_title}
 use Rattle.tangle_plans.specs.NodeBodies.{body_uses, names_at}
 use Rattle.tangle_plans.specs.Shapes.{Shape}
-use Rattle.tangle_plans.specs.WebShapes.{pieces_of, shape_item, shapes}
+use Rattle.tangle_plans.specs.WebShapes.{pieces_of, shapes}
 use Rattle.tangle_plans.proofs.HeldLemmas.{names_held}
 use Rattle.tangle_plans.proofs.ShapeLemmas.{bodies_decide}
 use Rattle.tangle_plans.specs.declared.nodes.NodeBody.{NodeBody}
@@ -31,13 +32,10 @@ module _ (grouped : GroupedWeb) (is : IsGrouped grouped) (node : Node) (inside :
   pieces = pieces_of grouped.web.now grouped.table.now (title_at names node)
 
   given : pieces_at grouped.web.now.pieces row ≡ pieces
-  given = ap (pieces_at grouped.web.now.pieces) at
-      ∙ rw is.names (pieces_are grouped.web.now grouped.table.now is.table grouped.pieces.now is.pieces node
-      (omega (arith, inside, ap length is.names)))
+  given = search (rules, pieces_are)
 
   pub numbers : All (λ i. i < length grouped.web.now.pieces) row
-  numbers = rw at (pieces_inside grouped.web.now grouped.table.now is.table grouped.pieces.now is.pieces node []
-      (omega (arith, inside, is.pieces.size, ap length is.names)))
+  numbers = search (rules, pieces_inside)
 
   module _ (items : ItemsRead)
       (are : AreItemsOf grouped.web.now.texts grouped.table.now (pieces_at grouped.web.now.pieces row) items) where
@@ -76,11 +74,4 @@ module _ (grouped : GroupedWeb) (is : IsGrouped grouped) (node : Node) (inside :
   pub new_if_pieces : (body : NodeBody) (s t : Shape)
       → IsBodyOf (shapes grouped.web.now grouped.table.now) names node body
       → HoldsShape names s body → t ≡ [] → ((not (length row == 0) ≡ true) ↔ (s ≢ t))
-  new_if_pieces body s t has held none =
-      let same : shapes grouped.web.now grouped.table.now (title_at names node) ≡ s =
-      (bodies_decide names names body body _ s has.shape held).0
-      (record { tags = refl; bytes = refl; names_used = refl }) in
-      subst (λ u. (not (length row == 0) ≡ true) ↔ (s ≢ u)) (sym none)
-      (piece_of_row row s (ap length (sym same)
-      ∙ length-map pieces (λ (p : PieceRead). map (shape_item grouped.web.now.texts grouped.table.now) p.items)
-      ∙ ap length (sym given) ∙ length-map row (λ n. get_or grouped.web.now.pieces n no_piece)))
+  new_if_pieces body s t has held none = search (rules, bodies_decide, piece_of_row, length-map, given)

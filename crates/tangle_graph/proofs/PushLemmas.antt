@@ -1,5 +1,6 @@
 -- One more body, with its flag.
-use Rattle.std.proofs.Common.{◌≡◌, ◌∙◌, ℕ, zero, suc, Bool, false, List, [], ◌∷◌, ◌++◌, length, get_or, sym}
+use Rattle.std.proofs.lemmas.Bool.Decides.{nat_tests}
+use Rattle.std.proofs.Common.{◌≡◌, ℕ, zero, suc, Bool, false, List, [], ◌∷◌, ◌++◌, length, get_or}
 use Rattle.std.proofs.Common.{subst, arith}
 use Rattle.std.specs.Global.{Global}
 use Rattle.std.specs.declared.rc.Rc.{Rc}
@@ -31,11 +32,11 @@ pub each_push : {X : Type 0} (R : ℕ → Bool → X → Type 0) (xs : List X) (
     → HoldsAtEach R (xs ++ x ∷ []) (flags ++ flag ∷ [])
 each_push R [] [] x flag size all one zero y e = some_is (R 0 flag) x y e one
 each_push {X} R [] [] x flag size all one (suc n) y e = absurd (let none : None ≡ Some y = e in cc)
-each_push R [] (f ∷ flags) x flag size all one n y e = absurd (omega (arith, size))
-each_push R (z ∷ xs) [] x flag size all one n y e = absurd (omega (arith, size))
+each_push R [] (f ∷ flags) x flag size all one n y e = absurd (omega arith)
+each_push R (z ∷ xs) [] x flag size all one n y e = absurd (omega arith)
 each_push R (z ∷ xs) (f ∷ flags) x flag size all one zero y e = all zero y e
 each_push R (z ∷ xs) (f ∷ flags) x flag size all one (suc n) y e =
-    each_push (λ k. R (suc k)) xs flags x flag (omega (arith, size)) (λ k. all (suc k)) one n y e
+    each_push (λ k. R (suc k)) xs flags x flag (omega arith) (λ k. all (suc k)) one n y e
 
 pub bodies_push : (R : ℕ → Bool → NodeBody → Type 0) (bodies : List (Rc NodeBody Global)) (flags : List Bool)
     (n : ℕ) (body : Rc NodeBody Global) (flag : Bool)
@@ -43,10 +44,7 @@ pub bodies_push : (R : ℕ → Bool → NodeBody → Type 0) (bodies : List (Rc 
     → HoldsAtEach R (node_bodies (bodies ++ body ∷ [])) (flags ++ flag ∷ [])
 bodies_push R bodies flags n body flag size flags_size all one =
     let count = length-map bodies (λ (t : Rc NodeBody Global). t.value) in
-    subst (λ bs. HoldsAtEach R bs (flags ++ flag ∷ []))
-    (sym (map-append (λ (t : Rc NodeBody Global). t.value) bodies (body ∷ [])))
-    (each_push R (node_bodies bodies) flags body.value flag (flags_size ∙ sym (count ∙ size)) all
-    (subst (λ k. R k flag body.value) (sym (count ∙ size)) one))
+    grind (arith, nat_tests, map-append, each_push R)
 
 -- the flags of all bodies, where there is an old store
 pub new_of_old : (grouped : GroupedWeb) (old : Option (Bor StoreRead)) (bodies : List NodeBody) (flags : List Bool)

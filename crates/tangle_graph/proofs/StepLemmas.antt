@@ -1,11 +1,11 @@
 -- What holds of a node, by what holds of the names that its body uses.
+use Rattle.std.proofs.Common.{rules}
 use Rattle.std.proofs.Common.{◌≡◌, ◌∙◌, ◌≤◌, ◌+◌, ◌&&◌, ℕ, suc, min, max, Bool, true, false, List, [], ◌∷◌, get_or}
-use Rattle.std.proofs.Common.{refl, ap, sym, arith}
+use Rattle.std.proofs.Common.{refl, ap, arith}
 use Rattle.std.specs.Prelude.{nat_le, nat_lt, sum_by}
-use Rattle.std.proofs.lemmas.Bool.{false_from_ne_true}
 use Rattle.std.proofs.lemmas.List.Sums.{sum_by-cons}
 use Rattle.tangle_names.proofs.ContainsLemmas.{here, there}
-use Rattle.tangle_plans.specs.Flat.{own_weight, pieces_weight, pieces_depth, depth, weight}
+use Rattle.tangle_plans.specs.Flat.{own_weight, depth, weight}
 use Rattle.tangle_plans.specs.NodeBodies.{HoldsShape, body_uses, names_at}
 use Rattle.tangle_plans.specs.Shapes.{Named, Shapes, Title}
 use Rattle.tangle_plans.specs.declared.nodes.NodeBody.{NodeBody}
@@ -15,7 +15,7 @@ use Rattle.tangle_graph.specs.Measures.{AreUsesMeasured, greatest_by, measure_at
 use Rattle.tangle_graph.specs.Outputs.{is_expandable, shape_has_piece}
 use Rattle.tangle_graph.specs.declared.measures.Measure.{Measure}
 use Rattle.tangle_graph.proofs.MeasureLemmas.{depth_counted}
-use Rattle.tangle_graph.proofs.StoreLemmas.{expandable_by_limits, expandable_is}
+use Rattle.tangle_graph.proofs.StoreLemmas.{expandable_by_limits}
 
 -- the weights and the depths that are recorded of names are those of the names
 module _ (shapes : Shapes) (names : List (List ℕ)) (measures : List Measure) where
@@ -41,30 +41,12 @@ module _ (shapes : Shapes) (names : List (List ℕ)) (measures : List Measure) w
 module _ (shapes : Shapes) (title : Title) where
   -- what is recorded of a node without a piece
   pub measure_without : shapes title ≡ [] → no_piece_measure ≡ measure_of shapes title
-  measure_without e =
-      let weighed : 0 ≡ weight_of shapes title = omega (
-        arith,
-        weight_by_uses weight_cap shapes title,
-        ap (pieces_weight (λ name. weight_of shapes (Named name))) e,
-      ) in
-      let measured : 0 ≡ depth_of shapes title = omega (
-        arith,
-        depth_by_uses levels shapes title,
-        ap (pieces_depth (λ name. depth_of shapes (Named name))) e,
-      ) in
-      let flag = false_from_ne_true (is_expandable shapes title)
-      (λ x. ((expandable_is shapes title).0 x).has_piece e) in
-      λ i. record { weight = weighed i; depth = measured i; is_expandable = sym flag i }
+  measure_without e = search rules
 
   -- what is recorded of a node that reaches a cycle
   pub measure_beyond : levels ≤ depth levels shapes title → weight_cap ≤ weight weight_cap shapes title
       → record { weight = weight_cap; depth = levels; is_expandable = false } ≡ measure_of shapes title
-  measure_beyond deep heavy =
-      let weighed : weight_cap ≡ weight_of shapes title = omega (arith, heavy) in
-      let measured : levels ≡ depth_of shapes title = omega (arith, deep, depth_by_uses levels shapes title) in
-      let flag = false_from_ne_true (is_expandable shapes title)
-      (λ x. let low = ((expandable_is shapes title).0 x).shallow in absurd (omega (arith, low, deep))) in
-      λ i. record { weight = weighed i; depth = measured i; is_expandable = sym flag i }
+  measure_beyond deep heavy = search (rules, depth_by_uses)
 
   module _ (names : List (List ℕ)) (measures : List Measure) (body : NodeBody)
       (held : HoldsShape names (shapes title) body) (known : AreUsesMeasured shapes names measures (body_uses body)) where
@@ -75,26 +57,10 @@ module _ (shapes : Shapes) (title : Title) where
         → b ≡ (nat_lt d levels && nat_le w heaviest)
         → record { weight = w; depth = d; is_expandable = b } ≡ measure_of shapes title
     measure_with own w d b has counted weighs deepens within =
-        let sums = weights_used shapes names measures (body_uses body) known
-        ∙ ap (sum_by (λ name. weight_of shapes (Named name))) held.names_used in
-        let deepest = depths_used shapes names measures (body_uses body) known
-        ∙ ap (greatest_by (λ name. depth_of shapes (Named name))) held.names_used in
         let weighed : w ≡ weight_of shapes title =
-        omega (
-          arith,
-          counted,
-          weighs,
-          sums,
-          weight_by_uses weight_cap shapes title,
-        ) in
+        omega (arith, weights_used shapes names measures (body_uses body) known ∙ ap (sum_by (λ name. weight_of shapes (Named name))) held.names_used, weight_by_uses weight_cap shapes title) in
         let measured : d ≡ depth_of shapes title =
-        omega (
-          arith,
-          deepens,
-          deepest,
-          depth_counted (λ name. depth_of shapes (Named name)) (shapes title) has,
-          depth_by_uses levels shapes title,
-        ) in
+        omega (arith, depths_used shapes names measures (body_uses body) known ∙ ap (greatest_by (λ name. depth_of shapes (Named name))) held.names_used, depth_counted (λ name. depth_of shapes (Named name)) (shapes title) has, depth_by_uses levels shapes title) in
         λ i. record {
           weight = weighed i;
           depth = measured i;

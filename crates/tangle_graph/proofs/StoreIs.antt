@@ -1,4 +1,6 @@
 -- A store with the bodies, the graph and the measures of a web is that of the web's shapes.
+use Rattle.std.proofs.Common.{rules}
+use Rattle.std.proofs.lemmas.Bool.Decides.{nat_tests}
 use Rattle.std.proofs.Common.{◌≡◌, ◌≢◌, ◌∙◌, ◌≤◌, ◌<◌, ◌+◌, ◌↔◌, ℕ, suc, true, false, List, [], length, map, get_or}
 use Rattle.std.proofs.Common.{ap, sym, subst, inl, inr, arith}
 use Rattle.std.specs.Prelude.{AllPairs, Contains}
@@ -43,10 +45,10 @@ pub known_name : (web : WebRead) (table : TableRead) → ResolvesInside table �
 known_name web table inside name h =
     let found = there table inside name web.pieces
     (λ none. h (ap (map (λ (p : PieceRead). map (shape_item web.texts table) p.items)) none)) in
-    (suc found.0, omega (arith, found.1), title_inside table.names found.0 found.1 ∙ ap Named found.2)
+    (suc found.0, omega arith, title_inside table.names found.0 found.1 ∙ ap Named found.2)
 
 apart : (row : List ℕ) → IsStrictlyIncreasing row → AllPairs (λ b c. b ≢ c) row
-apart row rising i j d low high e = absurd (omega (arith, e, AllPairs-from_increasing row rising i j d low high))
+apart row rising i j d low high e = absurd (omega (arith, AllPairs-from_increasing row rising i j d low high))
 
 module _ (all : Shapes) (stored : List NodeBody) (name_graph : NameGraph)
     (distinct : IsDistinct bytes_eq name_graph.names) (bodies : AreBodiesOf all name_graph.names stored)
@@ -64,12 +66,11 @@ module _ (all : Shapes) (stored : List NodeBody) (name_graph : NameGraph)
   count = uses_count all names stored name_graph.uses bodies is.uses
 
   here : (a : ℕ) → a ≤ length names → a < length name_graph.uses
-  here a h = omega (arith, h, count)
+  here a h = omega (arith, count)
 
   titled : IsTitled name_graph.uses (Uses all) (title_at names)
   titled = record {
-    once = λ n m hn hm e.
-        once_titled names n m distinct (omega (arith, hn, count)) (omega (arith, hm, count)) e;
+    once = search (rules, once_titled, count);
     sound = sound all names stored name_graph.uses bodies is.uses;
     complete = complete all names stored name_graph.uses bodies is.uses;
   }
@@ -85,7 +86,7 @@ module _ (all : Shapes) (stored : List NodeBody) (name_graph : NameGraph)
   users_are : (a b : ℕ) → a ≤ length names
       → HasUse name_graph.users a b ↔ ((b ≤ length names) × Uses all (title b) (title a))
   users_are a b ha = (
-    λ u. (let used : HasUse name_graph.uses b a = (is.users.reversed b a).0 u in
+    λ u. (let used = (is.users.reversed b a).0 u in
         (omega (arith, node_in name_graph.uses b a used, count), titled.sound b a used)),
     λ u. (is.users.reversed b a).1 ((uses_are b a u.0).1 (ha, u.1)),
   )
@@ -94,16 +95,14 @@ module _ (all : Shapes) (stored : List NodeBody) (name_graph : NameGraph)
       → (get_or name_graph.self_containing.items a false ≡ true) ↔ ContainsItself (Uses all) (title a)
   contains_is a ha =
       let alike = contains_alike name_graph.uses (Uses all) (title_at names) titled a (here a ha) in
-      let flag = is.containing a (here a ha) in
-      (λ e. alike.0 (flag.0 e), λ c. flag.1 (alike.1 c))
+      grind (arith, nat_tests, here a ha)
 
   -- a node reaches a name that contains itself, if it does so in the graph of numbers
   pub reaching_is : (n : ℕ) → n ≤ length names
       → (flag_at name_graph.reaching_cycles.items n ≡ true) ↔ ReachesCycle (Uses all) (title n)
   reaching_is n low =
       let alike = cycle_alike name_graph.uses (Uses all) (title_at names) titled n (here n low) in
-      let flag = is.reaching n (here n low) in
-      (λ e. alike.0 (flag.0 e), λ c. flag.1 (alike.1 c))
+      grind (arith, nat_tests, here n low)
 
   module _ (pieces : List (List ℕ)) (measures : List Measure) (outputs : List OutputRead)
       (sized : length measures ≡ length name_graph.uses) (measured : AreMeasures all names measures) where
@@ -131,7 +130,7 @@ module _ (all : Shapes) (stored : List NodeBody) (name_graph : NameGraph)
       uses = uses_are;
       users = users_are;
       uses_once = λ a ha. apart (row_at name_graph.uses a)
-          (is.uses.once a (omega (arith, here a ha, is.uses.size))).increasing;
+          (is.uses.once a (omega (arith, here a ha))).increasing;
       users_once = λ a ha. apart (row_at name_graph.users a) (is.users.increasing a);
       contains_itself = contains_is;
     }
@@ -141,21 +140,16 @@ module _ (all : Shapes) (stored : List NodeBody) (name_graph : NameGraph)
       where
         inside : (n : ℕ) → Contains order n → n ≤ length names
         inside n c =
-            let low = All-contains (λ m. m < length name_graph.uses) order n
-            (All-from_get_or (λ m. m < length name_graph.uses) order 0 is.order.after_uses.nodes) c in
-            omega (arith, low, count)
+            omega (arith, All-contains (λ m. m < length name_graph.uses) order n (All-from_get_or (λ m. m < length name_graph.uses) order 0 is.order.after_uses.nodes) c, count)
 
         once : AllPairs (λ b c. b ≢ c) order
         once j k d less h same = is.order.after_uses.once j k less h
-            (get_or_default order j 0 d (omega (arith, less, h)) ∙ same ∙ get_or_default order k d 0 h)
+            (get_or_default order j 0 d (omega arith) ∙ same ∙ get_or_default order k d 0 h)
 
         expandable : (n : ℕ) → n ≤ length names → (measure_at measures n).is_expandable ≡ true → Contains order n
         expandable n h flag = elim (among order n) [
           | inl c ↦ c
           | inr none ↦ (let flagged = (expandable_is all (title n)).0
               (sym (ap (λ (m : Measure). m.is_expandable) (measured n h)) ∙ flag) in
-              let deep = left_out_deep name_graph.uses order is.order is.range (λ k m. k ≤ depth k all (title m))
-              (λ m. omega arith) (λ k a b u. deeper k all (title a) (title b) (titled.sound a b u)) levels n (here n h)
-              none in
-              absurd (omega (arith, deep, flagged.shallow)))
+              absurd (omega (arith, left_out_deep name_graph.uses order is.order is.range (λ k m. k ≤ depth k all (title m)) (λ m. omega arith) (λ k a b u. deeper k all (title a) (title b) (titled.sound a b u)) levels n (here n h) none)))
         ]

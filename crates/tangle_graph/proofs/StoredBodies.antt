@@ -23,14 +23,7 @@ module _ (inside : Inside) (store : StoreRead) (node : Node)
 
   module _ (n : ℕ) (number : n ≡ node) (here : IsNodeIn store node) where
     pub low : n < length inside.bodies.items
-    low = omega (
-      arith,
-      here,
-      number,
-      is_store.bodies.size,
-      ap (λ (s : StoreRead). length s.bodies) is,
-      length-map inside.bodies.items (λ (t : Rc NodeBody Global). t.value),
-    )
+    low = omega (arith, is_store.bodies.size, ap (λ (s : StoreRead). length s.bodies) is, length-map inside.bodies.items (λ (t : Rc NodeBody Global). t.value))
 
     module _ (body : Rc NodeBody Global) (at : body ≡ get_or inside.bodies.items n body) where
       pub had : body_at store node ≡ Some body.value

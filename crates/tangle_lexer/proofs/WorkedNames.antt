@@ -1,37 +1,25 @@
 -- Worked names: the normal forms of these bytes are as expected.
-use Rattle.std.proofs.Common.{◌≡◌, ℕ, List, [], ◌∷◌, false, refl, codes}
+use Rattle.std.proofs.Common.{rules}
+use Rattle.std.proofs.Common.{◌≡◌, ℕ, List, [], ◌∷◌, false, codes}
 use Rattle.tangle_lines.specs.Reading.{SourceLine}
 use Rattle.tangle_text.specs.Text.{text_from}
 use Rattle.tangle_lexer.specs.Names.{name_words, normal_form, name_text}
 
-one_word : normal_form (codes "Globals") ≡ codes "Globals"
-one_word = refl
-
-white_space_at_both_ends : normal_form (codes "  In   ") ≡ codes "In"
-white_space_at_both_ends = refl
-
-white_space_inside : normal_form (codes "Print  the \t  header") ≡ codes "Print the header"
-white_space_inside = refl
-
-words_at_both_ends : name_words (codes " a  list of words. ")
-    ≡ codes "a" ∷ codes "list" ∷ codes "of" ∷ codes "words." ∷ []
-words_at_both_ends = refl
-
-no_bytes : normal_form [] ≡ []
-no_bytes = refl
-
-white_space_alone : normal_form (codes "   ") ≡ []
-white_space_alone = refl
-
 abbrev line : List ℕ → SourceLine
 line bytes = record { bytes = bytes; origin = record { file = 0; line = 1 }; changed = false }
 
-over_two_lines : name_text (text_from 0 (line (codes "Print the") ∷ line (codes "   header@>=") ∷ []))
-    ≡ codes "Print the header"
-over_two_lines = refl
+record Examples : Type 0 where
+  pub one_word : normal_form (codes "Globals") ≡ codes "Globals"
+  pub white_space_at_both_ends : normal_form (codes "  In   ") ≡ codes "In"
+  pub white_space_inside : normal_form (codes "Print  the \t  header") ≡ codes "Print the header"
+  pub words_at_both_ends : name_words (codes " a  list of words. ")
+      ≡ codes "a" ∷ codes "list" ∷ codes "of" ∷ codes "words." ∷ []
+  pub no_bytes : normal_form [] ≡ []
+  pub white_space_alone : normal_form (codes "   ") ≡ []
+  pub over_two_lines : name_text (text_from 0 (line (codes "Print the") ∷ line (codes "   header@>=") ∷ []))
+      ≡ codes "Print the header"
+  pub double_at_signs : name_text (text_from 0 (line (codes " a@@b  @@ c @>") ∷ [])) ≡ codes "a@b @ c"
+  pub no_name : name_text (text_from 0 (line (codes "@>") ∷ [])) ≡ []
 
-double_at_signs : name_text (text_from 0 (line (codes " a@@b  @@ c @>") ∷ [])) ≡ codes "a@b @ c"
-double_at_signs = refl
-
-no_name : name_text (text_from 0 (line (codes "@>") ∷ [])) ≡ []
-no_name = refl
+examples : Examples
+examples = search rules

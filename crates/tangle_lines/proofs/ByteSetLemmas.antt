@@ -1,8 +1,9 @@
 -- Searching for a byte of a set, or for one outside a set, by the definitions of reading.
-use Rattle.std.proofs.Common.{◌≡◌, ◌∙◌, ℕ, Bool, true, false, not, ◌||◌, ◌==◌, List, [], ◌∷◌, length, refl, ap, sym, arith}
-use Rattle.std.proofs.Common.{Option, Some, None, is_some, slice_index, get_or, unwrap_or}
+use Rattle.std.proofs.Common.{rules}
+use Rattle.std.proofs.Common.{◌≡◌, ℕ, Bool, true, false, not, ◌||◌, ◌==◌, List, [], ◌∷◌, length, refl, ap, sym, arith}
+use Rattle.std.proofs.Common.{Option, Some, None, is_some, slice_index, unwrap_or}
 use Rattle.std.specs.List.{list_all, position_or_len}
-use Rattle.std.proofs.lemmas.Bool.{false_from_ne_true, false≢true, not-true, not-false}
+use Rattle.std.proofs.lemmas.Bool.{false_from_ne_true, false≢true}
 use Rattle.std.proofs.lemmas.List.Elements.{All-from_get_or}
 use Rattle.std.proofs.lemmas.List.Folds.{list_all_at}
 use Rattle.std.proofs.lemmas.List.Sums.{position_or_len_is, list_all-from_AllPass}
@@ -16,9 +17,7 @@ use Rattle.tangle_lines.specs.Bytes.{double_quote, is_white}
 pub found-at : (searched test : ℕ → Bool) → ((b : ℕ) → searched b ≡ test b) → (hay : List ℕ) (r : Option ℕ)
     → IsFirstByte searched hay r → position_or_len test hay ≡ unwrap_or r (length hay)
 found-at searched test same hay (Some k) h =
-    let f = IsFirstByte-same hay searched test (λ j _. same (slice_index hay j)) (Some k) h in
-    position_or_len_is test hay k 0 (omega (arith, f.0.high))
-    (λ j l. false_from_ne_true _ (f.0.before j (omega arith) l)) (λ _. f.1)
+    search (rules, position_or_len_is)
 found-at searched test same hay None h =
     let f = IsFirstByte-same hay searched test (λ j _. same (slice_index hay j)) None h in
     position_or_len_is test hay (length hay) 0 (omega arith)
@@ -51,11 +50,8 @@ is_in-white_or_quote b = regrouped (b == 32) (b == 9) (b == 13) (b == 11) (b == 
 pub blank-found : (hay : List ℕ) (r : Option ℕ) (blank : Bool)
     → IsFirstByte (not_in white_set) hay r → is_some r ≡ not blank → blank ≡ list_all is_white hay
 blank-found hay None true h e =
-    sym (list_all-from_AllPass is_white hay (All-from_get_or (λ b. is_white b ≡ true) hay 0 (λ j l.
-    let found : ¬ (not_in white_set (get_or hay j 0) ≡ true) = h j (omega arith) l in
-    rw (← is_in-white (get_or hay j 0)) (not-false (is_in white_set (get_or hay j 0)) (false_from_ne_true _ found)))))
+    sym (list_all-from_AllPass is_white hay (All-from_get_or (λ b. is_white b ≡ true) hay 0 (search (rules, is_in-white))))
 blank-found hay (Some k) false h e =
-    sym (list_all_at is_white hay k 0 (omega (arith, h.0.high))
-    (sym (is_in-white (get_or hay k 0)) ∙ not-true (is_in white_set (get_or hay k 0)) h.1))
+    search (rules, list_all_at, is_in-white)
 blank-found hay None false h e = absurd (false≢true e)
 blank-found hay (Some k) true h e = absurd (false≢true (sym e))

@@ -2,4 +2,3 @@ pub mod ByteSetLemmas
 pub mod WaitingLemmas
 pub mod PassingLemmas
 pub mod ReadingLemmas
-mod WorkedSources

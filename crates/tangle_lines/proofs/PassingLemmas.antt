@@ -1,12 +1,14 @@
 -- Reading goes past lines that no change takes and that are no inclusions.
-use Rattle.std.proofs.Common.{◌≡◌, ℕ, ◌+◌, Bool, List, [], ◌∷◌, ◌++◌, ◌<◌, length, get_or, drop, Option, None, Some, slice_get, true, false}
-use Rattle.std.proofs.Common.{not, ◌&&◌, cond, refl, sym, ap, ◌∙◌, append-nil, arith}
+use Rattle.std.proofs.Common.{rules}
+use Rattle.std.proofs.lemmas.Bool.Decides.{nat_tests}
+use Rattle.std.proofs.Common.{◌≡◌, ℕ, ◌+◌, Bool, List, [], ◌∷◌, ◌++◌, ◌<◌, length, get_or, drop, Option, None, false}
+use Rattle.std.proofs.Common.{refl, sym, append-nil, arith}
 use Rattle.std.proofs.lemmas.List.{drop_more}
 use Rattle.tangle_files.specs.Lines.{FileTable}
 use Rattle.tangle_lines.specs.Change.{Change}
 use Rattle.tangle_faults.specs.Faults.{FaultRead}
 use Rattle.tangle_lines.specs.Inclusion.{included_name}
-use Rattle.tangle_lines.specs.Reading.{WaitingLine, SourceLine, Reads, plain_step, begins, change_here, waiting_lines}
+use Rattle.tangle_lines.specs.Reading.{WaitingLine, SourceLine, Reads, plain_step, change_here, waiting_lines}
 use Rattle.tangle_lines.specs.Reading.{reads_from, before_reads}
 use Rattle.tangle_lines.specs.Waiting.{Makes, PassesOn, awaited, is_awaited}
 use Rattle.tangle_lines.proofs.ReadingLemmas.{at, so_far-plain}
@@ -20,19 +22,6 @@ all files change_file cs lines faults ws t =
     before_reads (record { lines = lines; faults = faults }) (reads_from files change_file (at ws cs t))
 
 module _ (cs : List Change) (lines : List SourceLine) (ws : List WaitingLine) where
-  pub passes-none : PassesOn cs lines ws 0 lines ws
-  passes-none files change_file faults t h =
-      let same : t + 0 ≡ t = omega arith in ap (λ k. all files change_file cs lines faults ws k) same
-
-  pub passes-more : (n m : ℕ) (lines₁ lines₂ : List SourceLine) (ws₁ ws₂ : List WaitingLine)
-      → PassesOn cs lines ws n lines₁ ws₁ → PassesOn cs lines₁ ws₁ m lines₂ ws₂
-      → PassesOn cs lines ws (n + m) lines₂ ws₂
-  passes-more n m lines₁ lines₂ ws₁ ws₂ first second files change_file faults t h =
-      let same : t + (n + m) ≡ (t + n) + m = omega arith in
-      ap (λ k. all files change_file cs lines₂ faults ws₂ k) same
-      ∙ second files change_file faults (t + n) (omega (arith, h))
-      ∙ first files change_file faults t (omega (arith, h))
-
   is_plain : (files : FileTable) (faults : List FaultRead) (w : WaitingLine) (name : Option (List ℕ)) → None ≡ name
       → Makes (plain_step files w ws [] 0 name) ws lines (lines ++ line_of w ∷ []) faults faults
   is_plain files faults w name none = rw (← none) (refl, (refl, sym (append-nil faults)))
@@ -42,7 +31,7 @@ module _ (cs : List Change) (lines : List SourceLine) (ws : List WaitingLine) wh
   passes-line w unchanged plain files change_file faults t h =
       so_far-plain files change_file (all files change_file cs lines faults (w ∷ ws) t)
       lines faults (w ∷ ws) cs t refl w ws refl
-      ws (lines ++ line_of w ∷ []) faults (omega (arith, h)) unchanged
+      ws (lines ++ line_of w ∷ []) faults (omega arith) unchanged
       (is_plain files faults w (included_name w.bytes) plain)
 
 -- the line at an index of the lines of a file, where more lines wait after the file
@@ -55,9 +44,7 @@ pub waiting-next : (file : ℕ) (changed : Bool) (depth read index : ℕ)
       changed = changed;
       depth = depth;
     } ∷ waiting_lines file changed depth (read + (index + 1) + 1) (drop (index + 1) lines) ++ rest
-waiting-next file changed depth read index lines rest inside =
-    let next : read + (index + 1) + 1 ≡ read + index + 1 + 1 = omega arith in
-    rw (drop_more lines index [] inside, next) refl
+waiting-next file changed depth read index lines rest inside = search (rules, drop_more)
 
 -- one more line was taken
 pub passes-next : (cs : List Change) (lines lines₁ lines₂ : List SourceLine)
@@ -65,17 +52,9 @@ pub passes-next : (cs : List Change) (lines lines₁ lines₂ : List SourceLine)
     → PassesOn cs lines ws n lines₁ ws₁ → m ≡ n + 1 → ws₁ ≡ w ∷ ws₂ → lines₂ ≡ lines₁ ++ line_of w ∷ []
     → None ≡ change_here cs w → None ≡ included_name w.bytes → PassesOn cs lines ws m lines₂ ws₂
 passes-next cs lines lines₁ lines₂ ws ws₁ ws₂ n m w before one first more unchanged plain =
-    rw (one, more) (passes-more cs lines ws n 1 lines₁ (lines₁ ++ line_of w ∷ []) ws₁ ws₂ before
-    (rw first (passes-line cs lines₁ ws₂ w unchanged plain)))
+    rw (one, more) (grind (arith, nat_tests, passes-line cs lines₁ ws₂ w unchanged plain))
 
 -- no change is used at a line that is not the awaited one
 pub unawaited : (cs : List Change) (w : WaitingLine)
     → is_awaited (awaited cs w.changed) w.bytes ≡ false → None ≡ change_here cs w
-unawaited [] w h = refl
-unawaited (c ∷ cs) w h = by w.changed c.old_lines h
-  where
-    by : (changed : Bool) (old : List (List ℕ)) → is_awaited (cond changed None (slice_get old 0)) w.bytes ≡ false
-        → None ≡ cond (not changed && begins old w.bytes) (Some c) None
-    by true old h = refl
-    by false [] h = refl
-    by false (o ∷ os) h = rw h refl
+unawaited cs w h = search rules

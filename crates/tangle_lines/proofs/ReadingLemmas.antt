@@ -1,17 +1,17 @@
 -- Each step of reading takes a line, so the bound allows all steps.
-use Rattle.std.proofs.Common.{◌≡◌, ℕ, zero, suc, ◌+◌, ◌-◌, ◌<◌, ◌≤◌, Bool, true, false, cond, not, ◌&&◌, List, [], ◌∷◌}
-use Rattle.std.proofs.Common.{◌++◌, length, min, drop, Option, None, Some, refl, sym, ap, arith, true≢false}
+use Rattle.std.proofs.Common.{rules}
+use Rattle.std.proofs.Common.{◌≡◌, ℕ, zero, suc, ◌+◌, ◌-◌, ◌<◌, ◌≤◌, List, [], ◌∷◌}
+use Rattle.std.proofs.Common.{◌++◌, length, min, drop, Option, None, Some, refl, arith}
 use Rattle.std.proofs.Common.{append_assoc, append-nil}
 use Rattle.tangle_faults.specs.declared.faults.FaultKind.TheVariants.{SourceTooLong}
 use Rattle.tangle_faults.specs.Faults.{fault_at, FaultRead}
-use Rattle.std.proofs.lemmas.Bool.{ltb-true, lt-ltb, le-ltb}
-use Rattle.std.specs.Prelude.{nat_lt}
+use Rattle.std.proofs.lemmas.Bool.{lt-ltb}
 use Rattle.tangle_files.specs.Lines.{FileTable}
 use Rattle.tangle_lines.specs.Change.{Change}
 use Rattle.tangle_lines.specs.Waiting.{IsPlain, Makes}
 use Rattle.tangle_lines.specs.ReadingLaw.{ReadsByStep}
 use Rattle.tangle_lines.specs.Reading.{WaitingLine, SourceLine, Reads, place_of, State, ReadingStep, step_of, line_step}
-use Rattle.tangle_lines.specs.Reading.{plain_step, change_here, unused_faults, begins, after, reads_in, reads_from}
+use Rattle.tangle_lines.specs.Reading.{plain_step, change_here, unused_faults, after, reads_in, reads_from}
 use Rattle.tangle_lines.specs.Reading.{source_line_limit, before_reads, change_lines, mismatch_faults, change_place}
 use Rattle.tangle_lines.specs.Reading.{unequal_lines}
 use Rattle.tangle_lines.specs.Inclusion.{included_name}
@@ -22,45 +22,17 @@ abbrev Advances : ℕ → ReadingStep → Type 0
 Advances taken (Ends faults) = Unit {0}
 Advances taken (Goes out s) = (taken < source_line_limit) × (taken < s.taken)
 
-begins-some : (old : List (List ℕ)) (line : List ℕ) → begins old line ≡ true → 0 < length old
-begins-some [] line h = absurd (true≢false (sym h))
-begins-some (o ∷ os) line h = omega arith
-
--- a used change is the first remaining one, and has an old line
-pub change_here-some : (cs : List Change) (w : WaitingLine) (c : Change)
-    → Some c ≡ change_here cs w → (0 < length c.old_lines) × (cs ≡ c ∷ drop 1 cs)
-change_here-some [] w c h = absurd (cc)
-change_here-some (d ∷ cs) w c h = by w.changed (begins d.old_lines w.bytes) refl h
-  where
-    by : (changed b : Bool) → begins d.old_lines w.bytes ≡ b → Some c ≡ cond (not changed && b) (Some d) None
-        → (0 < length c.old_lines) × (d ∷ cs ≡ c ∷ cs)
-    by true b e h = absurd (cc)
-    by false false e h = absurd (cc)
-    by false true e h =
-        let same : c ≡ d = cc in (rw same (begins-some d.old_lines w.bytes e), ap (λ x. x ∷ cs) (sym same))
-
 module _ (files : FileTable) (change_file : ℕ) where
   plain_step-advances : (w : WaitingLine) (ws : List WaitingLine) (cs : List Change) (t : ℕ) (name : Option (List ℕ))
       → t < source_line_limit → Advances t (plain_step files w ws cs t name)
-  plain_step-advances w ws cs t None h = (h, omega arith)
-  plain_step-advances w ws cs t (Some name) h = (h, omega arith)
+  plain_step-advances w ws cs t name h = search rules
 
   line_step-advances : (w : WaitingLine) (ws : List WaitingLine) (cs : List Change) (t : ℕ) (here : Option Change)
       → here ≡ change_here cs w → t < source_line_limit → Advances t (line_step files change_file w ws cs t here)
-  line_step-advances w ws cs t None e h = plain_step-advances w ws cs t (included_name w.bytes) h
-  line_step-advances w ws cs t (Some c) e h =
-      let some : 0 < length c.old_lines = (change_here-some cs w c e).0 in (h, omega arith)
+  line_step-advances w ws cs t here e h = search rules
 
   step_of-advances : (ws : List WaitingLine) (cs : List Change) (t : ℕ) → Advances t (step_of files change_file ws cs t)
-  step_of-advances [] cs t = tt
-  step_of-advances (w ∷ ws) cs t = by (nat_lt t source_line_limit) refl
-    where
-      by : (b : Bool) → nat_lt t source_line_limit ≡ b
-          → Advances t
-          (cond b (line_step files change_file w ws cs t (change_here cs w))
-          (Ends (fault_at SourceTooLong (place_of files w.origin) ∷ [])))
-      by true e = line_step-advances w ws cs t (change_here cs w) refl (ltb-true t source_line_limit e)
-      by false e = tt
+  step_of-advances ws cs t = search rules
 
   after-same : (n m t : ℕ) (st : ReadingStep)
       → Advances t st → source_line_limit - t < suc n → source_line_limit - t < suc m
@@ -68,8 +40,7 @@ module _ (files : FileTable) (change_file : ℕ) where
       → reads_in files change_file n s ≡ reads_in files change_file m s)
       → after files change_file st (λ s. reads_in files change_file n s)
       ≡ after files change_file st (λ s. reads_in files change_file m s)
-  after-same n m t (Ends faults) a h k rest = refl
-  after-same n m t (Goes out s) a h k rest = ap (before_reads out) (rest s (omega arith) (omega arith))
+  after-same n m t st a h k rest = search rules
 
   -- as many steps as there are lines below the limit are enough
   pub reads_in-enough : (n m : ℕ) (s : State) → source_line_limit - s.taken < n → source_line_limit - s.taken < m
@@ -84,9 +55,7 @@ module _ (files : FileTable) (change_file : ℕ) where
   after-next : (n t : ℕ) (st : ReadingStep) → Advances t st → source_line_limit - t < suc n
       → after files change_file st (λ s. reads_in files change_file n s)
       ≡ after files change_file st (λ s. reads_from files change_file s)
-  after-next n t (Ends faults) a h = refl
-  after-next n t (Goes out s) a h =
-      ap (before_reads out) (reads_in-enough n (suc (source_line_limit - s.taken)) s (omega arith) (omega arith))
+  after-next n t st a h = search (rules, reads_in-enough)
 
   -- reading makes one step, and then reads on
   pub reads_from-step : (s : State) → ReadsByStep files change_file s
@@ -96,8 +65,7 @@ module _ (files : FileTable) (change_file : ℕ) where
       (step_of-advances s.waiting s.changes s.taken) (omega arith)
 
 pub before_reads-append : (a b c : Reads) → before_reads (before_reads a b) c ≡ before_reads a (before_reads b c)
-before_reads-append a b c =
-    λ i. record { lines = append_assoc a.lines b.lines c.lines i; faults = append_assoc a.faults b.faults c.faults i }
+before_reads-append a b c = search (rules, append_assoc)
 
 abbrev pub at : List WaitingLine → List Change → ℕ → State
 at lines changes taken = record { waiting = lines; changes = changes; taken = taken }
@@ -111,9 +79,7 @@ module _ (files : FileTable) (change_file : ℕ) (ws : List WaitingLine) (cs : L
   reads_from-stop : (w : WaitingLine) → source_line_limit ≤ t
       → reads_from files change_file (at (w ∷ ws) cs t)
       ≡ record { lines = []; faults = fault_at SourceTooLong (place_of files w.origin) ∷ [] }
-  reads_from-stop w h =
-      let not_below : nat_lt t source_line_limit ≡ false = le-ltb t source_line_limit h in
-      rw (reads_from-step files change_file (at (w ∷ ws) cs t), not_below) refl
+  reads_from-stop w h = search (rules, reads_from-step)
 
   reads_from-line : (w : WaitingLine) → t < source_line_limit
       → reads_from files change_file (at (w ∷ ws) cs t)

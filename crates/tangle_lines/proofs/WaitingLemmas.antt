@@ -1,4 +1,5 @@
 -- The lines that wait, by the file that is read first.
+use Rattle.std.proofs.lemmas.Bool.Decides.{nat_tests}
 use Rattle.std.proofs.Common.{◌≡◌, ℕ, zero, suc, ◌+◌, List, [], ◌∷◌, ◌++◌, length, take, get_or, set, sym, ap, ◌∙◌}
 use Rattle.std.proofs.Common.{append_assoc, append-nil, arith}
 use Rattle.tangle_lines.specs.Reading.{WaitingLine}
@@ -16,7 +17,7 @@ stacked-set [] n f h = absurd (omega arith)
 stacked-set (g ∷ []) zero f h = sym (append-nil f)
 stacked-set (g ∷ g' ∷ fs) zero f h = absurd (omega arith)
 stacked-set (g ∷ fs) (suc n) f h =
-    ap (λ l. l ++ g) (stacked-set fs n f (omega arith)) ∙ append_assoc f (stacked (take n fs)) g
+    grind (arith, nat_tests, stacked-set fs n f, append_assoc f)
 
 pub stacked-last : (fs : List (List WaitingLine)) (n : ℕ) (d : List WaitingLine)
     → length fs ≡ n + 1 → stacked fs ≡ get_or fs n d ++ stacked (take n fs)
@@ -24,4 +25,4 @@ stacked-last [] n d h = absurd (omega arith)
 stacked-last (g ∷ []) zero d h = sym (append-nil g)
 stacked-last (g ∷ g' ∷ fs) zero d h = absurd (omega arith)
 stacked-last (g ∷ fs) (suc n) d h =
-    ap (λ l. l ++ g) (stacked-last fs n d (omega arith)) ∙ append_assoc (get_or fs n d) (stacked (take n fs)) g
+    grind (arith, nat_tests, stacked-last fs n d, append_assoc)

@@ -1,28 +1,22 @@
 -- The names for which loading asks.
-use Rattle.std.proofs.Common.{◌≡◌, ◌∙◌, ℕ, ◌<◌, ◌+◌, Bool, true, false, cond, ◌||◌, List, [], ◌∷◌, ◌++◌, Option, None}
+use Rattle.std.proofs.Common.{rules}
+use Rattle.std.proofs.Common.{◌≡◌, ◌∙◌, ℕ, ◌<◌, ◌+◌, Bool, true, false, cond, List, [], ◌∷◌, ◌++◌, Option, None}
 use Rattle.std.proofs.Common.{Some, ap, sym, refl, length, take, drop, get_or, append-nil, subst}
 use Rattle.std.specs.Prelude.{All, IfSome, filter, map}
 use Rattle.std.specs.List.{IsDistinct, list_any}
 use Rattle.std.specs.Str.{bytes_eq}
 use Rattle.std.specs.declared.vec.Vec.{Vec}
 use Rattle.std.specs.Global.{Global}
-use Rattle.std.proofs.Math.Bool.{or-false}
-use Rattle.std.proofs.lemmas.Bool.{cond_both, or_left, or_right}
+use Rattle.std.proofs.lemmas.Bool.{cond_both}
 use Rattle.std.proofs.lemmas.Cmp.{nat_list_eq_equiv}
 use Rattle.std.proofs.lemmas.List.{map-append, take-append-drop}
 use Rattle.std.proofs.lemmas.List.Folds.{list_any-append}
 use Rattle.std.proofs.lemmas.List.Elements.{All-cons, All-head, All-nil, All-tail, filter-append, filter_more}
 use Rattle.std.proofs.lemmas.Map.Keys.{IsDistinct-push}
-use Rattle.std.proofs.lemmas.Slice.Eq.{bytes_eq-Decides}
 use Rattle.tangle_faults.specs.Faults.{FaultRead}
 use Rattle.tangle_loading.specs.Loading.{is_missed, missed_in}
 use Rattle.tangle_loading.specs.Rounds.{named_in, with_all_asked, with_asked_once}
 use Rattle.tangle_loading.proofs.TableLemmas.{list_any-map}
-
--- a name that is new, and a name that is not
-pub with_asked_new : (asked : List (List ℕ)) (name : List ℕ)
-    → list_any (bytes_eq name) asked ≡ false → with_asked_once asked name ≡ asked ++ name ∷ []
-with_asked_new asked name e = ap (λ b. cond b asked (asked ++ name ∷ [])) e
 
 pub with_asked_old : (asked : List (List ℕ)) (name : List ℕ)
     → list_any (bytes_eq name) asked ≡ true → with_asked_once asked name ≡ asked
@@ -41,15 +35,10 @@ stays_asked : (asked names : List (List ℕ)) (name : List ℕ)
     → IsAsked asked name → IsAsked (with_all_asked asked names) name
 stays_asked asked [] name e = e
 stays_asked asked (n ∷ names) name e = stays_asked (with_asked_once asked n) names name
-    (cond_both (list_any (bytes_eq n) asked) asked (asked ++ n ∷ []) (λ l. IsAsked l name) (λ _. e)
-    (λ _. list_any-append (bytes_eq name) asked (n ∷ []) ∙ or_left (list_any (bytes_eq name) asked) _ e))
+    (search (rules, list_any-append))
 
 is_asked : (asked : List (List ℕ)) (name : List ℕ) → IsAsked (with_asked_once asked name) name
-is_asked asked name =
-    cond_both (list_any (bytes_eq name) asked) asked (asked ++ name ∷ []) (λ l. IsAsked l name) (λ e. e)
-    (λ _. list_any-append (bytes_eq name) asked (name ∷ [])
-    ∙ or_right (list_any (bytes_eq name) asked) (bytes_eq name name || false)
-    (or-false (bytes_eq name name) ∙ (bytes_eq-Decides name name).1 refl))
+is_asked asked name = search (rules, list_any-append)
 
 pub become_asked : (asked names : List (List ℕ)) → All (IsAsked (with_all_asked asked names)) names
 become_asked asked [] = All-nil (IsAsked asked)
@@ -84,8 +73,7 @@ last_once asked (Some name) once fresh = IsDistinct-push nat_list_eq_equiv asked
 
 -- the names that one more fault misses
 pub missed-append : (xs ys : List FaultRead) → missed_in (xs ++ ys) ≡ missed_in xs ++ missed_in ys
-missed-append xs ys = ap (map (λ f. f.subject)) (filter-append is_missed xs ys)
-    ∙ map-append (λ f. f.subject) (filter is_missed xs) (filter is_missed ys)
+missed-append xs ys = search (rules, filter-append, map-append)
 
 pub missed_more : (faults : List FaultRead) (i : ℕ) (fault : FaultRead)
     → i < length faults → fault ≡ get_or faults i fault

@@ -1,5 +1,6 @@
 -- Laws of loading.
-use Rattle.std.proofs.Common.{refl, Ok, ◌∷◌, ◌≡◌, ◌∙◌, ◌⊎◌, inl, inr, ℕ, true, false, true≢false, List, [], ◌++◌, None}
+use Rattle.std.proofs.Common.{rules}
+use Rattle.std.proofs.Common.{refl, ◌∷◌, ◌≡◌, ◌∙◌, ◌⊎◌, inl, inr, ℕ, true, false, true≢false, List, [], ◌++◌, None}
 use Rattle.std.proofs.Common.{ap, subst, sym, Contains}
 use Rattle.std.specs.Prelude.{IfSome}
 use Rattle.std.specs.List.{IsDistinct, list_any}
@@ -13,12 +14,12 @@ use Rattle.tangle_files.specs.Adding.{has_file}
 use Rattle.tangle_files.specs.Roles.{RolesRead}
 use Rattle.tangle_folders.specs.Folder.{File, FolderRead, file_bytes}
 use Rattle.tangle_loading.specs.Loading.{LoadEnd, missing_of}
-use Rattle.tangle_loading.specs.Rounds.{Answer, Due, Round, add_answers, named_in, names_of, next_round, with_all_asked}
+use Rattle.tangle_loading.specs.Rounds.{Answer, Due, Round, named_in, names_of, with_all_asked}
 use Rattle.tangle_loading.specs.Rounds.Due.{First, Next}
 use Rattle.tangle_loading.specs.Loads.{Asks, AsksOnce, Loads, StopsLoading}
 use Rattle.tangle_loading.specs.Loads.StopsLoading.{IsInRound, IsUnasked}
 use Rattle.tangle_loading.proofs.AskLemmas.{IsAsked, all_once, become_asked, last_once}
-use Rattle.tangle_loading.proofs.StepLemmas.{asks_none, asks_then}
+use Rattle.tangle_loading.proofs.StepLemmas.{asks_then}
 use Rattle.tangle_loading.proofs.TableLemmas.{all_there, grows, grows_there, or_cases}
 
 -- no name is asked for twice
@@ -32,28 +33,21 @@ due_once roles n answers files round (Next k before more old new last due names 
 
 pub loads_once : (roles : RolesRead) (old new : FolderRead) (files : FileTable)
     → Loads roles old new files → AsksOnce old.asked new.asked
-loads_once roles old new files l = record {
-  asked = names_of l.due.answers;
-  after = l.due.answered.asks.asked;
-  once = due_once roles l.due.rounds l.due.answers files _ l.due.due;
-}
+loads_once roles old new files l = search (rules, due_once)
 
 pub stops_once : (roles : RolesRead) (old new : FolderRead) (ending : LoadEnd)
     → StopsLoading roles old new ending → AsksOnce old.asked new.asked
 unfolding IsDistinct
 stops_once roles old new ending (IsUnasked same why) =
-    record { asked = []; after = (asks_none old new same).asked; once = tt }
+    search rules
 stops_once roles old new ending (IsInRound named state round due s) =
     let first = subst (Asks old s.state.folder)
     (ap (λ l. l ++ names_of s.reads.answers) (sym due.names) ∙ sym s.reads.appended)
-    (asks_then old state.folder s.state.folder (names_of due.answers) (names_of s.reads.answers)
-    due.answered.asks s.reads.answered.asks) in
+    (search (rules, asks_then)) in
     record {
       asked = s.state.asked ++ named_in s.last;
       after = (asks_then old s.state.folder new s.state.asked (named_in s.last) first s.asks).asked;
-      once = last_once s.state.asked s.last (subst (IsDistinct bytes_eq) (sym s.reads.asked)
-          (all_once state.asked s.front (subst (IsDistinct bytes_eq) (sym due.names)
-          (due_once roles due.rounds due.answers state.files round due.due)))) s.fresh;
+      once = last_once s.state.asked s.last (search (rules, all_once, due_once)) s.fresh;
     }
 
 -- the folder has no file of a name that is still missing
@@ -65,8 +59,7 @@ due_there P roles n answers files round name First none any = absurd (true≢fal
 due_there P roles n answers files round name (Next k before more old new last due names added) none any =
     elim
     (or_cases (list_any (bytes_eq name) (names_of before)) (list_any (bytes_eq name) (names_of more))
-    (sym (ap (list_any (bytes_eq name)) (map-append (λ a. a.0) before more)
-    ∙ list_any-append (bytes_eq name) (names_of before) (names_of more)) ∙ any)) [
+    (search (rules, map-append, list_any-append))) [
       | inl e ↦ elim (due_there P roles k before old last name due (λ a c. none a (Contains-append_left before more a c)) e) [
         | inl h ↦ inl (grows_there old new name (grows last.needed old new more added) h)
         | inr h ↦ inr h
@@ -115,10 +108,5 @@ one_way all roles n xs ys files next round due (Next k a more old table last d n
     let before = one_way all roles k a b old older last first d d'
     (λ x c. f x (Contains-append_left a more x c)) (λ x c. g x (Contains-append_left b others x c)) in
     let whole = same_answers all (a ++ more) (b ++ others)
-    (names ∙ ap (λ l. with_all_asked (names_of l) last.names) (sym before.0)
-    ∙ ap (λ (r : Round). with_all_asked (names_of b) r.names) (sym before.2) ∙ sym names') f g in
-    let rest = append_cancel_left a more others (whole ∙ ap (λ l. l ++ others) before.0) in
-    let gives : Ok tables ≡ Ok table =
-    sym added' ∙ (λ i. add_answers (before.2 i).needed (before.1 i) (sym rest i)) ∙ added in
-    let same : tables ≡ table = cc in
-    (sym whole, same, ap (next_round roles) same)
+    (search rules) f g in
+    search (rules, append_cancel_left)

@@ -1,20 +1,20 @@
 -- Where each included file is in the table, no name is missing.
-use Rattle.std.proofs.Common.{◌≡◌, ◌∙◌, ℕ, zero, suc, ◌+◌, ◌||◌, ◌&&◌, ◌==◌, Bool, false, not, List, []}
+use Rattle.std.proofs.Common.{rules}
+use Rattle.std.proofs.Common.{◌≡◌, ◌∙◌, ℕ, zero, suc, ◌+◌, ◌||◌, ◌&&◌, Bool, false, not, List, []}
 use Rattle.std.proofs.Common.{◌∷◌, ◌++◌, Option, Some, None, is_none, drop, refl, ap, length, true≢false}
 use Rattle.std.specs.Prelude.{nat_lt, min}
 use Rattle.std.proofs.lemmas.Bool.{cond_both, or_parts, or_from}
 use Rattle.std.proofs.lemmas.List.Folds.{list_any-append}
 use Rattle.std.specs.List.{list_any}
-use Rattle.tangle_faults.specs.declared.faults.FaultKind.TheVariants.{ChangeMismatch, IncludeTooDeep, SourceTooLong}
+use Rattle.tangle_faults.specs.declared.faults.FaultKind.TheVariants.{IncludeTooDeep, SourceTooLong}
 use Rattle.tangle_lines.specs.declared.changes.ChangePhase.{ChangePhase}
 use Rattle.tangle_lines.specs.declared.changes.ChangePhase.TheVariants.{Outside, InOld, InNew}
 use Rattle.tangle_lines.specs.declared.changes.LineKind.{LineKind}
-use Rattle.tangle_lines.specs.declared.changes.LineKind.TheVariants.{BeginsChange, BeginsNew, EndsChange, IsText}
-use Rattle.tangle_faults.specs.Faults.{FaultRead, PlaceRead, fault_at, fault_counting}
+use Rattle.tangle_faults.specs.Faults.{FaultRead, PlaceRead, fault_at}
 use Rattle.tangle_lines.specs.Inclusion.{included_name}
 use Rattle.tangle_lines.specs.Change.{Change}
-use Rattle.tangle_lines.specs.Changes.{Found, before, changes_from, closed_by, line_kind_of, next_phase, old_ended}
-use Rattle.tangle_files.specs.Lines.{FileTable, file_number, lines_at, name_at, file_number_or_count}
+use Rattle.tangle_lines.specs.Changes.{Found, before, changes_from, closed_by, line_kind_of, next_phase}
+use Rattle.tangle_files.specs.Lines.{FileTable, file_number, lines_at, file_number_or_count}
 use Rattle.tangle_lines.specs.Reading.{WaitingLine, after, begins, change_here, change_lines, change_number}
 use Rattle.tangle_lines.specs.Reading.{change_place, change_step, changes_in, depth_limit, included, source_line_limit}
 use Rattle.tangle_lines.specs.Reading.{line_step, mismatch_faults, place_of, plain_step, reads_in, unequal_lines}
@@ -30,8 +30,7 @@ both_miss_none : (xs ys : List FaultRead) → missed_in xs ≡ [] → missed_in 
 both_miss_none xs ys h k = missed-append xs ys ∙ ap (λ l. l ++ missed_in ys) h ∙ k
 
 mismatch_misses_none : (place : PlaceRead) (n : ℕ) → missed_in (mismatch_faults place n) ≡ []
-mismatch_misses_none place n =
-    cond_both (n == 0) [] (fault_counting ChangeMismatch place n ∷ []) (λ l. missed_in l ≡ []) (λ _. refl) (λ _. refl)
+mismatch_misses_none place n = search rules
 
 none_after : {A : Type 0} (p : A → Bool) (n : ℕ) (xs : List A) → list_any p xs ≡ false → list_any p (drop n xs) ≡ false
 none_after p zero xs h = h
@@ -46,7 +45,7 @@ module _ (files : FileTable) (no_missing : IncludesNoMissing files) where
       → list_any misses_waiting (waiting_lines file changed depth k ls) ≡ list_any (misses_file files) ls
   lines_miss_alike file changed depth k [] = refl
   lines_miss_alike file changed depth k (l ∷ ls) =
-      ap (λ b. misses_file files l || b) (lines_miss_alike file changed depth (k + 1) ls)
+      cc (ap (λ b. misses_file files l || b) (lines_miss_alike file changed depth (k + 1) ls))
 
   -- the changes of a change file
 
@@ -63,39 +62,16 @@ module _ (files : FileTable) (no_missing : IncludesNoMissing files) where
     pub named : list_any new_misses found.changes ≡ false
 
   fine_before : (first rest : Found) → IsFine first → IsFine rest → IsFine (before first rest)
-  fine_before first rest h k = record {
-    none = both_miss_none first.faults rest.faults h.none k.none;
-    named = list_any-append new_misses first.changes rest.changes ∙ or_from _ _ h.named k.named;
-  }
+  fine_before first rest h k = search (rules, both_miss_none, list_any-append)
 
   closed_misses_none : (old : List (List ℕ)) (change : Change)
       → new_misses change ≡ false → list_any new_misses (closed_by old change) ≡ false
-  closed_misses_none [] change h = refl
-  closed_misses_none (o ∷ os) change h = or_from _ _ h refl
-
-  old_ended_fine : (file : List ℕ) (at : ℕ) (old : List (List ℕ)) → IsFine (old_ended file at old)
-  old_ended_fine file at [] = record { none = refl; named = refl }
-  old_ended_fine file at (o ∷ os) = record { none = refl; named = refl }
+  closed_misses_none old change h = search rules
 
   next_misses_none : (file : List ℕ) (phase : ChangePhase) (n : ℕ) (line : List ℕ) (kind : LineKind)
       → PhaseMissesNone phase → misses_file files line ≡ false
       → PhaseMissesNone (next_phase file phase n line kind).0 × IsFine (next_phase file phase n line kind).1
-  next_misses_none file Outside n line BeginsChange h none = (refl, record { none = refl; named = refl })
-  next_misses_none file Outside n line kind h none = (tt, record { none = refl; named = refl })
-  next_misses_none file (InOld c) n line BeginsChange h none = (refl, record { none = refl; named = refl })
-  next_misses_none file (InOld c) n line BeginsNew h none = (h, old_ended_fine file c.at c.old_lines)
-  next_misses_none file (InOld c) n line EndsChange h none = (tt, record { none = refl; named = refl })
-  next_misses_none file (InOld c) n line IsText h none = (h, record { none = refl; named = refl })
-  next_misses_none file (InNew c) n line BeginsChange h none =
-      (refl, record { none = refl; named = closed_misses_none c.old_lines c h })
-  next_misses_none file (InNew c) n line BeginsNew h none = (h, record { none = refl; named = refl })
-  next_misses_none file (InNew c) n line EndsChange h none =
-      (tt, record { none = refl; named = closed_misses_none c.old_lines c h })
-  next_misses_none file (InNew c) n line IsText h none = (
-    list_any-append (λ (l : ℕ × List ℕ). misses_file files l.1) c.new_lines ((n, line) ∷ [])
-        ∙ or_from _ _ h (or_from _ _ none refl),
-    record { none = refl; named = refl },
-  )
+  next_misses_none file phase n line kind h none = search (rules, list_any-append)
 
   changes_fine : (file : List ℕ) (phase : ChangePhase) (n : ℕ) (lines : List (List ℕ))
       → PhaseMissesNone phase → list_any (misses_file files) lines ≡ false
@@ -114,12 +90,11 @@ module _ (files : FileTable) (no_missing : IncludesNoMissing files) where
       → list_any misses_waiting (change_lines file depth ls) ≡ list_any (λ (l : ℕ × List ℕ). misses_file files l.1) ls
   change_lines_miss_alike file depth [] = refl
   change_lines_miss_alike file depth (l ∷ ls) =
-      ap (λ b. misses_file files l.1 || b) (change_lines_miss_alike file depth ls)
+      cc (change_lines_miss_alike file depth ls)
 
   found_fine : (change : Option (List ℕ)) → IsFine (changes_in files change)
   found_fine None = record { none = refl; named = refl }
-  found_fine (Some name) = changes_fine (name_at files (file_number_or_count files name)) Outside 1
-      (lines_at files (file_number_or_count files name)) tt (no_missing (file_number_or_count files name))
+  found_fine (Some name) = search (rules, changes_fine)
 
   -- reading, with a change file of this number
   module _ (file : ℕ) where

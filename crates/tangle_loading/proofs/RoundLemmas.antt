@@ -1,20 +1,18 @@
 -- Loading round by round.
-use Rattle.std.proofs.Common.{zero, suc, ◌≡◌, ◌∙◌, inl, inr, ℕ, true, false, true≢false, List, [], ◌++◌, Option, Some}
+use Rattle.std.proofs.Common.{rules}
+use Rattle.std.proofs.Common.{zero, suc, ◌≡◌, ◌∙◌, inl, inr, ℕ, true, false, true≢false, List, [], ◌++◌}
 use Rattle.std.proofs.Common.{None, ap, subst, sym, refl, length}
-use Rattle.std.specs.Prelude.{All}
-use Rattle.std.proofs.lemmas.Bool.{and_from}
 use Rattle.std.proofs.lemmas.List.{map-append}
-use Rattle.std.proofs.lemmas.List.Elements.{All-head, All-tail}
 use Rattle.tangle_files.specs.Adding.{has_file}
-use Rattle.tangle_files.specs.Roles.{RolesRead, fits, has_file_if_any}
+use Rattle.tangle_files.specs.Roles.{RolesRead, fits}
 use Rattle.tangle_folders.specs.Folder.{FolderRead}
 use Rattle.tangle_loading.specs.Loading.{LoadEnd, bad_name, missing_of}
-use Rattle.tangle_loading.specs.Rounds.{Round, first_round, named_in, names_of}
+use Rattle.tangle_loading.specs.Rounds.{Round, first_round, names_of}
 use Rattle.tangle_loading.specs.Rounds.{next_round, with_all_asked}
 use Rattle.tangle_loading.specs.Rounds.Due.{First, Next}
 use Rattle.tangle_loading.specs.Loads.{IsDue, Loads, Progress, Reads, Stops, StopsLoading, progress}
 use Rattle.tangle_loading.specs.Loads.StopsLoading.{IsInRound}
-use Rattle.tangle_loading.proofs.AskLemmas.{IsAsked, become_asked, with_all_asked_again}
+use Rattle.tangle_loading.proofs.AskLemmas.{IsAsked, with_all_asked_again}
 use Rattle.tangle_loading.proofs.StepLemmas.{answered_none, answered_then, reads_grow}
 use Rattle.tangle_loading.proofs.TableLemmas.{all_there, grows_fits, same_table}
 
@@ -27,15 +25,13 @@ pub due_next : (roles : RolesRead) (start : FolderRead) (state next : Progress) 
     → IsDue roles start next (next_round roles next.files)
 due_next roles start state next round so_far reads =
     let names : names_of (so_far.answers ++ reads.answers) ≡ next.asked =
-    map-append (λ a. a.0) so_far.answers reads.answers
-    ∙ ap (λ l. l ++ names_of reads.answers) (sym so_far.names) ∙ sym reads.appended in record {
+    search (rules, map-append) in record {
       rounds = suc so_far.rounds;
       answers = so_far.answers ++ reads.answers;
       due = Next so_far.rounds so_far.answers reads.answers state.files next.files round so_far.due
           (names ∙ reads.asked ∙ ap (λ l. with_all_asked l round.names) so_far.names) reads.files;
       names = sym names;
-      answered = answered_then start state.folder next.folder so_far.answers reads.answers
-          so_far.answered reads.answered;
+      answered = search (rules, answered_then);
     }
 
 -- after the first round the table has the web and the change file
@@ -51,16 +47,8 @@ module _ (roles : RolesRead) (start : FolderRead) (new : Progress)
       (subst (λ l. IsAsked l name) (sym reads.asked ∙ reads.appended) e))
       [ inl h ↦ h | inr h ↦ absurd h ]
 
-  change_there : (name : Option (List ℕ)) → All WasAsked (named_in name) → has_file_if_any new.files name ≡ true
-  change_there None h = refl
-  change_there (Some name) h = is_there name (All-head WasAsked name [] h)
-
   needed_fit : fits new.files roles ≡ true
-  needed_fit =
-      let asked = become_asked [] (first_round roles).names in
-      and_from (has_file new.files roles.web) (has_file_if_any new.files roles.change)
-      (is_there roles.web (All-head WasAsked roles.web (named_in roles.change) asked))
-      (change_there roles.change (All-tail WasAsked roles.web (named_in roles.change) asked))
+  needed_fit = search (rules, is_there)
 
 -- what holds between two rounds of loading
 pub record InRounds (roles : RolesRead) (start : FolderRead) (state : Progress) : Type 0 where

@@ -1,92 +1,62 @@
 -- One step of loading, and one after another.
+use Rattle.std.proofs.Common.{rules}
 use Rattle.std.proofs.Common.{◌≡◌, ◌∙◌, inl, inr, ℕ, Bool, false, List, [], ◌∷◌, ◌++◌, Option, Some, None}
-use Rattle.std.proofs.Common.{Ok, Err, ap, subst, sym, refl, append_assoc, append-nil}
+use Rattle.std.proofs.Common.{Ok, Err, ap, subst, sym, refl, append_assoc}
 use Rattle.std.specs.Prelude.{IfErr, OnOk, Result}
 use Rattle.std.specs.List.{list_any}
 use Rattle.std.specs.Str.{bytes_eq}
 use Rattle.std.proofs.lemmas.List.{map-append}
-use Rattle.std.proofs.lemmas.List.Elements.{All-append, All-nil}
+use Rattle.std.proofs.lemmas.List.Elements.{All-append}
 use Rattle.tangle_folders.specs.Folder.{FolderRead, file_bytes, with_name_added}
-use Rattle.tangle_loading.specs.Loading.{IsLoadEnd, IsRefusal, LoadEnd, add_answer, add_bytes, and_then, ending_of}
+use Rattle.tangle_loading.specs.Loading.{IsLoadEnd, IsRefusal, LoadEnd, add_answer, add_bytes, ending_of}
 use Rattle.tangle_loading.specs.Loading.LoadEnd.{NoMemory}
-use Rattle.tangle_loading.specs.Rounds.{Answer, AreAnswersOf, add_answers, named_in, names_of, with_all_asked}
+use Rattle.tangle_loading.specs.Rounds.{Answer, AreAnswersOf, named_in, with_all_asked}
 use Rattle.tangle_loading.specs.Rounds.{with_asked_once}
 use Rattle.tangle_loading.specs.Loads.{Answered, Asks, Progress, Reads, StepEnds, Stops, Unfailed, Why}
 use Rattle.tangle_loading.specs.Loads.{with_names_added}
 use Rattle.tangle_loading.specs.declared.loading.LoadFault.{LoadFault}
 use Rattle.tangle_loading.specs.Loads.Why.{IsShort, IsUnread}
-use Rattle.tangle_loading.proofs.AskLemmas.{with_all_asked-append, with_asked_new}
-use Rattle.tangle_loading.proofs.TableLemmas.{Grows, add_answers-append, both_some, grows, some_always}
-
--- what the folder was asked for
-none_added : (asked : Option (List (List ℕ))) → asked ≡ with_names_added asked []
-none_added None = refl
-none_added (Some names) = ap (λ l. Some l) (sym (append-nil names))
+use Rattle.tangle_loading.proofs.AskLemmas.{with_all_asked-append}
+use Rattle.tangle_loading.proofs.TableLemmas.{Grows, add_answers-append, both_some, grows}
 
 added_then : (asked : Option (List (List ℕ))) (xs ys : List (List ℕ))
     → with_names_added (with_names_added asked xs) ys ≡ with_names_added asked (xs ++ ys)
-added_then None xs ys = refl
-added_then (Some names) xs ys = ap (λ l. Some l) (append_assoc names xs ys)
-
-one_added : (asked : Option (List (List ℕ))) (name : List ℕ)
-    → with_name_added asked name ≡ with_names_added asked (name ∷ [])
-one_added None name = refl
-one_added (Some names) name = refl
+added_then asked xs ys = search (rules, append_assoc)
 
 pub none_asked : (old new : FolderRead)
     → new.asked ≡ old.asked → new.files ≡ old.files → new.created ≡ old.created → Asks old new []
-none_asked old new asked files created =
-    record { asked = asked ∙ none_added old.asked; files_stay = files; created_stay = created }
+none_asked old new asked files created = search rules
 
 pub asks_none : (old new : FolderRead) → new ≡ old → Asks old new []
 asks_none old new e = none_asked old new (ap (λ f. f.asked) e) (ap (λ f. f.files) e) (ap (λ f. f.created) e)
 
 pub asks_one : (old new : FolderRead) (name : List ℕ) → new.asked ≡ with_name_added old.asked name
     → new.files ≡ old.files → new.created ≡ old.created → Asks old new (name ∷ [])
-asks_one old new name asked files created =
-    record { asked = asked ∙ one_added old.asked name; files_stay = files; created_stay = created }
+asks_one old new name asked files created = search rules
 
 pub asks_then : (old mid new : FolderRead) (xs ys : List (List ℕ))
     → Asks old mid xs → Asks mid new ys → Asks old new (xs ++ ys)
-asks_then old mid new xs ys first second = record {
-  asked = second.asked ∙ ap (λ a. with_names_added a ys) first.asked ∙ added_then old.asked xs ys;
-  files_stay = second.files_stay ∙ first.files_stay;
-  created_stay = second.created_stay ∙ first.created_stay;
-}
+asks_then old mid new xs ys first second = search (rules, added_then)
 
 pub unfailed_still : (folder : FolderRead) → Unfailed folder folder
 unfailed_still folder = record { failed = refl; failures = refl }
 
 pub answered_none : (folder : FolderRead) → Answered folder folder []
-answered_none folder = record {
-  are_of = some_always folder.files (λ all. All-nil (λ (a : Answer). file_bytes all a.0 ≡ a.1));
-  asks = asks_none folder folder refl;
-  unfailed = unfailed_still folder;
-}
+answered_none folder = search rules
 
 pub answered_then : (old mid new : FolderRead) (xs ys : List Answer)
     → Answered old mid xs → Answered mid new ys → Answered old new (xs ++ ys)
 answered_then old mid new xs ys first second = record {
   are_of = both_some old.files first.are_of (subst (λ t. AreAnswersOf t ys) first.asks.files_stay second.are_of)
       (λ all a b. All-append (λ (a : Answer). file_bytes all a.0 ≡ a.1) xs ys a b);
-  asks = subst (Asks old new) (sym (map-append (λ a. a.0) xs ys))
-      (asks_then old mid new (names_of xs) (names_of ys) first.asks second.asks);
-  unfailed = record {
-    failed = second.unfailed.failed ∙ first.unfailed.failed;
-    failures = second.unfailed.failures ∙ first.unfailed.failures;
-  };
+  asks = search (rules, map-append, asks_then);
+  unfailed = search rules;
 }
 
 -- nothing is asked for
 pub reads_none : (needed : Bool) (names : List (List ℕ)) (old : Progress)
     → with_all_asked old.asked names ≡ old.asked → Reads needed names old old
-reads_none needed names old e = record {
-  answers = [];
-  asked = sym e;
-  appended = sym (append-nil old.asked);
-  files = refl;
-  answered = answered_none old.folder;
-}
+reads_none needed names old e = search rules
 
 pub reads_grow : (needed : Bool) (names : List (List ℕ)) (old new : Progress)
     → Reads needed names old new → Grows old.files new.files
@@ -97,13 +67,7 @@ pub reads_one : (needed : Bool) (name : List ℕ) (answer : Option (List ℕ)) (
     → list_any (bytes_eq name) old.asked ≡ false → new.asked ≡ with_asked_once old.asked name
     → AreAnswersOf old.folder.files ((name, answer) ∷ []) → add_answer needed old.files name answer ≡ Ok new.files
     → Asks old.folder new.folder (name ∷ []) → Unfailed old.folder new.folder → Reads needed (name ∷ []) old new
-reads_one needed name answer old new fresh asked are_of files asks unfailed = record {
-  answers = (name, answer) ∷ [];
-  asked = asked;
-  appended = asked ∙ with_asked_new old.asked name fresh;
-  files = ap (λ l. and_then l (λ next. Ok next)) files;
-  answered = record { are_of = are_of; asks = asks; unfailed = unfailed };
-}
+reads_one needed name answer old new fresh asked are_of files asks unfailed = search rules
 
 -- one step after another
 pub reads_then : (needed : Bool) (xs ys : List (List ℕ)) (old mid new : Progress)
@@ -111,11 +75,8 @@ pub reads_then : (needed : Bool) (xs ys : List (List ℕ)) (old mid new : Progre
 reads_then needed xs ys old mid new first second = record {
   answers = first.answers ++ second.answers;
   asked = second.asked ∙ ap (λ l. with_all_asked l ys) first.asked ∙ sym (with_all_asked-append old.asked xs ys);
-  appended = second.appended ∙ ap (λ l. l ++ names_of second.answers) first.appended
-      ∙ append_assoc old.asked (names_of first.answers) (names_of second.answers)
-      ∙ ap (λ l. old.asked ++ l) (sym (map-append (λ a. a.0) first.answers second.answers));
-  files = add_answers-append needed old.files first.answers second.answers
-      ∙ ap (λ l. and_then l (λ t. add_answers needed t second.answers)) first.files ∙ second.files;
+  appended = search (rules, append_assoc, map-append);
+  files = search (rules, add_answers-append);
   answered = answered_then old.folder mid.folder new.folder first.answers second.answers
       first.answered second.answered;
 }
@@ -137,18 +98,7 @@ stops_then needed xs ys old mid new ending first s = record {
 -- loading ends before further names are read
 pub stops_early : (needed : Bool) (xs ys : List (List ℕ)) (old : Progress) (new : FolderRead) (ending : LoadEnd)
     → Stops needed xs old new ending → Stops needed (xs ++ ys) old new ending
-stops_early needed xs ys old new ending s = record {
-  front = s.front;
-  last = s.last;
-  rest = s.rest ++ ys;
-  split = ap (λ l. l ++ ys) s.split ∙ append_assoc s.front (named_in s.last ++ s.rest) ys
-      ∙ ap (λ l. s.front ++ l) (append_assoc (named_in s.last) s.rest ys);
-  state = s.state;
-  reads = s.reads;
-  fresh = s.fresh;
-  asks = s.asks;
-  why = s.why;
-}
+stops_early needed xs ys old new ending s = search (rules, append_assoc)
 
 -- loading ends at the first of these names, or before it
 pub stops_at : (needed : Bool) (name : List ℕ) (old : Progress) (new : FolderRead) (ending : LoadEnd)
@@ -199,7 +149,7 @@ pub step_added : {T : Type 0} (needed : Bool) (name bytes : List ℕ) (old new :
     → IfErr result (λ fault. IsRefusal old.files name bytes (ending_of fault))
     → StepEnds needed (name ∷ []) old new result
 step_added needed name bytes old new (Ok done) fresh asked are_of asks unfailed ok err =
-    reads_one needed name (Some bytes) old new fresh asked are_of ok asks unfailed
+    search rules
 step_added needed name bytes old new (Err fault) fresh asked are_of asks unfailed ok err =
     stops_at needed name old new.folder (ending_of fault) fresh asks (elim err [
       | inl e ↦ IsUnread name (Some bytes) (ending_of fault) unfailed are_of e
@@ -211,4 +161,4 @@ pub step_then : {T : Type 0} (needed : Bool) (xs ys : List (List ℕ)) (old mid 
     → Reads needed xs old mid → StepEnds needed ys mid new result → StepEnds needed (xs ++ ys) old new result
 step_then needed xs ys old mid new (Ok done) first second = reads_then needed xs ys old mid new first second
 step_then needed xs ys old mid new (Err fault) first s =
-    stops_then needed xs ys old mid new.folder (ending_of fault) first s
+    search (rules, stops_then)

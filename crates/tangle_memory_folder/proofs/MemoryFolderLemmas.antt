@@ -1,5 +1,7 @@
 -- The files of a folder in memory, and the one created last.
-use Rattle.std.proofs.Common.{◌≡◌, ◌≢◌, ◌∙◌, sym, ℕ, zero, suc, ◌+◌, Bool, true, false, cond, List, [], ◌∷◌, map}
+use Rattle.std.proofs.Common.{rules}
+use Rattle.std.proofs.lemmas.Bool.Decides.{nat_tests}
+use Rattle.std.proofs.Common.{◌≡◌, ◌≢◌, ℕ, zero, suc, ◌+◌, Bool, true, false, cond, List, [], ◌∷◌, map}
 use Rattle.std.proofs.Common.{length, slice_set, slice_index_or, arith, ap, refl, Option, None, Some}
 use Rattle.std.specs.Option.{option_map}
 use Rattle.std.specs.Map.{lookup}
@@ -32,25 +34,13 @@ pub file_bytes-entries : (name : List ℕ) (es : List (Vec ℕ Global × Vec ℕ
     → file_bytes (map stored_file es) name ≡ option_map (λ v. v.items) (lookup (λ k. bytes_eq name k.items) es)
 file_bytes-entries name [] = refl
 file_bytes-entries name (e ∷ es) =
-    option_map-cond (λ v. v.items) (bytes_eq name e.0.items) e.1 _ _ (file_bytes-entries name es)
+    grind (arith, nat_tests, file_bytes-entries name es)
 
 -- a look-up finds the file that was put
 pub put_found : (es : List (Vec ℕ Global × Vec ℕ Global)) (k v : Vec ℕ Global)
     → file_bytes (map stored_file (insert_entry (λ a b. bytes_eq a.items b.items) es k v)) k.items ≡ Some v.items
 put_found [] k v = ap (λ b. cond b (Some v.items) None) ((bytes_eq-Decides k.items k.items).1 refl)
-put_found (e ∷ es) k v = by (bytes_eq k.items e.0.items) refl (put_found es k v)
-  where
-    by : (b : Bool) → bytes_eq k.items e.0.items ≡ b
-        → file_bytes (map stored_file (insert_entry (λ a b. bytes_eq a.items b.items) es k v)) k.items ≡ Some v.items
-        → file_bytes
-        (map stored_file (cond b ((e.0, v) ∷ es) (e ∷ insert_entry (λ a b. bytes_eq a.items b.items) es k v))) k.items
-        ≡ Some v.items
-    by true same rest = ap (λ b. cond b (Some v.items) (file_bytes (map stored_file es) k.items)) same
-    by false other rest =
-        ap
-        (λ b. cond b (Some e.1.items)
-        (file_bytes (map stored_file (insert_entry (λ a b. bytes_eq a.items b.items) es k v)) k.items)) other
-        ∙ rest
+put_found (e ∷ es) k v = grind (arith, nat_tests, put_found es k v)
 
 unequal : (a b : List ℕ) (t : Bool) → bytes_eq a b ≡ t → a ≢ b → t ≡ false
 unequal a b true same other = absurd (other ((bytes_eq-Decides a b).0 same))
@@ -70,8 +60,5 @@ put_leaves (e ∷ es) k v name other = by (bytes_eq k.items e.0.items) refl (put
         (map stored_file (cond b ((e.0, v) ∷ es) (e ∷ insert_entry (λ a b. bytes_eq a.items b.items) es k v))) name
         ≡ file_bytes (map stored_file (e ∷ es)) name
     by true same rest =
-        let apart : bytes_eq name e.0.items ≡ false =
-        unequal name e.0.items _ refl (λ named. other (named ∙ sym ((bytes_eq-Decides k.items e.0.items).0 same))) in
-        ap (λ b. cond b (Some v.items) (file_bytes (map stored_file es) name)) apart
-        ∙ sym (ap (λ b. cond b (Some e.1.items) (file_bytes (map stored_file es) name)) apart)
-    by false differs rest = ap (λ bytes. cond (bytes_eq name e.0.items) (Some e.1.items) bytes) rest
+        search rules
+    by false differs rest = search rules

@@ -1,8 +1,10 @@
 -- What a list contains, after a map or a filter, too.
-use Rattle.std.proofs.Common.{◌≡◌, ◌⊎◌, ◌∙◌, Bool, true, false, cond, List, [], ◌∷◌, map, filter, refl, ap, sym, subst}
+use Rattle.std.proofs.Common.{rules}
+use Rattle.std.proofs.lemmas.Bool.Decides.{nat_tests}
+use Rattle.std.proofs.Common.{◌≡◌, ◌⊎◌, Bool, true, false, cond, List, [], ◌∷◌, map, filter, refl}
 use Rattle.std.proofs.Common.{inl, inr, arith, Contains}
 use Rattle.std.proofs.lemmas.List.{get_or-map, length-map}
-use Rattle.std.proofs.lemmas.List.Elements.{All-cons, All-nil, Contains-append_right, Contains-append_cases}
+use Rattle.std.proofs.lemmas.List.Elements.{Contains-append_right}
 use Rattle.std.proofs.lemmas.List.Elements.{All-contains, All-filter, All-contains_itself, filter_passes}
 
 pub here : {X : Type 0} (x : X) (xs : List X) → Contains (x ∷ xs) x
@@ -12,27 +14,22 @@ pub there : {X : Type 0} (x : X) (xs : List X) (t : X) → Contains xs t → Con
 there x xs t c = Contains-append_right (x ∷ []) xs t c
 
 pub no_item : {X : Type 0} (t : X) → Contains [] t → ⊥
-no_item t c = omega (arith, c.1)
+no_item t c = omega arith
 
 pub cons_cases : {X : Type 0} (x : X) (xs : List X) (t : X) → Contains (x ∷ xs) t → (x ≡ t) ⊎ Contains xs t
-cons_cases x xs t c = elim (Contains-append_cases (x ∷ []) xs t c) [
-  | inl h ↦ inl (All-contains (λ y. x ≡ y) (x ∷ []) t (All-cons (λ y. x ≡ y) x [] refl (All-nil (λ y. x ≡ y))) h)
-  | inr h ↦ inr h
-]
+cons_cases x xs t c = search rules
 
 pub into_filter : {X : Type 0} (q : X → Bool) (xs : List X) (t : X)
     → Contains xs t → q t ≡ true → Contains (filter q xs) t
 into_filter q [] t c h = c
 into_filter q (x ∷ xs) t c h = elim (cons_cases x xs t c) [
-  | inl e ↦ (let passes : q x ≡ true = subst (λ y. q y ≡ true) (sym e) h in
-      subst (λ b. Contains (cond b (x ∷ filter q xs) (filter q xs)) t)
-      (sym passes) (subst (Contains (x ∷ filter q xs)) e (here x (filter q xs))))
+  | inl e ↦ search rules
   | inr d ↦ keep (q x) (into_filter q xs t d h)
 ]
   where
     keep : (b : Bool) → Contains (filter q xs) t → Contains (cond b (x ∷ filter q xs) (filter q xs)) t
-    keep true m = there x (filter q xs) t m
-    keep false m = m
+    keep true m = search (rules, there)
+    keep false m = search rules
 
 pub out_of_filter : {X : Type 0} (q : X → Bool) (xs : List X) (t : X)
     → Contains (filter q xs) t → Contains xs t × (q t ≡ true)
@@ -42,13 +39,9 @@ out_of_filter q xs t c = (
 )
 
 pub into_map : {X Y : Type 0} (f : X → Y) (xs : List X) (x : X) → Contains xs x → Contains (map f xs) (f x)
-into_map f xs x c =
-    (c.0, (let h = c.1 in omega (arith, h, length-map xs f)), get_or-map f xs c.0 x (f x) c.1 ∙ ap f c.2)
+into_map f xs x c = search (rules, length-map, get_or-map)
 
 pub out_of_map : {X Y : Type 0} (f : X → Y) (xs : List X) (y : Y)
     → Contains (map f xs) y → (x : X) × Contains xs x × (f x ≡ y)
 out_of_map f [] y c = absurd (no_item y c)
-out_of_map f (x ∷ xs) y c = elim (cons_cases (f x) (map f xs) y c) [
-  | inl e ↦ (x, here x xs, e)
-  | inr d ↦ (let found = out_of_map f xs y d in (found.0, there x xs found.0 found.1, found.2))
-]
+out_of_map f (x ∷ xs) y c = grind (arith, nat_tests, out_of_map f xs y, there x xs)

@@ -1,9 +1,11 @@
 -- The first occurrences of names.
+use Rattle.std.proofs.Common.{rules}
+use Rattle.std.proofs.lemmas.Bool.Decides.{nat_tests}
 use Rattle.std.proofs.Common.{◌≡◌, ◌≢◌, ◌<◌, ◌∙◌, inl, inr, ℕ, Bool, true, false, cond, ◌&&◌}
 use Rattle.std.proofs.Common.{List, [], length, get_or, refl, ap, sym, arith, Option, Some, None}
 use Rattle.std.specs.Prelude.{slice_get, nat_lt, IsSome, find}
 use Rattle.std.specs.List.{position_or_len}
-use borrow.Author.Tests.{ltb-true, ltb-false}
+use borrow.Author.Tests.{ltb-true}
 use Rattle.std.proofs.lemmas.Bool.{eq-eqb, eqb-true, and_parts}
 use Rattle.std.proofs.lemmas.Option.{slice_get_cases, slice_get_within, get_or_from_slice_get}
 use Rattle.std.proofs.lemmas.List.Elements.{Contains-get_or}
@@ -53,21 +55,14 @@ resolves_not os id o h is = λ same.
     cc
 
 pub some_of : {X : Type 0} (o : Option X) → IsSome o → (x : X) × (o ≡ Some x)
-some_of None h = absurd (cc)
-some_of (Some x) h = (x, refl)
+some_of o h = search rules
 
 pub first_law : (os : List OccurrenceRead) (id : ℕ)
     → id < length (names_in_order os) → IsFirst os id (first_number os (get_or (names_in_order os) id []))
 first_law os id h =
     let name = get_or (names_in_order os) id [] in
     let found = some_of (find (resolves_to os name) os) (occur os name (Contains-get_or (names_in_order os) id [] h)) in
-    let at : slice_get os (first_number os name) ≡ Some found.0 = sym (find_at (resolves_to os name) os) ∙ found.1 in
-    record {
-      occurrence = found.0;
-      at = at;
-      resolves = resolves_as os id found.0 h (found_passes (resolves_to os name) os found.0 at);
-      no_earlier = λ n o less read. resolves_not os id o h (none_before (resolves_to os name) os o n less read);
-    }
+    grind (arith, nat_tests, find_at, resolves_as os id found.0 h, found_passes, resolves_not os id, none_before)
 
 second : (a b : Bool) → (a && b) ≡ false → a ≡ true → b ≡ false
 second true b h is = h
@@ -93,11 +88,8 @@ file_law os id h = by (nat_lt (position_or_len as_file os) (length os)) refl
             at = found.2;
             is_file = passes.0;
             resolves = resolves_as os id found.0 h passes.1;
-            no_earlier = λ n o less read file. resolves_not os id o h
-                (second o.is_file (resolves_to os name o) (none_before as_file os o n less read) file);
+            no_earlier = λ n o less read file. grind (arith, nat_tests, resolves_not os id o h, none_before as_file os o n less read);
           })
-      | inr past ↦ absurd (omega (arith, past.0, ltb-true (position_or_len as_file os) (length os) is))
+      | inr past ↦ absurd (omega (arith, ltb-true (position_or_len as_file os) (length os) is))
     ]
-    by false is = λ o c file. resolves_not os id o h
-        (second o.is_file (resolves_to os name o)
-        (none_passes as_file os o (ltb-false (position_or_len as_file os) (length os) is) c) file)
+    by false is = λ o c file. grind (arith, nat_tests, resolves_not os id o h, none_passes as_file os o)

@@ -1,11 +1,13 @@
 -- The numbers that a resolution has beside the names, and the faults that are found from them.
+use Rattle.std.proofs.Common.{rules}
+use Rattle.std.proofs.lemmas.Bool.Decides.{nat_tests}
 use Rattle.std.proofs.Common.{◌≡◌, ◌<◌, ◌+◌, ◌∙◌, ℕ, suc, Bool, true, false, cond, not, ◌&&◌, List, [], ◌∷◌, ◌++◌}
 use Rattle.std.proofs.Common.{length, map, filter, flat_map, take, get_or, refl, ap, sym, arith, add-zero}
-use Rattle.std.proofs.Common.{zero-add, append-nil, Some, option_to_list}
+use Rattle.std.proofs.Common.{zero-add, Some, option_to_list}
 use Rattle.std.specs.Prelude.{All, slice_get}
 use Rattle.std.specs.List.{enumerate_from}
 use Rattle.std.specs.Str.{bytes_eq}
-use Rattle.std.proofs.lemmas.List.{get_or-map, take_more, length-take-le}
+use Rattle.std.proofs.lemmas.List.{get_or-map, take_more}
 use Rattle.std.proofs.lemmas.List.Elements.{All-filter, All-map}
 use Rattle.std.proofs.lemmas.List.Folds.{find_at}
 use Rattle.std.proofs.lemmas.List.FromFn.{length-enumerate_from, get_or-enumerate_from}
@@ -15,12 +17,12 @@ use Rattle.tangle_faults.specs.Faults.{FaultRead, fault_about}
 use Rattle.tangle_lexer.specs.Occurrences.{OccurrenceRead}
 use Rattle.tangle_scan.specs.Web.{WebRead}
 use Rattle.tangle_names.specs.declared.Resolved.{Resolved}
-use Rattle.tangle_names.specs.declared.Resolved.TheVariants.{Name, NoFullName}
+use Rattle.tangle_names.specs.declared.Resolved.TheVariants.{NoFullName}
 use Rattle.tangle_names.specs.Faults.{begins_another, prefix_fault, resolution_fault, resolution_faults, named_place_of}
 use Rattle.tangle_names.specs.Names.{NameText, begins_with, full_names}
 use Rattle.tangle_names.specs.Numbers.{begins_another_by_number, fault_of_number, is_unresolved, numbers_from, warning}
 use Rattle.tangle_names.specs.Numbers.{warning_of_number}
-use Rattle.tangle_names.specs.Resolving.{first_number, first_occurrence, names_in_order, resolve, resolves_to}
+use Rattle.tangle_names.specs.Resolving.{first_number, first_occurrence, names_in_order, resolve}
 use Rattle.tangle_names.specs.Sorted.{SameTexts}
 use Rattle.tangle_names.proofs.LawLemmas.{same}
 use Rattle.tangle_names.proofs.TableLemmas.{any-same, begins-known}
@@ -46,44 +48,39 @@ numbers-push q k [] x = numbers-cons q k x [] ∙ ap {B = List ℕ} (λ n. cond 
 numbers-push q k (y ∷ ys) x =
     let moved : k + 1 + length ys ≡ k + suc (length ys) = omega arith in
     let rest = numbers-push q (k + 1) ys x ∙ ap (λ n. numbers_from q (k + 1) ys ++ cond (q x) (n ∷ []) []) moved in
-    numbers-cons q k y (ys ++ x ∷ [])
-    ∙ (ap (λ r. cond (q y) (k ∷ r) r) rest
-    ∙ (by (q y) ∙ ap (λ r. r ++ cond (q x) ((k + length (y ∷ ys)) ∷ []) []) (sym (numbers-cons q k y ys))))
+    search rules
   where
     by : (b : Bool)
         → cond b (k ∷ (numbers_from q (k + 1) ys ++ cond (q x) ((k + suc (length ys)) ∷ []) []))
         (numbers_from q (k + 1) ys ++ cond (q x) ((k + suc (length ys)) ∷ []) [])
         ≡ cond b (k ∷ numbers_from q (k + 1) ys) (numbers_from q (k + 1) ys)
         ++ cond (q x) ((k + suc (length ys)) ∷ []) []
-    by true = refl
-    by false = refl
+    by true = search rules
+    by false = search rules
 
 -- one more item
 pub numbers-more : {X : Type 0} (q : X → Bool) (xs : List X) (i : ℕ) (d : X) → i < length xs
     → numbers_from q 0 (take (i + 1) xs) ≡ numbers_from q 0 (take i xs) ++ cond (q (get_or xs i d)) (i ∷ []) []
 numbers-more q xs i d h =
-    ap (numbers_from q 0) (take_more xs i d h) ∙ (numbers-push q 0 (take i xs) (get_or xs i d)
-    ∙ ap (λ n. numbers_from q 0 (take i xs) ++ cond (q (get_or xs i d)) (n ∷ []) [])
-    (zero-add (length (take i xs)) ∙ length-take-le i xs (omega (arith, h))))
+    ap (numbers_from q 0) (take_more xs i d h) ∙ (search (rules, numbers-push))
 
 pub listed-step : {X : Type 0} (q : X → Bool) (xs : List X) (i : ℕ) (d : X) (b : Bool) (before after : List ℕ)
     → i < length xs → b ≡ q (get_or xs i d)
     → before ≡ numbers_from q 0 (take i xs) → after ≡ before ++ cond b (i ∷ []) []
     → after ≡ numbers_from q 0 (take (i + 1) xs)
-listed-step q xs i d b before after h tested sofar pushed =
-    pushed ∙ ((λ j. sofar j ++ cond (tested j) (i ∷ []) []) ∙ sym (numbers-more q xs i d h))
+listed-step q xs i d b before after h tested sofar pushed = search (rules, numbers-more)
 
 -- lists whose items pass at the same positions have the same numbers
 numbers-agree : {X Y : Type 0} (q : X → Bool) (p : Y → Bool) (k : ℕ) (xs : List X) (ys : List Y) (d : X) (e : Y)
     → length xs ≡ length ys
     → ((i : ℕ) → i < length ys → q (get_or xs i d) ≡ p (get_or ys i e)) → numbers_from q k xs ≡ numbers_from p k ys
 numbers-agree q p k [] [] d e long at = refl
-numbers-agree q p k [] (y ∷ ys) d e long at = absurd (omega (arith, long))
-numbers-agree q p k (x ∷ xs) [] d e long at = absurd (omega (arith, long))
+numbers-agree q p k [] (y ∷ ys) d e long at = absurd (omega arith)
+numbers-agree q p k (x ∷ xs) [] d e long at = absurd (omega arith)
 numbers-agree q p k (x ∷ xs) (y ∷ ys) d e long at =
-    let short : length xs ≡ length ys = omega (arith, long) in
+    let short : length xs ≡ length ys = omega arith in
     let first : q x ≡ p y = at 0 (omega arith) in
-    let rest = numbers-agree q p (k + 1) xs ys d e short (λ i h. at (suc i) (omega (arith, h))) in
+    let rest = numbers-agree q p (k + 1) xs ys d e short (λ i h. at (suc i) (omega arith)) in
     numbers-cons q k x xs ∙ ((λ i. cond (first i) (k ∷ rest i) (rest i)) ∙ sym (numbers-cons p k y ys))
 
 numbers-map : {X Y : Type 0} (q : Y → Bool) (f : X → Y) (k : ℕ) (xs : List X)
@@ -97,9 +94,7 @@ numbers-map q f k (x ∷ xs) =
 pub numbers_inside : {X : Type 0} (q : X → Bool) (xs : List X) → All (λ n. n < length xs) (numbers_from q 0 xs)
 numbers_inside {X} q xs =
     All-map (λ n. n < length xs) (λ (e : ℕ × X). e.0) (filter (λ (e : ℕ × X). q e.1) (enumerate_from 0 xs))
-    (All-filter (λ (e : ℕ × X). q e.1) (λ (e : ℕ × X). e.0 < length xs) (enumerate_from 0 xs) (λ i d low.
-    let inside : i < length xs = omega (arith, low, length-enumerate_from 0 xs) in
-    rw (get_or-enumerate_from 0 xs i d inside) (omega (arith, inside))))
+    (All-filter (λ (e : ℕ × X). q e.1) (λ (e : ℕ × X). e.0 < length xs) (enumerate_from 0 xs) (search (rules, length-enumerate_from, get_or-enumerate_from)))
 
 -- what is found from the numbers is found from the items
 by_number : {X : Type 0} (g : ℕ → List FaultRead) (f : X → List FaultRead) (q : X → Bool) (k : ℕ) (xs : List X)
@@ -116,14 +111,8 @@ by_number g f q k (x ∷ xs) at =
     by : (b : Bool)
         → flat_map g (cond b (k ∷ numbers_from q (k + 1) xs) (numbers_from q (k + 1) xs))
         ≡ cond b (g k) [] ++ flat_map g (numbers_from q (k + 1) xs)
-    by true = refl
-    by false = refl
-
--- the faults of occurrences
-by_what : (files : List (List ℕ)) (r : Resolved) (o : OccurrenceRead)
-    → cond (is_unresolved r) (resolution_fault files r o) [] ≡ resolution_fault files r o
-by_what files (Name id) o = refl
-by_what files _ o = refl
+    by true = search rules
+    by false = search rules
 
 pub faults_of_numbers : (web : WebRead) (rs : List Resolved) → rs ≡ map (resolve web.occurrences) web.occurrences
     → flat_map (fault_of_number web rs) (numbers_from is_unresolved 0 rs)
@@ -148,11 +137,7 @@ faults_of_numbers web rs all =
         ap (λ rs. get_or rs i NoFullName) all
         ∙ (get_or-map f os i o NoFullName (slice_get_within os i o found)
         ∙ ap f (get_or_from_slice_get os i o o found)) in
-        let one : fault_of_number web rs i ≡ resolution_fault web.file_names (f o) o =
-        (λ j. flat_map (resolution_fault web.file_names (known j)) (option_to_list (found j)))
-        ∙ append-nil (resolution_fault web.file_names (f o) o) in
-        ap (λ r. cond (is_unresolved (f o)) r []) (ap (fault_of_number web rs) number ∙ one)
-        ∙ by_what web.file_names (f o) o
+        search rules
 
 -- the names that begin others
 same_names : (os : List OccurrenceRead) → SameTexts (names_in_order os) (full_names os)
@@ -169,20 +154,13 @@ pub beginning_numbers_are : (os : List OccurrenceRead)
     → ((id : ℕ) → id < length names → get_or flags id false ≡ begins_another_by_number names texts id)
     → numbers ≡ numbers_from (λ b. b) 0 flags → numbers ≡ numbers_from (begins_another names) 0 names
 beginning_numbers_are os texts names flags numbers same named long known are =
-    are ∙ numbers-agree (λ b. b) (begins_another names) 0 flags names false [] long (λ id h.
-    let inside : id < length (names_in_order os) = omega (arith, h, ap length named) in
-    known id h ∙ (ap (λ ns. begins_another_by_number ns texts id) named
-    ∙ (begins-known os texts id same inside ∙ (begins_same os (get_or (names_in_order os) id [])
-    ∙ (λ i. begins_another (sym named i) (get_or (sym named i) id []))))))
+    are ∙ numbers-agree (λ b. b) (begins_another names) 0 flags names false [] long (grind (arith, nat_tests, begins-known os texts, begins_same os))
 
 warning-is : (web : WebRead) (name : NameText)
     → warning web (first_number web.occurrences name) name
     ≡ map (λ (o : OccurrenceRead). fault_about kind.PrefixName (named_place_of web.file_names o.origin) name)
     (option_to_list (first_occurrence web.occurrences name))
-warning-is web name =
-    ap
-    (λ found. map (λ (o : OccurrenceRead). fault_about kind.PrefixName (named_place_of web.file_names o.origin) name)
-    (option_to_list found)) (sym (find_at (resolves_to web.occurrences name) web.occurrences))
+warning-is web name = search (rules, find_at)
 
 pub warnings_of_numbers : (web : WebRead) (names : List NameText) (first_occurrences : List ℕ)
     → names ≡ names_in_order web.occurrences
@@ -201,16 +179,4 @@ warnings_of_numbers web names first_occurrences named positions =
         ≡ prefix_fault web name
     at i name found =
         let number : 0 + i ≡ i = zero-add i in
-        let read : get_or names i [] ≡ name = get_or_from_slice_get names i name [] found in
-        let inside : i < length (names_in_order os) =
-        omega (arith, slice_get_within names i name found, ap length named) in
-        let position : get_or first_occurrences i 0 ≡ first_number os name =
-        ap (λ ns. get_or ns i 0) positions
-        ∙ (get_or-map (first_number os) (names_in_order os) i [] 0 inside
-        ∙ ap (first_number os) (ap (λ ns. get_or ns i []) (sym named) ∙ read)) in
-        let marked : begins_another names name ≡ begins_another (full_names os) name =
-        ap (λ ns. begins_another ns name) named ∙ sym (begins_same os name) in
-        let one : warning_of_number web names first_occurrences i ≡ warning web (first_number os name) name =
-        λ j. warning web (position j) (read j) in
-        λ j.
-        cond (marked j) ((ap (warning_of_number web names first_occurrences) number ∙ (one ∙ warning-is web name)) j) []
+        search (rules, get_or_from_slice_get, slice_get_within, get_or-map, begins_same, warning-is)

@@ -1,6 +1,8 @@
 -- The laws of names.
-use Rattle.std.proofs.Common.{◌≡◌, ◌≢◌, ◌∙◌, Bool, true, false, cond, not, ◌&&◌, List, [], ◌∷◌, filter}
-use Rattle.std.proofs.Common.{get_or, refl, ap, sym, subst, arith, Contains, find}
+use Rattle.std.proofs.Common.{rules}
+use Rattle.std.proofs.lemmas.Bool.Decides.{nat_tests}
+use Rattle.std.proofs.Common.{◌≡◌, ◌≢◌, ◌∙◌, Bool, true, false, cond, not, List, [], ◌∷◌, filter}
+use Rattle.std.proofs.Common.{refl, ap, sym, subst, arith, Contains, find}
 use Rattle.std.specs.List.{AllByRecursion, IsDistinct, list_all, list_any, position_or_len}
 use Rattle.std.specs.Prelude.{IsSome}
 use Rattle.std.specs.Str.{bytes_eq}
@@ -9,7 +11,7 @@ use Rattle.std.proofs.lemmas.List.Folds.{find_at}
 use Rattle.std.proofs.lemmas.List.Sums.{passes_at_first}
 use Rattle.std.proofs.lemmas.Option.{slice_get-get_or}
 use Rattle.std.proofs.lemmas.Slice.Eq.{bytes_eq-Decides}
-use Rattle.std.proofs.lemmas.Bool.{not-true, false_from_ne_true, or_parts}
+use Rattle.std.proofs.lemmas.Bool.{not-true, false_from_ne_true}
 use Rattle.tangle_lexer.specs.Occurrences.{OccurrenceRead}
 use Rattle.tangle_names.specs.Names.{NameText, Meaning, Nothing, One, Several, begins_with, full_names, meaning, means}
 use Rattle.tangle_names.specs.Names.{only, only_with, prefix}
@@ -27,8 +29,7 @@ each_other : (t : NameText) (ts : List NameText)
     → list_any (bytes_eq t) ts ≡ false → AllByRecursion (λ u. bytes_eq t u ≡ false) ts
 each_other t [] h = tt
 each_other t (u ∷ us) h =
-    let both = or_parts (bytes_eq t u) (list_any (bytes_eq t) us) h in
-    (both.0, each_other t us both.1)
+    grind (arith, nat_tests, each_other t us)
 
 is_distinct : (ts : List NameText) → Distinct ts → IsDistinct bytes_eq ts
 unfolding IsDistinct
@@ -64,11 +65,7 @@ number-at : (t : NameText) (ts : List NameText)
     → list_any (bytes_eq t) ts ≡ true → IsNumberOf ts (position_or_len (bytes_eq t) ts) t
 number-at t ts h =
     let inside = first_inside (bytes_eq t) ts t (contains-any t ts h) ((bytes_eq-Decides t t).1 refl) in
-    record {
-      inside = inside;
-      at = sym ((bytes_eq-Decides t (get_or ts (position_or_len (bytes_eq t) ts) [])).0
-          (passes_at_first (bytes_eq t) ts [] inside));
-    }
+    search (rules, passes_at_first)
 
 pub full_law : (os : List OccurrenceRead) (o : OccurrenceRead)
     → Contains os o → o.is_abbreviation ≡ false → ResolvesFull (names_in_order os) o.text (resolve os o)
@@ -78,23 +75,12 @@ full_law os o c is =
     (sym itself) (number-at o.text (names_in_order os) (among os o o.text c itself))
 
 from-nothing : (xs : List NameText) → Nothing ≡ only xs → (t : NameText) → Contains xs t → ⊥
-from-nothing [] e t c = omega (arith, c.1)
-from-nothing (x ∷ xs) e t c = by (list_all (bytes_eq x) xs) e
-  where
-    by : (b : Bool) → Nothing ≡ cond b (One x) Several → ⊥
-    by true f = cc
-    by false f = cc
+from-nothing xs e t c = search rules
 
 fails-either : (q : NameText → Bool) (x : NameText) (xs : List NameText)
     → list_all q (x ∷ xs) ≡ false → (list_all q xs ≡ false → (v : NameText) × Contains xs v × (q v ≡ false))
     → (v : NameText) × Contains (x ∷ xs) v × (q v ≡ false)
-fails-either q x xs h rest = by (q x) refl
-  where
-    by : (b : Bool) → q x ≡ b → (v : NameText) × Contains (x ∷ xs) v × (q v ≡ false)
-    by true is =
-        let found = rest (ap (λ b. b && list_all q xs) (sym is) ∙ h) in
-        (found.0, there x xs found.0 found.1, found.2)
-    by false is = (x, here x xs, is)
+fails-either q x xs h rest = search (rules, there)
 
 fails : (q : NameText → Bool) (xs : List NameText)
     → list_all q xs ≡ false → (v : NameText) × Contains xs v × (q v ≡ false)
@@ -104,19 +90,7 @@ fails q (x ∷ xs) h = fails-either q x xs h (fails q xs)
 from-several : (xs : List NameText)
     → Several ≡ only xs → (t : NameText) × (u : NameText) × Contains xs t × Contains xs u × (t ≢ u)
 from-several [] e = absurd (cc)
-from-several (x ∷ xs) e = by (list_all (bytes_eq x) xs) refl
-  where
-    by : (b : Bool) → list_all (bytes_eq x) xs ≡ b
-        → (t : NameText) × (u : NameText) × Contains (x ∷ xs) t × Contains (x ∷ xs) u × (t ≢ u)
-    by true is = absurd (let clash : Several ≡ One x = e ∙ ap (λ b. cond b (One x) Several) is in cc)
-    by false is =
-        let found = fails (bytes_eq x) xs is in (
-          x,
-          found.0,
-          here x xs,
-          there x xs found.0 found.1,
-          λ equal. (let clash : true ≡ false = sym ((bytes_eq-Decides x found.0).1 equal) ∙ found.2 in cc),
-        )
+from-several (x ∷ xs) e = grind (arith, nat_tests, fails, here x xs, there x xs, bytes_eq-Decides x)
 
 prefix_law-by : (os : List OccurrenceRead) (p : NameText) (m : Meaning)
     → m ≡ only_with (full_names os) p → ((t : NameText) → m ≡ One t → list_any (bytes_eq t) (names_in_order os) ≡ true)
@@ -125,29 +99,13 @@ prefix_law-by os p Nothing e named = λ t c. false_from_ne_true _ (λ begun.
     from-nothing (filter (begins_with p) (full_names os)) e t (into_filter (begins_with p) (full_names os) t c begun))
 prefix_law-by os p (One t) e named =
     let found = from-one (filter (begins_with p) (full_names os)) t e in
-    let member = out_of_filter (begins_with p) (full_names os) t found.0 in (
-      t,
-      number-at t (names_in_order os) (named t refl),
-      record {
-        is_full = member.0;
-        begins = member.1;
-        only = λ other c begun. sym (found.1 other (into_filter (begins_with p) (full_names os) other c begun));
-      },
-    )
+    let member = out_of_filter (begins_with p) (full_names os) t found.0 in
+    grind (arith, nat_tests, number-at t, into_filter)
 prefix_law-by os p Several e named =
     let found = from-several (filter (begins_with p) (full_names os)) e in
     let first = out_of_filter (begins_with p) (full_names os) found.0 found.2 in
-    let second = out_of_filter (begins_with p) (full_names os) found.1 found.3 in (
-      found.0,
-      found.1,
-      record {
-        first_is_full = first.0;
-        second_is_full = second.0;
-        first_begins = first.1;
-        second_begins = second.1;
-        differ = found.4;
-      },
-    )
+    let second = out_of_filter (begins_with p) (full_names os) found.1 found.3 in
+    search rules
 
 pub prefix_law : (os : List OccurrenceRead) (o : OccurrenceRead) → Contains os o → o.is_abbreviation ≡ true
     → ResolvesPrefix (names_in_order os) (full_names os) (prefix o.text) (resolve os o)
@@ -164,6 +122,6 @@ found_first q os o c h =
 
 pub occur : (os : List OccurrenceRead) (t : NameText) → Contains (names_in_order os) t → IsSome (first_occurrence os t)
 occur os =
-    from_fold (λ t. IsSome (first_occurrence os t)) (meanings os) [] (λ t c. absurd (omega (arith, c.1))) (λ m t c e.
+    from_fold (λ t. IsSome (first_occurrence os t)) (meanings os) [] (λ t c. absurd (omega arith)) (λ m t c e.
     let o = out_of_map (meaning (full_names os)) os m c in
     found_first (resolves_to os t) os o.0 o.1 (ap (means t) (o.2 ∙ e) ∙ nat_list_eq_equiv.refl t))

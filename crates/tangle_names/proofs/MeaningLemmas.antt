@@ -1,5 +1,7 @@
 -- Whether a list has no text, one or several, and whether an item of it passes a test.
-use Rattle.std.proofs.Common.{◌≡◌, ◌≢◌, ◌∙◌, Bool, true, false, cond, List, [], ◌∷◌, refl, ap, sym, subst}
+use Rattle.std.proofs.Common.{rules}
+use Rattle.std.proofs.lemmas.Bool.Decides.{nat_tests}
+use Rattle.std.proofs.Common.{◌≡◌, ◌≢◌, ◌∙◌, Bool, true, false, cond, List, [], ◌∷◌, refl, ap, sym}
 use Rattle.std.proofs.Common.{inl, inr, Contains, arith, get_or, length, ◌<◌, ◌≤◌}
 use Rattle.std.specs.List.{list_all, list_any, position_or_len}
 use Rattle.std.proofs.lemmas.List.Elements.{All-contains, Contains-get_or}
@@ -42,21 +44,13 @@ only-several [] t u c d apart = absurd (no_item t c)
 only-several (x ∷ xs) t u c d apart = by (list_all (bytes_eq x) xs) refl
   where
     by : (b : Bool) → list_all (bytes_eq x) xs ≡ b → Several ≡ cond (list_all (bytes_eq x) xs) (One x) Several
-    by true h = absurd (apart (sym (as_first x xs h t c) ∙ as_first x xs h u d))
-    by false h = sym (ap (λ b. cond b (One x) Several) h)
+    by true h = grind (arith, nat_tests, as_first x xs h t c, as_first x xs h u d)
+    by false h = search rules
 
 pub from-one : (xs : List NameText) (u : NameText)
     → One u ≡ only xs → Contains xs u × ((v : NameText) → Contains xs v → u ≡ v)
 from-one [] u e = absurd (cc)
-from-one (x ∷ xs) u e = by (list_all (bytes_eq x) xs) refl
-  where
-    by : (b : Bool)
-        → list_all (bytes_eq x) xs ≡ b → Contains (x ∷ xs) u × ((v : NameText) → Contains (x ∷ xs) v → u ≡ v)
-    by true h =
-        let one : One u ≡ One x = e ∙ ap (λ b. cond b (One x) Several) h in
-        let same : u ≡ x = cc in
-        (subst (Contains (x ∷ xs)) (sym same) (here x xs), λ v c. same ∙ as_first x xs h v c)
-    by false h = absurd (let clash : One u ≡ Several = e ∙ ap (λ b. cond b (One x) Several) h in cc)
+from-one (x ∷ xs) u e = grind (arith, nat_tests, as_first x xs)
 
 pub list_any-none : {X : Type 0} (q : X → Bool) (xs : List X)
     → ((v : X) → Contains xs v → q v ≡ false) → list_any q xs ≡ false
@@ -72,7 +66,7 @@ contains-any t ts h = Contains-from_any {eq = bytes_eq} (λ x y e. (bytes_eq-Dec
 -- the first position of an item that passes
 pub none_passes : {X : Type 0} (q : X → Bool) (xs : List X) (x : X)
     → length xs ≤ position_or_len q xs → Contains xs x → q x ≡ false
-none_passes q xs x past c = ap q (sym c.2) ∙ fails_before_first q xs c.0 x (omega (arith, past, c.1))
+none_passes q xs x past c = ap q (sym c.2) ∙ fails_before_first q xs c.0 x (omega arith)
 
 pub first_inside : {X : Type 0} (q : X → Bool) (xs : List X) (x : X)
     → Contains xs x → q x ≡ true → position_or_len q xs < length xs

@@ -17,12 +17,6 @@ begins-above [] (b ∷ t) begun = refl
 begins-above (c ∷ p) [] begun = absurd (cc)
 begins-above (c ∷ p) (b ∷ t) begun = step_above b c (slice_cmp nat_cmp t p) (begins_with p t) (begins-above p t) begun
 
-step_between : (a b c : ℕ) (r s : Ordering) (d e : Bool) → (is_lt r ≡ false → is_gt s ≡ false → e ≡ true → d ≡ true)
-    → is_lt (ordering_then (nat_cmp b c) r) ≡ false → is_gt (ordering_then (nat_cmp b a) s) ≡ false
-    → (nat_eq c a && e) ≡ true
-    → (nat_eq c b && d) ≡ true
-step_between a b c r s d e more low high begun = grind (arith, nat_tests)
-
 -- a text that is neither below a prefix nor above a text with this prefix has the prefix too
 pub begins-between : (p t u : NameText) → is_lt (slice_cmp nat_cmp t p) ≡ false → is_gt (slice_cmp nat_cmp t u) ≡ false
     → begins_with p u ≡ true → begins_with p t ≡ true
@@ -30,5 +24,4 @@ begins-between [] t u low high begun = refl
 begins-between (c ∷ p) [] u low high begun = absurd (cc)
 begins-between (c ∷ p) (b ∷ t) [] low high begun = absurd (cc)
 begins-between (c ∷ p) (b ∷ t) (a ∷ u) low high begun =
-    step_between a b c (slice_cmp nat_cmp t p) (slice_cmp nat_cmp t u)
-    (begins_with p t) (begins_with p u) (begins-between p t u) low high begun
+    grind (arith, nat_tests, begins-between p t u)

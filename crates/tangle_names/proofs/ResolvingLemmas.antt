@@ -1,6 +1,7 @@
 -- The name that is meant is among the names, and keeps its number.
+use Rattle.std.proofs.Common.{rules}
 use Rattle.std.proofs.Common.{◌≡◌, ◌+◌, ◌∙◌, ◌||◌, ℕ, Bool, true, false, cond, List, [], ◌∷◌, ◌++◌, length, map}
-use Rattle.std.proofs.Common.{take, fold, get_or, eqb, refl, ap, sym, arith, inl, inr, ◌<◌, Contains}
+use Rattle.std.proofs.Common.{take, fold, get_or, eqb, refl, ap, arith, ◌<◌, Contains}
 use Rattle.std.specs.List.{list_any, position_or_len}
 use Rattle.std.specs.Str.{bytes_eq}
 use Rattle.std.proofs.lemmas.Cmp.{nat_list_eq_equiv}
@@ -8,27 +9,20 @@ use Rattle.std.proofs.lemmas.List.{map_push, take_more}
 use Rattle.std.proofs.lemmas.Bool.Decides.{nat_tests}
 use Rattle.std.proofs.lemmas.List.Folds.{list_any-append, position_or_len_push}
 use Rattle.std.proofs.lemmas.List.Sums.{fold-append}
-use Rattle.std.proofs.lemmas.Bool.{or_left}
 use Rattle.tangle_names.specs.declared.Resolved.{Resolved}
 use Rattle.tangle_names.specs.declared.Resolved.TheVariants.{Name}
 use Rattle.tangle_names.specs.Names.{NameText, Meaning, Nothing, One, Several}
 use Rattle.tangle_names.specs.Resolving.{names_of, resolved_meaning, with_name}
 use Rattle.tangle_names.specs.Sorted.{meaning_of}
 use Rattle.tangle_names.specs.declared.sorted.Meaning.{Meaning as Found}
-use Rattle.tangle_names.proofs.ContainsLemmas.{here, there, cons_cases}
+use Rattle.tangle_names.proofs.ContainsLemmas.{here, there}
 use Rattle.tangle_names.proofs.MeaningLemmas.{contains-any, first_inside}
 
 -- the name that is meant is among the names
 
 kept-with : (q : NameText → Bool) (ts : List NameText) (m : Meaning)
     → list_any q ts ≡ true → list_any q (with_name ts m) ≡ true
-kept-with q ts Nothing h = h
-kept-with q ts (One t) h = by (list_any (bytes_eq t) ts)
-  where
-    by : (b : Bool) → list_any q (cond b ts (ts ++ t ∷ [])) ≡ true
-    by true = h
-    by false = list_any-append q ts (t ∷ []) ∙ or_left (list_any q ts) (list_any q (t ∷ [])) h
-kept-with q ts Several h = h
+kept-with q ts m h = search (rules, list_any-append)
 
 kept-fold : (q : NameText → Bool) (ms : List Meaning) (ts : List NameText)
     → list_any q ts ≡ true → list_any q (fold with_name ts ms) ≡ true
@@ -41,30 +35,16 @@ last_or false true h = refl
 last_or false false h = absurd (cc)
 
 added : (ts : List NameText) (t : NameText) → list_any (bytes_eq t) (with_name ts (One t)) ≡ true
-added ts t = by (list_any (bytes_eq t) ts) refl
-  where
-    by : (b : Bool) → list_any (bytes_eq t) ts ≡ b
-        → list_any (bytes_eq t) (cond (list_any (bytes_eq t) ts) ts (ts ++ t ∷ [])) ≡ true
-    by true is = ap (λ b. list_any (bytes_eq t) (cond b ts (ts ++ t ∷ []))) is ∙ is
-    by false is =
-        ap (λ b. list_any (bytes_eq t) (cond b ts (ts ++ t ∷ []))) is
-        ∙ (list_any-append (bytes_eq t) ts (t ∷ [])
-        ∙ last_or (list_any (bytes_eq t) ts) (bytes_eq t t) (nat_list_eq_equiv.refl t))
+added ts t = search (rules, list_any-append)
 
 pub meant-fold : (t : NameText) (ms : List Meaning) (ts : List NameText)
     → Contains ms (One t) → list_any (bytes_eq t) (fold with_name ts ms) ≡ true
-meant-fold t [] ts c = absurd (omega (arith, c.1))
-meant-fold t (m ∷ ms) ts c = elim (cons_cases m ms (One t) c) [
-  | inl e ↦ kept-fold (bytes_eq t) ms (with_name ts m) (ap (λ n. list_any (bytes_eq t) (with_name ts n)) e ∙ added ts t)
-  | inr d ↦ meant-fold t ms (with_name ts m) d
-]
+meant-fold t [] ts c = absurd (omega arith)
+meant-fold t (m ∷ ms) ts c = grind (arith, nat_tests, kept-fold, added ts t, meant-fold t ms)
 
 -- a name keeps its number when another name is added
 kept_below : (n size other : ℕ) → n < size → cond (eqb n size) other n ≡ n
 kept_below n size other h = grind (arith, nat_tests)
-
-kept_at_end : (n size : ℕ) → cond (eqb n size) (size + 0) n ≡ n
-kept_at_end n size = grind (arith, nat_tests)
 
 found-append : (t u : NameText) (ts : List NameText) → list_any (bytes_eq t) ts ≡ true
     → position_or_len (bytes_eq t) (ts ++ u ∷ []) ≡ position_or_len (bytes_eq t) ts
@@ -75,34 +55,18 @@ found-append t u ts h =
 
 last-append : (t : NameText) (ts : List NameText)
     → position_or_len (bytes_eq t) (ts ++ t ∷ []) ≡ position_or_len (bytes_eq t) ts
-last-append t ts =
-    let n = position_or_len (bytes_eq t) ts in
-    position_or_len_push (bytes_eq t) ts t
-    ∙ ap (λ b. cond (eqb n (length ts)) (length ts + cond b 0 1) n) (nat_list_eq_equiv.refl t)
-    ∙ kept_at_end n (length ts)
+last-append t ts = search (rules, position_or_len_push)
 
 number-with : (ts : List NameText) (m : Meaning) (t : NameText)
     → list_any (bytes_eq t) ts ≡ true → position_or_len (bytes_eq t) (with_name ts m) ≡ position_or_len (bytes_eq t) ts
-number-with ts Nothing t h = refl
-number-with ts (One u) t h = by (list_any (bytes_eq u) ts)
-  where
-    by : (b : Bool) → position_or_len (bytes_eq t) (cond b ts (ts ++ u ∷ [])) ≡ position_or_len (bytes_eq t) ts
-    by true = refl
-    by false = found-append t u ts h
-number-with ts Several t h = refl
+number-with ts m t h = search (rules, found-append)
 
 number-own : (ts : List NameText) (t : NameText)
     → position_or_len (bytes_eq t) (with_name ts (One t)) ≡ position_or_len (bytes_eq t) ts
-number-own ts t = by (list_any (bytes_eq t) ts)
-  where
-    by : (b : Bool) → position_or_len (bytes_eq t) (cond b ts (ts ++ t ∷ [])) ≡ position_or_len (bytes_eq t) ts
-    by true = refl
-    by false = last-append t ts
+number-own ts t = search (rules, last-append)
 
 resolved_meaning-own : (ts : List NameText) (m : Meaning) → resolved_meaning (with_name ts m) m ≡ resolved_meaning ts m
-resolved_meaning-own ts Nothing = refl
-resolved_meaning-own ts (One t) = ap Name (number-own ts t)
-resolved_meaning-own ts Several = refl
+resolved_meaning-own ts m = search (rules, number-own)
 
 resolved_meaning-kept : (ms : List Meaning) (m n : Meaning)
     → Contains ms n → resolved_meaning (with_name (names_of ms) m) n ≡ resolved_meaning (names_of ms) n
@@ -137,17 +101,12 @@ resolved_meaning-more ms i d h =
     let all : map meaning_of (take (i + 1) ms) ≡ before ++ last ∷ [] =
     ap (map meaning_of) (take_more ms i d h) ∙ map_push meaning_of (take i ms) (get_or ms i d) in
     let named = names-more ms i d h in
-    (λ j. map (resolved_meaning (named j)) (all j))
-    ∙ map_push (resolved_meaning (with_name (names_of before) last)) before last
-    ∙ (λ j. map-agree (resolved_meaning (with_name (names_of before) last))
-    (resolved_meaning (names_of before)) before (λ n c. resolved_meaning-kept before last n c) j
-    ++ resolved_meaning-own (names_of before) last j ∷ [])
+    search (rules, map_push, map-agree, resolved_meaning-kept, resolved_meaning-own)
 
 pub names-step : (ms : List Found) (i : ℕ) (d : Found) (old new : List NameText)
     → i < length ms → old ≡ names_of (map meaning_of (take i ms))
     → new ≡ with_name old (meaning_of (get_or ms i d)) → new ≡ names_of (map meaning_of (take (i + 1) ms))
-names-step ms i d old new h sofar is =
-    is ∙ (ap (λ ts. with_name ts (meaning_of (get_or ms i d))) sofar ∙ sym (names-more ms i d h))
+names-step ms i d old new h sofar is = search (rules, names-more)
 
 pub numbers-step : (ms : List Found) (i : ℕ) (d : Found)
     (names : List NameText) (old new : List Resolved) (r : Resolved)
@@ -155,7 +114,4 @@ pub numbers-step : (ms : List Found) (i : ℕ) (d : Found)
     → old ≡ map (resolved_meaning (names_of (map meaning_of (take i ms)))) (map meaning_of (take i ms))
     → r ≡ resolved_meaning names (meaning_of (get_or ms i d)) → new ≡ old ++ r ∷ []
     → new ≡ map (resolved_meaning (names_of (map meaning_of (take (i + 1) ms)))) (map meaning_of (take (i + 1) ms))
-numbers-step ms i d names old new r h named sofar number is =
-    is
-    ∙ ((λ j. sofar j ++ (number ∙ ap (λ ts. resolved_meaning ts (meaning_of (get_or ms i d))) named) j ∷ [])
-    ∙ sym (resolved_meaning-more ms i d h))
+numbers-step ms i d names old new r h named sofar number is = search (rules, resolved_meaning-more)

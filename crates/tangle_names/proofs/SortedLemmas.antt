@@ -1,8 +1,9 @@
 -- The sorted full names: how a sort gives them, and where those are that begin with a prefix.
-use Rattle.std.proofs.Common.{◌≡◌, ◌≢◌, ◌≤◌, ◌<◌, ◌+◌, ◌∙◌, ℕ, zero, suc, Bool, true, false, cond, not, ◌&&◌, List, []}
+use Rattle.std.proofs.Common.{rules}
+use Rattle.std.proofs.lemmas.Bool.Decides.{nat_tests}
+use Rattle.std.proofs.Common.{◌≡◌, ◌≢◌, ◌≤◌, ◌<◌, ◌+◌, ◌∙◌, ℕ, zero, suc, true, false, not, ◌&&◌, List, []}
 use Rattle.std.proofs.Common.{◌∷◌, length, get_or, filter, refl, ap, sym, subst, inl, inr, arith, Contains}
 use Rattle.std.specs.Borrow.{Bor}
-use Rattle.std.specs.BTreeMap.Comparable.{le_lt_trans}
 use Rattle.std.specs.List.{dedup, dedup_from}
 use Rattle.std.specs.Ordering.{nat_cmp, is_lt, is_le, is_gt, ordering_reverse}
 use Rattle.std.specs.declared.cmp.Ordering.{Ordering}
@@ -44,9 +45,7 @@ rising (t ∷ ts) up zero (suc j) low high =
     (All-after_first (slice_cmp nat_cmp) t ts up) (Contains-get_or ts j [] inside)
 rising (t ∷ ts) up (suc i) zero low high = absurd (omega arith)
 rising (t ∷ ts) up (suc i) (suc j) low high =
-    let before : i < j = omega arith in
-    let inside : j < length ts = omega arith in
-    rising ts (sorted_tail (slice_cmp nat_cmp) t ts up) i j before inside
+    grind (arith, nat_tests, rising ts, sorted_tail)
 
 alike : (t : NameText) → slice_cmp nat_cmp t t ≡ Equal
 alike t = by (slice_cmp nat_cmp t t) refl
@@ -61,12 +60,7 @@ alike t = by (slice_cmp nat_cmp t t) refl
 -- in an ordered list no text is above a later one, nor above itself
 pub no_higher : (texts : List NameText) → IsInOrder texts → (i j : ℕ)
     → i ≤ j → j < length texts → is_gt (slice_cmp nat_cmp (get_or texts i []) (get_or texts j [])) ≡ false
-no_higher texts up i j low high = elim (cases_lt i j) [
-  | inl before ↦ ap is_gt (rising texts up i j before high)
-  | inr after ↦ (let same : i ≡ j = omega arith in
-      ap (λ k. is_gt (slice_cmp nat_cmp (get_or texts i []) (get_or texts k []))) (sym same)
-      ∙ ap is_gt (alike (get_or texts i [])))
-]
+no_higher texts up i j low high = search (rules, rising, alike)
 
 -- the names that begin with a prefix are next to each other, from one position on
 pub record Gathers (texts : List NameText) (p : NameText) (first : ℕ) : Type 0 where
@@ -79,63 +73,41 @@ pub gathers : (texts : List NameText) (p : NameText) (first : ℕ) → IsInOrder
     → ((k : ℕ) → first ≤ k → k < length texts → is_lt (slice_cmp nat_cmp (get_or texts k []) p) ≡ false)
     → Gathers texts p first
 gathers texts p first up lower upper = record {
-  below = λ k h inside. false_from_ne_true _
-      (λ begun. let clash : true ≡ false = sym (lower k h inside) ∙ begins-above p (get_or texts k []) begun in cc);
+  below = search (rules, begins-above);
   together = λ j k low high inside begun.
-      let within : j < length texts = omega (arith, high, inside) in
-      begins-between p (get_or texts j []) (get_or texts k [])
-      (upper j low within) (no_higher texts up j k high inside) begun;
+      grind (arith, nat_tests, begins-between p, no_higher texts up j k high inside);
 }
 
 -- a name of the table that begins with the prefix is at this position or later
 found_at : (texts : List NameText) (p : NameText) (first : ℕ)
     → Gathers texts p first → (t : NameText) → Contains texts t → begins_with p t ≡ true
     → (k : ℕ) × (first ≤ k) × (k < length texts) × (get_or texts k [] ≡ t)
-found_at texts p first g t c begun =
-    let at : get_or texts c.0 [] ≡ t = get_or_default texts c.0 [] t c.1 ∙ c.2 in
-    elim (cases_lt c.0 first) [
-      | inl less ↦ absurd (let clash : true ≡ false = sym (ap (begins_with p) at ∙ begun) ∙ g.below c.0 less c.1 in cc)
-      | inr more ↦ (c.0, more, c.1, at)
-    ]
+found_at texts p first g t c begun = search (rules, get_or_default)
 
 pub nothing_found : (full texts : List NameText) (p : NameText) (first : ℕ)
     → SameTexts full texts → Gathers texts p first
     → (BeginsAt texts p first → ⊥) → Nothing ≡ only_with full p
 nothing_found full texts p first same g missing = only-nothing (filter (begins_with p) full) (λ t c.
     let member = out_of_filter (begins_with p) full t c in
-    let at = found_at texts p first g t (same.over t member.0) member.1 in
-    let inside : first < length texts = omega (arith, at.1, at.2) in
-    missing (inside, g.together first at.0 (omega arith) at.1 at.2 (ap (begins_with p) at.3 ∙ member.1)))
+    search (rules, found_at))
 
 inside_full : (full texts : List NameText) (p : NameText) (k : ℕ)
     → SameTexts full texts → BeginsAt texts p k → Contains (filter (begins_with p) full) (get_or texts k [])
-inside_full full texts p k same begun = into_filter (begins_with p) full (get_or texts k [])
-    (same.back (get_or texts k []) (Contains-get_or texts k [] begun.0)) begun.1
+inside_full full texts p k same begun = search (rules, into_filter)
 
 pub one_found : (full texts : List NameText) (p : NameText) (first : ℕ) → SameTexts full texts → Gathers texts p first
     → BeginsAt texts p first → (BeginsAt texts p (first + 1) → ⊥) → One (get_or texts first []) ≡ only_with full p
 one_found full texts p first same g begun alone =
     only-one (filter (begins_with p) full) (get_or texts first []) (inside_full full texts p first same begun) (λ u c.
     let member = out_of_filter (begins_with p) full u c in
-    let at = found_at texts p first g u (same.over u member.0) member.1 in
-    elim (cases_lt first at.0) [
-      | inl after ↦ absurd (
-          let inside : first + 1 < length texts = omega (arith, after, at.2) in
-          alone (
-            inside,
-            g.together (first + 1) at.0 (omega arith) (omega (arith, after)) at.2 (ap (begins_with p) at.3 ∙ member.1),
-          ))
-      | inr here ↦ (let same_position : at.0 ≡ first = omega (arith, here, at.1) in
-          sym at.3 ∙ ap (λ k. get_or texts k []) same_position)
-    ])
+    search (rules, found_at))
 
 -- names at different positions differ
 pub apart : (texts : List NameText) → IsInOrder texts → (i j : ℕ)
     → i < j → j < length texts → get_or texts i [] ≢ get_or texts j []
 apart texts up i j low high same =
     let clash : Less ≡ Equal =
-    sym (rising texts up i j low high)
-    ∙ (ap (slice_cmp nat_cmp (get_or texts i [])) (sym same) ∙ alike (get_or texts i [])) in
+    grind (arith, nat_tests, rising texts up i j low high, alike) in
     cc
 
 pub several_found : (full texts : List NameText) (p : NameText) (first : ℕ) → SameTexts full texts → IsInOrder texts
@@ -166,8 +138,7 @@ begins-next texts i up inside next =
     (λ j. next.1 j && not (differ j))
   where
     differ : bytes_eq (get_or texts i []) (get_or texts (i + 1) []) ≡ false
-    differ = false_from_ne_true _ (λ same. apart texts up i (i + 1) (omega arith) next.0
-        ((bytes_eq-Decides (get_or texts i []) (get_or texts (i + 1) [])).0 same))
+    differ = false_from_ne_true _ (search (rules, apart))
 
 pub begins-none : (texts : List NameText) (i : ℕ)
     → IsInOrder texts → i < length texts → (BeginsAt texts (get_or texts i []) (i + 1) → ⊥)
@@ -180,17 +151,13 @@ begins-none texts i up inside alone =
     let at = found_at texts (get_or texts i []) i (gathers_at texts i up inside) v c begun in
     elim (cases_lt i at.0) [
       | inl after ↦ (
-          let within : i + 1 < length texts = omega (arith, after, at.2) in
+          let within : i + 1 < length texts = omega arith in
           alone (
             within,
             (gathers_at texts i up inside).together (i + 1) at.0 (omega arith)
-                (omega (arith, after)) at.2 (ap (begins_with (get_or texts i [])) at.3 ∙ begun),
+                (omega arith) at.2 (ap (begins_with (get_or texts i [])) at.3 ∙ begun),
           ))
-      | inr here ↦ (
-          let same_position : i ≡ at.0 = omega (arith, here, at.1) in
-          let same : get_or texts i [] ≡ v = ap (λ k. get_or texts k []) same_position ∙ at.3 in
-          let clash : true ≡ false = sym both.1 ∙ ap not ((bytes_eq-Decides (get_or texts i []) v).1 same) in
-          cc)
+      | inr here ↦ search rules
     ]))
 
 -- the texts after a sort and a `dedup`
@@ -201,27 +168,17 @@ sorted_texts (b ∷ bs) up k d low high =
     let count : k + 1 < length (b ∷ bs) = omega (arith, size (b ∷ bs)) in
     let lower : k < length (b ∷ bs) = omega arith in
     let is = up k b low count in
-    rw (
-      get_or-map (λ (b : Bor NameText). b.now) (b ∷ bs) (k + 1) b d count,
-      get_or-map (λ (b : Bor NameText). b.now) (b ∷ bs) k b d lower,
-    ) is
-
-borrowed_names-cond : (test : Bool) (xs ys : List (Bor NameText)) (us vs : List NameText)
-    → borrowed_names xs ≡ us → borrowed_names ys ≡ vs → borrowed_names (cond test xs ys) ≡ cond test us vs
-borrowed_names-cond true xs ys us vs e f = e
-borrowed_names-cond false xs ys us vs e f = f
+    search (rules, get_or-map)
 
 borrowed_names-dedup_from : (b : Bor NameText) (bs : List (Bor NameText))
     → borrowed_names (dedup_from (λ (x y : Bor NameText). bytes_eq x.now y.now) b bs)
     ≡ dedup_from bytes_eq b.now (borrowed_names bs)
 borrowed_names-dedup_from b [] = refl
-borrowed_names-dedup_from b (c ∷ cs) = borrowed_names-cond (bytes_eq c.now b.now) _ _ _ _
-    (borrowed_names-dedup_from b cs) (ap (λ (ts : List NameText). b.now ∷ ts) (borrowed_names-dedup_from c cs))
+borrowed_names-dedup_from b (c ∷ cs) = grind (arith, nat_tests, borrowed_names-dedup_from b cs, borrowed_names-dedup_from c cs)
 
 pub borrowed_names-dedup : (bs : List (Bor NameText))
     → borrowed_names (dedup (λ (x y : Bor NameText). bytes_eq x.now y.now) bs) ≡ dedup bytes_eq (borrowed_names bs)
-borrowed_names-dedup [] = refl
-borrowed_names-dedup (b ∷ bs) = borrowed_names-dedup_from b bs
+borrowed_names-dedup bs = search (rules, borrowed_names-dedup_from)
 
 pub order_of : (sorted left : List (Bor NameText))
     → IsSorted (λ (x y : Bor NameText). slice_cmp nat_cmp x.now y.now) sorted
@@ -251,17 +208,14 @@ same_of full names sorted left e moved is =
 pub is_parted : (sorted : List (Bor NameText)) (p : NameText) → IsInOrder (borrowed_names sorted)
     → IsPartitionedBy (λ (b : Bor NameText). is_lt (slice_cmp nat_cmp b.now p)) sorted
 is_parted sorted p up i j d low high is =
-    let before : i < length sorted = omega (arith, low, high) in
-    let within : j < length (borrowed_names sorted) = omega (arith, high, size sorted) in
+    let before : i < length sorted = omega arith in
+    let within : j < length (borrowed_names sorted) = omega (arith, size sorted) in
     let first = at_text sorted i d before in
     let second = at_text sorted j d high in
     let no_more : is_le (slice_cmp nat_cmp (get_or (borrowed_names sorted) i []) (get_or (borrowed_names sorted) j []))
     ≡ true =
     at_most _ (no_higher (borrowed_names sorted) up i j low within) in
-    ap (λ t. is_lt (slice_cmp nat_cmp t p)) (sym first)
-    ∙ ap is_lt (le_lt_trans nat_list_cmp_total (get_or (borrowed_names sorted) i [])
-    (get_or (borrowed_names sorted) j []) p no_more
-    (less _ (ap (λ t. is_lt (slice_cmp nat_cmp t p)) second ∙ is)))
+    search (rules, nat_list_cmp_total)
   where
     at_most : (r : Ordering) → is_gt r ≡ false → is_le r ≡ true
     at_most Less h = refl
@@ -279,36 +233,24 @@ pub gathers_from : (sorted : List (Bor NameText)) (p : NameText) (first : ℕ) (
     (λ (b : Bor NameText). is_lt (slice_cmp nat_cmp b.now p) ≡ false) sorted first
     → Gathers (borrowed_names sorted) p first
 gathers_from sorted p first d up point = gathers (borrowed_names sorted) p first up
-    (λ k low h. let inside : k < length sorted = omega (arith, h, size sorted) in
-    rw (at_text sorted k d inside) (point.0 k d (omega arith) low))
-    (λ k low h. let inside : k < length sorted = omega (arith, h, size sorted) in
+    (λ k low h. grind (arith, nat_tests, size sorted, at_text sorted k d))
+    (λ k low h. let inside : k < length sorted = omega (arith, size sorted) in
     rw (at_text sorted k d inside) (point.1 k d low inside))
 
 -- the name that begins with the prefix, as the code reads it
 pub at_begun : (sorted : List (Bor NameText)) (p : NameText) (k : ℕ) (d : Bor NameText)
     → BeginsAt (borrowed_names sorted) p k → (get_or sorted k d).now ≡ get_or (borrowed_names sorted) k []
-at_begun sorted p k d begun =
-    let inside : k < length sorted = omega (arith, begun.0, size sorted) in
-    sym (at_text sorted k d inside)
+at_begun sorted p k d begun = search (rules, size, at_text)
 
 -- whether a name begins another, by the names that the code reads
 pub begins_another-read : (sorted : List (Bor NameText)) (i : ℕ) (d : Bor NameText)
     → IsInOrder (borrowed_names sorted) → i < length sorted
     → BeginsAt (borrowed_names sorted) (get_or sorted i d).now (i + 1)
     → begins_another (borrowed_names sorted) (get_or (borrowed_names sorted) i []) ≡ true
-begins_another-read sorted i d up inside next =
-    let within : i < length (borrowed_names sorted) = omega (arith, inside, size sorted) in
-    begins-next (borrowed_names sorted) i up within
-    (subst (λ p. BeginsAt (borrowed_names sorted) p (i + 1)) (sym (at_text sorted i d inside)) next)
+begins_another-read sorted i d up inside next = search (rules, begins-next, at_text)
 
 pub begins_none-read : (sorted : List (Bor NameText)) (i : ℕ) (d : Bor NameText)
     → IsInOrder (borrowed_names sorted) → i < length sorted
     → (BeginsAt (borrowed_names sorted) (get_or sorted i d).now (i + 1) → ⊥)
     → begins_another (borrowed_names sorted) (get_or (borrowed_names sorted) i []) ≡ false
-begins_none-read sorted i d up inside alone =
-    let within : i < length (borrowed_names sorted) = omega (arith, inside, size sorted) in
-    begins-none (borrowed_names sorted) i up within
-    (λ next. alone (subst (λ p. BeginsAt (borrowed_names sorted) p (i + 1)) (at_text sorted i d inside) next))
-
-pub inside_texts : (sorted : List (Bor NameText)) (i : ℕ) → i < length sorted → i < length (borrowed_names sorted)
-inside_texts sorted i h = omega (arith, h, size sorted)
+begins_none-read sorted i d up inside alone = search (rules, size, begins-none, at_text)

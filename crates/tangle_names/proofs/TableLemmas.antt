@@ -1,4 +1,5 @@
 -- The names in order, their properties by number, and the table that is made from both.
+use Rattle.std.proofs.Common.{rules}
 use Rattle.std.proofs.Common.{◌≡◌, ◌<◌, ◌+◌, ◌∙◌, ℕ, zero, suc, Bool, true, false, cond, not, ◌||◌, ◌&&◌, ◌==◌, List}
 use Rattle.std.proofs.Common.{[], ◌∷◌, ◌++◌, length, map, filter, fold, get_or, refl, ap, sym, subst, arith, inl, inr}
 use Rattle.std.proofs.Common.{Option, None, Contains}
@@ -43,13 +44,7 @@ distinct-push (t ∷ ts) u d h =
     )
 
 distinct-with : (ts : List NameText) (m : Meaning) → Distinct ts → Distinct (with_name ts m)
-distinct-with ts Nothing d = d
-distinct-with ts (One t) d = by (list_any (bytes_eq t) ts) refl
-  where
-    by : (b : Bool) → list_any (bytes_eq t) ts ≡ b → Distinct (cond (list_any (bytes_eq t) ts) ts (ts ++ t ∷ []))
-    by true is = subst (λ b. Distinct (cond b ts (ts ++ t ∷ []))) (sym is) d
-    by false is = subst (λ b. Distinct (cond b ts (ts ++ t ∷ []))) (sym is) (distinct-push ts t d is)
-distinct-with ts Several d = d
+distinct-with ts m d = search (rules, distinct-push)
 
 distinct-fold : (ms : List Meaning) (ts : List NameText) → Distinct ts → Distinct (fold with_name ts ms)
 distinct-fold [] ts d = d
@@ -58,24 +53,10 @@ distinct-fold (m ∷ ms) ts d = distinct-fold ms (with_name ts m) (distinct-with
 pub distinct_names : (ms : List Meaning) → Distinct (names_of ms)
 distinct_names ms = distinct-fold ms [] tt
 
--- an occurrence resolves to the number of a name exactly if it means the name
-not_later : (b c : Bool) (n : ℕ) → b ≡ c → (cond (not b) (1 + n) 0 == 0) ≡ c
-not_later true c n e = e
-not_later false c n e = above ∙ e
-  where
-    above : (1 + n == 0) ≡ false
-    above = grind (arith, nat_tests)
-
 later : (b : Bool) (n j : ℕ) (c : Bool)
     → (b ≡ true → c ≡ false) → (b ≡ false → (n == j) ≡ c) → (cond (not b) (1 + n) 0 == suc j) ≡ c
-later true n j c first rest = below ∙ sym (first refl)
-  where
-    below : (0 == suc j) ≡ false
-    below = grind (arith, nat_tests)
-later false n j c first rest = shift ∙ rest refl
-  where
-    shift : (1 + n == suc j) ≡ (n == j)
-    shift = grind (arith, nat_tests)
+later true n j c first rest = search rules
+later false n j c first rest = search rules
 
 other_text : (n u : NameText) (xs : List NameText) (j : ℕ)
     → j < length xs → bytes_eq u n ≡ true → list_any (bytes_eq n) xs ≡ false → bytes_eq (get_or xs j []) u ≡ false
@@ -89,20 +70,15 @@ other_text n u xs j inside same none = false_from_ne_true _ (λ found.
 
 is_number-resolved_meaning : (names : List NameText) (u : NameText) (id : ℕ) → Distinct names → id < length names
     → is_number id (resolved_meaning names (One u)) ≡ bytes_eq (get_or names id []) u
-is_number-resolved_meaning [] u id d h = absurd (omega (arith, h))
+is_number-resolved_meaning [] u id d h = absurd (omega arith)
 is_number-resolved_meaning (n ∷ ns) u zero d h =
-    not_later (bytes_eq u n) (bytes_eq n u) (position_or_len (bytes_eq u) ns) (nat_list_eq_equiv.symm u n)
+    search rules
 is_number-resolved_meaning (n ∷ ns) u (suc j) d h =
-    let inside : j < length ns = omega (arith, h) in
-    later (bytes_eq u n) (position_or_len (bytes_eq u) ns) j (bytes_eq (get_or ns j []) u)
-    (λ same. other_text n u ns j inside same d.0)
-    (λ no_match. is_number-resolved_meaning ns u j d.1 inside)
+    grind (arith, nat_tests, other_text n u ns j, is_number-resolved_meaning ns u j d.1)
 
 pub is_number-means : (names : List NameText) (m : Meaning) (id : ℕ)
     → Distinct names → id < length names → is_number id (resolved_meaning names m) ≡ means (get_or names id []) m
-is_number-means names Nothing id d h = refl
-is_number-means names (One u) id d h = is_number-resolved_meaning names u id d h
-is_number-means names Several id d h = refl
+is_number-means names m id d h = search (rules, is_number-resolved_meaning)
 
 -- each of the names in order is a full name
 meant_name : (os : List OccurrenceRead) (o : OccurrenceRead) (t : NameText)
@@ -129,7 +105,7 @@ from_with P ts Nothing old new t c = old t c
 from_with P ts (One u) old new t c = by (list_any (bytes_eq u) ts) c
   where
     by : (b : Bool) → Contains (cond b ts (ts ++ u ∷ [])) t → P t
-    by true d = old t d
+    by true d = search rules
     by false d = elim (Contains-append_cases ts (u ∷ []) t d) [
       | inl e ↦ old t e
       | inr e ↦ elim (cons_cases u [] t e) [ inl same ↦ subst P same (new u refl) | inr gone ↦ absurd (no_item t gone) ]
@@ -183,8 +159,7 @@ any-same q xs ys same = by (list_any q xs) refl
     by true is =
         let found = Any-from_list_any q xs is in
         list_any-some q ys found.1 (same.over found.1 (found.0, found.2, found.3)) found.4 ∙ sym is
-    by false is = list_any-none q ys (λ v c. false_from_ne_true _ (λ passes.
-        let clash : true ≡ false = sym (list_any-some q xs v (same.back v c) passes) ∙ is in cc)) ∙ sym is
+    by false is = list_any-none q ys (λ v c. false_from_ne_true _ (grind (arith, nat_tests, list_any-some q xs v))) ∙ sym is
 
 pub begins-known : (os : List OccurrenceRead) (texts : List NameText) (id : ℕ)
     → SameTexts (full_names os) texts → id < length (names_in_order os)
@@ -208,9 +183,9 @@ first_occurrences_are os names numbers named size known =
     let count : length (map (first_number os) (names_in_order os)) ≡ length (names_in_order os) =
     length-map (names_in_order os) (first_number os) in
     let counted : length names ≡ length (names_in_order os) = ap length named in
-    ext_get_or 0 numbers (map (first_number os) (names_in_order os)) (omega (arith, size, count, counted)) (λ id h.
-    let inside : id < length names = omega (arith, h, size) in
-    let within : id < length (names_in_order os) = omega (arith, inside, counted) in
+    ext_get_or 0 numbers (map (first_number os) (names_in_order os)) (omega arith) (λ id h.
+    let inside : id < length names = omega arith in
+    let within : id < length (names_in_order os) = omega arith in
     known id inside ∙ first-known os id within ∙ sym (get_or-map (first_number os) (names_in_order os) id [] 0 within))
 
 pub first_file_occurrences_are : (os : List OccurrenceRead) (names : List NameText) (numbers : List ℕ) (count : ℕ)
@@ -223,20 +198,17 @@ first_file_occurrences_are os names numbers count named size all known =
     length-map (names_in_order os) (first_file_number os) in
     let counted : length names ≡ length (names_in_order os) = ap length named in
     ext_get_or None (map (number_below count) numbers) (map (first_file_number os) (names_in_order os))
-    (omega (arith, size, left, right, counted)) (λ id h.
-    let below : id < length numbers = omega (arith, h, left) in
-    let inside : id < length names = omega (arith, below, size) in
-    let within : id < length (names_in_order os) = omega (arith, inside, counted) in
+    (omega arith) (λ id h.
+    let below : id < length numbers = omega arith in
+    let inside : id < length names = omega arith in
+    let within : id < length (names_in_order os) = omega arith in
     get_or-map (number_below count) numbers id 0 None below
     ∙ ((λ i. number_below (all i) ((known id inside ∙ first_file-known os id within) i))
     ∙ sym (get_or-map (first_file_number os) (names_in_order os) id [] None within)))
 
 pub resolved_are : (os : List OccurrenceRead) (ms : List Meaning) (texts : List NameText) (rs : List Resolved)
     → ms ≡ meanings os → texts ≡ names_in_order os → rs ≡ map (resolved_meaning texts) ms → rs ≡ map (resolve os) os
-resolved_are os ms texts rs came named is =
-    is
-    ∙ ((λ i. map (resolved_meaning (named i)) (came i))
-    ∙ map-map (resolved_meaning (names_in_order os)) (meaning (full_names os)) os)
+resolved_are os ms texts rs came named is = search (rules, map-map)
 
 pub table_is : (os : List OccurrenceRead) (names : List NameText) (rs : List Resolved)
     (first_occurrences : List ℕ) (first_file_occurrences : List (Option ℕ))
@@ -249,5 +221,4 @@ pub table_is : (os : List OccurrenceRead) (names : List NameText) (rs : List Res
       first_occurrences = first_occurrences;
       first_file_occurrences = first_file_occurrences;
     } ≡ table_over os
-table_is os names rs first_occurrences first_file_occurrences a b c d =
-    λ i. record { names = a i; resolved = b i; first_occurrences = c i; first_file_occurrences = d i }
+table_is os names rs first_occurrences first_file_occurrences a b c d = search rules

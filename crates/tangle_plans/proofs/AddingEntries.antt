@@ -1,16 +1,18 @@
 -- The entries of a piece, and the pieces of a node, are added one after another.
-use Rattle.std.proofs.Common.{◌≡◌, ◌∙◌, ℕ, List, [], ◌∷◌, ◌++◌, map, refl, ap, sym, append_assoc, append-nil, subst}
-use Rattle.std.specs.Prelude.{flat_map, length, slice_index_or}
+use Rattle.std.proofs.Common.{arith}
+use Rattle.std.proofs.Common.{rules}
+use Rattle.std.proofs.lemmas.Bool.Decides.{nat_tests}
+use Rattle.std.proofs.Common.{◌≡◌, ◌∙◌, ℕ, List, [], ◌∷◌, ◌++◌, map, refl, sym, append_assoc, append-nil, subst}
+use Rattle.std.specs.Prelude.{length, slice_index_or}
 use Rattle.tangle_scan.specs.declared.items.Entry.{Entry}
 use Rattle.tangle_scan.specs.Entries.{items_of}
 use Rattle.tangle_scan.specs.Web.{WebRead, PieceRead}
 use Rattle.tangle_names.specs.NameTable.{TableRead}
 use Rattle.tangle_plans.specs.MakingBodies.{nothing_made, with_piece, AddsPieces}
-use Rattle.tangle_plans.specs.ItemTags.{pieces_uses}
-use Rattle.tangle_plans.specs.Entries.{AreEntriesAt, entry_uses, entry_bytes}
+use Rattle.tangle_plans.specs.Entries.{AreEntriesAt}
 use Rattle.tangle_plans.specs.NodeBodies.{ItemsRead, AreItemsOf}
 use Rattle.tangle_plans.specs.Nodes.{no_piece}
-use Rattle.tangle_plans.specs.Tags.{item_tag, piece_start, piece_end, shape_tags, shape_bytes}
+use Rattle.tangle_plans.specs.Tags.{item_tag, piece_start, piece_end, shape_tags}
 use Rattle.tangle_plans.specs.UnfoldedTags.{StandFor, unfolded_tags}
 use Rattle.tangle_plans.specs.WebShapes.{shape_item, shape_of}
 use Rattle.tangle_plans.proofs.EntryLemmas.{entries_bytes, entries_uses, piece_unfolds, stand_append}
@@ -18,11 +20,7 @@ use Rattle.tangle_plans.proofs.HeldLemmas.{bytes_held}
 
 module _ (texts : List (List ℕ)) (table : TableRead) where
   pub no_pieces_added : (old : ItemsRead) → AddsPieces texts table old old []
-  no_pieces_added old = record {
-    bytes = sym (append-nil old.bytes);
-    tags = λ before h. rw append-nil h;
-    uses = sym (append-nil old.uses);
-  }
+  no_pieces_added old = search rules
 
   -- what is added to nothing
   pub pieces_made : (new : ItemsRead) (pieces : List PieceRead)
@@ -49,12 +47,9 @@ module _ (web : WebRead) (table : TableRead) where
       let p = slice_index_or web.pieces number no_piece in
       let tags = piece_start ∷ map item_tag (map (shape_item texts table) items) ++ piece_end ∷ [] in
       subst (λ q. AddsPieces texts table old new (q ∷ pieces)) (λ i. record p { items = at.items i }) (record {
-        bytes = added.bytes ∙ append_assoc old.bytes (flat_map (entry_bytes texts) entries) (shape_bytes shape)
-            ∙ ap (λ l. old.bytes ++ (l ++ shape_bytes shape))
-            (sym (entries_bytes texts entries) ∙ bytes_held texts table items);
+        bytes = grind (arith, nat_tests, append_assoc old.bytes, entries_bytes texts entries, bytes_held texts table items);
         tags = λ before h. subst (StandFor new.tags new.bytes) (append_assoc before _ (shape_tags shape))
             (added.tags _ (stand_append old.tags _ old.bytes _ before tags h
             (piece_unfolds texts table entries (at.own table ours) at.spans)));
-        uses = added.uses ∙ append_assoc old.uses (flat_map (entry_uses table) entries) (pieces_uses table pieces)
-            ∙ ap (λ l. old.uses ++ (l ++ pieces_uses table pieces)) (sym (entries_uses texts table entries));
+        uses = grind (arith, nat_tests, append_assoc old.uses, entries_uses texts table entries);
       })

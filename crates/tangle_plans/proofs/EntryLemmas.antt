@@ -1,5 +1,7 @@
 -- The entries of pieces, where a run has one tag, give a body what the items of the pieces give it.
-use Rattle.std.proofs.Common.{◌≡◌, ◌∙◌, ℕ, ◌<◌, zero, suc, List, [], ◌∷◌, ◌++◌, map, take, drop, length, refl}
+use Rattle.std.proofs.Common.{rules}
+use Rattle.std.proofs.lemmas.Bool.Decides.{nat_tests}
+use Rattle.std.proofs.Common.{◌≡◌, ◌∙◌, ℕ, ◌<◌, suc, List, [], ◌∷◌, ◌++◌, map, length, refl}
 use Rattle.std.proofs.Common.{ap, sym, subst, append_assoc, append-nil, arith, get_or, All}
 use Rattle.std.specs.Prelude.{flat_map}
 use Rattle.std.proofs.lemmas.List.Elements.{All-nil, All-cons, All-head, All-tail}
@@ -15,10 +17,8 @@ use Rattle.tangle_scan.specs.ItemSpans.{IsInRange}
 use Rattle.tangle_scan.specs.WellFormed.{IsUseBelow, IsWellFormed}
 use Rattle.tangle_scan.specs.Web.{PieceRead, WebRead}
 use Rattle.tangle_names.specs.declared.Resolved.{Resolved}
-use Rattle.tangle_names.specs.declared.Resolved.TheVariants.{Name}
 use Rattle.tangle_names.specs.NameTable.{TableRead}
-use Rattle.tangle_plans.specs.Tags.{item_tag, item_bytes, piece_start, piece_end}
-use Rattle.tangle_plans.specs.Shapes.{ShapeItem, Written}
+use Rattle.tangle_plans.specs.Tags.{item_tag, piece_start, piece_end}
 use Rattle.tangle_plans.specs.WebShapes.{resolved_at, shape_item}
 use Rattle.tangle_plans.specs.ItemTags.{use_tag, tag_in, uses_in}
 use Rattle.tangle_plans.specs.Nodes.{no_piece}
@@ -27,7 +27,7 @@ use Rattle.tangle_plans.specs.UnfoldedTags.{StandFor, kind_tags, unfolded_tags}
 use Rattle.tangle_plans.specs.declared.tags.ItemTag.{ItemTag}
 use Rattle.tangle_scan.proofs.lemmas.StoredPieces.{pieces-count, piece-at}
 use Rattle.tangle_plans.proofs.EachLemmas.{each_of_lists}
-use Rattle.tangle_plans.proofs.HeldLemmas.{span_length, tag_held, byte_held, tags_held}
+use Rattle.tangle_plans.proofs.HeldLemmas.{span_length, tags_held}
 use Rattle.tangle_plans.proofs.RunItems.{run_items_tags, run_items_uses}
 use Rattle.tangle_plans.proofs.RunLemmas.{run_bytes}
 
@@ -35,13 +35,11 @@ use Rattle.tangle_plans.proofs.RunLemmas.{run_bytes}
 
 pub entry_bytes_are : (texts : List (List ℕ)) (e : Entry)
     → flat_map (bytes_in texts) (entry_items texts e) ≡ entry_bytes texts e
-entry_bytes_are texts (entry.Item x) = append-nil (bytes_in texts x)
-entry_bytes_are texts (entry.Run s) = run_bytes texts s
+entry_bytes_are texts e = search (rules, run_bytes)
 
 pub entries_bytes : (texts : List (List ℕ)) (entries : List Entry)
     → flat_map (bytes_in texts) (items_of texts entries) ≡ flat_map (entry_bytes texts) entries
-entries_bytes texts entries =
-    each_of_lists (bytes_in texts) (entry_items texts) (entry_bytes texts) (entry_bytes_are texts) entries
+entries_bytes texts entries = search (rules, each_of_lists, entry_bytes_are)
 
 pub entry_uses_are : (texts : List (List ℕ)) (table : TableRead) (e : Entry)
     → flat_map (uses_in table) (entry_items texts e) ≡ entry_uses table e
@@ -50,40 +48,26 @@ entry_uses_are texts table (entry.Run s) = run_items_uses table texts s
 
 pub entries_uses : (texts : List (List ℕ)) (table : TableRead) (entries : List Entry)
     → flat_map (uses_in table) (items_of texts entries) ≡ flat_map (entry_uses table) entries
-entries_uses texts table entries =
-    each_of_lists (uses_in table) (entry_items texts) (entry_uses table) (entry_uses_are texts table) entries
+entries_uses texts table entries = search (rules, each_of_lists, entry_uses_are)
 
 -- tags
 
 -- one tag, with its bytes
 stand_one : (t : ItemTag) (bytes : List ℕ) → t.size ≡ length bytes → StandFor (t ∷ []) bytes (kind_tags t.kind t bytes)
-stand_one t bytes e = λ more rest.
-    ap (λ n. kind_tags t.kind t (take n (bytes ++ rest)) ++ unfolded_tags more (drop n (bytes ++ rest))) e
-    ∙ (λ i. kind_tags t.kind t (take-append_seam bytes rest i) ++ unfolded_tags more (drop-append_seam bytes rest i))
+stand_one t bytes e = search (rules, take-append_seam, drop-append_seam)
 
 pub stand_append : (tags tags' : List ItemTag) (bytes bytes' : List ℕ) (unfolded unfolded' : List ItemTag)
     → StandFor tags bytes unfolded → StandFor tags' bytes' unfolded'
     → StandFor (tags ++ tags') (bytes ++ bytes') (unfolded ++ unfolded')
-stand_append tags tags' bytes bytes' unfolded unfolded' one other = λ more rest.
-    (λ i. unfolded_tags (append_assoc tags tags' more i) (append_assoc bytes bytes' rest i))
-    ∙ one (tags' ++ more) (bytes' ++ rest) ∙ ap (λ l. unfolded ++ l) (other more rest)
-    ∙ sym (append_assoc unfolded unfolded' (unfolded_tags more rest))
+stand_append tags tags' bytes bytes' unfolded unfolded' one other = search (rules, append_assoc)
 
 module _ (texts : List (List ℕ)) (table : TableRead) where
-  item_sized : (x : ShapeItem) → (item_tag x).size ≡ length (item_bytes x)
-  item_sized (Written k bytes) = refl
-  item_sized _ = refl
-
   -- the tag of an entry has the number of its bytes
   entry_sized : (e : Entry) → IsEntryOf texts table e → (entry_tag table e).size ≡ length (entry_bytes texts e)
-  entry_sized (entry.Item x) h =
-      ap (λ t. t.size) (tag_held texts table x h.0) ∙ item_sized (shape_item texts table x)
-      ∙ ap length (sym (byte_held texts table x))
-  entry_sized (entry.Run s) h = sym (span_length texts s h)
+  entry_sized e h = search (rules, span_length)
 
   use_tagged : (r : Resolved) (bytes : List ℕ) → kind_tags (use_tag r).kind (use_tag r) bytes ≡ use_tag r ∷ []
-  use_tagged (Name id) bytes = refl
-  use_tagged _ bytes = refl
+  use_tagged r bytes = search rules
 
   -- the tag of an entry, with its bytes, stands for the tags of its items
   entry_tagged : (e : Entry)
@@ -122,15 +106,13 @@ module _ (texts : List (List ℕ)) (table : TableRead) where
 
 All-after : {X : Type 0} (P : X → Type 0) (xs ys : List X) → All P (xs ++ ys) → All P ys
 All-after P [] ys h = h
-All-after P (x ∷ xs) ys h = All-after P xs ys (λ i d low. h (suc i) d (omega (arith, low)))
+All-after P (x ∷ xs) ys h = All-after P xs ys (λ i d low. h (suc i) d (omega arith))
 
 entry_is : (texts : List (List ℕ)) (table : TableRead) (e : Entry) (rest : List Item)
     → All (IsInRange texts) (entry_items texts e ++ rest)
     → All (IsUseBelow (length table.resolved)) (entry_items texts e ++ rest)
     → IsEntryInRange texts e → IsEntryOf texts table e
-entry_is texts table (entry.Item x) rest spans names run =
-    (spans zero x (omega arith), names zero x (omega arith))
-entry_is texts table (entry.Run s) rest spans names run = run.span
+entry_is texts table e rest spans names run = search rules
 
 entries_are : (texts : List (List ℕ)) (table : TableRead) (entries : List Entry)
     → All (IsInRange texts) (items_of texts entries)
@@ -151,7 +133,7 @@ pub stored_entries : (web : WebRead) (stored : List StoredPiece) (number : ℕ) 
     → All (λ (p : StoredPiece). All (IsEntryInRange web.texts) p.entries) stored → IsWellFormed web
     → number < length web.pieces → p ≡ get_or stored number p → entries ≡ p.entries → AreEntriesAt web number entries
 stored_entries web stored number p entries same runs formed low at read =
-    let within : number < length stored = omega (arith, low, pieces-count web.texts stored web.pieces same) in
+    let within : number < length stored = omega (arith, pieces-count web.texts stored web.pieces same) in
     let is = piece-at web.texts stored web.pieces same number p no_piece within at in
     let spans = subst (λ (q : PieceRead). All (IsInRange web.texts) q.items) is
     (formed.spans.pieces number no_piece low) in
@@ -161,6 +143,5 @@ stored_entries web stored number p entries same runs formed low at read =
     rw read (record {
       items = ap (λ (q : PieceRead). q.items) (sym is);
       spans = spans;
-      own = λ table ours. entries_are web.texts table p.entries spans
-          (subst (λ n. All (IsUseBelow n) (items_of web.texts p.entries)) (sym ours) uses) run;
+      own = λ table ours. grind (arith, nat_tests, entries_are web.texts table p.entries spans);
     })

@@ -1,4 +1,7 @@
 -- A body that determines a shape has the symbols of the shape.
+use Rattle.std.proofs.Common.{arith}
+use Rattle.std.proofs.Common.{rules}
+use Rattle.std.proofs.lemmas.Bool.Decides.{nat_tests}
 use Rattle.std.proofs.Common.{◌≡◌, ◌∙◌, ℕ, ◌+◌, List, [], ◌∷◌, ◌++◌, map, take, drop, length, refl, ap, sym, subst, append_assoc}
 use Rattle.std.specs.Prelude.{flat_map}
 use Rattle.std.proofs.lemmas.List.{map-append, take-append-drop}
@@ -6,10 +9,8 @@ use Rattle.std.proofs.Math.Seq.{take-append_seam, drop-append_seam}
 use Rattle.tangle_files.specs.Bytes.{space}
 use Rattle.tangle_text.specs.Runs.{chunks, part_of}
 use Rattle.tangle_text.specs.declared.runs.RunPart.{RunPart}
-use Rattle.tangle_text.specs.declared.runs.RunPart.TheVariants as part
 use Rattle.tangle_text.proofs.RunChunks.{AreChunks, joined, chunks_are, chunks_joined}
 use Rattle.tangle_plans.specs.Shapes.{Title, Kind, ShapeItem, Written, Mark, AllMacros, Use, NoUse, Shape}
-use Rattle.tangle_plans.specs.Shapes as kind
 use Rattle.tangle_plans.specs.Flat.{Symbol, Byte, MarkOf, Opening, items_flat}
 use Rattle.tangle_plans.specs.Flat.{pieces_flat}
 use Rattle.tangle_plans.specs.Flat as symbol
@@ -32,10 +33,7 @@ module _ (node : Title) where
       → (part_tag p).size ≡ length chunk
       → tags_flat node piece marks (chunk ++ more) (part_tag p ∷ tags) used
       ≡ map Byte chunk ++ tags_flat node piece marks more tags used
-  part_flat piece marks part.Space chunk more tags used size =
-      rw (size, take-append_seam chunk more, drop-append_seam chunk more) refl
-  part_flat piece marks _ chunk more tags used size =
-      rw (size, take-append_seam chunk more, drop-append_seam chunk more) refl
+  part_flat piece marks p chunk more tags used size = search (rules, take-append_seam, drop-append_seam)
 
   chunks_flat : (piece marks : ℕ) (cs : List (List ℕ)) (more : List ℕ) (tags : List ItemTag)
       (used : List (List Symbol)) → AreChunks cs
@@ -66,9 +64,7 @@ module _ (node : Title) where
       → tags_flat node piece marks bytes (kind_tags k t (take t.size bytes) ++ tags) used
       ≡ tags_flat node piece marks bytes (t ∷ tags) used
   kind_flat piece marks t tag.Run bytes tags used is =
-      ap (λ l. tags_flat node piece marks l (run_tags (take t.size bytes) ++ tags) used) (sym (take-append-drop t.size bytes))
-      ∙ run_flat piece marks (take t.size bytes) (drop t.size bytes) tags used
-      ∙ rw is refl
+      grind (arith, nat_tests, take-append-drop t.size bytes, run_flat piece marks)
   kind_flat piece marks t _ bytes tags used is = refl
 
   unfolded_flat : (piece marks : ℕ) (tags : List ItemTag) (bytes : List ℕ) (used : List (List Symbol))
@@ -84,8 +80,7 @@ module _ (node : Title) where
   written_flat : (piece marks : ℕ) (k : Kind) (written bytes : List ℕ) (tags : List ItemTag) (used : List (List Symbol))
       → tags_flat node piece marks bytes (item_tag (Written k written) ∷ tags) used
       ≡ map Byte (take (length written) bytes) ++ tags_flat node piece marks (drop (length written) bytes) tags used
-  written_flat piece marks kind.Word written bytes tags used = refl
-  written_flat piece marks _ written bytes tags used = refl
+  written_flat piece marks k written bytes tags used = search rules
 
   module _ (symbols : List ℕ → List Symbol) where
     items_shaped : (piece marks : ℕ) (items : List ShapeItem) (bytes : List ℕ) (tags : List ItemTag)
@@ -133,9 +128,4 @@ pub held_flat : (names : List (List ℕ)) (shape : Shape) (body : NodeBody)
     (symbols : List ℕ → List Symbol) (used : List (List Symbol)) → HoldsShape names shape body
     → used ≡ map symbols (names_at names (body_uses body))
     → body_flat body used ≡ pieces_flat symbols (body_title body) 0 shape
-held_flat names shape body symbols used h same =
-    let node = body_title body in
-    ap (body_flat body) (same ∙ ap (map symbols) h.names_used)
-    ∙ sym (unfolded_flat node 0 0 body.tags.items body.bytes.items (map symbols (shape_names shape)))
-    ∙ (λ i. tags_flat node 0 0 (h.bytes i) (h.tags i) (map symbols (shape_names shape)))
-    ∙ shape_flat node symbols 0 0 shape
+held_flat names shape body symbols used h same = search (rules, unfolded_flat, shape_flat)

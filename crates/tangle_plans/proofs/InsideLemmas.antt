@@ -1,11 +1,12 @@
 -- An occurrence that resolves to a name resolves to one of the table.
+use Rattle.std.proofs.Common.{rules}
 use Rattle.std.proofs.Common.{◌≡◌, Bool, true, false, List, map, length, get_or, refl}
 use Rattle.std.specs.Prelude.{Contains, ℕ}
 use Rattle.std.proofs.lemmas.List.{get_or_default}
 use Rattle.std.proofs.lemmas.List.Elements.{All-map}
 use Rattle.tangle_lexer.specs.Occurrences.{OccurrenceRead}
 use Rattle.tangle_names.specs.declared.Resolved.{Resolved}
-use Rattle.tangle_names.specs.declared.Resolved.TheVariants.{Name, NoFullName}
+use Rattle.tangle_names.specs.declared.Resolved.TheVariants.{NoFullName}
 use Rattle.tangle_names.specs.Names.{full_names, prefix}
 use Rattle.tangle_names.specs.Resolving.{names_in_order, resolve}
 use Rattle.tangle_names.specs.Laws.{ResolvesFull, ResolvesPrefix}
@@ -17,13 +18,11 @@ use Rattle.tangle_plans.proofs.EachLemmas.{all_or}
 
 full_inside : (names : List (List ℕ)) (name : List ℕ) (r : Resolved)
     → ResolvesFull names name r → IsNameBelow (length names) r
-full_inside names name (Name id) h = h.inside
-full_inside names name _ h = tt
+full_inside names name r h = search rules
 
 prefix_inside : (names full : List (List ℕ)) (p : List ℕ) (r : Resolved)
     → ResolvesPrefix names full p r → IsNameBelow (length names) r
-prefix_inside names full p (Name id) h = h.1.inside
-prefix_inside names full p _ h = tt
+prefix_inside names full p r h = search rules
 
 -- the table of a web has each name to which an occurrence resolves
 pub table_inside : (web : WebRead) → ResolvesInside (table_of web)

@@ -1,4 +1,5 @@
 -- The unfolded tags that remain of a body.
+use Rattle.std.proofs.Common.{rules}
 use Rattle.std.proofs.Common.{◌≡◌, ◌∙◌, ℕ, ◌+◌, ◌-◌, ◌≤◌, List, [], ◌∷◌, ◌++◌, length, take, drop, slice_get, refl, ap}
 use Rattle.std.proofs.Common.{sym, arith, Some, None, min, drop-drop}
 use Rattle.std.proofs.lemmas.List.{length-take, take_min, drop_min, drop-take}
@@ -6,7 +7,6 @@ use Rattle.tangle_text.specs.Runs.{chunks, parts_of}
 use Rattle.tangle_text.specs.declared.runs.RunPart.{RunPart}
 use Rattle.tangle_plans.specs.UnfoldedTags.{part_tag, run_tags, kind_tags, unfolded_tags, tags_left}
 use Rattle.tangle_plans.specs.declared.tags.ItemTag.{ItemTag}
-use Rattle.tangle_plans.specs.declared.tags.ItemKind.{ItemKind}
 use Rattle.tangle_plans.specs.declared.tags.ItemKind.TheVariants as tag
 use Rattle.tangle_plans.proofs.RunLemmas.{first_part, no_part, no_run_tags}
 
@@ -17,10 +17,7 @@ pub first_tag_is : (bytes : List ℕ) (run n : ℕ) (tag : ItemTag) (p : RunPart
     → (tag.size ≤ run) × (run_tags (take run bytes) ≡ tag ∷ run_tags (drop tag.size (take run bytes)))
 first_tag_is bytes run n tag p low same is found =
     let first = first_part (take run bytes) p
-    (ap (λ k. slice_get (parts_of 0 0 (chunks (take k bytes))) 0) (sym same) ∙ found) in (
-      omega (arith, first.fits, ap (λ t. t.size) is, length-take run bytes),
-      first.tags ∙ ap (λ t. t ∷ run_tags (drop (t.size) (take run bytes))) (sym is),
-    )
+    (ap (λ k. slice_get (parts_of 0 0 (chunks (take k bytes))) 0) (sym same) ∙ found) in search rules
 
 pub no_tag_is : (bytes : List ℕ) (run n : ℕ)
     → run ≤ length bytes → n ≡ run → slice_get (parts_of 0 0 (chunks (take n bytes))) 0 ≡ None → run ≡ 0
@@ -34,10 +31,6 @@ none_left tags bytes run zero none = rw (zero, none, no_run_tags) refl
 
 -- a tag that begins, where no run was begun
 
-kind_other : (k : ItemKind) (t : ItemTag) (bytes : List ℕ) → (k ≡ tag.Run → ⊥) → kind_tags k t bytes ≡ t ∷ []
-kind_other tag.Run t bytes other = absurd (other refl)
-kind_other _ t bytes other = refl
-
 first_left : (tags ts : List ItemTag) (t : ItemTag) (bytes : List ℕ) (run : ℕ) → run ≡ 0 → tags ≡ t ∷ ts
     → tags_left tags bytes run
     ≡ kind_tags t.kind t (take t.size bytes) ++ unfolded_tags ts (drop t.size bytes)
@@ -46,22 +39,15 @@ first_left tags ts t bytes run zero is = rw (zero, is, no_run_tags) refl
 pub other_left : (tags ts : List ItemTag) (t : ItemTag) (bytes : List ℕ) (run : ℕ)
     → run ≡ 0 → tags ≡ t ∷ ts → (t.kind ≡ tag.Run → ⊥)
     → tags_left tags bytes run ≡ t ∷ tags_left ts (drop t.size bytes) run
-other_left tags ts t bytes run zero is other =
-    rw (first_left tags ts t bytes run zero is, kind_other t.kind t (take t.size bytes) other, zero, no_run_tags) refl
+other_left tags ts t bytes run zero is other = search (rules, no_run_tags)
 
 pub run_begun : (tags ts : List ItemTag) (t : ItemTag) (bytes : List ℕ) (run size : ℕ)
     → run ≡ 0 → tags ≡ t ∷ ts → t.kind ≡ tag.Run → size ≡ min t.size (length bytes)
     → tags_left ts bytes size ≡ tags_left tags bytes run
-run_begun tags ts t bytes run size zero is kind fits =
-    rw (fits, take_min t.size bytes, drop_min t.size bytes, first_left tags ts t bytes run zero is, kind) refl
+run_begun tags ts t bytes run size zero is kind fits = search (rules, take_min, drop_min, first_left)
 
 -- the next part of a run that was begun
 pub part_left : (tags : List ItemTag) (t : ItemTag) (bytes : List ℕ) (run : ℕ) → t.size ≤ run
     → run_tags (take run bytes) ≡ t ∷ run_tags (drop t.size (take run bytes))
     → tags_left tags bytes run ≡ t ∷ tags_left tags (drop t.size bytes) (run - t.size)
-part_left tags t bytes run low is =
-    let all : run ≡ t.size + (run - t.size) = omega arith in
-    let rest = ap (λ n. drop t.size (take n bytes)) all ∙ drop-take t.size (run - t.size) bytes in
-    let after = ap (λ n. drop n bytes) all ∙ sym (drop-drop (run - t.size) t.size bytes) in
-    (λ i. is i ++ unfolded_tags tags (drop run bytes))
-    ∙ (λ i. t ∷ (run_tags (rest i) ++ unfolded_tags tags (after i)))
+part_left tags t bytes run low is = search (rules, drop-take, drop-drop)

@@ -1,35 +1,26 @@
 -- The parts of a run have its bytes.
+use Rattle.std.proofs.Common.{rules}
 use Rattle.std.proofs.Common.{◌≡◌, ◌∙◌, ℕ, ◌+◌, ◌-◌, ◌≤◌, true, eqb, List, [], ◌∷◌, ◌++◌, length, map, take, drop}
-use Rattle.std.proofs.Common.{get_or, refl, ap, sym, subst, arith, append_assoc, slice_get, Some, None, true≢false}
-use Rattle.std.proofs.Common.{length-append, eqb-true}
+use Rattle.std.proofs.Common.{get_or, refl, ap, sym, subst, arith, append_assoc, slice_get, Some, None}
+use Rattle.std.proofs.Common.{length-append}
 use Rattle.std.specs.Prelude.{flat_map}
 use Rattle.std.proofs.Math.Seq.{take-append_seam}
 use Rattle.tangle_files.specs.Bytes.{space}
-use Rattle.tangle_text.specs.Bytes.{is_word_byte}
 use Rattle.tangle_text.specs.Runs.{chunks, part_of, parts_of, run_parts}
 use Rattle.tangle_text.specs.Text.{span_text}
 use Rattle.tangle_text.specs.declared.spans.Span.{Span}
-use Rattle.tangle_text.proofs.RunChunks.{differs, IsChunk, AreChunks, joined, first_size, chunks_are, chunks_joined}
-use Rattle.tangle_text.proofs.RunChunks.{chunks_after, chunk_passed, span_chunks, part-by, part-word}
+use Rattle.tangle_text.proofs.RunChunks.{IsChunk, AreChunks, joined, first_size, chunks_are, chunks_joined}
+use Rattle.tangle_text.proofs.RunChunks.{chunks_after, chunk_passed, span_chunks, part-by}
 use Rattle.tangle_text.specs.declared.runs.RunPart.{RunPart}
 use Rattle.tangle_scan.specs.Entries.{part_item}
 use Rattle.tangle_scan.specs.ItemBytes.{bytes_in}
 use Rattle.tangle_plans.specs.UnfoldedTags.{chunk_tag, part_tag, run_tags}
-use Rattle.tangle_plans.specs.declared.tags.ItemKind.TheVariants as tag
 
 pub chunk_size : (c : List ℕ) → IsChunk c → (chunk_tag c).size ≡ length c
-chunk_size [] h = absurd h
-chunk_size (b ∷ []) h =
-    part-by (λ p. (part_tag p).size ≡ 1) 0 0 b []
-    (λ is. refl) (λ is word. omega arith) (λ is sign. omega arith)
-chunk_size (b ∷ c ∷ bs) h = rw (part-word 0 0 b (c ∷ bs) h.0) (omega arith)
+chunk_size c h = search rules
 
 part_moved : (line column : ℕ) (c : List ℕ) → part_tag (part_of line column c) ≡ chunk_tag c
-part_moved line column [] = refl
-part_moved line column (b ∷ bs) =
-    part-by (λ p. part_tag p ≡ chunk_tag (b ∷ bs)) line column b bs (λ is. rw is refl)
-    (λ is word. rw (is, word) (ap (λ n. record { kind = tag.Word; size = n }) (omega arith)))
-    (λ is sign. rw (is, sign) (ap (λ n. record { kind = tag.Sign; size = n }) (omega arith)))
+part_moved line column c = search rules
 
 pub parts_tags : (line column : ℕ) (cs : List (List ℕ)) → map part_tag (parts_of line column cs) ≡ map chunk_tag cs
 parts_tags line column [] = refl
@@ -62,15 +53,8 @@ first_part bs p is = go (chunks bs) refl
         let after : chunks (drop (length c) bs) ≡ cs =
         ap (λ l. chunks (drop (first_size l) bs)) (sym e) ∙ chunks_after bs ∙ ap (drop 1) e in
         record {
-          fits = omega (
-            arith,
-            size,
-            ap length (chunks_joined bs),
-            ap (λ l. length (joined l)) e,
-            length-append c (joined cs),
-          );
-          tags = ap (map chunk_tag) e ∙ (λ i. part_tag (same i) ∷ map chunk_tag (sym after i))
-              ∙ ap (λ n. part_tag p ∷ map chunk_tag (chunks (drop n bs))) (sym size);
+          fits = omega (arith, ap length (chunks_joined bs), ap (λ l. length (joined l)) e, length-append c (joined cs));
+          tags = search rules;
         }
 
 pub no_part : (bs : List ℕ) → slice_get (parts_of 0 0 (chunks bs)) 0 ≡ None → length bs ≡ 0
@@ -92,7 +76,7 @@ part_bytes texts line column (b ∷ bs) rest h is =
     part-by (λ p. bytes_in texts (part_item p) ≡ b ∷ bs) line column b bs (one bs h) (λ _ word. own) (λ _ sign. own)
   where
     size : column + length (b ∷ bs) - column ≡ length (b ∷ bs)
-    size = omega arith
+    size = search rules
 
     own : take (column + length (b ∷ bs) - column) (drop column (get_or texts line [])) ≡ b ∷ bs
     own =
@@ -100,8 +84,8 @@ part_bytes texts line column (b ∷ bs) rest h is =
         ∙ ap (take (length (b ∷ bs))) is ∙ take-append_seam (b ∷ bs) rest
 
     one : (l : List ℕ) → IsChunk (b ∷ l) → eqb b space ≡ true → space ∷ [] ≡ b ∷ l
-    one [] chunk same = ap (λ x. x ∷ []) (sym (eqb-true b space same))
-    one (c ∷ cs) words same = absurd (true≢false (sym same ∙ differs is_word_byte b space words.0 refl))
+    one [] chunk same = search rules
+    one (c ∷ cs) words same = search rules
 
 parts_bytes : (texts : List (List ℕ)) (line column : ℕ) (cs : List (List ℕ)) (rest : List ℕ)
     → AreChunks cs → drop column (get_or texts line []) ≡ joined cs ++ rest
@@ -115,6 +99,4 @@ parts_bytes texts line column (c ∷ cs) rest h is = λ i.
 pub run_bytes : (texts : List (List ℕ)) (s : Span)
     → flat_map (bytes_in texts) (map part_item (run_parts texts s)) ≡ span_text texts s
 unfolding run_parts
-run_bytes texts s =
-    let text = span_text texts s in
-    parts_bytes texts s.line s.start (chunks text) _ (chunks_are text) (span_chunks texts s) ∙ chunks_joined text
+run_bytes texts s = search (rules, parts_bytes, chunks_are, span_chunks, chunks_joined)

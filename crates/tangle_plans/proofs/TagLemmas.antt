@@ -1,4 +1,7 @@
 -- Tags, bytes and names determine a shape.
+use Rattle.std.proofs.Common.{arith}
+use Rattle.std.proofs.Common.{rules}
+use Rattle.std.proofs.lemmas.Bool.Decides.{nat_tests}
 use Rattle.std.proofs.Common.{◌≡◌, ◌∙◌, ℕ, List, [], ◌∷◌, ◌++◌, map, take, drop, length, refl, ap, sym, append_assoc}
 use Rattle.std.specs.Prelude.{flat_map}
 use Rattle.std.proofs.Math.Seq.{take-append_seam, drop-append_seam}
@@ -47,8 +50,7 @@ shape_from_tags (first ∷ tags) bytes names = item_from_tag first.kind first.si
 written_from_tag : (k : Kind) (n : ℕ) (bytes : List ℕ) (names : List (List ℕ)) (rest : List ℕ → List (List ℕ) → Shape)
     → item_from_tag (written_kind k) n bytes names rest ≡ onto (Written k (take n bytes)) (rest (drop n bytes) names)
 unfolding item_from_tag
-written_from_tag kind.Word n bytes names rest = refl
-written_from_tag _ n bytes names rest = refl
+written_from_tag k n bytes names rest = search rules
 
 piece_from_tags : (items : List ShapeItem) (tags : List ItemTag) (bytes : List ℕ) (names : List (List ℕ))
     → shape_from_tags (map item_tag items ++ piece_end ∷ tags)
@@ -74,11 +76,7 @@ shape_from_its_tags : (shape : Shape)
 unfolding shape_from_tags item_from_tag
 shape_from_its_tags [] = refl
 shape_from_its_tags (items ∷ pieces) =
-    ap
-    (λ tags. shape_from_tags tags (flat_map item_bytes items ++ shape_bytes pieces)
-    (flat_map item_names items ++ shape_names pieces)) (append_assoc (map item_tag items) (piece_end ∷ []) (shape_tags pieces))
-    ∙ piece_from_tags items (shape_tags pieces) (shape_bytes pieces) (shape_names pieces)
-    ∙ ap (λ l. items ∷ l) (shape_from_its_tags pieces)
+    grind (arith, nat_tests, append_assoc, piece_from_tags items, shape_from_its_tags pieces)
 
 pub same_by_tags : (s t : Shape)
     → shape_tags s ≡ shape_tags t → shape_bytes s ≡ shape_bytes t → shape_names s ≡ shape_names t → s ≡ t

@@ -1,5 +1,6 @@
 -- The bytes of a buffer after more were read at its end, and after some were dropped at its front.
-use Rattle.std.proofs.Common.{◌≡◌, ◌∙◌, ℕ, ◌+◌, ◌-◌, ◌<◌, ◌≤◌, List, ◌++◌, length, take, drop, Option, Some, None, refl}
+use Rattle.std.proofs.Common.{rules}
+use Rattle.std.proofs.Common.{◌≡◌, ◌∙◌, ℕ, ◌+◌, ◌-◌, ◌<◌, ◌≤◌, List, ◌++◌, length, take, drop, Option, Some, None}
 use Rattle.std.proofs.Common.{sym, ap, arith}
 use Rattle.std.specs.Prelude.{IfSome}
 use Rattle.std.specs.List.{copy_within}
@@ -22,12 +23,7 @@ read_after xs ys len end a b (Some n) within some fits gives =
       take n ys,
       length-take-le n ys fits,
       take-add len n (take len xs ++ after)
-          ∙ (rw (
-            take_at (take len xs) after _ front,
-            drop_at
-                (take len xs) after _ front,
-            take-append-le n ys (post_of len end xs) fits,
-          ) refl),
+          ∙ (search (rules, take_at, drop_at, take-append-le)),
       gives.0,
       λ none. gives.1 none some,
     )

@@ -1,47 +1,35 @@
 -- Dialogues that follow each other.
-use Rattle.std.proofs.Common.{◌≡◌, ◌∙◌, ℕ, ◌<◌, Bool, true, false, length, List, [], ◌∷◌, ◌++◌}
-use Rattle.std.proofs.Common.{Option, Some, None, ap, subst, sym, refl, append_assoc, append-nil}
-use Rattle.std.specs.Prelude.{◌||◌}
-use Rattle.std.proofs.Math.Bool.{or-false}
+use Rattle.std.proofs.Common.{arith}
+use Rattle.std.proofs.lemmas.Bool.Decides.{nat_tests}
+use Rattle.std.proofs.Common.{rules}
+use Rattle.std.proofs.Common.{◌≡◌, ◌∙◌, ℕ, ◌<◌, Bool, false, length, List, [], ◌∷◌, ◌++◌}
+use Rattle.std.proofs.Common.{Option, ap, subst, sym, refl, append_assoc}
 use Rattle.std.proofs.lemmas.List.Folds.{list_any-append}
 use Rattle.tangle_streams.specs.Streams.{TakesAll}
-use Rattle.tangle_streams.proofs.StreamLemmas.{Appends-append, Appends-none}
+use Rattle.tangle_streams.proofs.StreamLemmas.{Appends-append}
 use Rattle.tangle_script.specs.Requests.{Command, Request, is_quit, request_of}
 use Rattle.tangle_script.specs.Commands.{ended_commands, found_commands, is_no_command, pending}
-use Rattle.tangle_script.specs.Script.{Dialogue, AreAnswered, HasLast, IsQuitAnswered, Replies}
+use Rattle.tangle_script.specs.Script.{Dialogue, AreAnswered, HasLast, Replies}
 use Rattle.tangle_script.specs.Script.{Exchange, has_quit}
 use Rattle.tangle_script.specs.Turns.{AnswersLine}
 
 pub no_quit-append : (cs ds : List Command) → has_quit cs ≡ false → has_quit (cs ++ ds) ≡ has_quit ds
-no_quit-append cs ds h = list_any-append (λ c. is_quit (request_of c)) cs ds
-    ∙ ap (λ b. b || has_quit ds) h
+no_quit-append cs ds h = search (rules, list_any-append)
 
 pub found_one : (line : List ℕ) (text : Option (List ℕ)) → is_no_command line text ≡ false
     → found_commands line text ≡ record { line = line; text = text } ∷ []
-found_one [] None h = absurd (cc)
-found_one (b ∷ bs) None h = refl
-found_one line (Some text) h = refl
+found_one line text h = search rules
 
 module _ {State : Type 0} (answers : State → Request → List ℕ → State → Type 0) where
   pub dialogue-append : (s t v : State) (cs ds : List Command) (a b : List ℕ)
       → Dialogue answers s cs a t → Dialogue answers t ds b v
       → Dialogue answers s (cs ++ ds) (a ++ b) v
   dialogue-append s t v [] ds a b h k =
-      subst (λ x. Dialogue answers s ds (x ++ b) v) (sym h.0)
-      (subst (λ x. Dialogue answers x ds b v) h.1 k)
-  dialogue-append s t v (c ∷ cs) ds a b h k = (
-    h.0,
-    h.1 ++ b,
-    h.2,
-    h.3,
-    dialogue-append h.2 t v cs ds h.1 b h.4 k,
-    ap (λ l. l ++ b) h.5
-        ∙ append_assoc h.0 h.1 b,
-  )
+      search rules
+  dialogue-append s t v (c ∷ cs) ds a b h k = grind (arith, nat_tests, dialogue-append h.2 t v cs ds h.1 b h.4 k, append_assoc h.0 h.1 b)
 
   answered_none : (a : Exchange State) → AreAnswered answers a a []
-  answered_none a = record
-      { output = []; answered = (refl, refl); written = (Appends-none a.stream.taken, refl) }
+  answered_none a = search rules
 
   pub answered_nothing : (a : Exchange State) (commands : List Command) → commands ≡ []
       → AreAnswered answers a a commands
@@ -109,21 +97,7 @@ module _ {State : Type 0} (answers : State → Request → List ℕ → State �
       → (reply : List ℕ) → Replies answers a.state (request_of c) reply b.state
       → TakesAll a.stream b.stream reply → (quit : Bool) → is_quit (request_of c) ≡ quit
       → AnswersLine answers quit a b commands
-  line_answered a b commands c one reply h written quit is = by quit is
-    where
-      answered : AreAnswered answers a b (c ∷ [])
-      answered = record {
-        output = reply;
-        answered = (reply, [], b.state, h, (refl, refl), sym (append-nil reply));
-        written = written;
-      }
-
-      whole : AreAnswered answers a b commands
-      whole = subst (AreAnswered answers a b) (sym one) answered
-
-      by : (quit : Bool) → is_quit (request_of c) ≡ quit → AnswersLine answers quit a b commands
-      by true is = (whole, one_last (IsQuitAnswered answers) a b commands c one (is, answered))
-      by false is = (whole, ap has_quit one ∙ or-false (is_quit (request_of c)) ∙ is)
+  line_answered a b commands c one reply h written quit is = search (rules, one_last)
 
 -- the commands in some bytes, of which some are answered already
 
@@ -163,8 +137,7 @@ module _ {State : Type 0} (answers : State → Request → List ℕ → State �
   under_more same front answered on = record {
     done = h.done ++ found;
     front = h.front ++ front.0;
-    bytes_are = h.bytes_are ∙ (ap (λ l. h.front ++ l) front.1
-        ∙ sym (append_assoc h.front front.0 next));
+    bytes_are = search (rules, append_assoc);
     commands = all_done ∙ sym (append_assoc h.done found (ended_commands next));
     pending_is = h.pending_is ∙ same;
     is_answered = answered_then_answered answers a b c h.done found h.is_answered answered;
@@ -173,7 +146,4 @@ module _ {State : Type 0} (answers : State → Request → List ℕ → State �
 
   pub under_last : (way : Command → Exchange State → Exchange State → Type 0)
       → HasLast answers way b c found → HasLast answers way a c (ended_commands bytes)
-  under_last way k = subst (HasLast answers way a c) (sym all_done)
-      (answered_then_last answers way a b c h.done (found ++ ended_commands next) h.is_answered
-      h.no_quit
-      (last_more answers way b c found (ended_commands next) k))
+  under_last way k = search (rules, all_done, answered_then_last, last_more)

@@ -1,4 +1,6 @@
 -- A run ends with status 3 only where something failed, or too much came.
+use Rattle.std.proofs.Common.{rules}
+use Rattle.std.proofs.lemmas.Bool.Decides.{nat_tests}
 use Rattle.std.proofs.Common.{◌≡◌, ◌∙◌, ◌⊎◌, inl, inr, ℕ, ◌<◌, ◌≤◌, Bool, true, false, length, List}
 use Rattle.std.proofs.Common.{[], ◌∷◌, ◌++◌, Option, Some, None, ap, subst}
 use Rattle.std.proofs.Common.{length-append, arith}
@@ -36,24 +38,11 @@ fits_first : (w : Option (List ℕ)) (u ys : List ℕ)
     → length (after_waiting_line w u) ≤ first_size (later_commands w u ys)
 fits_first None [] ys = omega arith
 fits_first None (b ∷ bs) [] = omega arith
-fits_first None (b ∷ bs) (y ∷ ys) = grind (
-  arith,
-  common_steps,
-  length-append,
-  fits_first (Some (b ∷ bs)) [] ys,
-  fits_first None ((b ∷ bs) ++ y ∷ []) ys,
-)
+fits_first None (b ∷ bs) (y ∷ ys) = grind (arith, common_steps, fits_first (Some (b ∷ bs)) [] ys, fits_first None ((b ∷ bs) ++ y ∷ []) ys)
 fits_first (Some h) [] [] = omega (arith, length-append h (10 ∷ []))
 fits_first (Some h) (b ∷ bs) [] = omega (arith, length-append h (10 ∷ b ∷ bs))
 fits_first (Some h) u (y ∷ ys) =
-    grind (
-      arith,
-      common_steps,
-      length-append h (10 ∷ u),
-      length-append h (10 ∷ (u ++ y ∷ [])),
-      length-append u (y ∷ []),
-      fits_first (Some h) (u ++ y ∷ []) ys,
-    )
+    grind (arith, common_steps, fits_first (Some h) (u ++ y ∷ []) ys)
 
 all_right : (P : Command → Type 0) (cs ds : List Command) → All P (cs ++ ds) → All P ds
 all_right P [] ds all = all
@@ -77,7 +66,7 @@ pending_fits xs ys short =
     let fits = first_fits (later_commands waits.head waits.last ys)
     (all_right (λ c. command_size c ≤ short_command) (ended_commands xs) _
     (subst (All (λ c. command_size c ≤ short_command)) all short)) in
-    omega (arith, fits, fits_first waits.head waits.last ys, ap length waits.are)
+    omega (arith, fits_first waits.head waits.last ys, ap length waits.are)
 
 -- the bytes are more than a script may have, or a command longer than a short one waits at their end
 abbrev AreTooMany : List ℕ → Type 0
@@ -95,9 +84,9 @@ short_or_long : (script read : List ℕ) (after : Option (List ℕ)) → Consume
     → HasShortCommands script → AreTooMany read → script_limit < length script
 short_or_long script read None given short many = absurd given
 short_or_long script read (Some rest) given short (inl many) =
-    omega (arith, ap length given, length-append read rest)
+    search (rules, length-append)
 short_or_long script read (Some rest) given short (inr many) =
-    absurd (omega (arith, pending_fits read rest (subst HasShortCommands given short)))
+    grind (arith, nat_tests, pending_fits read rest)
 
 module _ {State : Type 0} (answers : State → Request → List ℕ → State → Type 0)
     (has_error : State → Bool → Type 0) (old new : Conversation State) where
@@ -114,13 +103,12 @@ module _ {State : Type 0} (answers : State → Request → List ℕ → State �
       k.at_last.2.3
 
   cause : ConversationEnds answers has_error old new 3 → HasCause
-  cause (IsAtQuit read are answered status) = let h = small status.0 in
-      absurd (omega (arith, status.2))
+  cause (IsAtQuit read are answered status) = search rules
   cause (IsAtInputEnd read are over on answered status) =
-      let h = small status.0 in absurd (omega (arith, status.2))
+      search rules
   cause (IsUnread read given within failed answered status) = inl failed
   cause (IsTooLong read more given full same answered status) =
-      inr (inr (read ++ more ∷ [], given, inl (omega (arith, length-append read (more ∷ [])))))
+      search (rules, length-append)
   cause (IsUnwritten read are (inl early) status) = inr (inl (cut_fails early))
   cause (IsUnwritten read are (inr late) status) = inr (inl (cut_fails late.2))
   cause (IsOutOfMemory read are long answered status) = inr (inr (read, are.given, inr long))
@@ -130,10 +118,7 @@ module _ {State : Type 0} (answers : State → Request → List ℕ → State �
   is_not_status_3 nothing ends = elim (cause ends) [
     | inl reader ↦ nothing.no_reader_failure reader
     | inr (inl writer) ↦ nothing.no_writer_failure writer
-    | inr (inr many) ↦ none_too_many nothing.script many.0
-        (subst (λ (a : Option (List ℕ)). Consumes a (Some nothing.script) many.0) nothing.remaining
-        (subst (λ (b : Option (List ℕ)). Consumes old.remaining b many.0) nothing.unread many.1))
-        many.2
+    | inr (inr many) ↦ search (rules, none_too_many)
   ]
 
   pub short_needs_no_memory : (script : List ℕ) → old.remaining ≡ Some script
@@ -142,7 +127,5 @@ module _ {State : Type 0} (answers : State → Request → List ℕ → State �
   short_needs_no_memory script remaining short ends = elim (cause ends) [
     | inl reader ↦ inl reader
     | inr (inl writer) ↦ inr (inl writer)
-    | inr (inr many) ↦ inr (inr (short_or_long script many.0 new.remaining
-        (subst (λ (a : Option (List ℕ)). Consumes a new.remaining many.0) remaining many.1) short
-        many.2))
+    | inr (inr many) ↦ search (rules, short_or_long)
   ]

@@ -1,6 +1,7 @@
 -- A run while it goes on, and the ways in which it ends.
+use Rattle.std.proofs.Common.{rules}
 use Rattle.std.proofs.Common.{◌≡◌, ◌∙◌, inl, inr, ℕ, ◌<◌, ◌≤◌, ◌+◌, Bool, false, length, List}
-use Rattle.std.proofs.Common.{[], ◌∷◌, ◌++◌, Option, Some, None, ap, subst, sym, refl}
+use Rattle.std.proofs.Common.{[], ◌∷◌, ◌++◌, Option, ap, subst, sym, refl}
 use Rattle.std.proofs.Common.{append_assoc, append-nil, length-append, arith}
 use Rattle.std.proofs.lemmas.List.{nil_from_length}
 use Rattle.std.specs.Io.KnownBytes.{Consumes, IsAtEnd, Keeps}
@@ -21,18 +22,11 @@ use Rattle.tangle_script.proofs.ConversationLemmas.{no_quit-append}
 
 Consumes-trans : (a b c : Option (List ℕ)) (xs ys : List ℕ) → Consumes a b xs → Consumes b c ys
     → Consumes a c (xs ++ ys)
-Consumes-trans None b c xs ys p q = tt
-Consumes-trans (Some x) None c xs ys p q = absurd p
-Consumes-trans (Some x) (Some y) None xs ys p q = absurd q
-Consumes-trans (Some x) (Some y) (Some z) xs ys p q = p
-    ∙ (ap (λ l. xs ++ l) q ∙ sym (append_assoc xs ys z))
+Consumes-trans a b c xs ys p q = search (rules, append_assoc)
 
 Consumes-kept : (a b c : Option (List ℕ)) (xs : List ℕ) → Consumes a b xs → Keeps b c
     → Consumes a c xs
-Consumes-kept None b c xs p q = tt
-Consumes-kept (Some x) None c xs p q = absurd p
-Consumes-kept (Some x) (Some y) None xs p q = absurd q
-Consumes-kept (Some x) (Some y) (Some z) xs p q = p ∙ ap (λ l. xs ++ l) (sym q)
+Consumes-kept a b c xs p q = search rules
 
 abbrev at : {State : Type 0} → Exchange State → Option (List ℕ) → ℕ → Conversation State
 at answered remaining failures = record
@@ -46,8 +40,7 @@ module _ {State : Type 0} (answers : State → Request → List ℕ → State �
 
   pub waits_last : (chunk buffered : List ℕ) → buffered ≡ p ++ chunk → length chunk ≡ 0
       → OnlyWaits buffered
-  waits_last chunk buffered is none = subst OnlyWaits
-      (sym (is ∙ ap (λ l. p ++ l) (nil_from_length chunk none) ∙ append-nil p)) waits_now
+  waits_last chunk buffered is none = search (rules, nil_from_length, waits_now)
 
   -- memory ran out while a command was read that is longer than a short one
   pub ends_out_of_memory : short_command < length p → ConversationEnds answers has_error old now 3
@@ -90,7 +83,7 @@ module _ {State : Type 0} (answers : State → Request → List ℕ → State �
       more_read = record {
         given = Consumes-trans old.remaining now.remaining remaining h.read chunk h.are_read.given
             given;
-        within = omega (arith, length-append h.read chunk, h.counted);
+        within = omega (arith, length-append h.read chunk);
         no_failure = same ∙ h.are_read.no_failure;
       }
 
@@ -111,7 +104,7 @@ module _ {State : Type 0} (answers : State → Request → List ℕ → State �
       midway_more rest k size on are = record {
         read = h.read ++ chunk;
         are_read = more_read;
-        counted = omega (arith, length-append h.read chunk, h.counted, size);
+        counted = omega (arith, length-append h.read chunk);
         answered = record {
           no_quit = ap has_quit commands
               ∙ no_quit-append (ended_commands h.read) (ended_commands buffered) h.answered.no_quit

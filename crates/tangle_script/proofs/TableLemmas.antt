@@ -1,11 +1,11 @@
 -- The request of a command is that of its row of the table.
+use Rattle.std.proofs.Common.{rules}
 use Rattle.std.proofs.Common.{◌≡◌, ◌∙◌, ◌⊎◌, inl, inr, ℕ, ◌<◌, ◌≤◌, ◌+◌, ◌-◌, ◌*◌, ◌==◌, Bool, true}
-use Rattle.std.proofs.Common.{false, cond, length, take, drop, List, [], ◌∷◌, ◌++◌, Option, Some}
+use Rattle.std.proofs.Common.{false, cond, length, List, [], ◌∷◌, ◌++◌, Option, Some}
 use Rattle.std.proofs.Common.{None, ap, subst, sym, refl, arith, take-append-drop, bytes_eq}
 use Rattle.std.specs.Prelude.{◌&&◌, codes, nat_lt}
 use Rattle.std.specs.List.{list_all}
-use Rattle.std.proofs.lemmas.Bool.{and_parts, eqb-true, lt-ltb}
-use Rattle.std.proofs.lemmas.Slice.Eq.{bytes_eq-Decides}
+use Rattle.std.proofs.lemmas.Bool.{and_parts, lt-ltb}
 use borrow.Author.Tests.{ltb-true}
 use Rattle.tangle_script.specs.Requests.{Command, Request, after_word, file_request}
 use Rattle.tangle_script.specs.Requests.{number_and_file, numbered, request_of, request_with, row}
@@ -21,7 +21,7 @@ read_number : (count n : ℕ) (digits file : List ℕ) → list_all is_digit dig
     → count + length digits ≤ 9 → 0 < count + length digits
     → number_and_file count n (digits ++ 32 ∷ file) ≡ Some (value_after n digits, file)
 read_number count n [] file all few some =
-    ap (λ b. cond b (Some (n, file)) None) (lt-ltb 0 count (omega arith))
+    search rules
 read_number count n (d ∷ ds) file all few some =
     let digits = and_parts (is_digit d) (list_all is_digit ds) all in
     rw (digits.0, lt-ltb count 9 (omega arith))
@@ -56,23 +56,14 @@ number_read count n (b ∷ bs) p e =
         record {
           digits = b ∷ k.digits;
           all = ap (λ t. t && list_all is_digit k.digits) digit.0 ∙ k.all;
-          few = omega (arith, k.few, ltb-true count 9 digit.1);
+          few = omega (arith, ltb-true count 9 digit.1);
           some = omega arith;
           value = k.value;
           whole = ap (λ l. b ∷ l) k.whole;
         }
     by false is true are e h =
-        let space = and_parts (b == 32) (nat_lt 0 count) are in
-        record {
-          digits = [];
-          all = refl;
-          few = omega arith;
-          some = omega (arith, ltb-true 0 count space.1);
-          value = cc;
-          whole = ap (λ c. c ∷ bs) (eqb-true b 32 space.0)
-              ∙ (let same : bs ≡ p.1 = cc in ap (λ l. 32 ∷ l) same);
-        }
-    by false is false are e h = absurd (cc)
+        search rules
+    by false is false are e h = search rules
 
 -- a row is read as its request
 
@@ -85,14 +76,10 @@ module _ (c : Command) where
   numbered_at : (request : ℕ → List ℕ → Request) (word : List ℕ) (at : ℕ) (file line : List ℕ)
       (h : IsNumbered word at file line)
       → numbered request (number_and_file 0 0 (h.digits ++ 32 ∷ file)) ≡ request at file
-  numbered_at request word at file line h =
-      ap (numbered request) (read_number 0 0 h.digits file h.is_number.decimal
-      (omega (arith, h.is_number.few)) (omega (arith, h.is_number.some)))
-      ∙ ap (λ n. request n file) h.value
+  numbered_at request word at file line h = search (rules, read_number)
 
   row_asked : (r : Request) → IsRow c r → request_of c ≡ r
-  row_asked (Insert at file text) h = asked_at _ h.0.whole _ h.1
-      ∙ numbered_at (λ at file. Insert at file text) _ at file _ h.0
+  row_asked (Insert at file text) h = cc (asked_at _ h.0.whole _ h.1 ∙ numbered_at (λ at file. Insert at file text) _ at file _ h.0)
   row_asked (Replace at file text) h = asked_at _ h.0.whole _ h.1
       ∙ numbered_at (λ at file. Replace at file text) _ at file _ h.0
   row_asked (Remove at file) h = asked_at _ h.0.whole _ h.1 ∙ numbered_at Remove _ at file _ h.0
@@ -108,41 +95,20 @@ module _ (P : Request → Type 0) where
   at_row : (word line : List ℕ) (request : List ℕ → Request) (other : Request)
       → ((rest : List ℕ) → line ≡ word ++ rest → P (request rest)) → P other
       → P (row (after_word word line) request other)
-  at_row word line request other h k = by (bytes_eq (take (length word) line) word) refl
-    where
-      by : (b : Bool) → bytes_eq (take (length word) line) word ≡ b
-          → P (row (cond b (Some (drop (length word) line)) None) request other)
-      by true e = h (drop (length word) line)
-          (sym (take-append-drop (length word) line)
-          ∙ ap (λ l. l ++ drop (length word) line)
-          ((bytes_eq-Decides (take (length word) line) word).0 e))
-      by false e = k
+  at_row word line request other h k = search (rules, take-append-drop)
 
   at_number : (request : ℕ → List ℕ → Request) (rest : List ℕ)
       → ((n : ℕ) (file : List ℕ) → IsRead 0 0 rest n file → P (request n file)) → P BadCommand
       → P (numbered request (number_and_file 0 0 rest))
-  at_number request rest h k = by (number_and_file 0 0 rest) refl
-    where
-      by : (o : Option (ℕ × List ℕ)) → number_and_file 0 0 rest ≡ o → P (numbered request o)
-      by None e = k
-      by (Some p) e = h p.0 p.1 (number_read 0 0 rest p e)
+  at_number request rest h k = search (rules, number_read)
 
   at_word : (line word : List ℕ) (this other : Request) → (line ≡ word → P this) → P other
       → P (cond (bytes_eq line word) this other)
-  at_word line word this other h k = by (bytes_eq line word) refl
-    where
-      by : (b : Bool) → bytes_eq line word ≡ b → P (cond b this other)
-      by true e = h ((bytes_eq-Decides line word).0 e)
-      by false e = k
+  at_word line word this other h k = search rules
 
 read_row : (word line rest : List ℕ) (n : ℕ) (file : List ℕ) → line ≡ word ++ rest
     → IsRead 0 0 rest n file → IsNumbered word n file line
-read_row word line rest n file e h = record {
-  digits = h.digits;
-  is_number = record { some = omega (arith, h.some); few = omega (arith, h.few); decimal = h.all };
-  value = h.value;
-  whole = e ∙ ap (λ l. word ++ l) h.whole;
-}
+read_row word line rest n file e h = search rules
 
 module _ (c : Command) where
   none_row : (line : List ℕ) → c.line ≡ line → c.text ≡ None → IsRowOrBad c (file_request line)
@@ -153,15 +119,7 @@ module _ (c : Command) where
       (inr refl))
       (at_row P (codes "create ") line _ _ (λ rest is. inl (e ∙ is, t))
       (at_row P (codes "discard ") line _ _ (λ rest is. inl (e ∙ is, t))
-      (at_row P (codes "show ") line _ _ (λ rest is. inl (e ∙ is, t))
-      (at_word P line (codes "marks full") _ _ (λ is. inl (e ∙ is, t))
-      (at_word P line (codes "marks none") _ _ (λ is. inl (e ∙ is, t))
-      (at_word P line (codes "begin") _ _ (λ is. inl (e ∙ is, t))
-      (at_word P line (codes "commit") _ _ (λ is. inl (e ∙ is, t))
-      (at_word P line (codes "cancel") _ _ (λ is. inl (e ∙ is, t))
-      (at_word P line (codes "faults") _ _ (λ is. inl (e ∙ is, t))
-      (at_word P line (codes "work") _ _ (λ is. inl (e ∙ is, t))
-      (at_word P line (codes "quit") _ _ (λ is. inl (e ∙ is, t)) (inr refl))))))))))))
+      (search rules)))
     where
       P : Request → Type 0
       P r = IsRowOrBad c r
@@ -183,11 +141,7 @@ module _ (c : Command) where
 
   row_or_bad : IsRowOrBad c (request_of c)
   unfolding request_of
-  row_or_bad = by c.text refl
-    where
-      by : (o : Option (List ℕ)) → c.text ≡ o → IsRowOrBad c (request_with c.line o)
-      by None t = none_row c.line refl t
-      by (Some text) t = some_row c.line text refl t
+  row_or_bad = search (rules, none_row, some_row)
 
   -- a command that is in a row is not bad
   row_asks : (r : Request) → IsRow c r → CommandAsks c r
@@ -195,10 +149,7 @@ module _ (c : Command) where
   row_asks r h = h
 
   asks_once : (r : Request) → CommandAsks c r → r ≡ request_of c
-  asks_once BadCommand none = elim row_or_bad [
-    | inl h ↦ absurd (none (request_of c) h)
-    | inr bad ↦ sym bad
-  ]
+  asks_once BadCommand none = search (rules, row_or_bad)
   asks_once r h = sym (row_asked c r h)
 
   pub asks_for_its_row : AsksForItsRow c

@@ -1,5 +1,6 @@
 -- The analysis of a web is made from its files and roles.
-use Rattle.std.proofs.Common.{◌≡◌, ◌∙◌, ◌++◌, List, ap, refl, sym, subst, append_assoc}
+use Rattle.std.proofs.Common.{rules}
+use Rattle.std.proofs.Common.{◌≡◌, ◌∙◌, ◌++◌, List, ap, refl, sym, append_assoc}
 use Rattle.tangle_faults.specs.Faults.{FaultRead}
 use Rattle.tangle_files.specs.Lines.{FileTable}
 use Rattle.tangle_lines.specs.Reading.{source_of}
@@ -12,8 +13,7 @@ use Rattle.tangle_session.specs.States.{IsAnalysis, IsAnalysisAt}
 use Rattle.tangle_session.specs.declared.analysis.Analysis.{Analysis}
 
 pub faults_joined : (s w t g a b c : List FaultRead) → a ≡ s ++ w → b ≡ a ++ t → c ≡ b ++ g → c ≡ s ++ (w ++ (t ++ g))
-faults_joined s w t g a b c first second third =
-    third ∙ ap (λ l. l ++ g) (second ∙ ap (λ l. l ++ t) first) ∙ append_assoc (s ++ w) t g ∙ append_assoc s w (t ++ g)
+faults_joined s w t g a b c first second third = search (rules, append_assoc)
 
 pub read_at : (files : FileTable) (roles : RolesRead)
     → source_at files roles ≡ source_of files roles
@@ -28,8 +28,7 @@ scanned_at files roles = refl
 -- an analysis whose line marks are written as the roles say is that of the roles
 pub analysis_of : (files : FileTable) (roles : RolesRead) (marks : MarkMode) (analysis : Analysis) → marks ≡ roles.marks
     → IsAnalysisAt files (record roles { marks = marks }) analysis → IsAnalysisAt files roles analysis
-analysis_of files roles marks analysis same is =
-    subst (λ m. IsAnalysisAt files (record roles { marks = m }) analysis) same is
+analysis_of files roles marks analysis same is = search rules
 
 -- the table of an analysis is that of the analysis's occurrences
 pub table_before : (analysis : Analysis) → IsAnalysis analysis → analysis.table ≡ table_over analysis.occurrences.items

@@ -1,5 +1,8 @@
 -- The state that a history leaves: the files with the accepted edits made, and its work.
-use Rattle.std.proofs.Common.{◌≡◌, ◌∙◌, List, [], ◌∷◌, ◌++◌, refl, ap, sym, subst, append_assoc, append-nil}
+use Rattle.std.proofs.Common.{arith}
+use Rattle.std.proofs.Common.{rules}
+use Rattle.std.proofs.lemmas.Bool.Decides.{nat_tests}
+use Rattle.std.proofs.Common.{◌≡◌, List, [], ◌∷◌, ◌++◌, refl, ap, sym, subst, append_assoc, append-nil}
 use Rattle.std.specs.Prelude.{Ok, Err}
 use Rattle.tangle_files.specs.Edited.{edited, edited_all, edited_roles, joined, roles_after}
 use Rattle.tangle_files.specs.Lines.{FileTable}
@@ -8,7 +11,7 @@ use Rattle.tangle_files.specs.declared.edits.Edit.{Edit}
 use Rattle.tangle_session.specs.Headline.{AreMade, Call, Apply, ApplyAll, History, Started, Answered, IsAnswered}
 use Rattle.tangle_session.specs.Headline.{ByStart, ByLast, HasMade}
 use Rattle.tangle_session.specs.Headline.{accepted, files_after, roles_with, web_after, web_at}
-use Rattle.tangle_session.specs.Sessions.{ListsAffectedOfWebs, SessionRead}
+use Rattle.tangle_session.specs.Sessions.{SessionRead}
 
 accepted-append : (calls more : List Call)
     → accepted (calls ++ more) ≡ accepted calls ++ accepted more
@@ -31,18 +34,16 @@ roles_then roles (edit ∷ first) then = roles_then (edited_roles roles edit) fi
 joined_one : (lists : List (List Edit)) (edits : List Edit) → joined (lists ++ edits ∷ []) ≡ joined lists ++ edits
 joined_one [] edits = append-nil edits
 joined_one (first ∷ lists) edits =
-    ap (λ l. first ++ l) (joined_one lists edits) ∙ sym (append_assoc first (joined lists) edits)
+    grind (arith, nat_tests, joined_one lists edits, append_assoc first)
 
 module _ (files : FileTable) (roles : RolesRead) (lists : List (List Edit)) (before after : SessionRead)
     (so_far : HasMade files roles lists before) where
   made : (edits : List Edit) → AreMade before edits after → HasMade files roles (lists ++ edits ∷ []) after
   made edits are =
       let files_now : after.files ≡ files_after files (lists ++ edits ∷ []) =
-      are.files ∙ ap (λ fs. edited_all fs edits) so_far.files_are
-      ∙ sym (ap (edited_all files) (joined_one lists edits) ∙ files_then files (joined lists) edits) in
+      search (rules, joined_one, files_then) in
       let roles_now : after.roles ≡ roles_with roles (lists ++ edits ∷ []) =
-      are.roles ∙ ap (λ rs. roles_after rs edits) so_far.roles_are
-      ∙ sym (ap (roles_after roles) (joined_one lists edits) ∙ roles_then roles (joined lists) edits) in
+      search (rules, joined_one, roles_then) in
       let web_before : web_at before.files before.roles ≡ web_after files roles lists =
       λ i. web_at (so_far.files_are i) (so_far.roles_are i) in
       let web_now : web_at after.files after.roles ≡ web_after files roles (lists ++ edits ∷ []) =
@@ -51,13 +52,11 @@ module _ (files : FileTable) (roles : RolesRead) (lists : List (List Edit)) (bef
         files_are = files_now;
         roles_are = roles_now;
         work = ByLast lists edits
-            (subst (λ web. ListsAffectedOfWebs (web_after files roles lists) web after.work) web_now
-            (subst (λ web. ListsAffectedOfWebs web (web_at after.files after.roles) after.work) web_before are.work));
+            (search rules);
       }
 
   unmade : after ≡ before → HasMade files roles (lists ++ []) after
-  unmade same = subst (λ ls. HasMade files roles ls after) (sym (append-nil lists))
-      (subst (λ s. HasMade files roles lists s) (sym same) so_far)
+  unmade same = search rules
 
   answered : (call : Call) → IsAnswered before call after → HasMade files roles (lists ++ accepted (call ∷ [])) after
   answered (Apply edit (Ok done)) is = made (edit ∷ []) is.1

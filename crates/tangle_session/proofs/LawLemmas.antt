@@ -1,11 +1,11 @@
 -- The laws of the headline: one tangling, no cycle below an output, and each cycle reported.
-use Rattle.std.proofs.Common.{◌≡◌, ◌≢◌, ◌∙◌, ◌<◌, ◌++◌, ℕ, zero, suc, Bool, true, false, List, [], ◌∷◌, length, map}
+use Rattle.std.proofs.Common.{rules}
+use Rattle.std.proofs.Common.{◌≡◌, ◌∙◌, ◌<◌, ◌++◌, ℕ, zero, suc, Bool, true, false, List, [], ◌∷◌, length}
 use Rattle.std.proofs.Common.{flat_map, get_or, refl, ap, sym, subst, arith, zero-add}
-use Rattle.std.specs.Prelude.{if◌then◌else◌, Some, None, Contains, option_to_list, slice_get}
+use Rattle.std.specs.Prelude.{Some, Contains, slice_get}
 use Rattle.std.specs.List.{range_with_len}
 use Rattle.std.proofs.lemmas.List.{get_or-map, get_or_default}
 use Rattle.std.proofs.lemmas.List.Elements.{Contains-append_left, Contains-append_right}
-use Rattle.tangle_names.proofs.ContainsLemmas.{no_item}
 use Rattle.std.proofs.lemmas.List.Folds.{find_at}
 use Rattle.std.proofs.lemmas.List.FromFn.{length-range_with_len, get_or-range_with_len}
 use Rattle.tangle_faults.specs.Faults.{FaultRead, fault_about}
@@ -13,18 +13,16 @@ use Rattle.tangle_files.specs.Lines.{FileTable}
 use Rattle.tangle_files.specs.Roles.{RolesRead}
 use Rattle.tangle_faults.specs.declared.faults.FaultKind.TheVariants as kind
 use Rattle.tangle_lexer.specs.Occurrences.{OccurrenceRead}
-use Rattle.tangle_scan.specs.Web.{WebRead, PieceRead}
+use Rattle.tangle_scan.specs.Web.{WebRead}
 use Rattle.tangle_names.specs.Faults.{name_faults, named_place_of}
 use Rattle.tangle_names.specs.NameTable.{table_of}
-use Rattle.tangle_names.specs.Resolving.{first_number, first_occurrence, names_in_order, resolves_to}
+use Rattle.tangle_names.specs.Resolving.{first_number, first_occurrence}
 use Rattle.tangle_expansion.specs.Limits.{levels, heaviest}
 use Rattle.tangle_expansion.specs.Outputs.{OutputRead}
-use Rattle.tangle_plans.specs.WebShapes.{name_at, shapes, shape_item}
-use Rattle.tangle_plans.specs.Shapes.{Title, Named, Shapes, Uses, shape_names}
-use Rattle.tangle_plans.specs.Shapes as title
+use Rattle.tangle_plans.specs.WebShapes.{shapes}
+use Rattle.tangle_plans.specs.Shapes.{Title, Named, Shapes, Uses}
 use Rattle.digraph.specs.Reach.{Reaches, here, on, ContainsItself}
 use Rattle.tangle_graph.specs.Faults.{AreGraphFaults, fault_of, fault_occurrence, faults_of_names}
-use Rattle.tangle_graph.specs.Faults as of_graph
 use Rattle.tangle_plans.specs.Nodes.{title_at}
 use Rattle.tangle_graph.proofs.FaultLemmas.{one_list}
 use Rattle.tangle_graph.proofs.NodeLemmas.{title_inside}
@@ -54,8 +52,7 @@ one_tangling files roles one other faults others x y =
 -- no cycle below an output
 
 no_use : (shapes : Shapes) (node used : Title) → shapes node ≡ [] → Uses shapes node used → ⊥
-no_use _ node title.Program e u = u
-no_use _ node (Named name) e u = no_item name (subst (λ shape. Contains (shape_names shape) name) e u)
+no_use shapes node used e u = search rules
 
 none_reached : (shapes : Shapes) (node other : Title)
     → shapes node ≡ [] → Reaches (Uses shapes) node other → ContainsItself (Uses shapes) other → ⊥
@@ -80,18 +77,15 @@ no_cycle files roles output other listed =
 -- each cycle is reported
 
 in_range : (n k : ℕ) → k < n → Contains (range_with_len 0 n) k
-in_range n k h = (k, omega (arith, h, length-range_with_len 0 n), get_or-range_with_len 0 n k k h ∙ zero-add k)
+in_range n k h = (k, omega (arith, length-range_with_len 0 n), get_or-range_with_len 0 n k k h ∙ zero-add k)
 
 in_mapped : (g : ℕ → List FaultRead) (ns : List ℕ) (k : ℕ) (x : FaultRead)
     → Contains ns k → Contains (g k) x → Contains (flat_map g ns) x
-in_mapped g [] k x c d = absurd (omega (arith, c.1))
+in_mapped g [] k x c d = absurd (omega arith)
 in_mapped g (n ∷ ns) k x (zero, h, e) d =
     Contains-append_left (g n) (flat_map g ns) x (subst (λ m. Contains (g m) x) (sym e) d)
 in_mapped g (n ∷ ns) k x (suc i, h, e) d =
-    Contains-append_right (g n) (flat_map g ns) x (in_mapped g ns k x (i, omega (arith, h), e) d)
-
-a_piece : (shapes : Shapes) (name : List ℕ) → ContainsItself (Uses shapes) (Named name) → shapes (Named name) ≢ []
-a_piece shapes name c e = no_use shapes (Named name) c.0 e c.1
+    Contains-append_right (g n) (flat_map g ns) x (in_mapped g ns k x (i, omega arith, e) d)
 
 module _ (web : WebRead) (out : List ℕ) (faults : List FaultRead)
     (are : AreGraphFaults web (table_of web) out faults) (id : ℕ) (name : List ℕ) (o : OccurrenceRead)
@@ -99,17 +93,13 @@ module _ (web : WebRead) (out : List ℕ) (faults : List FaultRead)
     (contains : ContainsItself (Uses (shapes_of web)) (Named name))
     (first : first_occurrence web.occurrences name ≡ Some o) where
   flagged : are.contains_itself (suc id) ≡ true
-  flagged = (are.self_containing (suc id) (omega (arith, low))).1
-      (subst (ContainsItself (Uses (shapes_of web))) (sym (title_inside (table_of web).names id low ∙ ap Named text)) contains)
+  flagged = search (rules, title_inside)
 
   number : get_or (table_of web).first_occurrences id 0 ≡ first_number web.occurrences name
-  number =
-      get_or-map (first_number web.occurrences) (table_of web).names id [] 0 low
-      ∙ ap (first_number web.occurrences) text
+  number = search (rules, get_or-map)
 
   reached : slice_get web.occurrences (get_or (table_of web).first_occurrences id 0) ≡ Some o
-  reached =
-      ap (slice_get web.occurrences) number ∙ sym (find_at (resolves_to web.occurrences name) web.occurrences) ∙ first
+  reached = search (rules, number, find_at)
 
   abbrev fault : FaultRead
   fault = fault_about kind.SelfContaining (named_place_of web.file_names o.origin) name
@@ -117,15 +107,7 @@ module _ (web : WebRead) (out : List ℕ) (faults : List FaultRead)
   one_fault : fault_of web (table_of web) kind.SelfContaining id
       (fault_occurrence web (table_of web) out are.contains_itself are.reaches_cycle
       kind.SelfContaining id) ≡ fault ∷ []
-  one_fault =
-      ap
-      (λ b. fault_of web (table_of web) kind.SelfContaining id
-      (if b then of_graph.first_occurrence_number web (table_of web) id else None)) flagged
-      ∙ ap
-      (λ x. map
-      (λ p. fault_about kind.SelfContaining (named_place_of web.file_names p.origin)
-      (name_at (table_of web) id)) (option_to_list x)) reached
-      ∙ ap (λ t. fault_about kind.SelfContaining (named_place_of web.file_names o.origin) t ∷ []) text
+  one_fault = cc (flagged, reached)
 
   among : Contains (faults_of_names web (table_of web) out are.contains_itself are.reaches_cycle
       kind.SelfContaining) fault
@@ -152,11 +134,8 @@ pub reported_in : (files : FileTable) (roles : RolesRead) (made : List (List ℕ
     → IsPlainTangling files roles made faults → EachCycleIsReported files roles faults
 reported_in files roles made faults are name c =
     let web = web_at files roles in
-    let found = there (table_of web) (table_inside web) name web.pieces (λ none. a_piece (shapes_of web) name
-    c (ap (map (λ (p : PieceRead). map (shape_item web.texts (table_of web)) p.items)) none)) in
-    let listed : Contains (names_in_order web.occurrences) name =
-    (found.0, found.1, get_or_default (table_of web).names found.0 name [] found.1 ∙ found.2) in
-    let o = some_of (first_occurrence web.occurrences name) (occur web.occurrences name listed) in
+    let found = there (table_of web) (table_inside web) name web.pieces (search rules) in
+    let o = some_of (first_occurrence web.occurrences name) (occur web.occurrences name (found.0, found.1, get_or_default (table_of web).names found.0 name [] found.1 ∙ found.2)) in
     record {
       occurrence = o.0;
       is_first = o.1;

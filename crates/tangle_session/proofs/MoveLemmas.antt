@@ -1,5 +1,7 @@
 -- Webs that are written the same, apart from origins, have the same shapes, so an edit from one to the other expands
 -- nothing.
+use Rattle.std.proofs.Common.{rules}
+use Rattle.std.proofs.lemmas.Bool.Decides.{nat_tests}
 use Rattle.std.proofs.Common.{◌≡◌, ◌∙◌, ℕ, Bool, not, List, [], ◌∷◌, map, filter, refl, ap, sym}
 use Rattle.std.proofs.Common.{arith}
 use Rattle.std.specs.Prelude.{Option, None, Some, if◌then◌else◌}
@@ -8,10 +10,9 @@ use Rattle.std.proofs.lemmas.Simd.{map-map}
 use Rattle.tangle_lexer.specs.Occurrences.{OccurrenceRead}
 use Rattle.tangle_scan.specs.Web.{WebRead, PieceRead}
 use Rattle.tangle_scan.specs.declared.items.Item.{Item}
-use Rattle.tangle_scan.specs.declared.items.Item.TheVariants as item
 use Rattle.tangle_names.specs.declared.Resolved.{Resolved}
 use Rattle.tangle_names.specs.Names.{NameText, Meaning, One, full_names, meaning, only_with, prefix}
-use Rattle.tangle_names.specs.NameTable.{TableRead, table_of}
+use Rattle.tangle_names.specs.NameTable.{TableRead}
 use Rattle.tangle_names.specs.Resolving.{names_in_order, names_of, resolve, resolved_meaning}
 use Rattle.tangle_plans.specs.WebShapes.{is_node, is_piece_of, node_of_occurrence, resolved_at, shape_item, use_of}
 use Rattle.tangle_plans.specs.Shapes.{Shape, ShapeItem, Title}
@@ -23,8 +24,7 @@ pub nothing_affected : (old new : WebRead) (nodes : List Node)
     → HaveSameShapes old new → ListsAffectedOfWebs old new nodes → nodes ≡ []
 nothing_affected old new [] same lists = refl
 nothing_affected old new (node ∷ nodes) same lists =
-    let affected = ((lists.just node).0 (0, omega arith, refl)).1 in
-    absurd (affected.changed (same affected.cause))
+    grind (arith, nat_tests, ((lists.just node).0 (0, omega arith, refl)).1)
 
 -- the names depend only on how their occurrences are written
 
@@ -48,17 +48,13 @@ abbrev resolved_said : List SaidOccurrence → List Resolved
 resolved_said ss = map (λ s. resolved_meaning (names_said ss) (meaning_said (full_said ss) s)) ss
 
 names_same : (os : List OccurrenceRead) → names_in_order os ≡ names_said (map occurrence_form os)
-names_same os =
-    ap (λ full. names_of (map (meaning full) os)) (full_same os)
-    ∙ ap names_of (sym (map-map (meaning_said (full_said (map occurrence_form os))) occurrence_form os))
+names_same os = search (rules, full_same, map-map)
 
 resolved_same : (os : List OccurrenceRead) → map (resolve os) os ≡ resolved_said (map occurrence_form os)
 resolved_same os =
     ap (λ names. map (λ o. resolved_meaning names (meaning (full_names os) o)) os) (names_same os)
     ∙ ap (λ full. map (λ o. resolved_meaning (names_said (map occurrence_form os)) (meaning full o)) os) (full_same os)
-    ∙ sym (map-map
-    (λ s. resolved_meaning (names_said (map occurrence_form os)) (meaning_said (full_said (map occurrence_form os)) s))
-    occurrence_form os)
+    ∙ sym (search (rules, map-map))
 
 -- the shapes depend only on how the pieces are written
 
@@ -77,15 +73,13 @@ module _ (table : TableRead) where
   item_said s = elim s.1 [ None ↦ s.0 | Some occurrence ↦ use_of table (resolved_at table occurrence) ]
 
   item_same : (texts : List (List ℕ)) (i : Item) → shape_item texts table i ≡ item_said (item_form texts i)
-  item_same texts (item.UseOf occurrence) = refl
-  item_same texts i = refl
+  item_same texts i = search rules
 
   items_same : (texts : List (List ℕ)) (items : List Item)
       → map (shape_item texts table) items ≡ map item_said (map (item_form texts) items)
   items_same texts [] = refl
   items_same texts (i ∷ items) =
-      ap (λ x. x ∷ map (shape_item texts table) items) (item_same texts i)
-      ∙ ap (λ l. item_said (item_form texts i) ∷ l) (items_same texts items)
+      cc (item_same texts i, items_same texts items)
 
   abbrev shapes_said : List SaidPiece → Title → Shape
   shapes_said pieces node =
@@ -96,7 +90,7 @@ module _ (table : TableRead) where
       ≡ shapes_said (map (piece_form texts) pieces) node
   shape_same texts node [] = refl
   shape_same texts node (p ∷ pieces) =
-      grind (arith, common_steps, items_same texts p.items, shape_same texts node pieces)
+      grind (arith, nat_tests, items_same texts p.items, shape_same texts node pieces)
 
 -- the shapes of a web are a function of how the web is written
 shapes_same : (web : WebRead) (node : Title)
@@ -104,13 +98,7 @@ shapes_same : (web : WebRead) (node : Title)
     ≡ shapes_said
     (table_with (names_said (map occurrence_form web.occurrences))
     (resolved_said (map occurrence_form web.occurrences))) (map (piece_form web.texts) web.pieces) node
-shapes_same web node =
-    shape_same (table_of web) web.texts node web.pieces
-    ∙ ap (λ names. shapes_said (table_with names (table_of web).resolved) (map (piece_form web.texts) web.pieces) node)
-    (names_same web.occurrences)
-    ∙ ap
-    (λ resolved. shapes_said (table_with (names_said (map occurrence_form web.occurrences)) resolved)
-    (map (piece_form web.texts) web.pieces) node) (resolved_same web.occurrences)
+shapes_same web node = search (rules, shape_same, names_same, resolved_same)
 
 pub moved_same : (old new : WebRead) → IsMoved old new → HaveSameShapes old new
 moved_same old new moved node =

@@ -1,10 +1,11 @@
 -- No two outputs of a web have the same name.
-use Rattle.std.proofs.Common.{◌≡◌, ◌≢◌, ◌∙◌, ◌<◌, ◌≤◌, ◌+◌, ◌&&◌, ◌||◌, ◌++◌, ℕ, zero, suc, Bool, true, false}
+use Rattle.std.proofs.Common.{rules}
+use Rattle.std.proofs.lemmas.Bool.Decides.{nat_tests}
+use Rattle.std.proofs.Common.{◌≡◌, ◌≢◌, ◌∙◌, ◌<◌, ◌≤◌, ◌+◌, ◌++◌, ℕ, zero, suc, true}
 use Rattle.std.proofs.Common.{map, filter, flat_map, get_or, ap, sym, subst, arith, length, ◌∷◌, [], List}
-use Rattle.std.specs.Prelude.{not, if◌then◌else◌, Option, Some, None, All, AllPairs, Contains}
+use Rattle.std.specs.Prelude.{Some, All, AllPairs, Contains}
 use Rattle.std.specs.List.{IsDistinct, range_with_len}
 use Rattle.std.specs.Str.{bytes_eq}
-use Rattle.std.proofs.lemmas.Bool.Decides.{Decides-eqb}
 use Rattle.std.proofs.lemmas.Cmp.{nat_list_eq_equiv}
 use Rattle.std.proofs.lemmas.List.{get_or-map, length-map}
 use Rattle.std.proofs.lemmas.List.Elements.{All-append, All-nil, All-map, All-filter, filter_passes}
@@ -20,11 +21,10 @@ use Rattle.tangle_names.specs.declared.Resolved.TheVariants as resolved
 use Rattle.tangle_names.specs.NameTable.{TableRead, table_of}
 use Rattle.tangle_expansion.specs.Outputs.{OutputRead}
 use Rattle.tangle_plans.specs.ItemTags.{uses_resolved}
-use Rattle.tangle_plans.specs.WebShapes.{name_at, resolved_at, shapes}
-use Rattle.tangle_plans.specs.Shapes.{Named, Program}
+use Rattle.tangle_plans.specs.WebShapes.{name_at, resolved_at}
 use Rattle.tangle_graph.specs.Grouping.{has_number_in}
-use Rattle.tangle_graph.specs.Outputs.{file_names, first_file_name, first_file_occurrence, shape_has_piece}
-use Rattle.tangle_graph.specs.Outputs.{is_written, main_output, named_file, outputs, is_expandable}
+use Rattle.tangle_graph.specs.Outputs.{file_names, first_file_name, first_file_occurrence}
+use Rattle.tangle_graph.specs.Outputs.{is_written, named_file, outputs}
 use Rattle.tangle_names.proofs.LawLemmas.{once}
 use Rattle.tangle_plans.proofs.InsideLemmas.{table_inside}
 use Rattle.tangle_graph.proofs.NodeLemmas.{once_named}
@@ -35,12 +35,7 @@ use Rattle.tangle_session.proofs.OutputLemmas.{names_written}
 -- a name comes at its first occurrence with `@(`, and so once
 module _ (table : TableRead) where
   here : (k : ℕ) → All (λ id. first_file_occurrence table id ≡ Some k) (first_file_name table k)
-  here k i d h = by _ (filter_passes (λ id. has_number_in k (first_file_occurrence table id))
-      (uses_resolved (resolved_at table k)) i d h)
-    where
-      by : (o : Option ℕ) → has_number_in k o ≡ true → o ≡ Some k
-      by None e = absurd (let no : false ≡ true = e in cc)
-      by (Some m) e = ap Some ((Decides-eqb m k).0 e)
+  here k i d h = search rules
 
   abbrev IsFrom : ℕ → ℕ → Type 0
   IsFrom a id = (k : ℕ) × (first_file_occurrence table id ≡ Some k) × (a ≤ k)
@@ -50,33 +45,25 @@ module _ (table : TableRead) where
   later a (suc n) = All-append (IsFrom a) (first_file_name table a)
       (flat_map (first_file_name table) (range_with_len (a + 1) n))
       (λ i d h. (a, here a i d h, omega arith))
-      (λ i d h. (let next = later (a + 1) n i d h in (next.0, next.1, omega (arith, next.2))))
+      (λ i d h. (let next = later (a + 1) n i d h in (next.0, next.1, omega arith)))
 
   apart : (a n : ℕ) → AllPairs (λ x y. x ≢ y) (flat_map (first_file_name table) (range_with_len a n))
-  apart a zero = λ i j d less h. absurd (omega (arith, h))
+  apart a zero = λ i j d less h. absurd (omega arith)
   apart a (suc n) = by (first_file_name table a) (here a) (one (resolved_at table a)) (apart (a + 1) n)
     where
       one : (r : Resolved)
           → length (filter (λ id. has_number_in a (first_file_occurrence table id)) (uses_resolved r)) ≤ 1
-      one (resolved.Name id) = short (has_number_in a (first_file_occurrence table id))
-        where
-          short : (b : Bool) → length (if b then id ∷ [] else []) ≤ 1
-          short true = omega arith
-          short false = omega arith
-      one _ = omega arith
+      one (resolved.Name id) = search rules
+      one _ = search rules
 
       by : (ids : List ℕ) → All (λ id. first_file_occurrence table id ≡ Some a) ids → length ids ≤ 1
           → AllPairs (λ x y. x ≢ y) (flat_map (first_file_name table) (range_with_len (a + 1) n))
           → AllPairs (λ x y. x ≢ y) (ids ++ flat_map (first_file_name table) (range_with_len (a + 1) n))
-      by [] are few rest = rest
+      by [] are few rest = search rules
       by (x ∷ []) are few rest =
           AllPairs-cons (λ x y. x ≢ y) x (flat_map (first_file_name table) (range_with_len (a + 1) n)) (λ i d h same. (
-          let first = are 0 x (omega arith) in
-          let next = later (a + 1) n i d h in
-          let at = next.1 in
-          let both : a ≡ next.0 = cc in
-          omega (arith, both, next.2))) rest
-      by (x ∷ y ∷ ids) are few rest = absurd (omega (arith, few))
+          grind (arith, nat_tests, are 0 x (omega arith), later (a + 1) n i d h))) rest
+      by (x ∷ y ∷ ids) are few rest = search rules
 
 abbrev name_of : OutputRead → List ℕ
 name_of o = o.name
@@ -106,42 +93,26 @@ module _ (web : WebRead) (out : List ℕ) where
       → i < length ids → get_or (map name_of (map (named_file table) ids)) i d ≡ name_at table (get_or ids i 0)
   body_at i d h =
       get_or-map name_of (map (named_file table) ids) i (named_file table 0)
-      d (omega (arith, h, length-map ids (named_file table)))
+      d (omega (arith, length-map ids (named_file table)))
       ∙ ap name_of (get_or-map (named_file table) ids i 0 (named_file table 0) h)
 
   named_once : AllPairs (λ a b. a ≢ b) (map name_of (map (named_file table) ids))
   named_once i j d less h same =
       let high : j < length ids =
-      omega (arith, h, length-map (map (named_file table) ids) name_of, length-map ids (named_file table)) in
-      let low : i < length ids = omega (arith, high, less) in
+      omega (arith, length-map (map (named_file table) ids) name_of, length-map ids (named_file table)) in
+      let low : i < length ids = omega arith in
       ids_once i j 0 less high
       (once_named table.names (get_or ids i 0) (get_or ids j 0) (once web.occurrences) (ids_below i 0 low)
       (ids_below j 0 high) (sym (body_at i d low) ∙ same ∙ body_at j d high))
 
-  not_main : (a : Bool) (id : ℕ)
-      → (a && not (bytes_eq (name_at table id) out)) ≡ true → out ≢ name_at table id
-  not_main a id e same = by a (bytes_eq (name_at table id) out)
-      ((bytes_eq-Decides (name_at table id) out).1 (sym same)) e
-    where
-      by : (a b : Bool) → b ≡ true → (a && not b) ≡ true → ⊥
-      by true true t d = cc
-      by a b t d = cc
-
   main_apart : All (λ x. out ≢ x) (map name_of (map (named_file table) ids))
   main_apart =
       All-map (λ x. out ≢ x) name_of (map (named_file table) ids) (All-map (λ o. out ≢ name_of o) (named_file table) ids
-      (λ i d h. not_main (is_expandable (shapes web table) (Named (name_at table (get_or ids i d))))
-      (get_or ids i d) (ids_written i d h)))
+      (λ i d h. search (rules, ids_written)))
 
   pub names_once : AllPairs (λ a b. a ≢ b) (map (λ o. o.name) (outputs web table out))
   unfolding ids
-  names_once = by (not (shape_has_piece (shapes web table Program)) || is_expandable (shapes web table) Program)
-    where
-      by : (b : Bool)
-          → AllPairs (λ a b. a ≢ b)
-          (map (λ o. o.name) ((if b then main_output web table out ∷ [] else []) ++ map (named_file table) ids))
-      by true = AllPairs-cons (λ a b. a ≢ b) out (map name_of (map (named_file table) ids)) main_apart named_once
-      by false = named_once
+  names_once = search (rules, main_apart, named_once)
 
 pub names_distinct : (files : FileTable) (roles : RolesRead)
     → IsDistinct bytes_eq (map (λ f. f.0) (output_files files roles))

@@ -1,7 +1,8 @@
 -- The bytes of each output file of a web, and finding one by its name.
+use Rattle.std.proofs.Common.{rules}
 use Rattle.std.proofs.Common.{◌≡◌, ◌∙◌, ◌<◌, zero, suc, ℕ, Bool, true, false, List, [], ◌∷◌, length, map, get_or}
 use Rattle.std.proofs.Common.{refl, ap, sym, subst, arith, cond}
-use Rattle.std.specs.Prelude.{Some, None, Contains, unwrap_or, find}
+use Rattle.std.specs.Prelude.{Some, None, Contains, find}
 use Rattle.std.specs.List.{AllByRecursion, IsDistinct}
 use Rattle.std.specs.Map.{lookup}
 use Rattle.std.specs.Option.{option_map}
@@ -13,16 +14,12 @@ use Rattle.tangle_files.specs.Lines.{FileTable}
 use Rattle.tangle_files.specs.Roles.{RolesRead}
 use Rattle.tangle_scan.specs.Web.{WebRead}
 use Rattle.tangle_names.specs.NameTable.{table_of}
-use Rattle.tangle_expansion.specs.Kept.{kept_at}
-use Rattle.tangle_expansion.specs.Limits.{flat_of}
 use Rattle.tangle_plans.specs.Flat.{Symbol}
 use Rattle.tangle_expansion.specs.Numbers.{numbers_of}
-use Rattle.tangle_expansion.specs.Outputs.{OutputRead, output_file_bytes, node_symbols, kept_output_bytes}
+use Rattle.tangle_expansion.specs.Outputs.{OutputRead, output_file_bytes, kept_output_bytes}
 use Rattle.tangle_expansion.specs.declared.kept.Kept.{Kept}
-use Rattle.tangle_plans.specs.Nodes.{title_at}
 use Rattle.tangle_graph.specs.Stores.{StoreRead, IsStoreOf}
 use Rattle.tangle_graph.proofs.OutputLemmas.{IsFit}
-use Rattle.tangle_affected.proofs.OutputLemmas.{kept_there}
 use Rattle.tangle_affected.specs.Keeping.{KeepsJust}
 use Rattle.tangle_session.specs.Headline.{output_bytes, table_at, web_at}
 use Rattle.tangle_session.specs.Sessions.{shapes_of}
@@ -38,22 +35,9 @@ module _ (files : FileTable) (roles : RolesRead) (store : StoreRead) (kept : Kep
   abbrev bytes_with : Bool → List Symbol → List ℕ
   bytes_with = output_file_bytes (numbers_of web (table_of web) roles.marks) output.has_macros
 
-  kept_named : output.has_piece ≡ true
-      → kept_at kept output.node ≡ Some (flat_of (shapes_of web) (title_at (table_of web).names output.node))
-  kept_named t =
-      kept_there (shapes_of web) store kept is keeps output fit t
-      ∙ ap (λ names. Some (flat_of (shapes_of web) (title_at names output.node))) names_are
-
   pub same_bytes : kept_output_bytes (numbers_of web (table_of web) roles.marks) kept output
       ≡ output_bytes files roles output
-  same_bytes = by output.has_piece refl
-    where
-      by : (b : Bool) → output.has_piece ≡ b
-          → bytes_with output.has_piece (node_symbols kept output.node) ≡ output_bytes files roles output
-      by true e = ap (λ o. bytes_with output.has_piece (unwrap_or o [])) (kept_named e)
-      by false e =
-          ap (λ p. bytes_with p (node_symbols kept output.node)) e
-          ∙ ap (λ p. bytes_with p (flat_of (shapes_of web) (title_at (table_of web).names output.node))) (sym e)
+  same_bytes = search rules
 
 -- looking up a name among the output files gives the bytes of the output with that name
 pub look_up : (bytes_of : OutputRead → List ℕ) (name : List ℕ) (os : List OutputRead)
@@ -69,9 +53,8 @@ found_in p (y ∷ xs) x e = by (p y) e (found_in p xs x)
   where
     by : (b : Bool) → cond b (Some y) (find p xs) ≡ Some x → (find p xs ≡ Some x → Contains xs x)
         → Contains (y ∷ xs) x
-    by true d next = (0, omega arith, (let same : Some y ≡ Some x = d in cc))
-    by false d next = let rest = next d in
-        (suc rest.0, (let h = rest.1 in omega (arith, h)), rest.2)
+    by true d next = search rules
+    by false d next = let rest = next d in (suc rest.0, (omega arith), rest.2)
 
 -- the names of the outputs are the names of the output files
 pub names_written : (bytes_of : OutputRead → List ℕ) (os : List OutputRead)
@@ -85,7 +68,7 @@ name_at_index : (P : List ℕ → Type 0) (os : List OutputRead) (i : ℕ) (o : 
     → i < length os → o ≡ get_or os i o → P o.name
 name_at_index P [] i o all less at = absurd (omega arith)
 name_at_index P (p ∷ os) zero o all less at = subst (λ (q : OutputRead). P q.name) (sym at) all.0
-name_at_index P (p ∷ os) (suc i) o all less at = name_at_index P os i o all.1 (omega (arith, less)) at
+name_at_index P (p ∷ os) (suc i) o all less at = name_at_index P os i o all.1 (omega arith) at
 
 -- where no two outputs have the same name, the one at an index is found by its name
 pub find_here : (name : List ℕ) (os : List OutputRead) (i : ℕ) (o : OutputRead)
@@ -94,20 +77,19 @@ pub find_here : (name : List ℕ) (os : List OutputRead) (i : ℕ) (o : OutputRe
     → Some o ≡ find (λ (o : OutputRead). bytes_eq name o.name) os
 find_here name [] i o distinct less at t = absurd (omega arith)
 find_here name (p ∷ os) zero o distinct less at t =
-    ap Some at ∙ sym (ap (λ b. cond b (Some p) (find (λ (o : OutputRead). bytes_eq name o.name) os))
-    (ap (λ (q : OutputRead). bytes_eq name q.name) (sym at) ∙ t))
+    search rules
 find_here name (p ∷ os) (suc i) o distinct less at t =
     find_here name os i o (IsDistinct-tail bytes_eq p.name (map (λ (o : OutputRead). o.name) os) distinct)
-    (omega (arith, less)) at t
+    (omega arith) at t
     ∙ sym
     (ap (λ b. cond b (Some p) (find (λ (o : OutputRead). bytes_eq name o.name) os)) (other (bytes_eq name p.name) refl))
   where
     apart : bytes_eq p.name o.name ≡ false
     apart = name_at_index (λ y. bytes_eq p.name y ≡ false) os i o
-        (IsDistinct-head bytes_eq p.name (map (λ (o : OutputRead). o.name) os) distinct) (omega (arith, less)) at
+        (IsDistinct-head bytes_eq p.name (map (λ (o : OutputRead). o.name) os) distinct) (omega arith) at
 
     other : (b : Bool) → bytes_eq name p.name ≡ b → b ≡ false
-    other false e = refl
+    other false e = search rules
     other true e = absurd
         (let same : p.name ≡ o.name = sym ((bytes_eq-Decides name p.name).0 e) ∙ (bytes_eq-Decides name o.name).0 t in
         let bad : true ≡ false = sym ((bytes_eq-Decides p.name o.name).1 same) ∙ apart in cc)

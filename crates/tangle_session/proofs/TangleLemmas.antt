@@ -1,4 +1,5 @@
 -- The fields of a session's state, which are made one after another, agree with the files.
+use Rattle.std.proofs.Common.{rules}
 use Rattle.std.proofs.Common.{◌≡◌, ◌∙◌, arith, ℕ, Bool, true, false, List, [], ◌∷◌, length, refl, ap, sym}
 use Rattle.std.proofs.Common.{subst, Bor, Contains, map}
 use Rattle.std.specs.List.{IsDistinct}
@@ -69,8 +70,7 @@ lists_titles old new store nodes is names_are lists = record {
       names_are
       (λ node. (
         lists.only node,
-        λ both. (let at = lists.all (title_at store.names node) both.1 in
-            subst (Contains nodes) (is.once at.0 node (lists.only at.0 at.2).0 both.0 at.1) at.2),
+        search rules,
       ));
 }
 
@@ -100,8 +100,7 @@ pub fit_to_start : (files : FileTable) (roles : RolesRead) → None ≡ start_re
 fit_to_start files roles e = grind (arith, common_steps)
 
 pub some_copied : {X : Type 0} (o : Option (Bor X)) → is_some (option_copied o) ≡ is_some o
-some_copied None = refl
-some_copied (Some x) = refl
+some_copied o = search rules
 
 -- what a session with this state and these roles shows
 abbrev view_of : SessionState → RolesRead → SessionRead

@@ -1,4 +1,5 @@
 -- Consecutive writes append their bytes one after the other.
+use Rattle.std.proofs.Common.{rules}
 use Rattle.std.proofs.Common.{◌≡◌, ℕ, ◌+◌, ◌-◌, ◌^◌, ◌<◌, ◌≤◌, inl, inr, Bool, true, false, cond, List, [], ◌++◌}
 use Rattle.std.proofs.Common.{length, take, drop, refl, sym, ap, ◌∙◌, append_assoc, append-nil, Option, None, Some, Ok}
 use Rattle.std.proofs.Common.{Err, arith, length-append}
@@ -44,8 +45,7 @@ pub record IsHalfway (old new : Stream) (count : ℕ) (output bytes rest : List 
 
 pub halfway_at_first : (a b : Stream) (n : ℕ) (output bytes : List ℕ)
     → IsWritten a b output (Ok n) → IsHalfway a b n output bytes bytes
-halfway_at_first a b n output bytes h =
-    record { front = []; whole = refl; so_far = omega (arith, h.0); reported = simp append-nil h.1; unfailed = h.2 }
+halfway_at_first a b n output bytes h = search rules
 
 unfailed_at : {g g' : ℕ} (n : ℕ) (rest : List ℕ) → 0 < n → g' ≡ counted_write g rest (Some n) → g' ≡ g
 unfailed_at {g} n rest some e =
@@ -59,19 +59,15 @@ pub halfway_more : (a b c : Stream) (count n : ℕ) (output bytes rest : List �
 halfway_more a b c count n output bytes rest h some within reported failed = record {
   front = h.front ++ take n rest;
   whole =
-      h.whole ∙ ap (λ l. h.front ++ l) (sym (take-append-drop n rest))
-      ∙ sym (append_assoc h.front (take n rest) (drop n rest));
-  so_far = omega (arith, h.so_far, length-append h.front (take n rest), length-take-le n rest within);
-  reported = rw (← append_assoc)
-      (Appends-append a.taken b.taken c.taken (output ++ h.front) (take n rest) h.reported reported);
+      search (rules, take-append-drop, append_assoc);
+  so_far = omega (arith, length-append h.front (take n rest), length-take-le n rest within);
+  reported = search (rules, append_assoc);
   unfailed = unfailed_at n rest some failed ∙ h.unfailed;
 }
 
 pub halfway_at_end : (a b : Stream) (count : ℕ) (output bytes rest : List ℕ)
     → IsHalfway a b count output bytes rest → rest ≡ [] → IsWritten a b (output ++ bytes) (Ok count)
-halfway_at_end a b count output bytes rest h none =
-    let e : bytes ≡ h.front = h.whole ∙ ap (λ l. h.front ++ l) none ∙ simp append-nil in
-    (rw e (omega (arith, h.so_far, length-append output h.front)), rw e h.reported, h.unfailed)
+halfway_at_end a b count output bytes rest h none = search (rules, length-append)
 
 pub halfway_fault : (a b c : Stream) (count : ℕ) (output bytes rest : List ℕ)
     → IsHalfway a b count output bytes rest → 0 < length rest → Keeps b.taken c.taken
@@ -80,31 +76,22 @@ pub halfway_fault : (a b c : Stream) (count : ℕ) (output bytes rest : List ℕ
 halfway_fault a b c count output bytes rest h some kept failed =
     let e : output ++ bytes ≡ (output ++ h.front) ++ rest =
     ap (λ l. output ++ l) h.whole ∙ sym (append_assoc output h.front rest) in
-    let k : count ≡ length (output ++ h.front) = omega (arith, h.so_far, length-append output h.front) in (
-      rw (e, k) (omega (arith, length-append (output ++ h.front) rest)),
-      rw (e, k, take-append_seam) (Appends-kept a.taken b.taken c.taken (output ++ h.front) h.reported kept),
-      rw (failed, h.unfailed) (Failed-one_more a.failures),
-    )
+    let k : count ≡ length (output ++ h.front) = omega (arith, length-append output h.front) in
+    search (rules, length-append, take-append_seam)
 
 -- appending no bytes keeps the reported ones
 pub Keeps-none : (a b : Option (List ℕ)) → Appends a b [] → Keeps a b
-Keeps-none None b h = tt
-Keeps-none (Some xs) None h = absurd h
-Keeps-none (Some xs) (Some ys) h = h ∙ simp append-nil
+Keeps-none a b h = search rules
 
 -- a write that takes no byte, although there are bytes, adds one to the count of failures
 pub failed_at_none : (g g' n : ℕ) (rest : List ℕ)
     → n ≡ 0 → 0 < length rest → g' ≡ counted_write g rest (Some n) → g' ≡ one_more_failure g
-failed_at_none g g' n rest none some e =
-    let h : nat_lt 0 (length rest) ≡ true = lt-ltb 0 (length rest) some in
-    let k : g' ≡ counted_write g rest (Some 0) = e ∙ ap (λ m. counted_write g rest (Some m)) none in
-    k ∙ ap (λ t. cond t (one_more_failure g) g) h
+failed_at_none g g' n rest none some e = cc (lt-ltb 0 (length rest) some)
 
 -- the count of bytes written and the length of `rest` add up to all bytes
 pub count_and_rest : (old new : Stream) (count : ℕ) (output bytes rest : List ℕ)
     → IsHalfway old new count output bytes rest → count + length rest ≡ length output + length bytes
-count_and_rest old new count output bytes rest h =
-    omega (arith, h.so_far, ap length h.whole, length-append h.front rest)
+count_and_rest old new count output bytes rest h = search (rules, length-append)
 
 -- the empty output is written before any write
 pub IsWritten-none : (a : Stream) → IsWritten a a [] (Ok 0)

@@ -91,7 +91,7 @@ none-some h = cc
 pub at-byte : (r : Inside) (text : List Cell)
     → rest_of r.source.now.lines r.bytes.now r.line r.column r.is_done ≡ text → IsSome (byte_at 0 text)
     → IsAtByte r text
-at-byte r text is some = grind (arith, nat_tests, none-some, slice_get_cases, rest_of-byte, rest_of-line_end)
+at-byte r text is some = grind (arith, nat_tests, rest_of-byte, rest_of-line_end)
 
 -- the byte at a distance is the first one after that many cells
 pub byte_at-drop : (n : ℕ) (text : List Cell) → byte_at n text ≡ byte_at 0 (drop n text)

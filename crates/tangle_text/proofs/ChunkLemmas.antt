@@ -1,4 +1,5 @@
 -- Bytes up to an `@` are skipped in prose, and belong to the name that is being read.
+use Rattle.std.proofs.Common.{rules}
 use Rattle.std.proofs.lemmas.Bool.Decides.{nat_tests}
 use Rattle.std.proofs.Common.{◌≡◌, ◌<◌, ◌≤◌, ℕ, ◌+◌, ◌-◌, zero, suc, Bool, false, List, [], ◌∷◌, ◌++◌, Option, Some}
 use Rattle.std.proofs.Common.{take, drop, length, get_or, refl, ap, sym, ◌∙◌, arith, nat_eq, length-drop}
@@ -31,38 +32,37 @@ units-line : (line column : ℕ) (bs : List ℕ) (rest : List Cell) (n : ℕ)
     → from_units name_bytes_of region.Name 0 (line_text line column bs ++ rest)
     ≡ take n bs ++ from_units name_bytes_of region.Name 0 (drop n (line_text line column bs ++ rest))
 units-line line column bs rest zero h other = refl
-units-line line column [] rest (suc n) h other = absurd (omega (arith, h))
+units-line line column [] rest (suc n) h other = absurd (omega arith)
 units-line line column (b ∷ bs) rest (suc n) h other =
     let cs = line_text line (column + 1) bs ++ rest in
     let c : Cell = record { line = line; column = column; byte = Some b } in
     ap (λ u. unless_stop u (name_bytes_of u c (byte_at 0 cs) ++ from_units name_bytes_of region.Name (more_by u) cs))
     (in-name b (byte_at 0 cs) (ne_eqb b 64 (other 0 (omega arith))))
     ∙ ap (λ l. b ∷ l)
-    (units-line line (column + 1) bs rest n (omega (arith, h)) (λ k lt. other (suc k) (omega (arith, lt))))
+    (units-line line (column + 1) bs rest n (omega arith) (λ k lt. other (suc k) (omega arith)))
 
 end-line : (r : Region) → PassesAll r → (line column : ℕ) (bs : List ℕ) (rest : List Cell) (n : ℕ)
     → n ≤ length bs → ((k : ℕ) → k < n → get_or bs k 0 ≡ 64 → ⊥)
     → region_end r (drop n (line_text line column bs ++ rest)) ≡ region_end r (line_text line column bs ++ rest)
 end-line r one line column bs rest zero h other = refl
-end-line r one line column [] rest (suc n) h other = absurd (omega (arith, h))
+end-line r one line column [] rest (suc n) h other = absurd (omega arith)
 end-line r one line column (b ∷ bs) rest (suc n) h other =
     let cs = line_text line (column + 1) bs ++ rest in
     let c : Cell = record { line = line; column = column; byte = Some b } in
-    end-line r one line (column + 1) bs rest n (omega (arith, h)) (λ k lt. other (suc k) (omega (arith, lt)))
+    end-line r one line (column + 1) bs rest n (omega arith) (λ k lt. other (suc k) (omega arith))
     ∙ sym (region_end-one r (c ∷ cs) (one b (byte_at 0 cs) (ne_eqb b 64 (other 0 (omega arith)))))
 
 -- the text ahead after a range of a line that has no `@`
 module _ (lines : List SourceLine) (bytes : List ℕ) (line column end : ℕ) (low : column ≤ end)
     (high : end ≤ length bytes) (other : (k : ℕ) → column + k < end → get_or bytes (column + k) 0 ≡ 64 → ⊥) where
   other-after : (k : ℕ) → k < end - column → get_or (drop column bytes) k 0 ≡ 64 → ⊥
-  other-after k lt same = other k (omega (arith, lt, low)) (sym (get_or-drop column bytes k 0) ∙ same)
+  other-after k lt same = other k (omega arith) (sym (get_or-drop column bytes k 0) ∙ same)
 
   pub rest_of-after : (done : Bool)
       → rest_of lines bytes line end done ≡ drop (end - column) (rest_of lines bytes line column done)
   rest_of-after done =
-      let next : end ≡ column + (end - column) = omega (arith, low) in
-      ap (λ k. rest_of lines bytes line k done) next
-      ∙ rest_of-further lines bytes line column (end - column) done (omega (arith, low, high))
+      let next : end ≡ column + (end - column) = omega arith in
+      search (rules, rest_of-further)
 
   pub region_end-after : (r : Region) → PassesAll r → (done : Bool)
       → region_end r (rest_of lines bytes line end done) ≡ region_end r (rest_of lines bytes line column done)

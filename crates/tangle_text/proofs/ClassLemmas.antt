@@ -16,11 +16,11 @@ classes (suc n) from = class_of from ∷ classes n (suc from)
 
 class-from : (n from k : ℕ) (default : ByteClass) → k < n → get_or (classes n from) k default ≡ class_of (from + k)
 unfolding classes
-class-from zero from k default h = absurd (omega (arith, h))
+class-from zero from k default h = absurd (omega arith)
 class-from (suc n) from zero default h = let same : from ≡ from + 0 = omega arith in ap class_of same
 class-from (suc n) from (suc k) default h =
     let same : suc from + k ≡ from + suc k = omega arith in
-    class-from n (suc from) k default (omega (arith, h)) ∙ ap class_of same
+    class-from n (suc from) k default (omega arith) ∙ ap class_of same
 
 pub class-at : (b : ℕ) (default : ByteClass) → b < 256 → get_or (classes 256 0) b default ≡ class_of b
 class-at b default h = let same : 0 + b ≡ b = omega arith in class-from 256 0 b default h ∙ ap class_of same

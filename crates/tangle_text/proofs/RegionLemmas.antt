@@ -28,11 +28,11 @@ region_end-stop r (c ∷ cs) h = rw (region_end-counted r (c ∷ cs), h) refl
 
 pub region_end-one : (r : Region) (text : List Cell)
     → unit_at r text ≡ unit.One → region_end r text ≡ region_end r (drop 1 text)
-region_end-one r text h = grind (arith, nat_tests, region_end-counted, drop-more, counted)
+region_end-one r text h = grind (arith, nat_tests, region_end-counted, drop-more)
 
 region_end-two : (r : Region) (text : List Cell)
     → unit_at r text ≡ unit.Two → region_end r text ≡ region_end r (drop 1 (drop 1 text))
-region_end-two r text h = grind (arith, nat_tests, region_end-counted, region_end-nothing, drop-more, counted)
+region_end-two r text h = grind (arith, nat_tests, region_end-counted, drop-more)
 
 -- a unit that isn't the end of a region is skipped
 pub region_end-go : (r : Region) (text : List Cell) (u : Unit-of) → unit_at r text ≡ u → (u ≡ unit.Stop → ⊥) →

@@ -1,11 +1,11 @@
 -- The chunks of bytes, and the parts that they are.
+use Rattle.std.proofs.Common.{rules}
 use Rattle.std.proofs.Common.{arith}
 use Rattle.std.proofs.lemmas.Bool.Decides.{nat_tests}
 use Rattle.std.proofs.Common.{◌≡◌, ℕ, ◌+◌, ◌-◌, Bool, true, false, ◌&&◌, ◌==◌, List, [], ◌∷◌, ◌++◌, length, drop}
 use Rattle.std.proofs.Common.{get_or, slice_get, refl, ap, ◌∙◌, append_assoc, drop-drop}
 use Rattle.std.specs.List.{AllByRecursion}
 use Rattle.std.proofs.lemmas.Bool.{and_parts}
-use Rattle.std.proofs.lemmas.Bool.Decides.{eqb_tells}
 use Rattle.std.proofs.lemmas.List.{take-append-drop}
 use Rattle.std.proofs.Math.Seq.{drop-append_seam}
 use Rattle.tangle_files.specs.Bytes.{space}
@@ -18,7 +18,7 @@ use Rattle.tangle_text.specs.declared.spans.Span.{Span}
 
 -- a byte that passes a test is no byte that fails it
 pub differs : (test : ℕ → Bool) (b n : ℕ) → test b ≡ true → test n ≡ false → (b == n) ≡ false
-differs test b n h k = grind (arith, nat_tests, eqb_tells)
+differs test b n h k = grind (arith, nat_tests)
 
 -- word bytes, or one other byte
 
@@ -42,9 +42,6 @@ abbrev pub first_size : List (List ℕ) → ℕ
 first_size [] = 0
 first_size (c ∷ cs) = length c
 
-chunk-words : (c : ℕ) (bs : List ℕ) → is_word_byte c ≡ true → IsChunk (c ∷ bs) → AreWordBytes (c ∷ bs)
-chunk-words c bs h k = grind (arith, nat_tests)
-
 -- one more byte in front of chunks
 record IsWithFront (b : ℕ) (cs : List (List ℕ)) : Type 0 where
   are : AreChunks cs → AreChunks (with_front_byte b cs)
@@ -57,17 +54,8 @@ front_on b c bs cs = go (is_word_byte b && is_word_byte c) refl
   where
     go : (t : Bool) → (is_word_byte b && is_word_byte c) ≡ t → IsWithFront b ((c ∷ bs) ∷ cs)
     go true h =
-        let words = and_parts (is_word_byte b) (is_word_byte c) h in
-        record {
-          are = rw h (λ a. ((words.0, chunk-words c bs words.1 a.0), a.1));
-          joins = rw h refl;
-          after = rw h (λ l is e. e);
-        }
-    go false h = record {
-      are = rw h (λ a. (tt, a));
-      joins = rw h refl;
-      after = rw h (λ l is e. is);
-    }
+        search (rules, and_parts)
+    go false h = search rules
 
 front : (b : ℕ) (cs : List (List ℕ)) → IsWithFront b cs
 front b cs = grind (arith, nat_tests, front_on)
@@ -89,13 +77,7 @@ chunks_after (b ∷ bs) = (front b (chunks bs)).after bs refl (chunks_after bs)
 pub chunk_passed : (column : ℕ) (bytes c : List ℕ) (cs : List (List ℕ)) (rest : List ℕ)
     → drop column bytes ≡ joined (c ∷ cs) ++ rest → drop (column + length c) bytes ≡ joined cs ++ rest
 chunk_passed column bytes c cs rest is =
-    grind (
-      arith,
-      nat_tests,
-      drop-drop (length c) column bytes,
-      append_assoc c (joined cs) rest,
-      drop-append_seam c (joined cs ++ rest),
-    )
+    grind (arith, nat_tests, drop-drop, append_assoc c, drop-append_seam c)
 
 -- the bytes of a line from a range on are those of the chunks of the range, and more
 pub span_chunks : (texts : List (List ℕ)) (s : Span)
@@ -129,7 +111,7 @@ front-chunk b bs = by (chunks bs)
 pub alone-before : (b : ℕ) (bs : List ℕ) → is_word_byte b ≡ true → holds_word_byte (slice_get bs 0) ≡ false
     → with_front_byte b (chunks bs) ≡ (b ∷ []) ∷ chunks bs
 alone-before b [] word other = refl
-alone-before b (c ∷ bs) word other = grind (arith, nat_tests, front-chunk)
+alone-before b (c ∷ bs) word other = grind (arith, nat_tests)
 
 -- the part that a chunk is
 
@@ -139,12 +121,7 @@ pub part-by : (P : RunPart → Type 0) (line column b : ℕ) (bs : List ℕ) →
     ((b == space) ≡ true → P part.Space)
     → ((b == space) ≡ false → is_word_byte b ≡ true → P (part.Word s))
     → ((b == space) ≡ false → is_word_byte b ≡ false → P (part.Sign s)) → P (part_of line column (b ∷ bs))
-part-by P line column b bs blank word sign = go (b == space) (is_word_byte b) refl refl
-  where
-    go : (s w : Bool) → (b == space) ≡ s → is_word_byte b ≡ w → P (part_of line column (b ∷ bs))
-    go true w h k = rw h (blank h)
-    go false true h k = rw (h, k) (word h k)
-    go false false h k = rw (h, k) (sign h k)
+part-by P line column b bs blank word sign = search rules
 
 pub part-word : (line column b : ℕ) (bs : List ℕ) → is_word_byte b ≡ true
     → part_of line column (b ∷ bs)

@@ -1,9 +1,9 @@
 -- Words and white space, which end in their line.
+use Rattle.std.proofs.Common.{rules}
 use Rattle.std.proofs.lemmas.Bool.Decides.{nat_tests}
 use Rattle.std.proofs.Common.{◌≡◌, ℕ, ◌+◌, ◌≤◌, zero, suc, Bool, false, not, List, [], ◌∷◌, ◌++◌, Option}
 use Rattle.std.proofs.Common.{Some, None, length, take, drop, refl, ap, arith, drop-drop, length-drop}
 use Rattle.std.specs.List.{prefix_len}
-use Rattle.std.proofs.Math.Seq.{drop-nil}
 use Rattle.tangle_lines.specs.Bytes.{is_white}
 use Rattle.tangle_lines.specs.Reading.{SourceLine}
 use Rattle.tangle_text.specs.declared.regions.Region.{Region}
@@ -35,13 +35,7 @@ counted-run : (r : Region) (test : ℕ → Bool) → IsRunOf r test → (line co
     counted r 0 (line_text line column bytes ++ rest) ≡ prefix_len test bytes
 counted-run r test run line column [] rest = rw (run.ends (byte_at 0 rest)) refl
 counted-run r test run line column (b ∷ bs) rest =
-    grind (
-      arith,
-      nat_tests,
-      counted-run r test run line (column + 1) bs rest,
-      counted r 0 (line_text line (column + 1) bs ++ rest),
-      counted r 0 (line_text line column (b ∷ bs) ++ rest),
-    )
+    grind (arith, counted-run r test run line (column + 1) bs rest)
 
 -- the number of cells of a run
 pub count-run : (r : Region) (test : ℕ → Bool)
@@ -53,13 +47,13 @@ count-run r test run lines bytes line column = grind (arith, nat_tests, count-is
 drop-line : (line column n : ℕ) (bytes : List ℕ) (rest : List Cell) → n ≤ length bytes →
     drop n (line_text line column bytes ++ rest) ≡ line_text line (column + n) (drop n bytes) ++ rest
 drop-line line column zero bytes rest h = ap (λ k. line_text line k bytes ++ rest) (omega arith)
-drop-line line column (suc n) [] rest h = absurd (omega (arith, h))
+drop-line line column (suc n) [] rest h = absurd (omega arith)
 drop-line line column (suc n) (b ∷ bs) rest h = grind (arith, nat_tests, drop-line line (column + 1) n bs rest)
 
 bytes-line : (line column n : ℕ) (bytes : List ℕ) (rest : List Cell) → n ≤ length bytes →
     bytes_of (take n (line_text line column bytes ++ rest)) ≡ take n bytes
 bytes-line line column zero bytes rest h = refl
-bytes-line line column (suc n) [] rest h = absurd (omega (arith, h))
+bytes-line line column (suc n) [] rest h = absurd (omega arith)
 bytes-line line column (suc n) (b ∷ bs) rest h = grind (arith, nat_tests, bytes-line line (column + 1) n bs rest)
 
 -- the text ahead of a position that is `n` bytes further on the line
@@ -67,7 +61,7 @@ pub rest_of-further : (lines : List SourceLine) (bytes : List ℕ) (line column 
     → column + n ≤ length bytes
     → rest_of lines bytes line (column + n) done ≡ drop n (rest_of lines bytes line column done)
 rest_of-further lines bytes line column n done h =
-    grind (arith, nat_tests, drop-nil, drop-line, length-drop, drop-drop)
+    search (rules, drop-line, length-drop, drop-drop)
 
 -- the bytes of a run
 pub run-bytes : (lines : List SourceLine) (bytes : List ℕ) (line column n : ℕ) → column + n ≤ length bytes →

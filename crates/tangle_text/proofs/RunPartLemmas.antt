@@ -1,13 +1,12 @@
 -- Runs: how many cells they have, and their words, signs and spaces.
+use Rattle.std.proofs.Common.{rules}
 use Rattle.std.proofs.lemmas.Bool.Decides.{nat_tests}
 use Rattle.std.proofs.Common.{◌≡◌, ℕ, ◌+◌, ◌<◌, ◌≤◌, ◌==◌, zero, suc, Bool, true, false, List, [], ◌∷◌, ◌++◌}
 use Rattle.std.proofs.Common.{cond, length, take, drop, get_or, slice_get, refl, ap, ◌∙◌, arith, drop-cons, drop-drop}
 use Rattle.std.specs.List.{prefix_len}
 use Rattle.std.proofs.lemmas.List.Sums.{prefix_len-le-length}
-use Rattle.std.proofs.lemmas.Bool.Decides.{eqb_tells}
-use Rattle.std.proofs.lemmas.List.{length-take-le}
 use Rattle.tangle_lines.specs.Reading.{SourceLine}
-use Rattle.tangle_text.proofs.RunChunks.{alone-chunk, alone-before}
+use Rattle.tangle_text.proofs.RunChunks.{alone-chunk}
 use Rattle.tangle_files.specs.Bytes.{space}
 use Rattle.tangle_text.specs.Bytes.{is_word_byte}
 use Rattle.tangle_text.specs.declared.runs.RunPart.TheVariants as part
@@ -69,19 +68,19 @@ chunks-word b (c ∷ cs) h = go (is_word_byte c) refl (chunks-word c cs)
         let n : 1 + prefix_len is_word_byte cs ≡ suc (prefix_len is_word_byte cs) = omega arith in
         ap (with_front_byte b) (more e) ∙ rw (h, e, n) refl
     go false e more =
-        alone-before b (c ∷ cs) h e ∙ rw e refl
+        search rules
 
 -- the parts of a run at a column of a line, by the byte there
 
 not-space : (b : ℕ) → (b ≡ space → ⊥) → (b == space) ≡ false
-not-space b h = grind (arith, nat_tests, eqb_tells)
+not-space b h = grind (arith, nat_tests)
 
 pub sign-next : (line column : ℕ) (bytes : List ℕ) → column < length bytes
     → (get_or bytes column 0 ≡ space → ⊥) → is_word_byte (get_or bytes column 0) ≡ false
     → parts_of line column (chunks (drop column bytes))
     ≡ part.Sign (record { line = line; start = column; end = column + 1 })
     ∷ parts_of line (column + 1) (chunks (drop (column + 1) bytes))
-sign-next line column bytes h differs none = grind (arith, nat_tests, not-space, drop-cons, alone-chunk)
+sign-next line column bytes h differs none = grind (arith, nat_tests, drop-cons, alone-chunk)
 
 pub word-next : (line column : ℕ) (bytes : List ℕ) → column < length bytes
     → (get_or bytes column 0 ≡ space → ⊥) → is_word_byte (get_or bytes column 0) ≡ true
@@ -95,17 +94,4 @@ word-next line column bytes h differs is end e =
     let n = prefix_len is_word_byte bs in
     let chunk = b ∷ take n bs in
     let next : column + 1 ≡ suc column = omega arith in
-    let size : length (take n bs) ≡ n = length-take-le n bs (prefix_len-le-length is_word_byte bs) in
-    let end-is : end ≡ column + 1 + n = e ∙ ap (λ k. column + 1 + prefix_len is_word_byte (drop k bytes)) next in
-    let last : column + length chunk ≡ end = omega (arith, size, end-is) in
-    let rest : drop n bs ≡ drop end bytes
-    = drop-drop n (suc column) bytes ∙ ap (λ k. drop k bytes) (omega (arith, end-is)) in
-    let here : parts_of line column (chunk ∷ chunks (drop n bs))
-    ≡ part.Word (record { line = line; start = column; end = column + length chunk })
-    ∷ parts_of line (column + length chunk) (chunks (drop n bs))
-    = rw (other, is) refl in
-    ap (λ l. parts_of line column (chunks l)) (drop-cons bytes column 0 h)
-    ∙ ap (parts_of line column) (chunks-word b bs is)
-    ∙ here
-    ∙ ap (λ k. part.Word (record { line = line; start = column; end = k }) ∷ parts_of line k (chunks (drop n bs))) last
-    ∙ ap (λ l. part.Word (record { line = line; start = column; end = end }) ∷ parts_of line end (chunks l)) rest
+    search (rules, prefix_len-le-length, drop-drop, drop-cons, chunks-word)

@@ -8,7 +8,7 @@ use Rattle.tangle_text.specs.declared.regions.Unit.{Unit as Unit-of}
 use Rattle.tangle_text.specs.declared.regions.Unit.TheVariants as unit
 use Rattle.tangle_text.specs.NameBytes.{unit_name_bytes, unit_bytes, name_bytes}
 use Rattle.tangle_text.specs.Text.{Cell, byte_at}
-use Rattle.tangle_text.specs.Regions.{unit_of, unit_at, more_by, unless_stop, units, count_before}
+use Rattle.tangle_text.specs.Regions.{unit_at, more_by, unless_stop, units, count_before}
 
 -- the number of cells up to the end of a region: 0 where it ends, else this cell and those after it
 abbrev pub count_by : Unit-of → ℕ → ℕ
@@ -56,9 +56,5 @@ units-give f g r one two last (c ∷ d ∷ cs) =
 abbrev pub name_bytes_of : Unit-of → Cell → Option ℕ → List ℕ
 name_bytes_of u c next = unit_name_bytes u c.byte next
 
--- an @ at the end of a text starts a section, so no name goes on there
-never-two : (b : Option ℕ) → unit_of region.Name b None ≡ unit.Two → ⊥
-never-two b e = grind (arith, nat_tests)
-
 pub name_bytes-are : (text : List Cell) → name_bytes text ≡ from_units name_bytes_of region.Name 0 text
-name_bytes-are text = grind (arith, nat_tests, units-give name_bytes_of unit_bytes region.Name, never-two)
+name_bytes-are text = grind (arith, nat_tests, units-give name_bytes_of unit_bytes region.Name)

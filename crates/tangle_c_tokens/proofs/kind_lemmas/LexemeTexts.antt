@@ -1,7 +1,8 @@
 -- The tokens of each lexeme are texts, one after another.
+use Rattle.std.proofs.Common.{rules}
 use Rattle.std.proofs.Common.{arith}
 use Rattle.std.proofs.Common.{◌≡◌, ℕ, zero, suc, ◌+◌, Bool, true, false, not, List, [], ◌∷◌, ◌++◌, Option, Some, None}
-use Rattle.std.proofs.Common.{refl, sym, subst, append-nil, drop, map, flat_map}
+use Rattle.std.proofs.Common.{refl, sym, subst, append-nil, map, flat_map}
 use Rattle.std.specs.List.{list_any}
 use Rattle.std.proofs.lemmas.Bool.{or_parts, cond_both}
 use Rattle.tangle_faults.specs.declared.faults.FaultKind.{FaultKind}
@@ -10,11 +11,10 @@ use Rattle.tangle_lines.specs.Bytes.{at_sign, double_quote}
 use Rattle.tangle_text.specs.declared.regions.Region.{Region}
 use Rattle.tangle_text.specs.declared.regions.Region.TheVariants as region
 use Rattle.tangle_text.specs.declared.regions.Unit.{Unit as Unit-of}
-use Rattle.tangle_text.specs.declared.regions.Unit.TheVariants as unit
 use Rattle.tangle_text.specs.Bytes.{holds, is_line_end, holds_word_byte}
 use Rattle.tangle_text.specs.Bytes.{apostrophe}
 use Rattle.tangle_text.specs.Bytes.{less_sign}
-use Rattle.tangle_text.specs.Text.{Cell, byte_at, front_line, front_column, span_at}
+use Rattle.tangle_text.specs.Text.{Cell, byte_at, front_line, span_at}
 use Rattle.tangle_text.specs.Regions.{unit_at, more_by, units, count_before}
 use Rattle.tangle_lexer.specs.declared.modes.Mode.{Mode}
 use Rattle.tangle_lexer.specs.declared.modes.Mode.TheVariants as mode
@@ -29,13 +29,11 @@ use Rattle.tangle_lexer.specs.declared.tokens.Token.{Token}
 use Rattle.tangle_lexer.specs.declared.tokens.Token.TheVariants as token
 use Rattle.tangle_lexer.specs.declared.tokens.SpanKind.TheVariants as span_kind
 use Rattle.tangle_lexer.specs.LinesOfC.{inner_end_in}
-use Rattle.tangle_lexer.specs.Lexemes.{Lexeme, fault_if, is_in_directive}
+use Rattle.tangle_lexer.specs.Lexemes.{Lexeme, fault_if}
 use Rattle.tangle_lexer.specs.Comments.{unit_line_end, line_ends, starts_section}
 use Rattle.tangle_lexer.specs.Quoted.{unit_tokens, next_start, at_stop, cut_tokens, verbatim_end}
-use Rattle.tangle_lexer.specs.Quoted.{verbatim_tokens}
-use Rattle.tangle_lexer.specs.Quoted.{empty_end, ends_at_once}
-use Rattle.tangle_lexer.specs.Constants.{constant_at, constant_lexeme}
-use Rattle.tangle_lexer.specs.Names.{use_of_name, is_ended, name_end, has_single_equals, after_name, is_macro}
+use Rattle.tangle_lexer.specs.Constants.{constant_lexeme}
+use Rattle.tangle_lexer.specs.Names.{is_ended, name_end, is_macro}
 use Rattle.tangle_lexer.specs.Names.{name_in_documentation, definition_or_mention, definition_count}
 use Rattle.tangle_lexer.specs.CText.{code_at, kind_by, kind_at}
 use Rattle.tangle_lexer.specs.Steps.{documentation_code, c_code, c_lexeme, macro_lexeme, lexeme_in, lexeme, lexemes}
@@ -93,43 +91,24 @@ no-white b ends faults h k =
 -- verbatim texts have no breaks
 
 no-verbatim_end : (start : ℕ) (text : List Cell) → HasNoSource (verbatim_end start text)
-no-verbatim_end start [] = seen _ refl
-no-verbatim_end start (c ∷ cs) = grind (arith, nat_tests)
+no-verbatim_end start text = search rules
 
 -- the tokens of a unit of a verbatim text, and those after it
 no-unit : (u : Unit-of) (start : ℕ) (c : Cell) (cs : List Cell) → unit_at region.Verbatim (c ∷ cs) ≡ u
     → (rest : List Token) → HasNoSource rest
     → HasNoSource (at_stop u (verbatim_end start (c ∷ cs))
     (unit_tokens region.Verbatim u start c (byte_at 0 cs) ++ rest))
-no-unit unit.Stop start c cs e rest h = no-verbatim_end start (c ∷ cs)
-no-unit unit.One start c cs e rest h = grind (arith, nat_tests)
-no-unit unit.Two start c cs e rest h = grind (arith, nat_tests)
+no-unit u start c cs e rest h = search rules
 
 no-cut : (k start : ℕ) (text : List Cell) → HasNoSource (cut_tokens verbatim_end region.Verbatim k start text)
 no-cut zero start [] = no-verbatim_end start []
 no-cut (suc k) start [] = no-verbatim_end start []
 no-cut (suc k) start (c ∷ cs) = no-cut k start cs
 no-cut zero start (c ∷ cs) =
-    let u : Unit-of = unit_at region.Verbatim (c ∷ cs) in
+    let u = unit_at region.Verbatim (c ∷ cs) in
     no-unit u start c cs refl _ (no-cut (more_by u) (next_start u start c (byte_at 0 cs)) cs)
 
-no-verbatim : (text : List Cell) → HasNoSource (verbatim_tokens text)
-no-verbatim text =
-    cond_both (ends_at_once region.Verbatim text) _ _ HasNoSource (λ e. seen _ (empty text).none)
-    (λ e. no-cut 0 (front_column text) text)
-  where
-    empty : (text : List Cell) → HasNoSource (empty_end text)
-    empty [] = seen _ refl
-    empty (c ∷ cs) = no-fault (is_line_end c.byte) fault.VerbatimEnd c.line
-
 -- names and constants
-
-no-use : (s : LexerState) (text : List Cell) → HasNoSource (use_of_name s text).tokens
-no-use s text =
-    seen _ (no-append _ _
-    (no-append _ _ (no-fault (is_in_directive s) fault.UseInDirective (front_line s.last_line text))
-    (no-fault (not (is_ended text)) fault.NameEnd (front_line s.last_line (name_end text))))
-    (no-fault (has_single_equals (after_name text)) fault.NameEquals (front_line s.last_line text))).none
 
 no-name : (s : LexerState) (text : List Cell) → HasNoSource (name_in_documentation s text).tokens
 no-name s text = by (definition_count text)
@@ -142,8 +121,7 @@ no-name s text = by (definition_count text)
 
 no-constant : (constant : Option AsciiConstant) (s : LexerState) (text : List Cell)
     → HasNoSource (constant_lexeme constant s text).tokens
-no-constant None s text = seen _ refl
-no-constant (Some constant) s text = seen _ refl
+no-constant constant s text = search rules
 
 -- what the first byte of a lexeme of this kind is
 abbrev Shows : LexemeKind → Option ℕ → Type 0
@@ -174,17 +152,14 @@ module _ (texts : List (List ℕ)) where
       → AreWhole (token.Span span_kind.Sign (span_at 1 (c ∷ cs)) ∷ [])
   sign-whole c cs is None e byte = cc
   sign-whole c cs is (Some b) e byte =
-      whole _ (texts-alone texts (token.Span span_kind.Sign (span_at 1 (c ∷ cs))) [] refl (sign-span texts c cs b e is)
-      (texts-none texts))
+      whole _ (search (rules, texts-alone, sign-span, texts-none))
 
   word-whole : (c : Cell) (cs : List Cell) → IsInLine texts c cs → (b : Option ℕ) → c.byte ≡ b
       → holds_word_byte b ≡ true
       → AreWhole (token.Span span_kind.Word (span_at (1 + count_before region.Word cs) (c ∷ cs)) ∷ [])
   word-whole c cs is None e word = cc
   word-whole c cs is (Some b) e word =
-      whole _ (texts-alone texts (token.Span span_kind.Word (span_at (1 + count_before region.Word cs)
-      (c ∷ cs))) [] refl
-      (word-span texts c cs b e word is) (texts-none texts))
+      whole _ (search (rules, texts-alone, word-span, texts-none))
 
   quoted-whole : (ts : List Token) → IsQuotedText texts (without_faults ts) → AreWhole ts
   quoted-whole ts quoted =
@@ -193,30 +168,23 @@ module _ (texts : List (List ℕ)) where
 
   code-whole : (kind : ControlCode) (s : LexerState) (c : Cell) (cs : List Cell) → IsInLine texts c cs
       → holds at_sign c.byte ≡ true → AreWhole (c_code kind s (c ∷ cs)).tokens
-  code-whole code.DoubleAt s c cs is sign = sign-whole c cs is c.byte refl (byte c.byte sign)
-    where
-      byte : (b : Option ℕ) → holds at_sign b ≡ true → is_line_end b ≡ false
-      byte None h = cc
-      byte (Some b) h = refl
+  code-whole code.DoubleAt s c cs is sign = grind (arith, nat_tests, sign-whole c cs is c.byte)
   code-whole code.ControlText s c cs is sign =
-      others-whole _ (no-white _ _ _ (no-line_ends region.ControlText (drop 2 (c ∷ cs)))
-      (no-fault _ fault.ControlText _))
-  code-whole code.Verbatim s c cs is sign = others-whole _ (no-verbatim (drop 2 (c ∷ cs)))
-  code-whole code.Name s c cs is sign = others-whole _ (no-use s (c ∷ cs))
-  code-whole code.AllMacros s c cs is sign = others-whole _ (seen _ (no-fault
-      (is_in_directive s) fault.UseInDirective c.line).none)
+      others-whole _ (search (rules, no-white, no-line_ends, no-fault))
+  code-whole code.Verbatim s c cs is sign = others-whole _ (search (rules, no-cut))
+  code-whole code.Name s c cs is sign = others-whole _ (search (rules, no-append, no-fault))
+  code-whole code.AllMacros s c cs is sign = others-whole _ (search rules)
   code-whole code.AsciiConstant s c cs is sign =
-      others-whole _ (no-constant (constant_at (drop 2 (c ∷ cs))) s (c ∷ cs))
+      search (rules, others-whole, no-constant)
   code-whole _ s c cs is sign = others-whole _ (seen _ refl)
 
   kind-whole : (kind : LexemeKind) (s : LexerState) (c : Cell) (cs : List Cell) → AreInLines texts (c ∷ cs)
       → Shows kind c.byte → AreWhole (c_lexeme kind s (c ∷ cs)).tokens
   kind-whole (lexeme_kind.Control code) s c cs is shows = code-whole code s c cs is.0 shows
   kind-whole lexeme_kind.BlockComment s c cs is shows =
-      others-whole _ (no-white _ _ _ (no-line_ends region.BlockComment (drop 2 (c ∷ cs)))
-      (no-fault _ fault.CommentEnd _))
+      others-whole _ (search (rules, no-white, no-line_ends, no-fault))
   kind-whole lexeme_kind.LineComment s c cs is shows =
-      others-whole _ (no-white false [] _ (seen _ refl) (no-fault _ fault.CommentEnd _))
+      search (rules, others-whole, no-white, no-fault)
   kind-whole lexeme_kind.DoubleQuote s c cs is shows = quoted-whole _ (string-text texts s c cs is shows)
   kind-whole lexeme_kind.Apostrophe s c cs is shows = quoted-whole _ (character-text texts s c cs is shows)
   kind-whole lexeme_kind.HeaderName s c cs is shows = quoted-whole _ (header-text texts s c cs is shows)
@@ -267,7 +235,7 @@ module _ (texts : List (List ℕ)) where
   lexemes-whole k s [] is = texts-none texts
   lexemes-whole (suc k) s (c ∷ cs) is = lexemes-whole k s cs is.1
   lexemes-whole zero s (c ∷ cs) is =
-      let here : Lexeme = lexeme s (c ∷ cs) in
+      let here = lexeme s (c ∷ cs) in
       let others : List Token = flat_map (λ l. l.tokens) (lexemes here.more here.after cs) in
       subst (AreTexts texts) (sym (faults-append here.tokens others))
       (texts-append texts (without_faults here.tokens) (without_faults others) (lexeme-whole s c cs is).are

@@ -1,4 +1,5 @@
 -- The cells of a text lie in the source lines: the bytes of a span are those of its cells.
+use Rattle.std.proofs.Common.{rules}
 use Rattle.std.proofs.Common.{◌≡◌, ℕ, zero, suc, ◌+◌, ◌-◌, ◌<◌, ◌≤◌, true, false, List, [], ◌∷◌, ◌++◌}
 use Rattle.std.proofs.Common.{Option, Some, None, get_or, take, drop, drop-drop, refl, ap, sym, ◌∙◌, arith, add-zero}
 use Rattle.std.proofs.Common.{subst}
@@ -52,9 +53,6 @@ abbrev IsAtFront : List Cell → Type 0
 IsAtFront [] = Unit {0}
 IsAtFront (c ∷ cs) = c.column ≡ 0
 
-drop-next : (n : ℕ) (xs : List ℕ) (b : ℕ) (bs : List ℕ) → drop n xs ≡ b ∷ bs → drop (n + 1) xs ≡ bs
-drop-next n xs b bs h = sym (drop-drop 1 n xs) ∙ ap (drop 1) h
-
 -- a line goes on after a column where it has a byte
 drop-within : (n : ℕ) (xs : List ℕ) (b : ℕ) (bs : List ℕ) → drop n xs ≡ b ∷ bs → n + 1 ≤ length xs
 drop-within n xs b bs h = omega (arith, length-drop n xs, ap length h)
@@ -72,14 +70,14 @@ line-in-lines texts line column (b ∷ bs) rest is low none front all =
         next = next bs;
         no_feed = parts.0;
       },
-      line-in-lines texts line (column + 1) bs rest (drop-next column (get_or texts line []) b bs is)
+      line-in-lines texts line (column + 1) bs rest ((sym (drop-drop 1 column (get_or texts line [])) ∙ ap (drop 1) is))
           (drop-within column (get_or texts line []) b bs is) parts.1 front all,
     )
   where
     next : (bs : List ℕ) → Continues (Some b) (record { line = line; column = column; byte = Some b })
         (line_text line (column + 1) bs ++ rest)
-    next [] = (refl, refl)
-    next (c ∷ cs) = (refl, refl)
+    next [] = search rules
+    next (c ∷ cs) = search rules
 
 pub text-in-lines : (texts : List (List ℕ)) (n : ℕ) (lines : List SourceLine)
     → ((k : ℕ) → get_or texts (n + k) [] ≡ get_or (texts_of lines) k [])
@@ -92,7 +90,7 @@ text-in-lines texts n (l ∷ ls) is none =
     (λ k. let e : n + 1 + k ≡ n + suc k = omega arith in ap (λ m. get_or texts m []) e ∙ is (suc k)) none.1)
   where
     front : (ls : List SourceLine) → IsAtFront (text_from (n + 1) ls)
-    front [] = tt
+    front [] = search rules
     front (l ∷ ls) = by l.bytes
       where
         by : (bs : List ℕ) → IsAtFront (line_text (n + 1) 0 bs ++ text_from (n + 1 + 1) ls)
@@ -107,8 +105,7 @@ after-byte texts c d cs b e is = subst (λ x. Continues x c (d ∷ cs)) e is.nex
 -- a byte is within its line
 pub byte-within : (texts : List (List ℕ)) (c : Cell) (cs : List Cell) (b : ℕ) → c.byte ≡ Some b → IsInLine texts c cs
     → c.column + 1 ≤ length (get_or texts c.line [])
-byte-within texts c cs b e is =
-    drop-within c.column (get_or texts c.line []) b (line_bytes cs) (is.bytes ∙ ap (λ x. bytes_by x (line_bytes cs)) e)
+byte-within texts c cs b e is = search (rules, drop-within)
 
 -- spans
 
@@ -133,32 +130,18 @@ module _ (texts : List (List ℕ)) where
   pub range-none : (line column : ℕ) → range line column column ≡ []
   range-none line column = grind (arith, nat_tests)
 
-  -- a range with one more byte
-  range-more : (line start column b : ℕ) (bs : List ℕ) → start ≤ column
-      → drop column (get_or texts line []) ≡ b ∷ bs
-      → range line start (column + 1) ≡ range line start column ++ b ∷ []
-  range-more line start column b bs h is =
-      let e : column + 1 - start ≡ (column - start) + 1 = omega (arith, h) in
-      let all : start + (column - start) ≡ column = omega (arith, h) in
-      let xs : List ℕ = drop start (get_or texts line []) in
-      let there : drop (column - start) xs ≡ b ∷ bs =
-      drop-drop (column - start) start (get_or texts line [])
-      ∙ ap (λ k. drop k (get_or texts line [])) all ∙ is in
-      ap (λ k. take k xs) e ∙ take-add (column - start) 1 xs
-      ∙ ap (λ t. take (column - start) xs ++ take 1 t) there
-
   -- the bytes from a column on, up to a byte and with it
   pub range-byte : (c : Cell) (cs : List Cell) (b start : ℕ) → c.byte ≡ Some b → IsInLine texts c cs → start ≤ c.column
       → range c.line start (c.column + 1) ≡ range c.line start c.column ++ b ∷ []
-  range-byte c cs b start e is h = grind (arith, nat_tests, range-more c.line start c.column b (line_bytes cs) h)
+  range-byte c cs b start e is h = grind (arith, nat_tests, drop-drop, take-add)
 
   pub range-some : (line start end : ℕ) → start < end → end ≤ length (get_or texts line [])
       → has_bytes (range line start end) ≡ true
   range-some line start end some within =
-      let xs : List ℕ = drop start (get_or texts line []) in
-      let left : end - start ≤ length xs = omega (arith, length-drop start (get_or texts line []), within) in
-      by (range line start end) (omega (arith, length-take-le (end - start) xs left, some))
+      let xs = drop start (get_or texts line []) in
+      let left : end - start ≤ length xs = omega (arith, length-drop start (get_or texts line [])) in
+      by (range line start end) (omega (arith, length-take-le (end - start) xs left))
     where
       by : (t : List ℕ) → 0 < length t → has_bytes t ≡ true
-      by [] h = absurd (omega (arith, h))
+      by [] h = absurd (omega arith)
       by (b ∷ t) h = refl

@@ -1,12 +1,14 @@
 -- A macro that is kept has no range of a quoted text where its name is.
-use Rattle.std.proofs.Common.{◌≡◌, ℕ, Bool, true, false, List, [], ◌∷◌, ◌++◌, refl, subst, None}
+use Rattle.std.proofs.Common.{arith}
+use Rattle.std.proofs.Common.{rules}
+use Rattle.std.proofs.lemmas.Bool.Decides.{nat_tests}
+use Rattle.std.proofs.Common.{◌≡◌, ℕ, Bool, true, false, List, [], ◌∷◌, ◌++◌, refl, None}
 use Rattle.std.specs.Prelude.{if◌then◌else◌}
 use Rattle.std.specs.List.{AllByRecursion}
-use Rattle.std.proofs.lemmas.Bool.{cond_both, false_from_ne_true, both_ways}
 use Rattle.tangle_lexer.specs.declared.tokens.Token.{Token}
 use Rattle.tangle_lexer.specs.declared.tokens.Token.TheVariants as token
 use Rattle.tangle_lexer.specs.declared.tokens.SpanKind.TheVariants as span_kind
-use Rattle.tangle_scan.specs.Rules.{may_follow_name, with_name_space, has_join, map_runs, left_of_run, without_joins}
+use Rattle.tangle_scan.specs.Rules.{may_follow_name, with_name_space, has_join, map_runs, left_of_run}
 use Rattle.tangle_scan.specs.Rules.{without_backslashes, macro_blanks, unmarked_items, macro_items, is_macro}
 use Rattle.tangle_c_tokens.specs.Kinds.{is_range}
 use Rattle.tangle_c_tokens.proofs.kind_lemmas.RuleTexts.{range-by, name_is_range, front_tokens}
@@ -47,13 +49,7 @@ module _ (texts : List (List ℕ)) where
   -- of a range and what is after it
   range-left : (t : Token) (ts run : List Token) → AreNameGaps run → is_range t ≡ true
       → first_is_range (map_runs left_of_run run (t ∷ ts)) ≡ true
-  range-left t ts run gaps h =
-      subst (λ us. first_is_range us ≡ true)
-      (range-by (λ u. left_of_run run ++ u ∷ map_runs left_of_run [] ts ≡ map_runs left_of_run run (u ∷ ts))
-      (λ s. refl) refl t h)
-      (cond_both (has_join run) [] run (λ us. first_is_range (us ++ t ∷ map_runs left_of_run [] ts) ≡ true)
-      (λ e. range-first t (map_runs left_of_run [] ts) h)
-      (λ none. after-gaps run t (map_runs left_of_run [] ts) gaps none h))
+  range-left t ts run gaps h = search (rules, after-gaps)
 
   -- what is after the first token, with the white space that is put there
   abbrev spaced : Token → List Token → List Token
@@ -62,14 +58,13 @@ module _ (texts : List (List ℕ)) where
   name-left : (ts run : List Token) → AreNameGaps run → name_is_range ts ≡ true
       → first_is_range (map_runs left_of_run run (with_name_space texts ts)) ≡ true
   name-left [] run gaps h = cc
-  name-left (token.White ∷ ts) run gaps h = name-left ts (run ++ token.White ∷ [])
-      (gaps-last run token.White gaps refl) h
+  name-left (token.White ∷ ts) run gaps h = grind (arith, nat_tests, name-left ts, gaps-last run token.White gaps)
   name-left (token.LineEnd line ∷ ts) run gaps h =
-      name-left ts (run ++ token.LineEnd line ∷ []) (gaps-last run (token.LineEnd line) gaps refl) h
+      grind (arith, nat_tests, name-left ts, gaps-last run)
   name-left (token.Join ∷ ts) run gaps h = name-left ts (run ++ token.Join ∷ []) (gaps-last run token.Join gaps refl) h
   name-left (token.Span span_kind.Quoted s ∷ []) run gaps h = range-left (token.Span span_kind.Quoted s) [] run gaps h
   name-left (token.Span span_kind.Quoted s ∷ f ∷ ts) run gaps h =
-      range-left (token.Span span_kind.Quoted s) (spaced f ts) run gaps h
+      search (rules, range-left)
   name-left (token.Span span_kind.Word s ∷ ts) run gaps h = cc
   name-left (token.Span span_kind.Sign s ∷ ts) run gaps h = cc
   name-left (token.Span span_kind.Verbatim s ∷ ts) run gaps h = cc
@@ -103,8 +98,5 @@ module _ (texts : List (List ℕ)) where
   pub kept-name : (ts : List Token) → is_macro texts (macro_items texts ts) ≡ true
       → name_is_range (front_tokens texts ts) ≡ false
   kept-name ts kept =
-      let front : List Token = front_tokens texts ts in
-      false_from_ne_true (name_is_range front)
-      (λ h. both_ways (is_macro texts (macro_items texts ts))
-      (no-macro false (without_backslashes texts (without_joins [] (with_name_space texts front)))
-      (backslashes-left (without_joins [] (with_name_space texts front)) (name-left front [] tt h))) kept)
+      let front = front_tokens texts ts in
+      search (rules, no-macro, backslashes-left, name-left)

@@ -1,11 +1,12 @@
 -- The bytes of string literals, character constants and header names, unit by unit: those of a text that ends, and
 -- those of one that does not.
+use Rattle.std.proofs.Common.{rules}
 use Rattle.std.proofs.Common.{arith}
 use Rattle.std.proofs.Common.{◌≡◌, ℕ, zero, suc, Bool, true, false, not, List, [], ◌∷◌, take, Option, Some}
 use Rattle.std.proofs.Common.{None}
 use Rattle.std.proofs.Common.{refl, ap, sym, ◌∙◌, subst}
 use Rattle.std.specs.Prelude.{◌==◌, ◌&&◌, ◌||◌, slice_get}
-use Rattle.std.proofs.lemmas.Bool.{and_parts, and_right, or_parts, both_ways, false≢true}
+use Rattle.std.proofs.lemmas.Bool.{and_parts, or_parts, both_ways}
 use Rattle.std.proofs.lemmas.Bool.{eqb-true}
 use Rattle.tangle_lines.specs.Bytes.{at_sign}
 use Rattle.tangle_text.specs.declared.regions.Region.{Region}
@@ -16,7 +17,6 @@ use Rattle.tangle_text.specs.Regions.{unit_by, unit_of, quoted_unit}
 use Rattle.c_tokens.specs.Bytes.{line_feed}
 use Rattle.c_tokens.specs.Grammar.{ends_quoted}
 use Rattle.c_tokens.specs.Reading.{spliced}
-use Rattle.c_tokens.proofs.TouchingLemmas.{spliced-first}
 use Rattle.tangle_c_tokens.specs.Kinds.{ends_header_name}
 use Rattle.std.proofs.lemmas.Bool.Decides.{nat_tests}
 
@@ -38,8 +38,7 @@ gives-nothing test h (suc n) = h
 
 -- a byte before bytes that do not begin with a line feed is kept
 kept-first : (b : ℕ) (q : List ℕ) → holds line_feed (slice_get q 0) ≡ false → spliced (b ∷ q) ≡ b ∷ spliced q
-kept-first b [] h = refl
-kept-first b (c ∷ q) h = rw (and_right (b == backslash) (c == line_feed) h) refl
+kept-first b q h = search rules
 
 -- texts in quotes
 module _ (close : ℕ) (no_sign : (at_sign == close) ≡ false) (no_back : (backslash == close) ≡ false) where
@@ -48,13 +47,7 @@ module _ (close : ℕ) (no_sign : (at_sign == close) ≡ false) (no_back : (back
 
   byte-true : (b : ℕ) (t : List ℕ) → (b == backslash) ≡ false → (b == close) ≡ false → (b == line_feed) ≡ false
       → ends_quoted close t ≡ true → ends_quoted close (b ∷ t) ≡ true
-  byte-true b [] back closing feed h = absurd (false≢true h)
-  byte-true b (c ∷ t) back closing feed h = rw (back, closing, feed) h
-
-  byte-false : (b : ℕ) (t : List ℕ) → (b == backslash) ≡ false → (b == close) ≡ false
-      → ends_quoted close t ≡ false → ends_quoted close (b ∷ t) ≡ false
-  byte-false b [] back closing h = closing
-  byte-false b (c ∷ t) back closing h = grind (arith, nat_tests)
+  byte-true b t back closing feed h = search rules
 
   gives-byte : (ends : Bool) (b : ℕ) (t : List ℕ) → (b == backslash) ≡ false → (b == close) ≡ false
       → (b == line_feed) ≡ false → GivesQuoted ends t → GivesQuoted ends (b ∷ t)
@@ -62,8 +55,8 @@ module _ (close : ℕ) (no_sign : (at_sign == close) ≡ false) (no_back : (back
   gives-byte false b t back closing feed h = all
     where
       all : GivesQuoted false (b ∷ t)
-      all zero = refl
-      all (suc n) = byte-false b (take n t) back closing (h n)
+      all zero = search rules
+      all (suc n) = search rules
 
   -- a backslash and the byte after it
   gives-escape : (ends : Bool) (y : ℕ) (t : List ℕ) → (y == line_feed) ≡ false → GivesQuoted ends t
@@ -72,9 +65,9 @@ module _ (close : ℕ) (no_sign : (at_sign == close) ≡ false) (no_back : (back
   gives-escape false y t feed h = all
     where
       all : GivesQuoted false (backslash ∷ y ∷ t)
-      all zero = refl
-      all (suc zero) = no_back
-      all (suc (suc n)) = and_right (not (y == line_feed)) (ends_quoted close (take n t)) (h n)
+      all zero = search rules
+      all (suc zero) = cc no_back
+      all (suc (suc n)) = search rules
 
   -- what is after an @
   gives-after : (ends : Bool) (t : List ℕ) → GivesQuoted ends (at_sign ∷ t) → GivesQuoted ends t
@@ -83,19 +76,8 @@ module _ (close : ℕ) (no_sign : (at_sign == close) ≡ false) (no_back : (back
   gives-after false t h = λ n. one (take n t) (h (suc n))
     where
       one : (u : List ℕ) → ends_quoted close (at_sign ∷ u) ≡ false → ends_quoted close u ≡ false
-      one [] h = refl
-      one (c ∷ u) h = subst (λ x. (not (x || false) && ends_quoted close (c ∷ u)) ≡ false) no_sign h
-
-  -- a backslash before an @
-  escaped-sign : (ends : Bool) (q : List ℕ) → holds at_sign (slice_get q 0) ≡ true → GivesQuoted ends (spliced q)
-      → GivesQuoted ends (backslash ∷ spliced q)
-  escaped-sign ends [] sign h = absurd (false≢true sign)
-  escaped-sign ends (z ∷ q) sign h =
-      let same : z ≡ at_sign = eqb-true z at_sign sign in
-      let split : spliced (z ∷ q) ≡ at_sign ∷ spliced q =
-      spliced-first z q (ap (λ k. k == backslash) same) ∙ ap (λ k. k ∷ spliced q) same in
-      subst (λ t. GivesQuoted ends (backslash ∷ t)) (sym split)
-      (gives-escape ends at_sign (spliced q) refl (gives-after ends (spliced q) (subst (GivesQuoted ends) split h)))
+      one [] h = search rules
+      one (c ∷ u) h = search rules
 
   module _ (r : Region) (is : (b n : Option ℕ) → unit_of r b n ≡ quoted_unit close b n) where
     pub quote-stops : (b : ℕ) (n : Option ℕ) → unit_of r (Some b) n ≡ unit.Stop → (b == close) ≡ true
@@ -105,20 +87,17 @@ module _ (close : ℕ) (no_sign : (at_sign == close) ≡ false) (no_back : (back
         → (b == line_feed) ≡ false → holds line_feed (slice_get q 0) ≡ false → GivesQuoted ends (spliced q)
         → GivesQuoted ends (spliced (b ∷ q))
     quote-one ends b q e feed next h =
-        let n : Option ℕ = slice_get q 0 in
+        let n = slice_get q 0 in
         let goes = goes-one (b == close || false)
         (are_bytes at_sign at_sign (Some b) n || b == backslash && not (holds at_sign n)) (sym (is (Some b) n) ∙ e) in
-        let no_close = (or_parts (b == close) false goes.0).0 in
-        let no_pair = (or_parts (are_bytes at_sign at_sign (Some b) n) (b == backslash && not
-        (holds at_sign n)) goes.1).1 in
-        subst (GivesQuoted ends) (sym (kept-first b q next)) (by (b == backslash) refl no_close no_pair)
+        subst (GivesQuoted ends) (sym (kept-first b q next)) (by (b == backslash) refl ((or_parts (b == close) false goes.0).0) ((or_parts (are_bytes at_sign at_sign (Some b) n) (b == backslash && not (holds at_sign n)) goes.1).1))
       where
         by : (back : Bool) → (b == backslash) ≡ back → (b == close) ≡ false
             → (back && not (holds at_sign (slice_get q 0))) ≡ false → GivesQuoted ends (b ∷ spliced q)
         by false back closing pair = gives-byte ends b (spliced q) back closing feed h
         by true back closing pair =
             subst (λ k. GivesQuoted ends (k ∷ spliced q)) (sym (eqb-true b backslash back))
-            (escaped-sign ends q (sign (holds at_sign (slice_get q 0)) pair) h)
+            (search (rules, gives-escape, gives-after))
           where
             sign : (s : Bool) → not s ≡ false → s ≡ true
             sign true p = refl
@@ -128,7 +107,7 @@ module _ (close : ℕ) (no_sign : (at_sign == close) ≡ false) (no_back : (back
         → GivesQuoted ends (spliced q)
         → GivesQuoted ends (spliced (at_sign ∷ q))
     quote-signs ends q next h =
-        grind (arith, nat_tests, kept-first at_sign q next, gives-byte ends at_sign (spliced q) refl no_sign refl h)
+        grind (arith, nat_tests, gives-byte ends at_sign (spliced q) refl no_sign refl h)
 
     -- a unit of two bytes that are not @ begins with a backslash
     backslash-first : (b : ℕ) (n : Option ℕ) → unit_of r (Some b) n ≡ unit.Two
@@ -139,10 +118,8 @@ module _ (close : ℕ) (no_sign : (at_sign == close) ≡ false) (no_back : (back
         → (b == at_sign) ≡ false → (y == line_feed) ≡ false → holds line_feed (slice_get q 0) ≡ false
         → GivesQuoted ends (spliced q) → GivesQuoted ends (spliced (b ∷ y ∷ q))
     quote-others ends b y q e sign feed next h =
-        let back : b ≡ backslash = backslash-first b (Some y) e (rw sign refl) in
-        let kept : spliced (b ∷ y ∷ q) ≡ backslash ∷ y ∷ spliced q =
-        kept-first b (y ∷ q) feed ∙ ap (λ t. b ∷ t) (kept-first y q next) ∙ ap (λ k. k ∷ y ∷ spliced q) back in
-        subst (GivesQuoted ends) (sym kept) (gives-escape ends y (spliced q) feed h)
+        let back = backslash-first b (Some y) e (rw sign refl) in
+        subst (GivesQuoted ends) (sym (kept-first b (y ∷ q) feed ∙ ap (λ t. b ∷ t) (kept-first y q next) ∙ ap (λ k. k ∷ y ∷ spliced q) back)) (gives-escape ends y (spliced q) feed h)
 
     pub quote-broken : (ends : Bool) (b : ℕ) (q : List ℕ) → unit_of r (Some b) None ≡ unit.Two
         → GivesQuoted ends (spliced q) → GivesQuoted ends (spliced (b ∷ line_feed ∷ q))
@@ -155,13 +132,7 @@ GivesHeader ends q = Gives ends ends_header_name q
 
 header-true : (b : ℕ) (q : List ℕ) → (b == greater_sign) ≡ false → (b == line_feed) ≡ false
     → ends_header_name q ≡ true → ends_header_name (b ∷ q) ≡ true
-header-true b [] closing feed h = absurd (false≢true h)
-header-true b (c ∷ q) closing feed h = rw (closing, feed) h
-
-header-false : (b : ℕ) (q : List ℕ) → (b == greater_sign) ≡ false → ends_header_name q ≡ false
-    → ends_header_name (b ∷ q) ≡ false
-header-false b [] closing h = closing
-header-false b (c ∷ q) closing h = and_right (not (b == greater_sign || b == line_feed)) (ends_header_name (c ∷ q)) h
+header-true b q closing feed h = search rules
 
 header-byte : (ends : Bool) (b : ℕ) (q : List ℕ) → (b == greater_sign) ≡ false → (b == line_feed) ≡ false
     → GivesHeader ends q → GivesHeader ends (b ∷ q)
@@ -169,8 +140,8 @@ header-byte true b q closing feed h = header-true b q closing feed h
 header-byte false b q closing feed h = all
   where
     all : GivesHeader false (b ∷ q)
-    all zero = refl
-    all (suc n) = header-false b (take n q) closing (h n)
+    all zero = search rules
+    all (suc n) = search rules
 
 pub header-stops : (b : ℕ) (n : Option ℕ) → unit_of region.HeaderName (Some b) n ≡ unit.Stop
     → (b == greater_sign) ≡ true
@@ -179,9 +150,7 @@ header-stops b n e = grind (arith, nat_tests)
 pub header-one : (ends : Bool) (b : ℕ) (q : List ℕ) → unit_of region.HeaderName (Some b) (slice_get q 0) ≡ unit.One
     → (b == line_feed) ≡ false → holds line_feed (slice_get q 0) ≡ false → GivesHeader ends q
     → GivesHeader ends (b ∷ q)
-header-one ends b q e feed next h =
-    let goes = goes-one (b == greater_sign || false) (are_bytes at_sign at_sign (Some b) (slice_get q 0)) e in
-    header-byte ends b q (or_parts (b == greater_sign) false goes.0).0 feed h
+header-one ends b q e feed next h = search (rules, header-byte)
 
 pub header-signs : (ends : Bool) (q : List ℕ) → holds line_feed (slice_get q 0) ≡ false → GivesHeader ends q
     → GivesHeader ends (at_sign ∷ q)

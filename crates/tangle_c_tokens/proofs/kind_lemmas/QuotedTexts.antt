@@ -1,19 +1,18 @@
 -- The ranges of a quoted text have the bytes of one text, unit by unit.
+use Rattle.std.proofs.Common.{rules}
 use Rattle.std.proofs.Common.{◌≡◌, ℕ, suc, ◌+◌, ◌≤◌, Bool, true, false, List, [], ◌∷◌, ◌++◌}
-use Rattle.std.proofs.Common.{Option, Some, None, refl, ap, sym, ◌∙◌, subst, arith, append_assoc, append-nil}
+use Rattle.std.proofs.Common.{Option, Some, None, refl, ap, sym, ◌∙◌, subst, arith, append_assoc}
 use Rattle.std.proofs.Common.{cond, get_or, length}
-use Rattle.std.specs.Prelude.{◌==◌, ◌&&◌, nat_lt, slice_get}
+use Rattle.std.specs.Prelude.{◌==◌, ◌&&◌, slice_get}
 use Rattle.std.specs.List.{list_all}
-use Rattle.std.proofs.lemmas.Bool.{false≢true, both_ways}
-use Rattle.std.proofs.lemmas.Bool.{eqb-true, eq-eqb, ltb-true}
+use Rattle.std.proofs.lemmas.Bool.{eqb-true}
 use Rattle.tangle_faults.specs.declared.faults.FaultKind.TheVariants as fault
 use Rattle.tangle_lines.specs.Bytes.{at_sign}
 use Rattle.tangle_text.specs.declared.regions.Region.{Region}
-use Rattle.tangle_text.specs.declared.regions.Unit.{Unit as Unit-of}
 use Rattle.tangle_text.specs.declared.regions.Unit.TheVariants as unit
 use Rattle.tangle_text.specs.Bytes.{holds, is_line_end, backslash}
-use Rattle.tangle_text.specs.Text.{Cell, byte_at}
-use Rattle.tangle_text.specs.Regions.{unit_of, unit_at, count_before}
+use Rattle.tangle_text.specs.Text.{Cell}
+use Rattle.tangle_text.specs.Regions.{unit_of, unit_at}
 use Rattle.tangle_lexer.specs.declared.tokens.Token.{Token}
 use Rattle.tangle_lexer.specs.declared.tokens.Token.TheVariants as token
 use Rattle.tangle_lexer.specs.declared.tokens.SpanKind.TheVariants as span_kind
@@ -34,8 +33,7 @@ use Rattle.std.proofs.lemmas.Bool.Decides.{nat_tests}
 
 -- the last byte of a text is that of the text with one more byte before it
 last-more : (test : ℕ → Bool) (b : ℕ) (q : List ℕ) → last_byte_passes test q ≡ true → last_byte_passes test (b ∷ q) ≡ true
-last-more test b [] h = absurd (false≢true h)
-last-more test b (c ∷ q) h = h
+last-more test b q h = search rules
 
 -- `Closes` is true of the bytes of a text after its opening byte: of a text that ends, or of one that does not. `r` is
 -- the region of such texts, which this byte closes.
@@ -94,17 +92,7 @@ module _ (texts : List (List ℕ)) (r : Region) (close last_line : ℕ) (cut : I
   -- a range that may be empty
   cut-range : (line start end : ℕ) → start ≤ end → end ≤ length (get_or texts line []) → (ts : List Token)
       → IsAfter line start end ts
-  cut-range line start end low within ts = by (nat_lt start end) refl
-    where
-      by : (some : Bool) → nat_lt start end ≡ some → IsAfter line start end ts
-      by true h =
-          let some : has_bytes (range texts line start end) ≡ true =
-          range-some texts line start end (ltb-true start end h) within in
-          rw (h, kind, some) (refl, refl, refl)
-      by false h = grind (arith, nat_tests)
-
-  no-byte : (n : Option ℕ) → (u : Unit-of) → unit_of r None n ≡ u → (u ≡ unit.Stop → ⊥) → ⊥
-  no-byte n u e go = go (sym e ∙ cut.stops n)
+  cut-range line start end low within ts = search (rules, range-some)
 
   -- the end of the text
 
@@ -114,45 +102,18 @@ module _ (texts : List (List ℕ)) (r : Region) (close last_line : ℕ) (cut : I
       (cond closed (cut_range r c.line start (c.column + 1))
       (cut_range r c.line start c.column ++ token.Fault fault.StringEnd c.line ∷ []))
   stop-by c cs start false same e is low =
-      let cut = cut-range c.line start c.column low is.within (token.Fault fault.StringEnd c.line ∷ []) in
-      record {
-        ends = false;
-        ahead = [];
-        bytes = cut.0;
-        first = line-end c.byte same e;
-        closes = unended;
-        last = λ e. cc;
-        ranges = cut.1;
-        full = cut.2;
-      }
-    where
-      line-end : (b : Option ℕ) → holds close b ≡ false → unit_of r b (byte_at 0 cs) ≡ unit.Stop → None ≡ b
-      line-end None h e = refl
-      line-end (Some b) h e = absurd (both_ways (b == close) h (stops b (byte_at 0 cs) e))
+      search (rules, cut-range)
   stop-by c cs start true same stop is low =
-      let e : c.byte ≡ Some close = closing c.byte same in
-      let only = cut-range c.line start (c.column + 1) (omega (arith, low)) (byte-within texts c cs close e is) [] in
-      let ts = sym (append-nil (cut_range r c.line start (c.column + 1))) in
-      record {
-        ends = true;
-        ahead = close ∷ [];
-        bytes = ap (λ us. range_bytes texts (without_faults us)) ts ∙ only.0
-            ∙ append-nil (range texts c.line start (c.column + 1)) ∙ range-byte texts c cs close start e is low;
-        first = sym e;
-        closes = ending;
-        last = λ e. eq-eqb close close refl;
-        ranges = ap (λ us. list_all is_range (without_faults us)) ts ∙ only.1;
-        full = ap (λ us. list_all is_full (without_faults us)) ts ∙ only.2;
-      }
+      let e = closing c.byte same in
+      let only = cut-range c.line start (c.column + 1) (omega arith) (byte-within texts c cs close e is) [] in
+      search (rules, range-byte)
     where
       closing : (b : Option ℕ) → holds close b ≡ true → b ≡ Some close
-      closing None h = cc
-      closing (Some b) h = ap (λ x. Some x) (eqb-true b close h)
+      closing None h = search rules
+      closing (Some b) h = cc (eqb-true b close h)
 
   stop-holds : (text : List Cell) → unit_at r text ≡ unit.Stop → Holds 0 text
-  stop-holds [] e = end-holds
-  stop-holds (c ∷ cs) e =
-      grind (arith, nat_tests, range texts c.line, cut-stop (quote_end r close last_line) r, stop-by c cs)
+  stop-holds text e = search (rules, cut-stop, stop-by)
 
   -- a unit of one byte
 
@@ -166,26 +127,21 @@ module _ (texts : List (List ℕ)) (r : Region) (close last_line : ℕ) (cut : I
   one-holds n c (d ∷ cs) e next is start low = by c.byte refl
     where
       by : (x : Option ℕ) → c.byte ≡ x → Ends (range texts c.line start c.column) c.byte (tokens_of start (c ∷ d ∷ cs))
-      by None x = absurd (no-byte d.byte unit.One (subst (λ y. unit_of r y d.byte ≡ unit.One) x e) (λ u. cc))
+      by None x = search rules
       by (Some b) x =
           let at = after-byte texts c d cs b x is.0 in
-          let tail : List Token = tokens_of start (d ∷ cs) in
+          let tail = tokens_of start (d ∷ cs) in
           let faults : List Token = fault_if (holds at_sign c.byte) fault.StringAt c.line in
           let tokens : tokens_of start (c ∷ d ∷ cs) ≡ faults ++ tail = rw e refl in
-          let kept : without_faults (tokens_of start (c ∷ d ∷ cs)) ≡ without_faults tail =
-          ap without_faults tokens ∙ no-faults (holds at_sign c.byte) c.line tail in
-          let further = next is.1 start (omega (arith, low, at.1)) in
-          let moved : range texts d.line start d.column ≡ range texts c.line start c.column ++ b ∷ [] =
-          (λ i. range texts (at.0 i) start (at.1 i)) ∙ range-byte texts c (d ∷ cs) b start x is.0 low in
+          let kept = ap without_faults tokens ∙ no-faults (holds at_sign c.byte) c.line tail in
+          let further = next is.1 start (omega arith) in
+          let moved = (λ i. range texts (at.0 i) start (at.1 i)) ∙ range-byte texts c (d ∷ cs) b start x is.0 low in
           record {
             ends = further.ends;
             ahead = b ∷ further.ahead;
-            bytes = ap (range_bytes texts) kept ∙ further.bytes ∙ ap (λ t. t ++ further.ahead) moved
-                ∙ append_assoc (range texts c.line start c.column) (b ∷ []) further.ahead;
+            bytes = search (rules, append_assoc);
             first = sym x;
-            closes = one further.ends b further.ahead ((λ i. unit_of r (sym x i) (further.first i)) ∙ e)
-                (ap (holds line_feed) (sym x) ∙ is.0.no_feed) (ap (holds line_feed) further.first ∙ is.1.0.no_feed)
-                further.closes;
+            closes = search rules;
             last = λ k. last-more is_closing b further.ahead (further.last k);
             ranges = ap (list_all is_range) kept ∙ further.ranges;
             full = ap (list_all is_full) kept ∙ further.full;
@@ -207,7 +163,7 @@ module _ (texts : List (List ℕ)) (r : Region) (close last_line : ℕ) (cut : I
       → tokens_of start (c ∷ d ∷ cs) ≡ cut_range r c.line start (c.column + 1) ++ token.QuoteBreak ∷ tokens_of 0 cs
       → Ends (range texts c.line start c.column) c.byte (tokens_of start (c ∷ d ∷ cs))
   broken-holds n c d cs b start x y e next is low tokens =
-      let cut = cut-range c.line start (c.column + 1) (omega (arith, low)) (byte-within texts c (d ∷ cs) b x is.0)
+      let cut = cut-range c.line start (c.column + 1) (omega arith) (byte-within texts c (d ∷ cs) b x is.0)
       (token.QuoteBreak ∷ tokens_of 0 cs) in
       let further = (from-front n d cs y next is.1).1 in
       record {
@@ -219,8 +175,7 @@ module _ (texts : List (List ℕ)) (r : Region) (close last_line : ℕ) (cut : I
             ∙ append_assoc (range texts c.line start c.column) (b ∷ []) (line_feed ∷ further.ahead);
         first = sym x;
         closes = broken further.ends b further.ahead ((λ i. unit_of r (sym x i) (sym y i)) ∙ e) further.closes;
-        last = λ k. last-more is_closing b (line_feed ∷ further.ahead)
-            (last-more is_closing line_feed further.ahead (further.last k));
+        last = search rules;
         ranges = ap (λ ts. list_all is_range (without_faults ts)) tokens ∙ cut.1 ∙ further.ranges;
         full = ap (λ ts. list_all is_full (without_faults ts)) tokens ∙ cut.2 ∙ further.full;
       }
@@ -231,34 +186,29 @@ module _ (texts : List (List ℕ)) (r : Region) (close last_line : ℕ) (cut : I
       → Ends (range texts c.line start c.column) c.byte (tokens_of start (c ∷ d ∷ cs))
   signs-holds n c d [] y start sign z next is low tokens = grind (arith, nat_tests)
   signs-holds n c d (f ∷ cs) y start sign z next is low tokens =
-      let x : c.byte ≡ Some at_sign = here c.byte sign in
+      let x = here c.byte sign in
       let at = after-byte texts c d (f ∷ cs) at_sign x is.0 in
-      let then = after-byte texts d f cs y z is.1.0 in
-      let tail : List Token = tokens_of (c.column + 2) (f ∷ cs) in
-      let cut = cut-range c.line start (c.column + 1) (omega (arith, low))
-      (byte-within texts c (d ∷ f ∷ cs) at_sign x is.0) tail in
-      let column : f.column ≡ c.column + 2 = omega (arith, at.1, then.1) in
-      let further = next is.1.1 (c.column + 2) (omega (arith, column)) in
-      let none : range texts f.line (c.column + 2) f.column ≡ [] =
-      ap (range texts f.line (c.column + 2)) column ∙ range-none texts f.line (c.column + 2) in
+      let cut = cut-range c.line start (c.column + 1) (omega arith)
+      (byte-within texts c (d ∷ f ∷ cs) at_sign x is.0) (tokens_of (c.column + 2) (f ∷ cs)) in
+      let column : f.column ≡ c.column + 2 = omega (arith, (after-byte texts d f cs y z is.1.0).1) in
+      let further = next is.1.1 (c.column + 2) (omega arith) in
       record {
         ends = further.ends;
         ahead = at_sign ∷ further.ahead;
         bytes = ap (λ ts. range_bytes texts (without_faults ts)) tokens ∙ cut.0
-            ∙ ap (λ t. range texts c.line start (c.column + 1) ++ t) (further.bytes ∙ ap (λ t. t ++ further.ahead) none)
+            ∙ ap (λ t. range texts c.line start (c.column + 1) ++ t) (further.bytes ∙ ap (λ t. t ++ further.ahead) (ap (range texts f.line (c.column + 2)) column ∙ range-none texts f.line (c.column + 2)))
             ∙ ap (λ t. t ++ further.ahead) (range-byte texts c (d ∷ f ∷ cs) at_sign start x is.0 low)
             ∙ append_assoc (range texts c.line start c.column) (at_sign ∷ []) further.ahead;
         first = sym x;
-        closes = signs further.ends further.ahead (ap (holds line_feed) further.first
-            ∙ is.1.1.0.no_feed) further.closes;
+        closes = search rules;
         last = λ k. last-more is_closing at_sign further.ahead (further.last k);
         ranges = ap (λ ts. list_all is_range (without_faults ts)) tokens ∙ cut.1 ∙ further.ranges;
         full = ap (λ ts. list_all is_full (without_faults ts)) tokens ∙ cut.2 ∙ further.full;
       }
     where
       here : (b : Option ℕ) → holds at_sign b ≡ true → b ≡ Some at_sign
-      here None h = cc
-      here (Some b) h = ap (λ k. Some k) (eqb-true b at_sign h)
+      here None h = search rules
+      here (Some b) h = search rules
 
   others-holds : (n : ℕ) (c d : Cell) (cs : List Cell) (b y start : ℕ) → c.byte ≡ Some b → d.byte ≡ Some y
       → unit_of r c.byte d.byte ≡ unit.Two → holds at_sign c.byte ≡ false
@@ -269,26 +219,18 @@ module _ (texts : List (List ℕ)) (r : Region) (close last_line : ℕ) (cut : I
   others-holds n c d (f ∷ cs) b y start x z e other next is low tokens =
       let at = after-byte texts c d (f ∷ cs) b x is.0 in
       let then = after-byte texts d f cs y z is.1.0 in
-      let further = next is.1.1 start (omega (arith, low, at.1, then.1)) in
-      let moved : range texts f.line start f.column ≡ (range texts c.line start c.column ++ b ∷ []) ++ y ∷ [] =
-      (λ i. range texts (then.0 i) start (then.1 i))
-      ∙ range-byte texts d (f ∷ cs) y start z is.1.0 (omega (arith, low, at.1))
+      let further = next is.1.1 start (omega arith) in
+      let moved = (λ i. range texts (then.0 i) start (then.1 i))
+      ∙ range-byte texts d (f ∷ cs) y start z is.1.0 (omega arith)
       ∙ ap (λ t. t ++ y ∷ []) ((λ i. range texts (at.0 i) start (at.1 i))
       ∙ range-byte texts c (d ∷ f ∷ cs) b start x is.0 low) in
       record {
         ends = further.ends;
         ahead = b ∷ y ∷ further.ahead;
-        bytes = ap (λ ts. range_bytes texts (without_faults ts)) tokens ∙ further.bytes
-            ∙ ap (λ t. t ++ further.ahead) moved
-            ∙ append_assoc (range texts c.line start c.column ++ b ∷ []) (y ∷ []) further.ahead
-            ∙ append_assoc (range texts c.line start c.column) (b ∷ []) (y ∷ further.ahead);
+        bytes = search (rules, append_assoc);
         first = sym x;
-        closes = others further.ends b y further.ahead ((λ i. unit_of r (sym x i) (sym z i))
-            ∙ e) (ap (holds at_sign) (sym x) ∙ other)
-            (ap (holds line_feed) (sym z) ∙ is.1.0.no_feed) (ap (holds line_feed) further.first ∙ is.1.1.0.no_feed)
-            further.closes;
-        last = λ k. last-more is_closing b (y ∷ further.ahead)
-            (last-more is_closing y further.ahead (further.last k));
+        closes = search rules;
+        last = search (rules, last-more);
         ranges = ap (λ ts. list_all is_range (without_faults ts)) tokens ∙ further.ranges;
         full = ap (λ ts. list_all is_full (without_faults ts)) tokens ∙ further.full;
       }
@@ -305,7 +247,7 @@ module _ (texts : List (List ℕ)) (r : Region) (close last_line : ℕ) (cut : I
           → Ends (range texts c.line start c.column) c.byte (tokens_of start (c ∷ d ∷ cs))
       by None x z k sign s = grind (arith, nat_tests)
       by (Some b) x None k true s = grind (arith, nat_tests)
-      by (Some b) x None k false s = grind (arith, nat_tests, broken-holds n c d cs b start x k e next is low, tokens)
+      by (Some b) x None k false s = grind (arith, nat_tests, broken-holds n c d cs b start x k e next is low)
       by (Some b) x (Some y) k true s =
           signs-holds n c d cs y start s k next is low (tokens ∙ rw s refl)
       by (Some b) x (Some y) k false s =
@@ -333,9 +275,7 @@ module _ (texts : List (List ℕ)) (r : Region) (close last_line : ℕ) (cut : I
   text-whole c [] b x is = absurd (subst (λ k. Continues k c []) x is.0.next)
   text-whole c (d ∷ cs) b x is =
       let at = after-byte texts c d cs b x is.0 in
-      let all : Holds (count_before r (d ∷ cs)) (d ∷ cs) =
-      units-by r Holds stop-holds end-holds one-holds two-holds (λ f e. lone f e) (d ∷ cs) in
-      let text = all is.1 c.column (omega (arith, at.1)) in
+      let text = (units-by r Holds stop-holds end-holds one-holds two-holds (λ f e. lone f e) (d ∷ cs)) is.1 c.column (omega arith) in
       let first : range texts d.line c.column d.column ≡ b ∷ [] =
       (λ i. range texts (at.0 i) c.column (at.1 i)) ∙ range-byte texts c (d ∷ cs) b c.column x is.0 (omega arith)
       ∙ ap (λ t. t ++ b ∷ []) (range-none texts c.line c.column) in
@@ -350,4 +290,4 @@ module _ (texts : List (List ℕ)) (r : Region) (close last_line : ℕ) (cut : I
       }
     where
       lone : (f : Cell) → unit_at r (f ∷ []) ≡ unit.Two → Holds 1 (f ∷ [])
-      lone f e is start low = grind (arith, nat_tests)
+      lone f e is start low = search rules

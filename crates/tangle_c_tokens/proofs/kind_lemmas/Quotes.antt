@@ -1,4 +1,5 @@
 -- The three kinds of quoted texts of a web: string literals, character constants and header names.
+use Rattle.std.proofs.Common.{rules}
 use Rattle.std.proofs.Common.{arith}
 use Rattle.std.proofs.Common.{◌≡◌, inl, inr, ℕ, Bool, true, false, List, ◌∷◌, Some, refl, ap, ◌∙◌}
 use Rattle.std.specs.Prelude.{◌==◌, codes}
@@ -15,7 +16,6 @@ use Rattle.tangle_lexer.proofs.laws.CutTexts.{double_quote-cut, apostrophe-cut, 
 use Rattle.tangle_scan.specs.Rules.{without_faults}
 use Rattle.c_tokens.specs.Grammar.{ends_quoted}
 use Rattle.c_tokens.specs.Reading.{spliced}
-use Rattle.c_tokens.proofs.TouchingLemmas.{spliced-first}
 use Rattle.tangle_c_tokens.specs.Edges.{last_byte_passes}
 use Rattle.tangle_c_tokens.specs.Kinds.{ends_header_name, is_header_name, IsQuoted, range_bytes}
 use Rattle.tangle_c_tokens.specs.Kinds.{IsQuotedText}
@@ -40,11 +40,11 @@ character-quoted true q bytes h last is = by (bytes_eq text (codes "''")) refl
     text = apostrophe ∷ spliced q
 
     same : spliced bytes ≡ text
-    same = ap spliced is ∙ spliced-first apostrophe q refl
+    same = search rules
 
     by : (empty : Bool) → bytes_eq text (codes "''") ≡ empty → IsQuoted bytes
-    by true e = inr (inl (ap (λ t. bytes_eq t (codes "''")) same ∙ e))
-    by false e = grind (arith, nat_tests)
+    by true e = search rules
+    by false e = search rules
 
 header-quoted : (ends : Bool) (q bytes : List ℕ) → Gives ends ends_header_name q → bytes ≡ less_sign ∷ q
     → IsQuoted bytes
@@ -63,7 +63,7 @@ module _ (texts : List (List ℕ)) (s : LexerState) (c : Cell) (cs : List Cell) 
 
   pub string-text : c.byte ≡ Some double_quote → IsText region.DoubleQuote double_quote
   string-text x =
-      let r : Region = region.DoubleQuote in
+      let r = region.DoubleQuote in
       let whole = text-whole texts r double_quote s.last_line double_quote-cut refl
       (quote-stops double_quote refl refl r (λ b n. refl))
       (λ ends q. Gives ends (ends_quoted double_quote) (spliced q)) refl
@@ -78,7 +78,7 @@ module _ (texts : List (List ℕ)) (s : LexerState) (c : Cell) (cs : List Cell) 
 
   pub character-text : c.byte ≡ Some apostrophe → IsText region.Apostrophe apostrophe
   character-text x =
-      let r : Region = region.Apostrophe in
+      let r = region.Apostrophe in
       let whole = text-whole texts r apostrophe s.last_line apostrophe-cut refl
       (quote-stops apostrophe refl refl r (λ b n. refl)) (λ ends q. Gives ends (ends_quoted apostrophe)
       (spliced q)) refl
@@ -96,9 +96,4 @@ module _ (texts : List (List ℕ)) (s : LexerState) (c : Cell) (cs : List Cell) 
       let whole = text-whole texts region.HeaderName greater_sign s.last_line header_name-cut refl header-stops
       (λ ends q. Gives ends ends_header_name q) refl (gives-nothing ends_header_name refl) header-one header-signs
       header-others header-broken c cs less_sign x is in
-      record {
-        ranges = whole.ranges;
-        bytes = whole.full;
-        quoted = header-quoted whole.ends whole.ahead
-            (bytes_in region.HeaderName greater_sign) whole.closes whole.bytes;
-      }
+      grind (arith, nat_tests, header-quoted)

@@ -1,4 +1,5 @@
 -- The rules that make items of tokens leave texts as they are.
+use Rattle.std.proofs.Common.{rules}
 use Rattle.std.proofs.Common.{arith}
 use Rattle.std.proofs.Common.{◌≡◌, ℕ, Bool, true, false, List, [], ◌∷◌, ◌++◌, refl, ap, sym, ◌∙◌, subst, map}
 use Rattle.std.specs.List.{AllByRecursion, list_all}
@@ -10,9 +11,9 @@ use Rattle.tangle_lexer.specs.declared.tokens.SpanKind.TheVariants as span_kind
 use Rattle.tangle_lexer.specs.Heads.{is_head}
 use Rattle.tangle_scan.specs.Rules.{without_faults, white_inner_end, clean_tokens, would_merge, with_spaces}
 use Rattle.tangle_scan.specs.Rules.{may_follow_name}
-use Rattle.tangle_scan.specs.Rules.{with_space_after, with_name_space, has_join, is_gap, map_runs, left_of_run}
+use Rattle.tangle_scan.specs.Rules.{with_space_after, with_name_space, is_gap, map_runs, left_of_run}
 use Rattle.tangle_scan.specs.Rules.{without_joins}
-use Rattle.tangle_scan.specs.Rules.{is_line_backslash, without_backslashes, is_front_gap, without_front_gaps}
+use Rattle.tangle_scan.specs.Rules.{is_line_backslash, without_backslashes, without_front_gaps}
 use Rattle.tangle_scan.specs.Rules.{part_tokens}
 use Rattle.tangle_scan.specs.Rules.{macro_tokens}
 use Rattle.tangle_lexer.specs.LinesOfParts.{body}
@@ -56,8 +57,7 @@ module _ (texts : List (List ℕ)) where
   edited-texts f none keeps others =
       texts-by texts (λ ts. AreTexts texts (f ts)) none (λ t ts alone kind all made. others t ts alone kind made)
       (λ part ts quoted all made.
-      subst (AreTexts texts) (sym (keeps-part f keeps part ts quoted.ranges)) (texts-part texts part
-      (f ts) quoted made))
+      subst (AreTexts texts) (sym (keeps-part f keeps part ts quoted.ranges)) (search (rules, texts-part)))
 
   white : (ts : List Token) → AreTexts texts ts → AreTexts texts (token.White ∷ ts)
   white ts all = texts-alone texts token.White ts refl tt all
@@ -105,8 +105,7 @@ module _ (texts : List (List ℕ)) where
 
   pub backslashes-texts : (ts : List Token) → AreTexts texts ts → AreTexts texts (without_backslashes texts ts)
   backslashes-texts = edited-texts (without_backslashes texts) (texts-none texts)
-      (λ t ts h. range-by (λ t. without_backslashes texts (t ∷ ts) ≡ t ∷ without_backslashes texts ts)
-      (λ s. refl) refl t h)
+      (search rules)
       (λ t ts alone kind made.
       cond_both (is_line_backslash texts t ts) [] (t ∷ []) (λ us. AreTexts texts (us ++ without_backslashes texts ts))
       (λ e. made) (λ e. texts-alone texts t (without_backslashes texts ts) alone kind made))
@@ -126,8 +125,7 @@ module _ (texts : List (List ℕ)) where
   alone-last (u ∷ run) t all alone kind = (all.0, alone-last run t all.1 alone kind)
 
   left-texts : (run : List Token) → AreAlone run → AreTexts texts (left_of_run run)
-  left-texts run all =
-      cond_both (has_join run) [] run (AreTexts texts) (λ e. texts-none texts) (λ e. alone-texts run all)
+  left-texts run all = search (rules, alone-texts)
 
   runs-keep : KeepsRanges (map_runs left_of_run [])
   runs-keep t ts h = grind (arith, nat_tests)
@@ -139,8 +137,7 @@ module _ (texts : List (List ℕ)) where
       (λ t ts alone kind all made run is.
       cond_both (is_gap t) (map_runs left_of_run (run ++ t ∷ []) ts) (left_of_run run ++ t ∷ map_runs left_of_run [] ts)
       (AreTexts texts) (λ e. made (run ++ t ∷ []) (alone-last run t is alone kind))
-      (λ e. texts-append texts (left_of_run run) _ (left-texts run is)
-      (texts-alone texts t (map_runs left_of_run [] ts) alone kind (made [] tt))))
+      (search (rules, texts-append, left-texts, texts-alone)))
       (λ part ts quoted all made run is. by part ts quoted run is (made run is) (made [] tt))
     where
       by : (part ts : List Token) → IsQuotedText texts part → (run : List Token) → AreAlone run
@@ -148,14 +145,10 @@ module _ (texts : List (List ℕ)) where
           → AreTexts texts (map_runs left_of_run run (part ++ ts))
       by [] ts quoted run is after made = after
       by (t ∷ part) ts quoted run is after made =
-          let both = and_parts (is_range t) (list_all is_range part) quoted.ranges in
           let first : map_runs left_of_run run (t ∷ part ++ ts)
           ≡ left_of_run run ++ t ∷ map_runs left_of_run [] (part ++ ts)
-          = range-by (λ u. map_runs left_of_run run (u ∷ part ++ ts)
-          ≡ left_of_run run ++ u ∷ map_runs left_of_run [] (part ++ ts)) (λ s. refl) refl t both.0 in
-          let all = ap (λ us. left_of_run run ++ t ∷ us) (keeps-part
-          (map_runs left_of_run []) runs-keep part ts both.1) in
-          subst (AreTexts texts) (sym (first ∙ all))
+          = search rules in
+          subst (AreTexts texts) (sym (first ∙ (ap (λ us. left_of_run run ++ t ∷ us) (cc (keeps-part (map_runs left_of_run []) runs-keep part ts (and_parts (is_range t) (list_all is_range part) quoted.ranges).1)))))
           (texts-append texts (left_of_run run) _ (left-texts run is)
           (texts-part texts (t ∷ part) (map_runs left_of_run [] ts) quoted made))
 
@@ -163,9 +156,7 @@ module _ (texts : List (List ℕ)) where
   joins-texts ts all = runs-texts ts all [] tt
 
   pub part-texts : (ts : List Token) → AreTexts texts (without_faults ts) → AreTexts texts (part_tokens texts ts)
-  part-texts ts all =
-      joins-texts (with_spaces texts (clean_tokens ts)) (spaces-texts (clean_tokens ts) (inner-texts
-      (without_faults ts) all))
+  part-texts ts all = search (rules, joins-texts, spaces-texts, inner-texts)
 
   -- macros
 
@@ -173,8 +164,7 @@ module _ (texts : List (List ℕ)) where
   front_gaps-texts =
       texts-by texts (λ ts. AreTexts texts (without_front_gaps ts)) (texts-none texts)
       (λ t ts alone kind all made.
-      cond_both (is_front_gap t) (without_front_gaps ts) (t ∷ ts) (AreTexts texts) (λ e. made)
-      (λ e. texts-alone texts t ts alone kind all))
+      grind (arith, nat_tests, texts-alone texts t ts alone kind all))
       (λ part ts quoted all made. by part ts quoted all made)
     where
       by : (part ts : List Token) → IsQuotedText texts part → AreTexts texts ts → AreTexts texts (without_front_gaps ts)
@@ -222,8 +212,4 @@ module _ (texts : List (List ℕ)) where
 
   pub macro-texts : (ts : List Token) → AreTexts texts (without_faults ts) → name_is_range (front_tokens ts) ≡ false
       → AreTexts texts (macro_tokens texts ts)
-  macro-texts ts all h =
-      joins-texts (with_name_space texts (front_tokens ts))
-      (name_space-texts (front_tokens ts)
-      (spaces-texts (without_front_gaps (clean_tokens ts))
-      (front_gaps-texts (clean_tokens ts) (inner-texts (without_faults ts) all))) h)
+  macro-texts ts all h = search (rules, joins-texts, name_space-texts, spaces-texts, front_gaps-texts, inner-texts)

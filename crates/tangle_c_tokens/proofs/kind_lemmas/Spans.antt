@@ -17,7 +17,7 @@ use Rattle.tangle_lexer.specs.SpanBytes.{first_byte}
 use Rattle.c_tokens.specs.Touching.TextKind.{Plain, Other}
 use Rattle.tangle_c_tokens.specs.Kinds.{IsTextOfKind, HasItsKind}
 use Rattle.tangle_c_tokens.proofs.kind_lemmas.Lines.{IsInLine, bytes_by, line_bytes, span-bytes, first-byte}
-use Rattle.tangle_c_tokens.proofs.kind_lemmas.WordKinds.{word-text, sign-text}
+use Rattle.tangle_c_tokens.proofs.kind_lemmas.WordKinds.{word-text}
 use Rattle.std.proofs.lemmas.Bool.Decides.{nat_tests}
 
 -- the cells of a word have word bytes
@@ -49,18 +49,15 @@ module _ (texts : List (List ℕ)) where
 
   pub sign-span : (c : Cell) (cs : List Cell) (b : ℕ) → c.byte ≡ Some b → IsInLine texts c cs
       → HasItsKind texts (token.Span span_kind.Sign (span_at 1 (c ∷ cs)))
-  sign-span c cs b e is = grind (arith, nat_tests, first-is 1 c cs b e is, at-byte 1 c cs b e is, sign-text b)
+  sign-span c cs b e is = grind (arith, nat_tests, first-is 1 c cs b e is, at-byte 1 c cs b e is)
 
   pub word-span : (c : Cell) (cs : List Cell) (b : ℕ) → c.byte ≡ Some b → is_word_byte b ≡ true → IsInLine texts c cs
       → HasItsKind texts (token.Span span_kind.Word (span_at (1 + count_before region.Word cs) (c ∷ cs)))
   word-span c cs b e word is =
-      let n : ℕ = count_before region.Word cs in
-      let s : Span = span_at (1 + n) (c ∷ cs) in
+      let n = count_before region.Word cs in
       let more : 1 + n ≡ suc n = omega arith in
-      let text : span_text texts s ≡ b ∷ take n (line_bytes cs) =
-      at-byte (1 + n) c cs b e is ∙ ap (λ k. take k (b ∷ line_bytes cs)) more in
+      let text = at-byte (1 + n) c cs b e is ∙ ap (λ k. take k (b ∷ line_bytes cs)) more in
       let all = and_from (is_word_byte b) (list_all is_word_byte (take n (line_bytes cs))) word (word-bytes cs) in
-      subst (λ k. IsTextOfKind (if is_digit k then Other else Plain) (span_text texts s))
+      subst (λ k. IsTextOfKind (if is_digit k then Other else Plain) (span_text texts (span_at (1 + n) (c ∷ cs))))
       (sym (first-is (1 + n) c cs b e is))
-      (subst (IsTextOfKind (if is_digit b then Other else Plain)) (sym text)
-      (word-text b (take n (line_bytes cs)) all))
+      (grind (arith, nat_tests, word-text b))

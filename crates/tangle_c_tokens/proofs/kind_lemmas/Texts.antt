@@ -71,15 +71,7 @@ module _ (texts : List (List ℕ)) where
 
   -- tokens without bytes of words, signs and quoted texts
 
-  one-other : (t : Token) → is_source t ≡ false → (is_range t ≡ false) × HasItsKind texts t
-  one-other (token.Span span_kind.Verbatim s) h = (refl, tt)
-  one-other (token.Span span_kind.Word s) h = cc
-  one-other (token.Span span_kind.Sign s) h = cc
-  one-other (token.Span span_kind.Quoted s) h = cc
-  one-other token.QuoteBreak h = cc
-  one-other _ h = (refl, tt)
-
   pub others-texts : (ts : List Token) → HasNone is_source ts → AreTexts texts (without_faults ts)
   others-texts [] h = texts-none
   others-texts (token.Fault kind line ∷ ts) h = others-texts ts h
-  others-texts (t ∷ ts) h = grind (arith, nat_tests, one-other t, texts-alone t (without_faults ts), others-texts ts)
+  others-texts (t ∷ ts) h = grind (arith, nat_tests, texts-alone t (without_faults ts), others-texts ts)

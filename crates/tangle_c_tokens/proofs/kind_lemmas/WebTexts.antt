@@ -1,14 +1,15 @@
 -- The tokens of a source, of its pieces and of its macros are texts, one after another.
+use Rattle.std.proofs.Common.{rules}
 use Rattle.std.proofs.Common.{arith}
-use Rattle.std.proofs.Common.{◌≡◌, ℕ, Bool, true, false, List, [], ◌∷◌, ◌++◌, refl, ap, subst, map, flat_map}
-use Rattle.std.proofs.Common.{length, get_or, zero-add}
+use Rattle.std.proofs.Common.{◌≡◌, ℕ, Bool, true, false, List, [], ◌∷◌, ◌++◌, refl, ap, map, flat_map}
+use Rattle.std.proofs.Common.{zero-add}
 use Rattle.std.specs.Prelude.{if◌then◌else◌}
 use Rattle.std.specs.List.{AllByRecursion, list_all}
 use Rattle.tangle_lines.specs.Reading.{SourceLine}
-use Rattle.tangle_text.specs.Text.{text_from, texts_of}
+use Rattle.tangle_text.specs.Text.{texts_of}
 use Rattle.tangle_lexer.specs.declared.tokens.Token.{Token}
 use Rattle.tangle_lexer.specs.declared.tokens.Token.TheVariants as token
-use Rattle.tangle_lexer.specs.Steps.{tokens_from, first_state, all_tokens}
+use Rattle.tangle_lexer.specs.Steps.{tokens_from, all_tokens}
 use Rattle.tangle_scan.specs.Rules.{without_faults, macro_tokens, macro_items, is_macro, without_backslashes}
 use Rattle.tangle_scan.specs.Rules.{part_tokens}
 use Rattle.tangle_lexer.specs.LinesOfParts.{body}
@@ -21,7 +22,7 @@ use Rattle.tangle_c_tokens.specs.LineFeeds.{HaveNoLineFeed}
 use Rattle.tangle_c_tokens.proofs.kind_lemmas.Lines.{text-in-lines}
 use Rattle.tangle_c_tokens.proofs.kind_lemmas.Texts.{texts-by}
 use Rattle.tangle_c_tokens.proofs.kind_lemmas.LexemeTexts.{lexemes-whole}
-use Rattle.tangle_c_tokens.proofs.kind_lemmas.RuleTexts.{range-by, body-texts, part-texts, macro-texts}
+use Rattle.tangle_c_tokens.proofs.kind_lemmas.RuleTexts.{body-texts, part-texts, macro-texts}
 use Rattle.tangle_c_tokens.proofs.kind_lemmas.RuleTexts.{backslashes-texts}
 use Rattle.tangle_c_tokens.proofs.kind_lemmas.MacroNames.{kept-name}
 use Rattle.std.proofs.lemmas.Bool.Decides.{nat_tests}
@@ -29,9 +30,7 @@ use Rattle.std.proofs.lemmas.Bool.Decides.{nat_tests}
 pub source-texts : (lines : List SourceLine) → HaveNoLineFeed lines
     → AreTexts (texts_of lines) (without_faults (all_tokens lines))
 unfolding tokens_from
-source-texts lines none =
-    lexemes-whole (texts_of lines) 0 (first_state (length lines)) (text_from 0 lines)
-    (text-in-lines (texts_of lines) 0 lines (λ k. ap (λ m. get_or (texts_of lines) m []) (zero-add k)) none)
+source-texts lines none = search (rules, lexemes-whole, text-in-lines, zero-add)
 
 body-faults : (ts : List Token) → body (without_faults ts) ≡ without_faults (body ts)
 body-faults [] = refl
@@ -66,7 +65,7 @@ module _ (texts : List (List ℕ)) where
 
       by : (part ts : List Token) (n : ℕ) → list_all is_range part ≡ true → HaveBodies n ts → HaveBodies n (part ++ ts)
       by [] ts n ranges made = made
-      by (t ∷ part) ts n ranges made = grind (arith, nat_tests, range-by, by part ts n)
+      by (t ∷ part) ts n ranges made = grind (arith, nat_tests, by part ts n)
 
   blocks-texts : (n : ℕ) (ts : List Token) → HaveBodies n (without_faults ts) → HaveTexts (blocks n ts)
   blocks-texts n [] all = tt
@@ -74,7 +73,7 @@ module _ (texts : List (List ℕ)) where
   blocks-texts n (token.MacroStart line ∷ ts) all = grind (arith, nat_tests, body-faults ts, blocks-texts n ts all.1)
   blocks-texts n (token.UnnamedPart line ∷ ts) all = grind (arith, nat_tests, body-faults ts, blocks-texts n ts all.1)
   blocks-texts n (token.NamedPart line occurrence ∷ ts) all =
-      (subst (AreTexts texts) (body-faults ts) all.0, blocks-texts n ts all.1)
+      grind (arith, nat_tests, body-faults ts, blocks-texts n ts all.1)
   blocks-texts n (t ∷ ts) all = blocks-texts (section_after n t) ts all
 
 module _ (lines : List SourceLine) where
@@ -95,8 +94,8 @@ module _ (lines : List SourceLine) where
       by : (kind : BlockKind) → AllByRecursion (AreTexts texts) (pieces_of bs)
           → AllByRecursion (AreTexts texts)
           (map (λ p. part_tokens texts b.tokens) (kind_piece lines kind b) ++ pieces_of bs)
-      by (OfMacro line) rest = rest
-      by (OfPiece occurrence line) rest = (part-texts texts b.tokens all.0, rest)
+      by (OfMacro line) rest = search rules
+      by (OfPiece occurrence line) rest = search (rules, part-texts)
 
   macros-have : (bs : List Block) → HaveTexts texts bs → AllByRecursion (AreTexts texts) (macros_of bs)
   macros-have [] all = tt
@@ -109,22 +108,16 @@ module _ (lines : List SourceLine) where
           → AllByRecursion (AreTexts texts) (macros_of bs)
           → AllByRecursion (AreTexts texts)
           (map (λ items. left) (if is_kept then macro_items texts b.tokens ∷ [] else []) ++ macros_of bs)
-      kept false e rest = rest
-      kept true e rest = (
-        backslashes-texts texts (macro_tokens texts b.tokens)
-            (macro-texts texts b.tokens all.0 (kept-name texts b.tokens e)),
-        rest,
-      )
+      kept false e rest = search rules
+      kept true e rest = search (rules, backslashes-texts, macro-texts, kept-name)
 
       by : (kind : BlockKind) → AllByRecursion (AreTexts texts) (macros_of bs)
           → AllByRecursion (AreTexts texts) (map (λ items. left) (kind_macro lines kind b) ++ macros_of bs)
-      by (OfMacro line) rest = kept (is_macro texts (macro_items texts b.tokens)) refl rest
-      by (OfPiece occurrence line) rest = rest
+      by (OfMacro line) rest = grind (arith, nat_tests, kept (is_macro texts (macro_items texts b.tokens)) refl rest)
+      by (OfPiece occurrence line) rest = search rules
 
   blocks-have : HaveNoLineFeed lines → HaveTexts texts (blocks 0 (all_tokens lines))
-  blocks-have none =
-      blocks-texts texts 0 (all_tokens lines)
-      (bodies-texts texts (without_faults (all_tokens lines)) (source-texts lines none) 0)
+  blocks-have none = search (rules, blocks-texts, bodies-texts, source-texts)
 
   pub pieces-texts : HaveNoLineFeed lines
       → AllByRecursion (AreTexts texts) (all_piece_tokens lines)

@@ -1,18 +1,16 @@
 -- Words and signs are texts of the kinds that the table gives them.
+use Rattle.std.proofs.Common.{rules}
 use Rattle.std.proofs.Common.{arith}
 use Rattle.std.proofs.Common.{◌≡◌, ℕ, ◌-◌, zero, suc, Bool, true, false, List, [], ◌∷◌, ◌++◌, refl, ap, ◌∙◌, take}
-use Rattle.std.specs.Prelude.{◌||◌, not, ◌==◌, if◌then◌else◌}
+use Rattle.std.specs.Prelude.{◌==◌, if◌then◌else◌}
 use Rattle.std.specs.List.{list_any, list_all}
-use Rattle.std.proofs.lemmas.Bool.{and_parts, and_from, or_left, or_parts}
-use Rattle.std.proofs.lemmas.Bool.{not_from_false}
+use Rattle.std.proofs.lemmas.Bool.{and_parts, or_left, or_parts}
 use Rattle.c_tokens.specs.Bytes.{space, slash, backslash, is_digit, is_word_byte, is_quote}
 use Rattle.c_tokens.specs.Borders.{last_byte}
-use Rattle.c_tokens.specs.Grammar.{is_comment, is_character, is_string, is_element}
+use Rattle.c_tokens.specs.Grammar.{is_comment, is_element}
 use Rattle.c_tokens.specs.Reading.{spliced, longest, elements_from, ends_in_comment}
-use Rattle.c_tokens.specs.Touching.{is_plain_word, is_plain}
-use Rattle.c_tokens.proofs.TouchingLemmas.{spliced-first}
 use Rattle.c_tokens.specs.Touching.TextKind.{Plain, Other}
-use Rattle.tangle_c_tokens.specs.Kinds.{text_kind_of_sign, IsTextOfKind}
+use Rattle.tangle_c_tokens.specs.Kinds.{IsTextOfKind}
 use Rattle.std.proofs.lemmas.Bool.Decides.{nat_tests}
 
 abbrev is_open : List ℕ → Bool
@@ -25,12 +23,12 @@ no-comment n [] h = refl
 no-comment (suc n) (b ∷ a) h = no-comment n a (or_parts (b == slash) (list_any (λ c. c == slash) a) h).1
 no-comment zero (b ∷ a) h =
     let parts = or_parts (b == slash) (list_any (λ c. c == slash) a) h in
-    let n : ℕ = longest is_element (b ∷ a) in
+    let n = longest is_element (b ∷ a) in
     rw (front parts.0 n, no-comment (n - 1) a parts.1) refl
   where
     front : (b == slash) ≡ false → (k : ℕ) → is_open (take k (b ∷ a)) ≡ false
-    front other zero = refl
-    front other (suc k) = grind (arith, nat_tests)
+    front other zero = search rules
+    front other (suc k) = search rules
 
 -- a byte that is no word byte is none of the bytes of a word
 not-in-word : (other : ℕ) → is_word_byte other ≡ false → (a : List ℕ) → list_all is_word_byte a ≡ true
@@ -40,7 +38,7 @@ not-in-word other none (b ∷ a) h = grind (arith, nat_tests, not-in-word other 
 
 no-splice : (a : List ℕ) → list_any (λ b. b == backslash) a ≡ false → spliced a ≡ a
 no-splice [] h = refl
-no-splice (b ∷ a) h = grind (arith, nat_tests, spliced-first b a, no-splice a)
+no-splice (b ∷ a) h = grind (arith, nat_tests, no-splice a)
 
 word-spliced : (a : List ℕ) → list_all is_word_byte a ≡ true → spliced a ≡ a
 word-spliced a h = no-splice a (not-in-word backslash refl a h)
@@ -66,10 +64,7 @@ word-text b a h = by (is_digit b) refl
       ends = refl;
     }
     by false digit = record {
-      is = ap is_plain (word-spliced word h)
-          ∙ or_left (is_plain_word word || is_character word) (is_string word)
-          (or_left (is_plain_word word) (is_character word)
-          (and_from (not (is_digit b)) (list_all is_word_byte word) (not_from_false (is_digit b) digit) h));
+      is = search (rules, word-spliced);
       bytes = refl;
       begins = or_left (is_word_byte b) (is_quote b) (and_parts (is_word_byte b) (list_all is_word_byte a) h).0;
       ends = or_left (is_word_byte (last_byte b a)) (is_quote (last_byte b a)) (word-last b a h);
@@ -77,7 +72,3 @@ word-text b a h = by (is_digit b) refl
 
 one-closed : (b : ℕ) → ends_in_comment (b ∷ []) ≡ false
 one-closed b = grind (arith, nat_tests)
-
--- a sign is of the kind of its byte
-pub sign-text : (b : ℕ) → IsTextOfKind (text_kind_of_sign b) (b ∷ [])
-sign-text b = grind (arith, nat_tests)

@@ -1,5 +1,6 @@
 -- Worked webs: why the law of kinds names `''`, header names and quoted texts that do not end.
-use Rattle.std.proofs.Common.{◌≡◌, ℕ, true, false, List, [], ◌∷◌, ◌++◌, codes, refl, map, flat_map}
+use Rattle.std.proofs.Common.{rules}
+use Rattle.std.proofs.Common.{◌≡◌, ℕ, true, false, List, [], ◌∷◌, ◌++◌, codes, map, flat_map}
 use Rattle.tangle_lines.specs.Reading.{SourceLine}
 use Rattle.tangle_text.specs.Text.{texts_of}
 use Rattle.tangle_lexer.specs.Steps.{lexeme, tokens_from, all_tokens}
@@ -29,49 +30,26 @@ written texts =
     let lines : List SourceLine = source texts in
     flat_map (λ b. flat_map (macro_bytes (texts_of lines)) (macro_of lines b)) (blocks 0 (all_tokens lines))
 
--- The ranges of a text make one text.
-ranges : items (codes "@d F \"a@@b\\" ∷ codes "c\"" ∷ [])
-    ≡ codes "F" ∷ [] ∷ codes "\"a@" ∷ codes "b\\" ∷ codes "\n" ∷ codes "c\"" ∷ [] ∷ []
-unfolding lexeme tokens_from
-ranges = refl
+record Examples : Type 0 where
+  -- The ranges of a text make one text.
+  pub ranges : items (codes "@d F \"a@@b\\" ∷ codes "c\"" ∷ [])
+      ≡ codes "F" ∷ [] ∷ codes "\"a@" ∷ codes "b\\" ∷ codes "\n" ∷ codes "c\"" ∷ [] ∷ []
+  pub ranges_together : is_plain (spliced (codes "\"a@b\\\nc\"")) ≡ true
+  -- A header name is not plain: C reads `>` and what follows as one, except in a directive.
+  pub header_name : written (codes "@d F a" ∷ codes "#include <b>" ∷ codes "= c" ∷ [])
+      ≡ codes "#define F a\\\n#include <b>\\\n= c\n"
+  pub header_name_read : tokens (codes "<b>" ++ codes "\\\n= c") ≡ codes "<" ∷ codes "b" ∷ codes ">=" ∷ codes "c" ∷ []
+  pub header_name_alone : tokens (codes "<b>") ++ tokens (codes "= c")
+      ≡ codes "<" ∷ codes "b" ∷ codes ">" ∷ codes "=" ∷ codes "c" ∷ []
+  -- An empty character constant is not plain: its second apostrophe begins another constant.
+  pub empty_constant : written (codes "@d F ''" ∷ codes "+'x'" ∷ []) ≡ codes "#define F ''\\\n+'x'\n"
+  pub empty_constant_read : tokens (codes "''" ++ codes "\\\n+'x'") ≡ codes "'" ∷ codes "'+'" ∷ codes "x" ∷ codes "'" ∷ []
+  pub empty_constant_alone : tokens (codes "''") ++ tokens (codes "+'x'")
+      ≡ codes "'" ∷ codes "'" ∷ codes "+" ∷ codes "'x'" ∷ []
+  -- A text that does not end is a fault, and not plain: it may end in what follows.
+  pub open_quote : written (codes "@d F \"a" ∷ codes "+\"" ∷ []) ≡ codes "#define F \"a\\\n+\"\n"
+  pub open_quote_read : tokens (codes "\"a" ++ codes "\\\n+\"") ≡ codes "\"a+\"" ∷ []
 
-ranges_together : is_plain (spliced (codes "\"a@b\\\nc\"")) ≡ true
-ranges_together = refl
-
--- A header name is not plain: C reads `>` and what follows as one, except in a directive.
-header_name : written (codes "@d F a" ∷ codes "#include <b>" ∷ codes "= c" ∷ [])
-    ≡ codes "#define F a\\\n#include <b>\\\n= c\n"
-unfolding lexeme tokens_from
-header_name = refl
-
-header_name_read : tokens (codes "<b>" ++ codes "\\\n= c") ≡ codes "<" ∷ codes "b" ∷ codes ">=" ∷ codes "c" ∷ []
-unfolding is_element is_token is_punctuator
-header_name_read = refl
-
-header_name_alone : tokens (codes "<b>") ++ tokens (codes "= c")
-    ≡ codes "<" ∷ codes "b" ∷ codes ">" ∷ codes "=" ∷ codes "c" ∷ []
-unfolding is_element is_token is_punctuator
-header_name_alone = refl
-
--- An empty character constant is not plain: its second apostrophe begins another constant.
-empty_constant : written (codes "@d F ''" ∷ codes "+'x'" ∷ []) ≡ codes "#define F ''\\\n+'x'\n"
-unfolding lexeme tokens_from
-empty_constant = refl
-
-empty_constant_read : tokens (codes "''" ++ codes "\\\n+'x'") ≡ codes "'" ∷ codes "'+'" ∷ codes "x" ∷ codes "'" ∷ []
-unfolding is_element is_token is_punctuator
-empty_constant_read = refl
-
-empty_constant_alone : tokens (codes "''") ++ tokens (codes "+'x'")
-    ≡ codes "'" ∷ codes "'" ∷ codes "+" ∷ codes "'x'" ∷ []
-unfolding is_element is_token is_punctuator
-empty_constant_alone = refl
-
--- A text that does not end is a fault, and not plain: it may end in what follows.
-open_quote : written (codes "@d F \"a" ∷ codes "+\"" ∷ []) ≡ codes "#define F \"a\\\n+\"\n"
-unfolding lexeme tokens_from
-open_quote = refl
-
-open_quote_read : tokens (codes "\"a" ++ codes "\\\n+\"") ≡ codes "\"a+\"" ∷ []
-unfolding is_element is_token is_punctuator
-open_quote_read = refl
+examples : Examples
+unfolding lexeme tokens_from is_element is_token is_punctuator
+examples = search rules

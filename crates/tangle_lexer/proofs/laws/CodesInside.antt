@@ -3,7 +3,6 @@ use Rattle.std.proofs.lemmas.Bool.Decides.{nat_tests}
 use Rattle.std.proofs.Common.{◌≡◌, ◌⊎◌, ℕ, ◌+◌, Bool, true, false, not, ◌&&◌, ◌||◌, List, [], ◌∷◌, ◌++◌, take, drop}
 use Rattle.std.proofs.Common.{Option, None, inl, inr, refl, sym, ◌∙◌, arith}
 use Rattle.std.proofs.Math.Seq.{take-add}
-use Rattle.std.proofs.lemmas.List.{drop-take}
 use Rattle.std.specs.List.{AllByRecursion}
 use Rattle.std.proofs.lemmas.Bool.{or_parts, not-false}
 use Rattle.tangle_lines.specs.Bytes.{at_sign}
@@ -113,4 +112,4 @@ line_comment-codes =
 pub codes-opened : (P : List Cell → Type 0) (inside last : ℕ) (text : List Cell)
     → AllByRecursion P (control_codes (take inside (drop 2 text) ++ take last (drop inside (drop 2 text))))
     → AllByRecursion P (control_codes (drop 2 (take (1 + (1 + inside + last)) text)))
-codes-opened P inside last text h = grind (arith, nat_tests, drop-take, take-add)
+codes-opened P inside last text h = grind (arith, nat_tests, take-add)

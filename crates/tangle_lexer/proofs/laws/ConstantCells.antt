@@ -1,10 +1,9 @@
 -- An ASCII constant is on one line, and has no apostrophe before its last byte, except for one that a backslash escapes.
+use Rattle.std.proofs.Common.{rules}
 use Rattle.std.proofs.lemmas.Bool.Decides.{nat_tests}
-use Rattle.std.proofs.Common.{◌≡◌, ◌<◌, ◌≤◌, ℕ, ◌+◌, ◌-◌, Bool, true, false, ◌==◌, List, ◌∷◌, drop}
-use Rattle.std.proofs.Common.{Option, Some, None, refl, ap, sym, ◌∙◌, arith, subst, if◌then◌else◌}
-use Rattle.std.proofs.lemmas.Bool.Decides.{eqb_tells}
+use Rattle.std.proofs.Common.{◌≡◌, ◌<◌, ◌≤◌, ℕ, ◌+◌, ◌-◌, Bool, true, ◌==◌, List, ◌∷◌, drop}
+use Rattle.std.proofs.Common.{Option, Some, None, refl, ap, sym, ◌∙◌, arith}
 use Rattle.std.proofs.lemmas.Bool.{cond_both}
-use Rattle.std.proofs.lemmas.Option.{cond_some}
 use Rattle.tangle_lines.specs.Bytes.{at_sign}
 use Rattle.tangle_text.specs.declared.regions.Region.TheVariants as region
 use Rattle.tangle_text.specs.Bytes.{backslash, apostrophe, holds, is_octal}
@@ -13,11 +12,11 @@ use Rattle.tangle_text.specs.Regions.{count_before}
 use Rattle.tangle_text.proofs.AheadLemmas.{byte_at-drop}
 use Rattle.tangle_lexer.specs.declared.modes.LexerState.{LexerState}
 use Rattle.tangle_lexer.specs.declared.constants.AsciiConstant.{AsciiConstant}
-use Rattle.tangle_lexer.specs.Constants.{escape_value, if_closed, octal_constant, escaped_constant, constant_by}
+use Rattle.tangle_lexer.specs.Constants.{escape_value, escaped_constant, constant_by}
 use Rattle.tangle_lexer.specs.Constants.{constant_at, bad_constant, constant_lexeme, ascii_constant}
 use Rattle.tangle_lexer.specs.Quoted.{one_if}
 use Rattle.tangle_lexer.proofs.laws.Points.{Point, IsByte, HoldsBytes, IsTextAt}
-use Rattle.tangle_lexer.proofs.laws.RegionOrder.{other-byte, holds-byte, more-bytes, lexeme-line}
+use Rattle.tangle_lexer.proofs.laws.RegionOrder.{more-bytes, lexeme-line}
 use Rattle.tangle_lexer.proofs.laws.RegionUnits.{units-by}
 use Rattle.tangle_lexer.proofs.laws.WhiteOrder.{bad_constant-bytes, LexemeIsInOrder}
 
@@ -38,54 +37,22 @@ IsClosed text (Some k) = HoldsBytes (k.count + 1) text × ((j : ℕ) → j < k.c
 next-byte : (n : ℕ) (text : List Cell) → HoldsBytes n text → IsByte (byte_at n text) → HoldsBytes (n + 1) text
 next-byte n text h byte = grind (arith, nat_tests, more-bytes, byte_at-drop)
 
--- one more byte
-more-character : (n : ℕ) (text : List Cell)
-    → AreCharacter n text → IsByte (byte_at n text) → IsEscaped n text → AreCharacter (n + 1) text
-more-character n text h byte quote = grind (arith, nat_tests, next-byte, eqb_tells)
-
-no-character : (text : List Cell) → AreCharacter 0 text
-no-character text = record { bytes = tt; quotes = λ j l. absurd (omega (arith, l)) }
-
--- one more byte that is a byte other than an apostrophe
-known-character : (x n : ℕ) (text : List Cell) → (x == apostrophe) ≡ false
-    → AreCharacter n text → holds x (byte_at n text) ≡ true → AreCharacter (n + 1) text
-known-character x n text other h is = grind (arith, nat_tests, other-byte, more-character, holds-byte)
-
-closed-if : (v : Option ℕ) (n : ℕ) (text : List Cell)
-    → ((x : ℕ) → v ≡ Some x → AreCharacter n text) → IsClosed text (if_closed v n text)
-closed-if v n text h = grind (arith, nat_tests, cond_both, next-byte, holds-byte)
-
--- a backslash at the front
-backslash-character : (text : List Cell) → holds backslash (byte_at 0 text) ≡ true → AreCharacter 1 text
-backslash-character text h = known-character backslash 0 text refl (no-character text) h
-
-octal-closed : (text : List Cell) → holds backslash (byte_at 0 text) ≡ true → is_octal (byte_at 1 text) ≡ true
-    → IsClosed text (octal_constant text)
-octal-closed text h octal = grind arith
-
 escaped-closed : (text : List Cell)
     → holds backslash (byte_at 0 text) ≡ true → IsClosed text (escaped_constant text)
 escaped-closed text h =
-    cond_both (is_octal (byte_at 1 text)) _ _ (IsClosed text) (octal-closed text h)
-    (λ e. closed-if (escape_value (byte_at 1 text)) 2 text
-    (λ x k. more-character 1 text (backslash-character text h) (byte (byte_at 1 text) x k) (λ quote. (refl, h))))
+    cond_both (is_octal (byte_at 1 text)) _ _ (IsClosed text) (grind arith)
+    (search rules)
   where
     byte : (b : Option ℕ) (x : ℕ) → escape_value b ≡ Some x → IsByte b
-    byte y x e = grind arith
+    byte y x e = search rules
 
 constant-closed : (b : Option ℕ) (text : List Cell) → byte_at 0 text ≡ b → IsClosed text (constant_by b text)
 constant-closed None text e = tt
 constant-closed (Some b) text e =
     cond_both (b == at_sign) _ _ (IsClosed text)
-    (λ i. closed-if (if holds at_sign (byte_at 1 text) then Some at_sign else None) 2 text
-    (λ x k. known-character at_sign 1 text refl
-    (known-character at_sign 0 text refl (no-character text) (ap (holds at_sign) e ∙ i))
-    (cond_some (holds at_sign (byte_at 1 text)) at_sign x k).0))
+    (λ i. (grind (arith, nat_tests, next-byte)))
     (λ i. cond_both (b == backslash) _ _ (IsClosed text) (λ j. escaped-closed text (ap (holds backslash) e ∙ j))
-    (λ j. cond_both (b == apostrophe) None _ (IsClosed text) (λ k. tt)
-    (λ k. closed-if (Some b) 1 text
-    (λ x l. more-character 0 text (no-character text) (subst IsByte (sym e) tt)
-    (λ quote. absurd (let never : false ≡ true = sym k ∙ ap (holds apostrophe) (sym e) ∙ quote in cc))))))
+    (search rules))
 
 -- a bad constant has no apostrophe before its last byte
 abbrev HasNoQuote : ℕ → List Cell → Type 0
@@ -101,24 +68,21 @@ pub ascii_constant-quotes : (s : LexerState) (text : List Cell) (k : ℕ)
     → 2 ≤ k → k + 1 < 1 + (ascii_constant s text).more → holds apostrophe (byte_at k text) ≡ true
     → (k ≡ 3) × (holds backslash (byte_at 2 text) ≡ true)
 ascii_constant-quotes s text k first last quote =
-    let sum : k ≡ 2 + (k - 2) = omega (arith, first) in
+    let sum : k ≡ 2 + (k - 2) = omega arith in
     let here : holds apostrophe (byte_at (k - 2) (drop 2 text)) ≡ true = sym (there k sum) ∙ quote in
     by (constant_at (drop 2 text)) (constant-closed (byte_at 0 (drop 2 text)) (drop 2 text) refl) last here
   where
     there : (k : ℕ)
         → k ≡ 2 + (k - 2) → holds apostrophe (byte_at k text) ≡ holds apostrophe (byte_at (k - 2) (drop 2 text))
-    there k sum = grind arith
+    there k sum = search rules
 
     by : (c : Option AsciiConstant) → IsClosed (drop 2 text) c → k + 1 < 1 + (constant_lexeme c s text).more
         → holds apostrophe (byte_at (k - 2) (drop 2 text)) ≡ true
         → (k ≡ 3) × (holds backslash (byte_at 2 text) ≡ true)
     by None h last here =
-        let inside : ℕ = count_before region.BadConstant (drop 2 text) in
-        let few = one_if-few (holds apostrophe (byte_at 0 (drop inside (drop 2 text)))) in
-        absurd (bad-quotes (drop 2 text) (k - 2) (omega (arith, first, last, few)) here)
+        search (rules, one_if-few, bad-quotes)
     by (Some c) h last here =
-        let both = h.1 (k - 2) (omega (arith, first, last)) here in
-        (omega (arith, first, both.0), ap (holds backslash) (byte_at-drop 2 text) ∙ both.1)
+        search rules
 
 pub ascii_constant-bytes : (s : LexerState) (text : List Cell)
     → HoldsBytes 2 text → HoldsBytes (1 + (ascii_constant s text).more) text
@@ -126,10 +90,9 @@ ascii_constant-bytes s text h =
     by (constant_at (drop 2 text)) (constant-closed (byte_at 0 (drop 2 text)) (drop 2 text) refl)
   where
     by : (k : Option AsciiConstant) → IsClosed (drop 2 text) k → HoldsBytes (1 + (constant_lexeme k s text).more) text
-    by None closed = bad_constant-bytes s text h
+    by None closed = search (rules, bad_constant-bytes)
     by (Some k) closed =
-        let sum : 2 + (k.count + 1) ≡ 1 + (2 + k.count) = omega arith in
-        subst (λ n. HoldsBytes n text) sum (more-bytes 2 (k.count + 1) text h closed.0)
+        search rules
 
 module _ (texts : List (List ℕ)) where
   pub ascii_constant-in_order : (s : LexerState) (at : Point) (c : Cell) (cs : List Cell)

@@ -1,7 +1,8 @@
 -- Quoted and verbatim texts, which are cut: what is true unit by unit is true of such a text.
+use Rattle.std.proofs.Common.{rules}
 use Rattle.std.proofs.lemmas.Bool.Decides.{nat_tests}
 use Rattle.std.proofs.Common.{◌≡◌, ℕ, suc, ◌+◌, ◌≤◌, true, false, List, [], ◌∷◌, ◌++◌, Option, None}
-use Rattle.std.proofs.Common.{refl, sym, arith, subst, cond, append_assoc}
+use Rattle.std.proofs.Common.{arith, append_assoc}
 use Rattle.tangle_faults.specs.declared.faults.FaultKind.TheVariants as fault
 use Rattle.tangle_lexer.specs.declared.tokens.Token.{Token}
 use Rattle.tangle_lexer.specs.declared.tokens.Token.TheVariants as token
@@ -15,8 +16,7 @@ use Rattle.tangle_text.specs.Regions.{unit_of, unit_at, count_before}
 use Rattle.tangle_lexer.specs.Lexemes.{fault_if}
 use Rattle.tangle_lexer.specs.Quoted.{cut_range, cut_tokens}
 use Rattle.tangle_lexer.proofs.lemmas.CutLemmas.{cut-stop}
-use Rattle.tangle_lexer.proofs.laws.Points.{Point, point_at, IsByte, after_by, IsCellAt, IsTextAt, text-next}
-use Rattle.tangle_lexer.proofs.laws.RegionOrder.{goes-byte, other-byte}
+use Rattle.tangle_lexer.proofs.laws.Points.{Point, point_at, IsByte, IsCellAt, IsTextAt}
 use Rattle.tangle_lexer.proofs.laws.RegionUnits.{units-by}
 
 -- the regions of texts that are cut
@@ -76,26 +76,16 @@ module _ (texts : List (List ℕ)) (r : Region) (cut : IsCut r) (ends : ℕ → 
   two-holds : (n : ℕ) (c d : Cell) (cs : List Cell)
       → unit_at r (c ∷ d ∷ cs) ≡ unit.Two → Holds n cs → Holds (suc (suc n)) (c ∷ d ∷ cs)
   two-holds n c d cs e next at start h is =
-      grind (arith, nat_tests, text-next, goes-byte, point_at, after_by, cond, other-byte, append_assoc)
+      search (rules, append_assoc)
 
   cut-holds : (text : List Cell) → Holds (count_before r text) text
   cut-holds =
       units-by r Holds
-      (λ text e at start h is.
-      subst (λ ts. P at start ts 0 text) (sym (cut-stop ends r start text e)) (stop at start text h is))
+      (search (rules, cut-stop))
       (λ at start h is. stop at start [] h is)
-      (λ n c cs e next at start h is.
-      let byte = goes-byte r cut.stops c.byte (byte_at 0 cs) unit.One e (λ k. cc) in
-      let text = text-next texts at c cs is byte in
-      let tokens : cut_tokens ends r 0 start (c ∷ cs)
-      ≡ fault_if (holds at_sign c.byte) fault.StringAt c.line ++ cut_tokens ends r 0 start cs = rw e refl in
-      subst (λ ts. P at start ts (suc n) (c ∷ cs)) (sym tokens)
-      (one at start c cs (cut_tokens ends r 0 start cs) n h is.0 byte (cut.leaves c.byte (byte_at 0 cs) e)
-      (next (point_at c.line (c.column + 1)) start (omega (arith, h, is.0.column)) text)))
+      (search rules)
       two-holds
-      (λ c e at start h is.
-      let byte = goes-byte r cut.stops c.byte None unit.Two e (λ k. cc) in
-      let end = text-next texts at c [] is byte in absurd (omega (arith, end)))
+      (search rules)
 
   -- the text from the start of a range on, to the end of the region
   pub cut-by : (at : Point) (start : ℕ) (text : List Cell) → start ≤ at.column → IsTextAt texts at text

@@ -1,7 +1,8 @@
 -- The bytes of the segments that are kept are those in the spans of the tokens of C parts.
+use Rattle.std.proofs.Common.{rules}
 use Rattle.std.proofs.lemmas.Bool.Decides.{nat_tests}
-use Rattle.std.proofs.Common.{◌≡◌, ℕ, zero, suc, ◌+◌, ◌-◌, Bool, true, false, not, List, [], ◌∷◌, ◌++◌, take, drop}
-use Rattle.std.proofs.Common.{flat_map, map, Option, Some, None, refl, ap, sym, ◌∙◌, arith, append_assoc, append-nil}
+use Rattle.std.proofs.Common.{◌≡◌, ℕ, zero, suc, ◌+◌, ◌-◌, Bool, true, false, List, [], ◌∷◌, ◌++◌, take, drop}
+use Rattle.std.proofs.Common.{flat_map, map, refl, ap, sym, ◌∙◌, arith, append_assoc, append-nil}
 use Rattle.std.proofs.Common.{if◌then◌else◌}
 use Rattle.std.proofs.lemmas.Grind.{flat_map-append}
 use Rattle.std.specs.List.{list_any}
@@ -18,28 +19,23 @@ use Rattle.tangle_lexer.specs.declared.lexeme_kinds.LexemeKind.TheVariants as le
 use Rattle.tangle_text.specs.declared.regions.Region.{Region}
 use Rattle.tangle_text.specs.declared.regions.Region.TheVariants as region
 use Rattle.tangle_lexer.specs.declared.constants.AsciiConstant.{AsciiConstant}
-use Rattle.tangle_lines.specs.Bytes.{at_sign, double_quote}
-use Rattle.tangle_text.specs.Bytes.{apostrophe, greater_sign}
-use Rattle.tangle_text.specs.Text.{Cell, byte_at, front_line, span_at}
+use Rattle.tangle_text.specs.Text.{Cell, byte_at, span_at}
 use Rattle.tangle_text.specs.Regions.{count_before}
-use Rattle.tangle_lexer.specs.Lexemes.{Lexeme, fault_if, is_c_part, is_in_directive}
-use Rattle.tangle_lexer.specs.Comments.{line_ends, ends_comment, starts_section, has_end_code}
-use Rattle.tangle_lexer.specs.Constants.{constant_at, constant_lexeme}
-use Rattle.tangle_lexer.specs.Names.{name_end, is_ended, name_faults, after_name, has_single_equals}
-use Rattle.tangle_lexer.specs.Names.{definition_or_mention, definition_count, mention_faults}
+use Rattle.tangle_lexer.specs.Lexemes.{Lexeme, fault_if, is_c_part}
+use Rattle.tangle_lexer.specs.Comments.{line_ends, has_end_code}
 use Rattle.tangle_lexer.specs.LinesOfC.{inner_end_in}
 use Rattle.tangle_lexer.specs.CText.{kind_at}
 use Rattle.tangle_lexer.specs.Steps.{c_lexeme, lexeme, lexemes}
 use Rattle.tangle_lexer.specs.Segments.{Segment, segment, span_points, byte_points, kept_points}
 use Rattle.tangle_lexer.specs.Segments.{c_segments, segments_in, segments, text_segments, verbatim_segments}
 use Rattle.tangle_lexer.specs.Segments.SegmentKind.{ControlBytes}
-use Rattle.tangle_lexer.proofs.lemmas.PlainTokens.{is_not_plain, fault_if-plain}
+use Rattle.tangle_lexer.proofs.lemmas.PlainTokens.{is_not_plain}
 use Rattle.tangle_lexer.proofs.lemmas.PlainLexemes.{IsPlainLexeme, use-plain, mention-plain, fault-plain}
 use Rattle.tangle_lexer.proofs.lemmas.PlainLexemes.{kind-plain}
 use Rattle.tangle_lexer.proofs.lemmas.LexemeCases.{OpensLexeme, kind-opens, lexeme-by}
 use Rattle.tangle_lexer.proofs.lemmas.StepLemmas.{lexeme-here}
 use Rattle.tangle_lexer.proofs.laws.Points.{Point, after_cell, HoldsBytes, IsTextAt, text-after}
-use Rattle.tangle_lexer.proofs.laws.RegionOrder.{holds-byte, some-byte, code-bytes, more-bytes}
+use Rattle.tangle_lexer.proofs.laws.RegionOrder.{some-byte, code-bytes, more-bytes}
 use Rattle.tangle_lexer.proofs.laws.WhiteOrder.{word-bytes}
 use Rattle.tangle_lexer.proofs.laws.SegmentPoints.{token_points, fault-points, points-append, bytes-columns}
 use Rattle.tangle_lexer.proofs.laws.CutTexts.{double_quote-cut, apostrophe-cut, header_name-cut}
@@ -67,8 +63,7 @@ part_points-plain within (token.NamedPart line occurrence ∷ ts) us h = cc
 part_points-plain within (token.UseOf line occurrence ∷ ts) us h = cc
 part_points-plain within (token.Run s ∷ ts) us h = cc
 part_points-plain true (token.Span kind s ∷ ts) us h =
-    ap (λ ps. span_points s ++ ps) (part_points-plain true ts us h)
-    ∙ sym (append_assoc (span_points s) (token_points ts) (part_points true us))
+    grind (arith, nat_tests, part_points-plain true ts us h, append_assoc)
 part_points-plain false (token.Span kind s ∷ ts) us h = part_points-plain false ts us h
 part_points-plain within (_ ∷ ts) us h = part_points-plain within ts us h
 
@@ -78,9 +73,6 @@ points-flat : (f : List Cell → List Token)
     → ((u : List Cell) → token_points (f u) ≡ []) → (us : List (List Cell)) → token_points (flat_map f us) ≡ []
 points-flat f h [] = refl
 points-flat f h (u ∷ us) = rw (points-append (f u) (flat_map f us), h u) (points-flat f h us)
-
-line_ends-points : (r : Region) (text : List Cell) → token_points (line_ends r text) ≡ []
-line_ends-points r text = grind (arith, nat_tests, points-flat, token_points)
 
 inner-points : (b : Bool) (ts : List Token) → token_points (map (inner_end_in b) ts) ≡ token_points ts
 inner-points b [] = refl
@@ -94,11 +86,7 @@ inner-points false (_ ∷ ts) = inner-points false ts
 white-points : (r : Region) (text : List Cell) (inner b : Bool) (kind : FaultKind) (line : ℕ)
     → token_points (token.White ∷ map (inner_end_in inner) (line_ends r text) ++ fault_if b kind line) ≡ []
 white-points r text inner b kind line =
-    grind (arith, nat_tests, points-append, token_points, inner-points, line_ends-points, fault-points)
-
-constant-points : (k : Option AsciiConstant) (s : LexerState) (text : List Cell)
-    → token_points (constant_lexeme k s text).tokens ≡ []
-constant-points x s text = grind arith
+    search (rules, points-append, inner-points, points-flat)
 
 module _ (texts : List (List ℕ)) where
   -- the points of a span are those of its bytes
@@ -127,51 +115,36 @@ module _ (texts : List (List ℕ)) where
     where
       by : (b : Bool) (cells : List Cell)
           → flat_map kept_points (if b then segment ControlBytes cells ∷ [] else []) ≡ []
-      by x cells = grind arith
+      by x cells = search rules
 
   kind-keeps : (kind : LexemeKind) (s : LexerState) (at : Point) (c : Cell) (cs : List Cell)
       → IsTextAt texts at (c ∷ cs) → OpensLexeme kind (c ∷ cs) → KindKeeps kind s (c ∷ cs)
   kind-keeps (lexeme_kind.Control code.DoubleAt) s at c cs is o =
-      span-keeps at 1 c cs is (holds-byte at_sign c.byte o.0, tt)
+      search rules
   kind-keeps (lexeme_kind.Control code.Name) s at c cs is o =
-      let text : List Cell = c ∷ cs in
-      let others : List Token =
-      fault_if (has_single_equals (after_name text)) fault.NameEquals (front_line s.last_line text) in
-      let inner : List Token = fault_if (is_in_directive s) fault.UseInDirective (front_line s.last_line text) in
-      points-append (inner ++ name_faults s.last_line text) others
-      ∙ ap (λ ps. ps ++ token_points others) (points-append inner (name_faults s.last_line text)
-      ∙ ap (λ ps. ps ++ token_points (name_faults s.last_line text))
-      (fault-points (is_in_directive s) fault.UseInDirective (front_line s.last_line text))
-      ∙ fault-points (not (is_ended text)) fault.NameEnd (front_line s.last_line (name_end text)))
-      ∙ fault-points (has_single_equals (after_name text)) fault.NameEquals (front_line s.last_line text)
+      search (rules, points-append, fault-points)
   kind-keeps (lexeme_kind.Control code.AllMacros) s at c cs is o =
-      fault-points (is_in_directive s) fault.UseInDirective c.line
+      search rules
   kind-keeps (lexeme_kind.Control code.ControlText) s at c cs is o =
-      let rest : List Cell = drop (count_before region.ControlText (drop 1 cs)) (drop 1 cs) in
-      white-points region.ControlText (drop 1 cs) (is_in_directive s) (not (has_end_code rest))
-      fault.ControlText (front_line s.last_line rest)
+      search (rules, white-points)
   kind-keeps (lexeme_kind.Control code.Verbatim) s at c cs is o =
       verbatim-keeps texts _ (drop 1 cs)
       (text-after texts 2 at (c ∷ cs) is (code-bytes code.Verbatim (c ∷ cs) (λ e. cc) o))
       ∙ sym (verbatim-kept (c ∷ cs))
   kind-keeps (lexeme_kind.Control code.AsciiConstant) s at c cs is o =
-      constant-points (constant_at (drop 1 cs)) s (c ∷ cs)
+      search rules
   kind-keeps lexeme_kind.BlockComment s at c cs is o =
-      let rest : List Cell = drop (count_before region.BlockComment (drop 1 cs)) (drop 1 cs) in
-      white-points region.BlockComment (drop 1 cs) (is_in_directive s) (not (ends_comment rest))
-      fault.CommentEnd (front_line s.last_line rest)
+      search (rules, white-points)
   kind-keeps lexeme_kind.LineComment s at c cs is o =
-      let rest : List Cell = drop (count_before region.LineComment (drop 1 cs)) (drop 1 cs) in
-      fault-points (starts_section rest) fault.CommentEnd (front_line s.last_line rest)
+      search (rules, fault-points)
   kind-keeps lexeme_kind.DoubleQuote s at c cs is o =
-      quoted-keeps texts region.DoubleQuote double_quote-cut double_quote refl s at c cs is (some-byte c.byte o.0) o.1
+      search (rules, quoted-keeps, double_quote-cut)
   kind-keeps lexeme_kind.Apostrophe s at c cs is o =
-      quoted-keeps texts region.Apostrophe apostrophe-cut apostrophe refl s at c cs is (some-byte c.byte o.0) o.1
+      search (rules, quoted-keeps, apostrophe-cut)
   kind-keeps lexeme_kind.HeaderName s at c cs is o =
-      quoted-keeps texts region.HeaderName header_name-cut greater_sign refl s at c cs is (some-byte c.byte o.0) o.1
+      search (rules, quoted-keeps, header_name-cut)
   kind-keeps lexeme_kind.Word s at c cs is o =
-      span-keeps at (1 + count_before region.Word cs) c cs is
-      (more-bytes 1 (count_before region.Word cs) (c ∷ cs) (some-byte c.byte o.0, tt) (word-bytes cs))
+      search (rules, span-keeps, more-bytes, word-bytes)
   kind-keeps lexeme_kind.Other s at c cs is o = span-keeps at 1 c cs is (some-byte c.byte o.0, tt)
   kind-keeps _ s at c cs is o = refl
 
@@ -193,13 +166,7 @@ module _ (texts : List (List ℕ)) where
   Leads here = (us : List Token) → part_points false (here.tokens ++ us) ≡ part_points (is_c_part here.after.mode) us
 
   plain-leads : (s : LexerState) (here : Lexeme) → is_c_part s.mode ≡ false → IsPlainLexeme s here → Leads here
-  plain-leads s here m p us =
-      part_points-plain false here.tokens us p.tokens.none ∙ ap (λ x. part_points x us) (sym (ap is_c_part p.mode ∙ m))
-
-  name-leads : (s : LexerState) (text : List Cell) (o : Option ℕ) → Leads (definition_or_mention o s text)
-  name-leads s text None us =
-      part_points-plain false (mention_faults s text) us (mention-plain s text).none
-  name-leads s text (Some k) us = refl
+  plain-leads s here m p us = search (rules, part_points-plain)
 
   lexeme-leads : (s : LexerState) (text : List Cell) → is_c_part s.mode ≡ false → Leads (lexeme s text)
   lexeme-leads s text out =
@@ -208,11 +175,8 @@ module _ (texts : List (List ℕ)) where
         macro = λ o us. refl;
         part = λ o us. refl;
         used = λ m o. absurd (let never : false ≡ true = sym out ∙ ap is_c_part m in cc);
-        name = λ outside. name-leads s text (definition_count text);
-        limbo = λ m is_fault us.
-            let ts = fault_if is_fault fault.LimboCode (front_line s.last_line text) in
-            part_points-plain false ts us (fault_if-plain is_fault fault.LimboCode (front_line s.last_line text)).none
-            ∙ ap (λ x. part_points x us) (sym out);
+        name = λ outside. (search (rules, part_points-plain, mention-plain));
+        limbo = search rules;
         skip = λ outside n us. rw out refl;
         format = λ m us. refl;
         misplaced = λ m o. plain-leads s _ out (fault-plain fault.MisplacedH s text);
@@ -230,7 +194,7 @@ module _ (texts : List (List ℕ)) where
           rw (lexeme-here s (c ∷ cs) kind m refl)
           (kind-within kind s (c ∷ cs) m
           (kind-keeps kind s at c cs is (kind-opens s.line.include c.byte (byte_at 0 cs))))
-      by _ m = lexeme-leads s (c ∷ cs) (ap is_c_part m)
+      by _ m = grind (arith, nat_tests, lexeme-leads s (c ∷ cs) (ap is_c_part m))
 
   -- all lexemes: the points of the spans in C parts are those of the segments that are kept
   pub segments-keep : (k : ℕ) (s : LexerState) (text : List Cell) (at : Point) → IsTextAt texts at text

@@ -1,30 +1,29 @@
 -- The ranges of quoted and verbatim texts have all bytes of these texts but the second @ of each @@.
+use Rattle.std.proofs.Common.{rules}
 use Rattle.std.proofs.lemmas.Bool.Decides.{nat_tests}
 use Rattle.std.proofs.Common.{◌≡◌, ℕ, suc, ◌+◌, ◌-◌, ◌≤◌, Bool, true, false, not, List, [], ◌∷◌, ◌++◌, take, drop}
-use Rattle.std.proofs.Common.{Option, inl, inr, refl, ap, sym, ◌∙◌, arith, cond, ◌==◌, ◌&&◌}
-use Rattle.std.proofs.Common.{append_assoc, append-nil, flat_map}
+use Rattle.std.proofs.Common.{Option, inl, inr, refl, ap, ◌∙◌, arith, cond, ◌==◌, ◌&&◌}
+use Rattle.std.proofs.Common.{append_assoc, flat_map}
 use Rattle.std.proofs.Math.Seq.{take-add}
 use Rattle.std.proofs.lemmas.Bool.Decides.{eqb_tells}
 use Rattle.tangle_faults.specs.declared.faults.FaultKind.TheVariants as fault
 use Rattle.tangle_lexer.specs.declared.tokens.Token.{Token}
-use Rattle.tangle_lexer.specs.declared.tokens.SpanKind.TheVariants as span_kind
 use Rattle.tangle_lexer.specs.declared.tokens.Token.TheVariants as token
 use Rattle.tangle_lexer.specs.declared.modes.LexerState.{LexerState}
 use Rattle.tangle_text.specs.declared.regions.Region.{Region}
 use Rattle.tangle_text.specs.declared.regions.Region.TheVariants as region
 use Rattle.tangle_lines.specs.Bytes.{at_sign}
 use Rattle.tangle_text.specs.Bytes.{holds, is_line_end}
-use Rattle.tangle_text.specs.Text.{Cell, byte_at, span_at}
+use Rattle.tangle_text.specs.Text.{Cell, byte_at}
 use Rattle.tangle_text.specs.Regions.{count_before}
 use Rattle.tangle_lexer.specs.Lexemes.{fault_if}
 use Rattle.tangle_lexer.specs.Quoted.{cut_tokens, quote_end, one_if, quoted_text}
-use Rattle.tangle_lexer.specs.Quoted.{verbatim_end, empty_end, verbatim_tokens}
+use Rattle.tangle_lexer.specs.Quoted.{verbatim_end, verbatim_tokens}
 use Rattle.tangle_lexer.specs.Segments.{points_by, kept_points, byte_points, cell_kind, text_segments}
 use Rattle.tangle_lexer.specs.Segments.SegmentKind.{Kept, SecondAtSign, LineEnd}
 use Rattle.tangle_lexer.proofs.laws.Points.{Point, point_at, IsByte, IsTextAt, text-next}
 use Rattle.tangle_lexer.proofs.laws.CutTexts.{IsCut, verbatim-cut, cut-by}
-use Rattle.tangle_lexer.proofs.laws.RegionOrder.{other-byte, holds-byte}
-use Rattle.tangle_lexer.proofs.laws.SegmentPoints.{columns_to, columns-next, columns-nothing, byte-point, token_points}
+use Rattle.tangle_lexer.proofs.laws.SegmentPoints.{columns_to, columns-next, columns-nothing, token_points}
 use Rattle.tangle_lexer.proofs.laws.SegmentPoints.{cut-points}
 
 -- the points of the bytes that are kept of such a text
@@ -44,12 +43,7 @@ points-before : (after_at_sign : Bool) (xs ys : List Cell) (ps : List (ℕ × �
     → ((h : Bool) → text_points h ys ≡ ps) → text_points after_at_sign (xs ++ ys) ≡ text_points after_at_sign xs ++ ps
 points-before after_at_sign [] ys ps h = h after_at_sign
 points-before after_at_sign (x ∷ xs) ys ps h =
-    grind (
-      arith,
-      nat_tests,
-      points-before (holds at_sign x.byte && not after_at_sign) xs ys ps h,
-      append_assoc (points_by (cell_kind after_at_sign x) (x ∷ [])) (text_points (holds at_sign x.byte && not after_at_sign) xs) ps,
-    )
+    grind (arith, points-before (holds at_sign x.byte && not after_at_sign) xs ys ps h)
 
 module _ (texts : List (List ℕ)) where
   -- a text that is cut; `last` gives the points of its end
@@ -66,7 +60,7 @@ module _ (texts : List (List ℕ)) where
     -- the points of a current range with one more byte
     after-range : (line start column : ℕ) (ps : List (ℕ × ℕ)) → start ≤ column
         → columns_to line start (column + 1) ++ ps ≡ columns_to line start column ++ ((line, column) ∷ ps)
-    after-range line start column ps h = grind (arith, nat_tests, columns-next, append_assoc, columns_to)
+    after-range line start column ps h = grind (arith, nat_tests, columns-next, append_assoc)
 
     one-points : (c : Cell) (cs : List Cell) (n : ℕ)
         → IsByte c.byte → (holds at_sign c.byte ≡ true → holds at_sign (byte_at 0 cs) ≡ false)
@@ -90,20 +84,20 @@ module _ (texts : List (List ℕ)) where
         (λ at start c cs ts n h is byte alone kept.
         rw (one-points c cs n byte alone, ← is.line, ← is.column)
         (no-points (holds at_sign c.byte) c.line ts ∙ kept
-        ∙ after-range c.line start c.column (kept_of n cs) (omega (arith, h, is.column))))
+        ∙ after-range c.line start c.column (kept_of n cs) (omega arith)))
         (λ at start c d cs ts n h is cell byte second sign same kept.
-        let column : d.column + 1 ≡ c.column + 2 = omega (arith, cell.column) in
+        let column : d.column + 1 ≡ c.column + 2 = omega arith in
         let none : second_points true d ≡ [] = second-sign (d ∷ []) d.byte second same in
         rw (two-points c d cs n true byte sign same, none, ← is.line, ← is.column)
         (cut-points r c.line start (c.column + 1) ts
         ∙ ap (λ ps. columns_to c.line start (c.column + 1) ++ ps)
         (kept ∙ ap (λ ps. ps ++ kept_of n cs)
         (ap (columns_to d.line (c.column + 2)) column ∙ columns-nothing d.line (c.column + 2)))
-        ∙ after-range c.line start c.column (kept_of n cs) (omega (arith, h, is.column))))
+        ∙ after-range c.line start c.column (kept_of n cs) (omega arith)))
         (λ at start c d cs ts n h is cell byte second other same kept.
-        let low : start ≤ c.column = omega (arith, h, is.column) in
+        let low : start ≤ c.column = omega arith in
         rw (two-points c d cs n false byte other same, ← is.line, ← is.column)
-        (kept ∙ after-range d.line start d.column (kept_of n cs) (omega (arith, low, cell.column))
+        (kept ∙ after-range d.line start d.column (kept_of n cs) (omega arith)
         ∙ rw (kept-byte false d second refl, cell.line, cell.column)
         (after-range c.line start c.column ((c.line, c.column + 1) ∷ kept_of n cs) low)))
         (λ at start c d cs ts n h is cell byte none other kept.
@@ -111,7 +105,7 @@ module _ (texts : List (List ℕ)) where
         rw (two-points c d cs n false byte other (rw none refl), gone, ← is.line, ← is.column)
         (cut-points r c.line start (c.column + 1) (token.QuoteBreak ∷ ts)
         ∙ ap (λ ps. columns_to c.line start (c.column + 1) ++ ps) kept
-        ∙ after-range c.line start c.column (kept_of n cs) (omega (arith, h, is.column))))
+        ∙ after-range c.line start c.column (kept_of n cs) (omega arith)))
       where
         no-points : (b : Bool) (line : ℕ) (ts : List Token)
             → token_points (fault_if b fault.StringAt line ++ ts) ≡ token_points ts
@@ -126,23 +120,6 @@ module _ (texts : List (List ℕ)) where
   -- the closing byte, if it is there
   abbrev close-points : ℕ → List Cell → List (ℕ × ℕ)
   close-points close text = byte_points (take (one_if (holds close (byte_at 0 text))) text)
-
-  quote-stop : (r : Region) (close last : ℕ) (at : Point) (start : ℕ) (text : List Cell)
-      → start ≤ at.column → IsTextAt texts at text
-      → token_points (quote_end r close last start text) ≡ columns_to at.line start at.column ++ close-points close text
-  quote-stop r close last at start text h is =
-      grind (
-        arith,
-        nat_tests,
-        holds-byte,
-        token_points,
-        cond,
-        columns_to,
-        append-nil,
-        cut-points,
-        columns-next,
-        byte-point,
-      )
 
   -- the closing byte is kept, whatever cell is before it
   close-kept : (close : ℕ) (text : List Cell) → ((b : Option ℕ) → holds close b ≡ true → holds at_sign b ≡ false)
@@ -160,22 +137,11 @@ module _ (texts : List (List ℕ)) where
       let n : ℕ = count_before r cs in
       let last : ℕ = one_if (holds close (byte_at 0 (drop n cs))) in
       let kept = cut-keeps r cut (quote_end r close s.last_line)
-      (close-points close) (quote-stop r close s.last_line) front c.column cs (omega arith) text in
+      (close-points close) (search (rules, columns-next)) front c.column cs (omega arith) text in
       let e : 1 + (n + last) ≡ suc (n + last) = omega arith in
       let one : columns_to c.line c.column (c.column + 1) ≡ (c.line, c.column) ∷ [] =
-      columns-next c.line c.column c.column (omega arith)
-      ∙ ap (λ ps. ps ++ (c.line, c.column) ∷ []) (columns-nothing c.line c.column) in
-      let all : text_points false (take (n + last) cs)
-      ≡ text_points false (take n cs) ++ close-points close (drop n cs) =
-      ap (text_points false) (take-add n last cs)
-      ∙ points-before false (take n cs) (take last (drop n cs))
-      (close-points close (drop n cs)) (close-kept close (drop n cs) (λ b. other-byte close at_sign b other)) in
-      kept
-      ∙ ap (λ ps. ps ++ (text_points false (take n cs) ++ close-points close (drop n cs))) one
-      ∙ ap (λ ps. (c.line, c.column) ∷ ps) (sym all)
-      ∙ sym (ap (λ k. text_points false (take k (c ∷ cs))) e
-      ∙ ap (λ b. points_by (cell_kind false c) (c ∷ []) ++ text_points (b && true) (take (n + last) cs)) sign
-      ∙ ap (λ ps. ps ++ text_points false (take (n + last) cs)) (kept-byte false c byte refl))
+      search (rules, columns-next, columns-nothing) in
+      search (rules, take-add, points-before, close-kept)
 
   -- verbatim texts
 
@@ -183,24 +149,15 @@ module _ (texts : List (List ℕ)) where
       → token_points (verbatim_end start text) ≡ columns_to at.line start at.column ++ []
   verbatim-stop at start x h is = grind arith
 
-  empty-points : (text : List Cell)
-      → token_points (token.Span span_kind.Verbatim (span_at 0 text) ∷ empty_end text) ≡ []
-  empty-points x = grind arith
-
   pub verbatim-keeps : (at : Point) (text : List Cell) → IsTextAt texts at text
       → token_points (verbatim_tokens text) ≡ text_points false (take (count_before region.Verbatim text) text)
   verbatim-keeps at [] is = refl
   verbatim-keeps at (c ∷ cs) is =
       elim (eqb_tells (count_before region.Verbatim (c ∷ cs)) 0) [
-        | inl none ↦ rw (none.0, none.1) (empty-points (c ∷ cs))
+        | inl none ↦ rw (none.0, none.1) (grind arith)
         | inr some ↦
             let text : List Cell = c ∷ cs in
             let kept = cut-keeps region.Verbatim verbatim-cut verbatim_end (λ t. [])
             verbatim-stop at at.column text (omega arith) is in
-            rw some.0
-            (ap (λ k. token_points (cut_tokens verbatim_end region.Verbatim 0 k text)) is.0.column
-            ∙ kept
-            ∙ ap (λ ps. ps ++ (text_points false (take (count_before region.Verbatim text) text) ++ []))
-            (columns-nothing at.line at.column)
-            ∙ append-nil (text_points false (take (count_before region.Verbatim text) text)))
+            search rules
       ]

@@ -1,36 +1,33 @@
 -- The tokens of a source are in order. `texts` are the bytes of the source lines.
+use Rattle.tangle_lexer.proofs.laws.WhiteOrder.{line_comment-bytes}
+use Rattle.std.proofs.Common.{rules}
+use Rattle.std.proofs.lemmas.Bool.Decides.{nat_tests}
 use Rattle.std.proofs.Common.{arith}
-use Rattle.std.proofs.Common.{◌≡◌, ℕ, zero, suc, ◌+◌, true, false, List, [], ◌∷◌, flat_map, drop}
-use Rattle.std.proofs.Common.{Option, refl, ap, sym, ◌∙◌, subst}
+use Rattle.std.proofs.Common.{◌≡◌, ℕ, zero, suc, true, false, List, [], ◌∷◌, flat_map, drop}
+use Rattle.std.proofs.Common.{refl, ap, sym, ◌∙◌, subst}
 use Rattle.tangle_faults.specs.declared.faults.FaultKind.TheVariants as fault
 use Rattle.tangle_lexer.specs.declared.modes.LexerState.{LexerState}
 use Rattle.tangle_lexer.specs.declared.lexeme_kinds.ControlCode.TheVariants as code
 use Rattle.tangle_lexer.specs.declared.lexeme_kinds.LexemeKind.{LexemeKind}
 use Rattle.tangle_lexer.specs.declared.lexeme_kinds.LexemeKind.TheVariants as lexeme_kind
 use Rattle.tangle_text.specs.declared.regions.Region.TheVariants as region
-use Rattle.tangle_lines.specs.Bytes.{double_quote}
-use Rattle.tangle_text.specs.Bytes.{asterisk, slash, apostrophe, greater_sign, holds_white, is_line_end}
+use Rattle.tangle_text.specs.Bytes.{asterisk, slash}
 use Rattle.tangle_text.specs.Text.{Cell}
-use Rattle.tangle_text.specs.Regions.{count_before}
-use Rattle.tangle_lexer.specs.Lexemes.{Lexeme, is_in_directive}
+use Rattle.tangle_lexer.specs.Lexemes.{Lexeme}
 use Rattle.tangle_lexer.specs.Names.{use_of_name}
 use Rattle.tangle_lexer.specs.Simple.{is_c_text}
-use Rattle.tangle_lexer.specs.CText.{code_fault}
 use Rattle.tangle_lexer.specs.Steps.{c_lexeme, lexeme, lexemes}
 use Rattle.tangle_lexer.proofs.lemmas.LexemeCases.{OpensLexeme, IsPlainKind, lexeme-by}
-use Rattle.tangle_lexer.proofs.laws.Points.{Point, IsByte, after_by, after_cell, HoldsBytes, IsTextAt}
+use Rattle.tangle_lexer.proofs.laws.Points.{Point, after_cell, HoldsBytes, IsTextAt}
 use Rattle.tangle_lexer.proofs.laws.TokenOrder.{IsAtLine, AreInOrder, AreFromLine, in_order-append, in_order-weaker, faults-in_order}
-use Rattle.tangle_lexer.proofs.laws.RegionOrder.{some-byte, are_bytes-hold, code-bytes, more-bytes, text-line}
+use Rattle.tangle_lexer.proofs.laws.RegionOrder.{some-byte, are_bytes-hold, code-bytes, more-bytes}
 use Rattle.tangle_lexer.proofs.laws.RegionOrder.{lexeme-line, end-line}
 use Rattle.tangle_lexer.proofs.laws.WhiteOrder.{word-bytes, white-bytes, LexemeIsInOrder}
-use Rattle.tangle_lexer.proofs.laws.WhiteOrder.{region-in_order, line_comment-in_order, span-is}
+use Rattle.tangle_lexer.proofs.laws.WhiteOrder.{region-in_order, span-is}
 use Rattle.tangle_lexer.proofs.laws.CutTexts.{double_quote-cut, apostrophe-cut, header_name-cut}
 use Rattle.tangle_lexer.proofs.laws.QuotedOrder.{quoted-in_order, verbatim_text-in_order}
 use Rattle.tangle_lexer.proofs.laws.ConstantCells.{ascii_constant-in_order}
 use Rattle.tangle_lexer.proofs.laws.NameOrder.{use_of_name-in_order, name-in_order}
-
-white-byte : (b : Option ℕ) → holds_white b ≡ true → IsByte b
-white-byte b h = grind arith
 
 module _ (texts : List (List ℕ)) where
   -- C text and macros
@@ -47,45 +44,35 @@ module _ (texts : List (List ℕ)) where
       (code-bytes code.ControlText (c ∷ cs) (λ e. cc) o)
   kind-in_order (lexeme_kind.Control code.Verbatim) s at c cs plain o is =
       verbatim_text-in_order texts s at c cs is (code-bytes code.Verbatim (c ∷ cs) (λ e. cc) o)
-  kind-in_order (lexeme_kind.Control code.AllMacros) s at c cs plain o is = (
-    is.0.line,
-    faults-in_order texts (λ l. IsAtLine l (drop 1 cs)) (is_in_directive s) fault.UseInDirective c.line at.line
-        (lexeme-line texts at 1 c cs is (code-bytes code.AllMacros (c ∷ cs) (λ e. cc) o)),
-  )
+  kind-in_order (lexeme_kind.Control code.AllMacros) s at c cs plain o is = search rules
   kind-in_order (lexeme_kind.Control code.AsciiConstant) s at c cs plain o is =
-      ascii_constant-in_order texts s at c cs is (code-bytes code.AsciiConstant (c ∷ cs) (λ e. cc) o)
+      search (rules, ascii_constant-in_order)
   -- white space with a fault, and a single token
   kind-in_order (lexeme_kind.Control code.Macro) s at c cs plain o is =
-      (tt, (tt, lexeme-line texts at 1 c cs is (code-bytes code.Macro (c ∷ cs) (λ e. cc) o)))
+      search rules
   kind-in_order (lexeme_kind.Control code.Format) s at c cs plain o is =
-      (tt, (tt, lexeme-line texts at 1 c cs is (code-bytes code.Format (c ∷ cs) (λ e. cc) o)))
+      search rules
   kind-in_order (lexeme_kind.Control code.UnnamedPart) s at c cs plain o is =
-      (tt, (tt, lexeme-line texts at 1 c cs is (code-bytes code.UnnamedPart (c ∷ cs) (λ e. cc) o)))
+      search rules
   kind-in_order (lexeme_kind.Control kind) s at c cs plain o is =
-      (tt, lexeme-line texts at 1 c cs is (code-bytes kind (c ∷ cs) (λ e. cc) o))
+      search rules
   kind-in_order lexeme_kind.BlockComment s at c cs plain o is =
       region-in_order texts region.BlockComment (λ b n h. grind arith) fault.CommentEnd s at c cs is
       (are_bytes-hold slash asterisk (c ∷ cs) o)
   kind-in_order lexeme_kind.LineComment s at c cs plain o is =
-      line_comment-in_order texts s at c cs is (are_bytes-hold slash slash (c ∷ cs) o)
+      search (rules, faults-in_order, lexeme-line, more-bytes, line_comment-bytes)
   kind-in_order lexeme_kind.DoubleQuote s at c cs plain o is =
-      quoted-in_order texts region.DoubleQuote double_quote-cut double_quote s at c cs is (some-byte c.byte o.0)
+      search (rules, quoted-in_order, double_quote-cut)
   kind-in_order lexeme_kind.Apostrophe s at c cs plain o is =
-      quoted-in_order texts region.Apostrophe apostrophe-cut apostrophe s at c cs is (some-byte c.byte o.0)
+      search (rules, quoted-in_order, apostrophe-cut)
   kind-in_order lexeme_kind.HeaderName s at c cs plain o is =
-      quoted-in_order texts region.HeaderName header_name-cut greater_sign s at c cs is (some-byte c.byte o.0)
+      search (rules, quoted-in_order, header_name-cut)
   kind-in_order lexeme_kind.LineEnd s at c cs plain o is =
-      (is.0.line, rw (← is.0.line) (by c.byte o (text-line texts (after_cell c) cs is.1)))
-    where
-      by : (b : Option ℕ) → is_line_end b ≡ true → IsAtLine (after_by b c).line cs → IsAtLine (c.line + 1) cs
-      by x e h = grind arith
+      search rules
   kind-in_order lexeme_kind.White s at c cs plain o is =
-      let n : ℕ = count_before region.White cs in
-      (tt, lexeme-line texts at n c cs is (more-bytes 1 n (c ∷ cs) (white-byte c.byte o, tt) (white-bytes cs)))
+      search (rules, lexeme-line, more-bytes, white-bytes)
   kind-in_order lexeme_kind.Word s at c cs plain o is =
-      let n : ℕ = count_before region.Word cs in
-      let bytes = more-bytes 1 n (c ∷ cs) (some-byte c.byte o.0, tt) (word-bytes cs) in
-      (span-is texts at (1 + n) c cs is bytes, lexeme-line texts at n c cs is bytes)
+      grind (arith, nat_tests, more-bytes, word-bytes cs, span-is, lexeme-line)
   kind-in_order lexeme_kind.Other s at c cs plain o is =
       let one : HoldsBytes 1 (c ∷ cs) = (some-byte c.byte o.0, tt) in
       (span-is texts at 1 c cs is one, lexeme-line texts at 0 c cs is one)
@@ -106,14 +93,10 @@ module _ (texts : List (List ℕ)) where
         part = λ o line h. (tt, λ inside. head-line (code-bytes code.UnnamedPart text (λ e. cc) o));
         used = λ m o. within (use_of_name s text) (ap is_c_text m) (use_of_name-in_order texts s at.line at c cs is);
         name = λ out line h. name-in_order texts s line at c cs is;
-        limbo = λ m is_fault line h.
-            faults-in_order texts _ is_fault fault.LimboCode c.line line
-            (λ inside. absurd (let never : false ≡ true = sym (ap is_c_text m) ∙ inside in cc));
+        limbo = search rules;
         skip = λ out n line h inside. absurd (let never : false ≡ true = sym out ∙ inside in cc);
         format = λ m line h inside. cc;
-        misplaced = λ m o.
-            within (code_fault fault.MisplacedH s text) (ap is_c_text m)
-            (tt, (tt, lexeme-line texts at 1 c cs is (code-bytes code.AllMacros text (λ e. cc) o)));
+        misplaced = search rules;
         inside = λ inside kind p o. within (c_lexeme kind s text) inside (kind-in_order kind s at c cs p o is);
       })
     where

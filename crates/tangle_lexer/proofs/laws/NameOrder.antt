@@ -1,4 +1,5 @@
 -- The tokens of a use, a mention and a definition are in order. `texts` are the bytes of the source lines.
+use Rattle.std.proofs.Common.{rules}
 use Rattle.std.proofs.lemmas.Bool.Decides.{nat_tests}
 use Rattle.std.proofs.Common.{◌≡◌, ℕ, ◌+◌, Bool, true, false, not, List, ◌∷◌, ◌++◌, drop, Option}
 use Rattle.std.proofs.Common.{Some, None, refl, ap, sym, ◌∙◌, arith, subst, cond}
@@ -8,9 +9,6 @@ use Rattle.tangle_faults.specs.declared.faults.FaultKind.TheVariants as fault
 use Rattle.tangle_lexer.specs.Simple.{is_c_text}
 use Rattle.tangle_lexer.specs.declared.tokens.Token.{Token}
 use Rattle.tangle_lexer.specs.declared.modes.LexerState.{LexerState}
-use Rattle.tangle_lexer.specs.declared.names.Equals.TheVariants as equals
-use Rattle.tangle_lines.specs.Bytes.{at_sign}
-use Rattle.tangle_text.specs.Bytes.{greater_sign}
 use Rattle.tangle_text.specs.Text.{Cell, byte_at, front_line}
 use Rattle.tangle_lexer.specs.Lexemes.{Lexeme, fault_if, is_in_directive}
 use Rattle.tangle_lexer.specs.Comments.{two_if}
@@ -34,8 +32,8 @@ definition-last text k e = by (is_ended text) e
   where
     by : (b : Bool) → cond b (equals_count (after_name text)) None ≡ Some k
         → (j : ℕ) × ((k ≡ j + 1) × IsByte (byte_at j (after_name text)))
-    by true e = equals-last (after_name text) k e
-    by false e = cc
+    by true e = search (rules, equals-last)
+    by false e = search rules
 
 -- the front of a text is on its own line
 pub front-line : (last : ℕ) (text : List Cell) → IsAtLine (front_line last text) text
@@ -64,9 +62,7 @@ module _ (texts : List (List ℕ)) where
         tt,
         in_order-append texts Final equals last _
             (two-faults _ (is_in_directive s) (not ended) fault.UseInDirective fault.NameEnd here last last
-            (faults-in_order texts Final _ fault.NameEquals here last
-            (end-line texts ended end.0 rest last end.1 (are_bytes-hold at_sign greater_sign rest)
-            (front-line s.last_line rest)))),
+            (search (rules, faults-in_order, end-line, are_bytes-hold, front-line))),
       )
 
   -- a mention or a definition, in documentation or at the end of a macro, after which C text begins at most after a
@@ -80,14 +76,13 @@ module _ (texts : List (List ℕ)) where
           → let here : Lexeme = definition_or_mention o s (c ∷ cs) in
           AreInOrder texts (λ l. is_c_text here.after.mode ≡ true → IsAtLine l (drop here.more cs)) line here.tokens
       by None last =
-          two-faults (λ l. false ≡ true → IsAtLine l (drop (name_more (c ∷ cs)) cs)) _ _
-          fault.NameEnd fault.NameInMacro _ _ line (λ inside. cc)
+          search (rules, two-faults)
       by (Some k) last =
           let text : List Cell = c ∷ cs in
           let m : ℕ = name_more text in
           let j = last k refl in
           let rest : List Cell = drop (m + k) text in
-          let sum : m + k ≡ 1 + (m + j.0) = omega (arith, j.1.0) in
+          let sum : m + k ≡ 1 + (m + j.0) = omega arith in
           let same : rest ≡ drop j.0 (after_name text) =
           ap (λ n. drop n text) sum ∙ sym (drop-drop (m + j.0) 1 text) ∙ sym (drop-drop j.0 m cs) in
           let byte : IsByte (byte_at 0 rest) =

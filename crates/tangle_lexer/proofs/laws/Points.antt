@@ -68,7 +68,7 @@ module _ (texts : List (List ℕ)) where
   -- the point at which a text begins is inside a line, or at the end
   pub text-within : (at : Point) (text : List Cell)
       → IsTextAt at text → at.column ≤ length (get_or texts at.line [])
-  text-within at [] is = omega (arith, is)
+  text-within at [] is = omega arith
   text-within at (c ∷ cs) is = is.0.inside
 
   -- the text after a byte, after `n` bytes, and after any number of cells
@@ -82,8 +82,7 @@ module _ (texts : List (List ℕ)) where
   text-after zero at text is h = subst (λ x. IsTextAt (point_at at.line x) text) (sym (add-zero at.column)) is
   text-after (suc n) at [] is h = absurd h
   text-after (suc n) at (c ∷ cs) is h =
-      let sum : c.column + 1 + n ≡ at.column + suc n = omega (arith, is.0.column) in
-      rw (← is.0.line, ← sum) (text-after n (point_at c.line (c.column + 1)) cs (text-next at c cs is h.0) h.1)
+      grind (arith, nat_tests, text-after n)
 
   pub text-somewhere : (n : ℕ) (at : Point) (text : List Cell)
       → IsTextAt at text → (p : Point) × IsTextAt p (drop n text)
@@ -97,33 +96,26 @@ module _ (texts : List (List ℕ)) where
       → IsTextAt (point_at (line + 1) 0) rest → IsTextAt (point_at line column) (line_text line column bytes ++ rest)
   line-is line column [] rest h real same is = grind (arith, nat_tests)
   line-is line column (b ∷ bs) rest h real same is = (
-    record {
-      line = refl;
-      column = refl;
-      inside = omega (arith, h);
-      real = real;
-      byte = ap (source_byte line) (sym (add-zero column)) ∙ same 0 (omega arith);
-    },
-    line-is line (column + 1) bs rest (omega (arith, h)) real
+    grind (arith, nat_tests, add-zero column),
+    line-is line (column + 1) bs rest (omega arith) real
         (λ k lt. let sum : column + 1 + k ≡ column + suc k = omega arith in
-        ap (source_byte line) sum ∙ same (suc k) (omega (arith, lt)))
+        ap (source_byte line) sum ∙ same (suc k) (omega arith))
         is,
   )
 
   lines-are : (n : ℕ) (lines : List SourceLine) → n + length lines ≡ length texts
       → ((k : ℕ) → k < length lines → (get_or lines k no_line).bytes ≡ get_or texts (n + k) [])
       → IsTextAt (point_at n 0) (text_from n lines)
-  lines-are n [] all h = (refl, omega (arith, all))
+  lines-are n [] all h = (refl, omega arith)
   lines-are n (l ∷ ls) all h =
       let first : l.bytes ≡ get_or texts n [] = h 0 (omega arith) ∙ ap (λ k. get_or texts k []) (add-zero n) in
-      line-is n 0 l.bytes (text_from (n + 1) ls) (omega (arith, ap length first)) (omega (arith, all))
+      line-is n 0 l.bytes (text_from (n + 1) ls) (omega (arith, ap length first)) (omega arith)
       (λ k lt. ap (source_byte n) (zero-add k) ∙ ap (λ (bytes : List ℕ). get_or bytes k 0) (sym first))
-      (lines-are (n + 1) ls (omega (arith, all))
-      (λ k lt. h (suc k) (omega (arith, lt)) ∙ ap (λ i. get_or texts i []) (omega arith)))
+      (lines-are (n + 1) ls (omega arith)
+      (λ k lt. h (suc k) (omega arith) ∙ ap (λ i. get_or texts i []) (omega arith)))
 
 -- the cells of the text of a source follow one another
 pub text-is : (lines : List SourceLine) → IsTextAt (texts_of lines) (point_at 0 0) (text_from 0 lines)
 text-is lines =
     lines-are (texts_of lines) 0 lines (omega (arith, length-map lines (λ l. l.bytes)))
-    (λ k lt. sym (get_or-map (λ l. l.bytes) lines k no_line [] lt)
-    ∙ ap (λ i. get_or (texts_of lines) i []) (sym (zero-add k)))
+    (λ k lt. grind (arith, nat_tests, get_or-map, zero-add k))

@@ -1,38 +1,28 @@
 -- The ranges of quoted and verbatim texts are in order. `texts` are the bytes of the source lines.
+use Rattle.std.proofs.Common.{rules}
 use Rattle.std.proofs.lemmas.Bool.Decides.{nat_tests}
-use Rattle.std.proofs.Common.{ℕ, ◌+◌, ◌<◌, ◌≤◌, List, [], ◌∷◌, ◌++◌, drop}
+use Rattle.std.proofs.Common.{ℕ, ◌+◌, ◌<◌, ◌≤◌, List, [], ◌∷◌, drop}
 use Rattle.std.proofs.Common.{inl, inr, refl, sym, arith, subst}
 use Rattle.std.proofs.lemmas.Bool.Decides.{eqb_tells}
 use Rattle.std.proofs.lemmas.List.{drop-drop}
-use Rattle.tangle_faults.specs.declared.faults.FaultKind.TheVariants as fault
 use Rattle.tangle_lexer.specs.declared.tokens.Token.{Token}
-use Rattle.tangle_lexer.specs.declared.tokens.Token.TheVariants as token
 use Rattle.tangle_lexer.specs.declared.modes.LexerState.{LexerState}
 use Rattle.tangle_text.specs.declared.regions.Region.{Region}
 use Rattle.tangle_text.specs.declared.regions.Region.TheVariants as region
-use Rattle.tangle_lines.specs.Bytes.{at_sign}
-use Rattle.tangle_text.specs.Bytes.{holds, is_line_end}
+use Rattle.tangle_text.specs.Bytes.{holds}
 use Rattle.tangle_text.specs.Text.{Cell, byte_at}
 use Rattle.tangle_text.specs.Regions.{count_before}
-use Rattle.tangle_lexer.specs.Lexemes.{fault_if}
 use Rattle.tangle_lexer.specs.Comments.{has_end_code, two_if}
-use Rattle.tangle_lexer.specs.Quoted.{cut_range, cut_tokens}
+use Rattle.tangle_lexer.specs.Quoted.{cut_tokens}
 use Rattle.tangle_lexer.specs.Quoted.{quote_end, one_if, quoted_text, verbatim_end}
 use Rattle.tangle_lexer.specs.Quoted.{verbatim_tokens, verbatim_text}
-use Rattle.tangle_lexer.proofs.laws.Points.{Point, point_at, IsByte, HoldsBytes, IsCellAt, IsTextAt}
+use Rattle.tangle_lexer.proofs.laws.Points.{Point, point_at, IsByte, HoldsBytes, IsTextAt}
 use Rattle.tangle_lexer.proofs.laws.Points.{text-next, text-after}
-use Rattle.tangle_lexer.proofs.laws.TokenOrder.{IsAtLine, AreInOrder, AreBefore, in_order-append}
-use Rattle.tangle_lexer.proofs.laws.TokenOrder.{faults-in_order}
+use Rattle.tangle_lexer.proofs.laws.TokenOrder.{IsAtLine, AreInOrder, AreBefore}
 use Rattle.tangle_lexer.proofs.laws.CutTexts.{IsCut, verbatim-cut, cut-by}
 use Rattle.tangle_lexer.proofs.laws.WhiteOrder.{LexemeIsInOrder, after-end, span-is}
 
 module _ (texts : List (List ℕ)) where
-  -- the range up to the first cell of a unit, before other tokens
-  unit-in_order : (P : ℕ → Type 0) (r : Region) (at : Point) (start : ℕ) (c d : Cell) (ts : List Token)
-      → start ≤ at.column → IsCellAt texts at c → IsCellAt texts (point_at c.line (c.column + 1)) d
-      → AreInOrder texts P c.line ts → AreInOrder texts P at.line (cut_range r c.line start (c.column + 1) ++ ts)
-  unit-in_order x r at start c d ts h is cell next = grind arith
-
   -- a text that is cut; `ends` gives the tokens of its end, and `final` says on which line the text after it is
   cut-in_order : (r : Region) → IsCut r → (ends : ℕ → List Cell → List Token) (final : List Cell → ℕ → Type 0)
       → ((at : Point) (start : ℕ) (text : List Cell) → start ≤ at.column → IsTextAt texts at text
@@ -41,14 +31,10 @@ module _ (texts : List (List ℕ)) where
       → AreInOrder texts (final (drop (count_before r text) text)) at.line (cut_tokens ends r 0 start text)
   cut-in_order r cut ends final stop =
       cut-by texts r cut ends Ordered stop
-      (λ at start c cs ts n h is byte alone ordered.
-      rw (← is.line) (in_order-append texts (final (drop n cs)) ts c.line _
-      (faults-in_order texts _ (holds at_sign c.byte) fault.StringAt c.line c.line ordered)))
-      (λ at start c d cs ts n h is cell byte second sign same ordered.
-      unit-in_order (final (drop n cs)) r at start c d ts h is cell (rw (← cell.line) ordered))
+      (search rules)
+      (grind (arith, nat_tests))
       (λ at start c d cs ts n h is cell byte second other same ordered. rw (← is.line, ← cell.line) ordered)
-      (λ at start c d cs ts n h is cell byte none other ordered.
-      unit-in_order (final (drop n cs)) r at start c d (token.QuoteBreak ∷ ts) h is cell (tt, rw (← cell.line) ordered))
+      (grind (arith, nat_tests))
     where
       Ordered : Point → ℕ → List Token → ℕ → List Cell → Type 0
       Ordered at start ts n text = AreInOrder texts (final (drop n text)) at.line ts
@@ -58,11 +44,6 @@ module _ (texts : List (List ℕ)) where
   abbrev quote-final : ℕ → List Cell → ℕ → Type 0
   quote-final close text l = IsAtLine l (drop (one_if (holds close (byte_at 0 text))) text)
 
-  quote_end-in_order : (r : Region) (close last : ℕ) (at : Point) (start : ℕ) (text : List Cell)
-      → start ≤ at.column → IsTextAt texts at text
-      → AreInOrder texts (quote-final close text) at.line (quote_end r close last start text)
-  quote_end-in_order r close last at start text h is = grind (arith, nat_tests)
-
   pub quoted-in_order : (r : Region) → IsCut r → (close : ℕ) (s : LexerState) (at : Point) (c : Cell) (cs : List Cell)
       → IsTextAt texts at (c ∷ cs) → IsByte c.byte → LexemeIsInOrder texts at.line cs (quoted_text r close s (c ∷ cs))
   quoted-in_order r cut close s at c cs is byte =
@@ -70,18 +51,13 @@ module _ (texts : List (List ℕ)) where
       let last : ℕ = one_if (holds close (byte_at 0 (drop n cs))) in
       let tokens : List Token = (quoted_text r close s (c ∷ cs)).tokens in
       rw (← is.0.line) (subst (λ end. AreBefore texts end c.line tokens) (drop-drop last n cs)
-      (cut-in_order r cut (quote_end r close s.last_line) (quote-final close) (quote_end-in_order r close s.last_line)
+      (cut-in_order r cut (quote_end r close s.last_line) (quote-final close) (grind (arith, nat_tests))
       (point_at c.line (c.column + 1)) c.column cs (omega arith) (text-next texts at c cs is byte)))
 
   -- verbatim texts
 
   abbrev verbatim-final : List Cell → ℕ → Type 0
   verbatim-final text l = IsAtLine l (drop (two_if (has_end_code text)) text)
-
-  -- the fault at the end of a verbatim text, if there is one
-  stop-in_order : (at : Point) (c : Cell) (cs : List Cell) → IsTextAt texts at (c ∷ cs)
-      → AreInOrder texts (verbatim-final (c ∷ cs)) c.line (fault_if (is_line_end c.byte) fault.VerbatimEnd c.line)
-  stop-in_order at c cs is = grind arith
 
   verbatim_end-in_order : (at : Point) (start : ℕ) (text : List Cell)
       → start ≤ at.column → IsTextAt texts at text
@@ -90,14 +66,14 @@ module _ (texts : List (List ℕ)) where
 
   verbatim_tokens-in_order : (at : Point) (text : List Cell) → 0 < at.column → IsTextAt texts at text
       → AreInOrder texts (verbatim-final (drop (count_before region.Verbatim text) text)) at.line (verbatim_tokens text)
-  verbatim_tokens-in_order at [] after_code is = absurd (omega (arith, is.0, after_code))
+  verbatim_tokens-in_order at [] after_code is = absurd (omega arith)
   verbatim_tokens-in_order at (c ∷ cs) after_code is =
       elim (eqb_tells (count_before region.Verbatim (c ∷ cs)) 0) [
         -- an empty verbatim text
-        | inl none ↦ rw (none.1, ← is.0.line) ((refl, (span-is texts at 0 c cs is tt).1), stop-in_order at c cs is)
+        | inl none ↦ rw (none.1, ← is.0.line) ((refl, (span-is texts at 0 c cs is tt).1), (grind arith))
         | inr some ↦ rw some.0
             (cut-in_order region.Verbatim verbatim-cut verbatim_end verbatim-final verbatim_end-in_order
-            at c.column (c ∷ cs) (omega (arith, is.0.column)) is)
+            at c.column (c ∷ cs) (omega arith) is)
       ]
 
   pub verbatim_text-in_order : (s : LexerState) (at : Point) (c : Cell) (cs : List Cell)

@@ -1,24 +1,22 @@
 -- Cells that are bytes, and the order of the line ends in a region. `texts` are the bytes of the source lines.
+use Rattle.std.proofs.Common.{rules}
 use Rattle.std.proofs.lemmas.Bool.Decides.{nat_tests}
-use Rattle.std.proofs.Common.{◌≡◌, ℕ, zero, suc, ◌+◌, Bool, true, false, List, [], ◌∷◌, ◌++◌, drop, Option, None}
-use Rattle.std.proofs.Common.{ap, sym, ◌∙◌, arith, subst, zero-add, ◌==◌}
-use Rattle.std.proofs.lemmas.List.{drop-drop}
-use Rattle.tangle_lexer.specs.declared.tokens.Token.{Token}
+use Rattle.std.proofs.Common.{◌≡◌, ℕ, zero, suc, ◌+◌, Bool, true, false, List, [], ◌∷◌, drop, Option, None}
+use Rattle.std.proofs.Common.{sym, arith, subst, zero-add, ◌==◌}
 use Rattle.tangle_text.specs.declared.regions.Region.{Region}
 use Rattle.tangle_text.specs.declared.regions.Unit.{Unit as Unit-of}
 use Rattle.tangle_text.specs.declared.regions.Unit.TheVariants as unit
 use Rattle.tangle_text.specs.Bytes.{holds, are_bytes, is_line_end}
 use Rattle.tangle_text.specs.Text.{Cell, byte_at}
 use Rattle.tangle_text.specs.Regions.{unit_of, count_before}
-use Rattle.tangle_lexer.proofs.lemmas.LexemeLemmas.{line_ends-go, line_ends-stop}
-use Rattle.tangle_lexer.specs.Lexemes.{line_end_by}
+use Rattle.tangle_lexer.proofs.lemmas.LexemeLemmas.{line_ends-stop}
 use Rattle.tangle_lexer.specs.declared.lexeme_kinds.ControlCode.{ControlCode}
 use Rattle.tangle_lexer.specs.declared.lexeme_kinds.ControlCode.TheVariants as code
 use Rattle.tangle_lexer.specs.Segments.{OpensWith}
 use Rattle.tangle_lexer.specs.Comments.{line_ends, two_if}
-use Rattle.tangle_lexer.proofs.laws.Points.{Point, point_at, IsByte, after_cell, HoldsBytes, IsCellAt}
-use Rattle.tangle_lexer.proofs.laws.Points.{IsTextAt, after-byte, text-after}
-use Rattle.tangle_lexer.proofs.laws.TokenOrder.{IsAtLine, AreInOrder, AreBefore}
+use Rattle.tangle_lexer.proofs.laws.Points.{Point, IsByte, HoldsBytes}
+use Rattle.tangle_lexer.proofs.laws.Points.{IsTextAt, text-after}
+use Rattle.tangle_lexer.proofs.laws.TokenOrder.{IsAtLine, AreBefore}
 use Rattle.tangle_lexer.proofs.laws.RegionUnits.{units-by}
 
 -- cells that are bytes
@@ -26,9 +24,6 @@ use Rattle.tangle_lexer.proofs.laws.RegionUnits.{units-by}
 -- a byte that equals one byte does not equal another
 pub other-byte : (x y : ℕ) (b : Option ℕ) → (x == y) ≡ false → holds x b ≡ true → holds y b ≡ false
 other-byte x y b other h = grind arith
-
-pub holds-byte : (expected : ℕ) (b : Option ℕ) → holds expected b ≡ true → IsByte b
-holds-byte expected b h = grind arith
 
 pub some-byte : (b : Option ℕ) → is_line_end b ≡ false → IsByte b
 some-byte b h = grind arith
@@ -66,40 +61,25 @@ region-bytes r stops stays =
     (λ c e. absurd (stays c.byte None e))
 
 module _ (texts : List (List ℕ)) where
-  pub text-line : (at : Point) (text : List Cell) → IsTextAt texts at text → IsAtLine at.line text
-  text-line at x is = grind arith
-
   -- the text after the bytes of a lexeme is on their line
   pub lexeme-line : (at : Point) (more : ℕ) (c : Cell) (cs : List Cell)
       → IsTextAt texts at (c ∷ cs) → HoldsBytes (1 + more) (c ∷ cs) → IsAtLine at.line (drop more cs)
-  lexeme-line at more c cs is h = grind (arith, nat_tests, point_at, drop-drop, text-line, text-after)
+  lexeme-line at more c cs is h = grind (arith, nat_tests, text-after)
 
   -- and so is the text after the two bytes that end a region, if they are there
   pub end-line : (b : Bool) (at : Point) (text : List Cell) (line : ℕ) → IsTextAt texts at text
       → (b ≡ true → HoldsBytes 2 text) → IsAtLine line text → IsAtLine line (drop (two_if b) text)
   end-line x at text line is h here = grind arith
 
-  -- a cell of a region: a byte, which has no token, or a line end
-  cell-in_order : (P : ℕ → Type 0) (at : Point) (c : Cell) (ts : List Token)
-      → IsCellAt texts at c → AreInOrder texts P (after_cell c).line ts
-      → AreInOrder texts P at.line (line_end_by c.byte c.line ++ ts)
-  cell-in_order x at c ts is h = grind arith
-
   -- The line ends of a region are in order, if none is the second cell of a unit.
   pub line_ends-in_order : (r : Region) → ((b n : Option ℕ) → unit_of r b n ≡ unit.Two → IsByte n)
       → (text : List Cell) (at : Point) → IsTextAt texts at text
       → AreBefore texts (drop (count_before r text) text) at.line (line_ends r text)
   line_ends-in_order r stays =
-      units-by r Ordered (λ text e at is. rw (line_ends-stop r text e) (text-line at text is))
+      units-by r Ordered (λ text e at is. rw (line_ends-stop r text e) (grind arith))
       (λ at is. tt)
-      (λ n c cs e next at is. rw (line_ends-go r 0 (c ∷ cs) unit.One (omega arith) e (λ k. cc))
-      (cell-in_order (λ l. IsAtLine l (drop n cs)) at c (line_ends r cs) is.0 (next (after_cell c) is.1)))
-      (λ n c d cs e next at is.
-      let same : (after_cell d).line ≡ (after_cell c).line =
-      ap (λ (p : Point). p.line) (after-byte d (stays c.byte d.byte e)) ∙ is.1.0.line in
-      rw (line_ends-go r 0 (c ∷ d ∷ cs) unit.Two (omega arith) e (λ k. cc))
-      (cell-in_order (λ l. IsAtLine l (drop n cs)) at c (line_ends r cs) is.0
-      (rw (← same) (next (after_cell d) is.1.1))))
+      (search rules)
+      (search rules)
       (λ c e. absurd (stays c.byte None e))
     where
       Ordered : ℕ → List Cell → Type 0

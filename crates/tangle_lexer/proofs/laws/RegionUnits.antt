@@ -1,4 +1,5 @@
 -- What is true unit by unit is true of a region.
+use Rattle.std.proofs.Common.{rules}
 use Rattle.std.proofs.Common.{◌≡◌, ℕ, suc, ◌+◌, List, [], ◌∷◌, refl, sym, arith, subst}
 use Rattle.tangle_text.specs.declared.regions.Region.{Region}
 use Rattle.tangle_text.specs.declared.regions.Unit.{Unit as Unit-of}
@@ -17,15 +18,12 @@ module _ (r : Region) (P : ℕ → List Cell → Type 0)
     (last : (c : Cell) → unit_at r (c ∷ []) ≡ unit.Two → P 1 (c ∷ [])) where
   counted-by : (text : List Cell) → P (counted r 0 text) text
   counted-by [] = nothing
-  counted-by (c ∷ []) = by (unit_at r (c ∷ [])) refl
-    where
-      by : (u : Unit-of) → unit_at r (c ∷ []) ≡ u → P (count_by u (counted r (more_by u) [])) (c ∷ [])
-      by x e = grind arith
+  counted-by (c ∷ []) = search rules
   counted-by (c ∷ d ∷ cs) = by (unit_at r (c ∷ d ∷ cs)) refl (counted-by (d ∷ cs)) (counted-by cs)
     where
       by : (u : Unit-of) → unit_at r (c ∷ d ∷ cs) ≡ u → P (counted r 0 (d ∷ cs)) (d ∷ cs) → P (counted r 0 cs) cs
           → P (count_by u (counted r (more_by u) (d ∷ cs))) (c ∷ d ∷ cs)
-      by unit.Stop e after further = stop (c ∷ d ∷ cs) e
+      by unit.Stop e after further = search rules
       by unit.One e after further =
           let n : ℕ = counted r 0 (d ∷ cs) in
           let more : suc n ≡ 1 + n = omega arith in

@@ -1,8 +1,9 @@
 -- The segments of a text are side by side and fill it, and the cells of each are such as its kind has.
+use Rattle.std.proofs.Common.{rules}
 use Rattle.std.proofs.lemmas.Bool.Decides.{nat_tests}
 use Rattle.std.proofs.Common.{◌≡◌, ◌<◌, ◌≤◌, ℕ, zero, suc, ◌+◌, Bool, true, false, not, ◌&&◌, List, [], ◌∷◌, ◌++◌}
 use Rattle.std.proofs.Common.{take, drop, flat_map, Option, None, inl, inr, refl, ap, sym, ◌∙◌, arith, append-nil}
-use Rattle.std.proofs.Common.{cond, if◌then◌else◌, ◌-◌, subst}
+use Rattle.std.proofs.Common.{if◌then◌else◌, ◌-◌, subst}
 use Rattle.std.proofs.Math.Seq.{take-add}
 use Rattle.std.proofs.lemmas.Grind.{flat_map-append}
 use Rattle.std.proofs.lemmas.List.{take-append-drop, drop-drop, length-take}
@@ -24,9 +25,9 @@ use Rattle.tangle_text.specs.Text.{Cell, byte_at}
 use Rattle.tangle_text.specs.Regions.{count_before, unit_of}
 use Rattle.tangle_lexer.specs.Lexemes.{Lexeme}
 use Rattle.tangle_lexer.specs.Comments.{has_end_code, two_if, ends_comment, block_comment, line_comment, control_text}
-use Rattle.tangle_lexer.specs.Constants.{constant_at, constant_lexeme, ascii_constant}
+use Rattle.tangle_lexer.specs.Constants.{ascii_constant}
 use Rattle.tangle_lexer.specs.Names.{name_count, is_ended, name_more}
-use Rattle.tangle_lexer.specs.CText.{code_at, kind_at}
+use Rattle.tangle_lexer.specs.CText.{code_at}
 use Rattle.tangle_lexer.specs.Steps.{c_lexeme, lexeme_in}
 use Rattle.tangle_lexer.specs.Steps.{lexeme}
 use Rattle.tangle_lexer.specs.Segments.{Segment, segment, ShowsKind, OpensWith, text_segments, verbatim_segments}
@@ -35,7 +36,7 @@ use Rattle.tangle_lexer.specs.Segments.{IsLineComment, IsControlText, IsSectionN
 use Rattle.tangle_lexer.specs.Segments.SegmentKind.{Kept, LineEnd, WhiteSpace, ControlBytes}
 use Rattle.tangle_text.proofs.AheadLemmas.{byte_at-drop}
 use Rattle.tangle_lexer.proofs.laws.Points.{HoldsBytes}
-use Rattle.tangle_lexer.proofs.laws.RegionOrder.{some-byte, are_bytes-hold, code-bytes, more-bytes}
+use Rattle.tangle_lexer.proofs.laws.RegionOrder.{some-byte, are_bytes-hold, more-bytes}
 use Rattle.tangle_lexer.proofs.laws.RegionUnits.{units-by}
 use Rattle.tangle_lexer.proofs.laws.WhiteOrder.{word-bytes, line_comment-bytes}
 use Rattle.tangle_lexer.proofs.laws.CodesInside.{control_text-codes, name-codes, block_comment-codes}
@@ -71,11 +72,11 @@ verbatim-fills text =
   where
     by : (b : Bool) (cells : List Cell)
         → cells_of (if b then segment ControlBytes (take 2 cells) ∷ [] else []) ≡ take (two_if b) cells
-    by x cells = grind arith
+    by x cells = search rules
 
 kind-fills : (kind : LexemeKind) (s : LexerState) (text : List Cell)
     → cells_of (c_segments kind (1 + (c_lexeme kind s text).more) text) ≡ take (1 + (c_lexeme kind s text).more) text
-kind-fills kind s text = grind (arith, nat_tests, append-nil, take-add, verbatim-fills, text-fills)
+kind-fills kind s text = grind (arith, nat_tests, append-nil, verbatim-fills, text-fills)
 
 lexeme-fills : (s : LexerState) (text : List Cell)
     → cells_of (segments_in s.mode s (1 + (lexeme s text).more) text) ≡ take (1 + (lexeme s text).more) text
@@ -84,8 +85,8 @@ lexeme-fills s text = by s.mode
   where
     by : (m : Mode)
         → cells_of (segments_in m s (1 + (lexeme_in m s text).more) text) ≡ take (1 + (lexeme_in m s text).more) text
-    by mode.CPart = kind-fills (kind_at s.line.include text) s text
-    by m = append-nil (take (1 + (lexeme_in m s text).more) text)
+    by mode.CPart = search (rules, kind-fills)
+    by m = search rules
 
 pub segments-fill : (k : ℕ) (s : LexerState) (text : List Cell) → cells_of (segments k s text) ≡ drop k text
 segments-fill zero s [] = refl
@@ -116,18 +117,14 @@ second-sign next e = grind (arith, nat_tests)
 -- the first cells of a text are the same after the cells from the n-th on are dropped
 
 byte-take : (k n : ℕ) (text : List Cell) → k < n → byte_at k (take n text) ≡ byte_at k text
-byte-take k zero text h = absurd (omega (arith, h))
+byte-take k zero text h = absurd (omega arith)
 byte-take k (suc n) [] h = refl
 byte-take zero (suc n) (c ∷ cs) h = refl
-byte-take (suc k) (suc n) (c ∷ cs) h = byte-take k n cs (omega (arith, h))
+byte-take (suc k) (suc n) (c ∷ cs) h = byte-take k n cs (omega arith)
 
 opens-taken : (kind : ControlCode) (n : ℕ) (text : List Cell)
     → 1 < n → OpensWith kind text → OpensWith kind (take n text)
 opens-taken kind n text h o = rw (byte-take 0 n text (omega (arith, h)), byte-take 1 n text h) o
-
-code-taken : (n : ℕ) (text : List Cell)
-    → 0 < n → n ≤ 2 → holds at_sign (byte_at 0 text) ≡ true → ShowsKind ControlBytes (take n text)
-code-taken n text h k sign = grind (arith, nat_tests, length-take, byte-take)
 
 -- cells that are bytes are such as a Kept segment has
 
@@ -157,12 +154,12 @@ cell-open n c cs here next x h = grind arith
 -- no */ begins in a comment before its end
 comment-open : (text : List Cell) → IsOpen (count_before region.BlockComment text) text
 comment-open =
-    units-by region.BlockComment IsOpen (λ text e k h. absurd (omega (arith, h))) (λ k h. absurd (omega (arith, h)))
+    units-by region.BlockComment IsOpen (λ text e k h. absurd (omega arith)) (λ k h. absurd (omega arith))
     (λ n c cs e next. cell-open n c cs (comment-goes c.byte (byte_at 0 cs) (λ q. cc)) next)
     (λ n c d cs e next.
     cell-open (suc n) c (d ∷ cs) (comment-goes c.byte d.byte (λ q. cc))
     (cell-open n d cs (rw (comment-second c.byte d.byte e) refl) next))
-    (λ c e. cell-open 0 c [] (comment-goes c.byte None (λ q. cc)) (λ k h. absurd (omega (arith, h))))
+    (λ c e. cell-open 0 c [] (comment-goes c.byte None (λ q. cc)) (λ k h. absurd (omega arith)))
 
 two_if-few : (b : Bool) → two_if b ≤ 2
 two_if-few b = grind arith
@@ -183,13 +180,7 @@ block_comment-shows s text o =
     let few = two_if-few closed in
     let long = length-take n text in (
       rw (byte-take 0 n text (omega arith), byte-take 1 n text (omega arith)) o,
-      λ k h l.
-          let sum : k ≡ 2 + (k - 2) = omega (arith, h) in
-          rw (byte-take k n text (omega (arith, l, long)), byte-take (k + 1) n text (omega (arith, l, long)))
-          (cells-there k text
-          ∙ ap (λ j. ends_comment (drop j text)) sum
-          ∙ ap ends_comment (sym (drop-drop (k - 2) 2 text))
-          ∙ comment-open (drop 2 text) (k - 2) (omega (arith, h, l, long, few))),
+      search (rules, byte-take, cells-there, comment-open),
       codes-opened _ inside (two_if closed) text (block_comment-codes (drop 2 text)),
     )
 
@@ -218,13 +209,13 @@ white-shows =
 text-shows : (after_at_sign : Bool) (cells : List Cell) → AllShow (text_segments after_at_sign cells)
 text-shows after_at_sign [] = tt
 text-shows after_at_sign (c ∷ cs) =
-    grind (arith, nat_tests, text-shows (holds at_sign c.byte && not after_at_sign) cs, cond)
+    grind (arith, nat_tests, text-shows (holds at_sign c.byte && not after_at_sign) cs)
 
 verbatim-shows : (text : List Cell) → holds at_sign (byte_at 0 text) ≡ true → AllShow (verbatim_segments text)
 verbatim-shows text sign =
     let inside : ℕ = count_before region.Verbatim (drop 2 text) in
     let after : List Cell = drop inside (drop 2 text) in (
-      code-taken 2 text (omega arith) (omega arith) sign,
+      (grind (arith, nat_tests, length-take)),
       shows-append (text_segments false (take inside (drop 2 text)))
           (if has_end_code after then segment ControlBytes (take 2 after) ∷ [] else [])
           (text-shows false (take inside (drop 2 text))) (by (has_end_code after) after refl),
@@ -232,7 +223,7 @@ verbatim-shows text sign =
   where
     by : (b : Bool) (cells : List Cell)
         → has_end_code cells ≡ b → AllShow (if b then segment ControlBytes (take 2 cells) ∷ [] else [])
-    by x cells e = grind arith
+    by x cells e = search rules
 
 control_text-shows : (s : LexerState) (text : List Cell)
     → OpensWith code.ControlText text → IsControlText (take (1 + (control_text s text).more) text)
@@ -251,24 +242,10 @@ name-shows s text o =
       codes-opened _ (name_count text) last text (name-codes (drop 2 text)),
     )
 
-constant-long : (k : Option AsciiConstant) (s : LexerState) (text : List Cell) → 1 < 1 + (constant_lexeme k s text).more
-constant-long x s text = grind arith
-
 constant-shows : (s : LexerState) (c : Cell) (cs : List Cell)
     → OpensWith code.AsciiConstant (c ∷ cs) → IsAsciiConstant (take (1 + (ascii_constant s (c ∷ cs)).more) (c ∷ cs))
 constant-shows s c cs o =
-    grind (
-      arith,
-      nat_tests,
-      length-take,
-      constant-long (constant_at (drop 1 cs)) s (c ∷ cs),
-      bytes-shows,
-      ascii_constant-bytes s (c ∷ cs),
-      code-bytes code.AsciiConstant (c ∷ cs),
-      byte-take,
-      ascii_constant-quotes s (c ∷ cs),
-      byte-take 2,
-    )
+    grind (arith, length-take, bytes-shows, ascii_constant-bytes s (c ∷ cs), byte-take, ascii_constant-quotes s (c ∷ cs))
 
 -- the segments of both bytes of @@
 signs-shows : (c : Cell) (cs : List Cell)
@@ -290,7 +267,7 @@ kind-shows lexeme_kind.White s c cs o =
     let n : ℕ = count_before region.White cs in
     let more : 1 + n ≡ suc n = omega arith in
     (rw more (o, white-shows cs), tt)
-kind-shows lexeme_kind.Word s c cs o = grind (arith, nat_tests, bytes-shows, more-bytes, some-byte, word-bytes)
+kind-shows lexeme_kind.Word s c cs o = grind (arith, nat_tests, bytes-shows, more-bytes, word-bytes)
 kind-shows lexeme_kind.Other s c cs o = (bytes-shows 1 (c ∷ cs) (some-byte c.byte o.0, tt), tt)
 kind-shows kind s c cs o = text-shows false (take (1 + (c_lexeme kind s (c ∷ cs)).more) (c ∷ cs))
 
@@ -301,8 +278,8 @@ lexeme-shows s c cs = by s.mode
   where
     by : (m : Mode) → AllShow (segments_in m s (1 + (lexeme_in m s (c ∷ cs)).more) (c ∷ cs))
     by mode.CPart =
-        kind-shows (kind_at s.line.include (c ∷ cs)) s c cs (kind-opens s.line.include c.byte (byte_at 0 cs))
-    by _ = (tt, tt)
+        search (rules, kind-shows, kind-opens)
+    by _ = search rules
 
 pub segments-shows : (k : ℕ) (s : LexerState) (text : List Cell) → AllShow (segments k s text)
 segments-shows zero s [] = tt
@@ -310,5 +287,4 @@ segments-shows (suc k) s [] = tt
 segments-shows (suc k) s (c ∷ cs) = segments-shows k s cs
 segments-shows zero s (c ∷ cs) =
     let here : Lexeme = lexeme s (c ∷ cs) in
-    shows-append (segments_in s.mode s (1 + here.more) (c ∷ cs)) (segments here.more here.after cs)
-    (lexeme-shows s c cs) (segments-shows here.more here.after cs)
+    grind (arith, nat_tests, shows-append, lexeme-shows s c cs, segments-shows here.more here.after cs)

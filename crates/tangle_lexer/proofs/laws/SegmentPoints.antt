@@ -9,8 +9,8 @@ use Rattle.tangle_text.specs.Text.{Cell}
 use Rattle.tangle_faults.specs.declared.faults.FaultKind.{FaultKind}
 use Rattle.tangle_lexer.specs.Lexemes.{fault_if}
 use Rattle.tangle_lexer.specs.Quoted.{cut_range}
-use Rattle.tangle_lexer.specs.Segments.{columns_from, span_points, cell_point, byte_points}
-use Rattle.tangle_lexer.proofs.laws.Points.{Point, IsByte, after_cell, HoldsBytes, IsTextAt, after-byte}
+use Rattle.tangle_lexer.specs.Segments.{columns_from, span_points, byte_points}
+use Rattle.tangle_lexer.proofs.laws.Points.{Point, after_cell, HoldsBytes, IsTextAt}
 
 -- the points of a line from column `start` up to column `end`
 abbrev pub columns_to : ℕ → ℕ → ℕ → List (ℕ × ℕ)
@@ -29,9 +29,6 @@ columns-next line start column h = grind (arith, nat_tests, columns-more)
 pub columns-nothing : (line column : ℕ) → columns_to line column column ≡ []
 columns-nothing line column = let e : column - column ≡ 0 = omega arith in ap (columns_from line column) e
 
-pub byte-point : (c : Cell) → IsByte c.byte → cell_point c.byte c ≡ (c.line, c.column) ∷ []
-byte-point c h = grind arith
-
 -- the points of the tokens that have a span
 
 abbrev pub token_points : List Token → List (ℕ × ℕ)
@@ -42,7 +39,7 @@ token_points (_ ∷ ts) = token_points ts
 pub points-append : (ts us : List Token) → token_points (ts ++ us) ≡ token_points ts ++ token_points us
 points-append [] us = refl
 points-append (token.Span kind s ∷ ts) us =
-    grind (arith, nat_tests, points-append ts us, append_assoc (span_points s) (token_points ts) (token_points us))
+    grind (arith, nat_tests, points-append ts us, append_assoc)
 points-append (_ ∷ ts) us = points-append ts us
 
 pub fault-points : (b : Bool) (kind : FaultKind) (line : ℕ) → token_points (fault_if b kind line) ≡ []
@@ -60,11 +57,4 @@ module _ (texts : List (List ℕ)) where
   bytes-columns at zero text is h = refl
   bytes-columns at (suc n) [] is h = absurd h
   bytes-columns at (suc n) (c ∷ cs) is h =
-      grind (
-        arith,
-        nat_tests,
-        after-byte c h.0,
-        bytes-columns (after_cell c) n cs is.1 h.1,
-        after_cell c,
-        byte-point c h.0,
-      )
+      grind (arith, bytes-columns (after_cell c) n cs is.1 h.1)

@@ -1,10 +1,10 @@
 -- The tokens of comments, control texts, other white space, words and signs are in order. `texts` are the bytes of the
 -- source lines.
+use Rattle.std.proofs.Common.{rules}
 use Rattle.std.proofs.lemmas.Bool.Decides.{nat_tests}
 use Rattle.std.proofs.Common.{◌≡◌, ℕ, ◌+◌, Bool, true, not, List, ◌∷◌, drop, Option}
 use Rattle.std.proofs.Common.{refl, ap, sym, ◌∙◌, arith, subst, if◌then◌else◌}
 use Rattle.tangle_faults.specs.declared.faults.FaultKind.{FaultKind}
-use Rattle.tangle_faults.specs.declared.faults.FaultKind.TheVariants as fault
 use Rattle.tangle_lexer.specs.declared.modes.LexerState.{LexerState}
 use Rattle.tangle_text.specs.declared.regions.Region.{Region}
 use Rattle.tangle_text.specs.declared.regions.Region.TheVariants as region
@@ -14,13 +14,13 @@ use Rattle.std.proofs.lemmas.List.{drop-drop}
 use Rattle.tangle_text.specs.Text.{Cell, byte_at, front_line, span_at, IsSpan}
 use Rattle.tangle_text.specs.Regions.{unit_of, count_before}
 use Rattle.tangle_lexer.specs.Lexemes.{Lexeme, is_in_directive}
-use Rattle.tangle_lexer.specs.Comments.{line_ends, two_if, ends_region, comment_or_control_text, line_comment}
+use Rattle.tangle_lexer.specs.Comments.{line_ends, two_if, ends_region, comment_or_control_text}
 use Rattle.tangle_lexer.specs.Constants.{bad_constant}
 use Rattle.tangle_lexer.proofs.laws.Points.{Point, point_at, IsByte, HoldsBytes, IsTextAt, text-within, text-after}
 use Rattle.tangle_lexer.proofs.laws.Points.{text-somewhere}
 use Rattle.tangle_lexer.proofs.laws.TokenOrder.{IsAtLine, in_order-append, faults-in_order, inner-in_order}
 use Rattle.tangle_lexer.proofs.laws.TokenOrder.{in_order-weaker, AreBefore}
-use Rattle.tangle_lexer.proofs.laws.RegionOrder.{more-bytes, region-bytes, lexeme-line}
+use Rattle.tangle_lexer.proofs.laws.RegionOrder.{more-bytes, region-bytes}
 use Rattle.tangle_lexer.proofs.laws.RegionOrder.{end-line, line_ends-in_order}
 
 pub word-bytes : (text : List Cell) → HoldsBytes (count_before region.Word text) text
@@ -47,9 +47,7 @@ bad_constant-bytes s text h =
     let inside : ℕ = count_before region.BadConstant rest in
     let last : ℕ = if holds apostrophe (byte_at 0 (drop inside rest)) then 1 else 0 in
     let sum : 2 + (inside + last) ≡ 1 + (1 + inside + last) = omega arith in
-    subst (λ n. HoldsBytes n text) sum
-    (more-bytes 2 (inside + last) text h
-    (more-bytes inside last rest (constant-bytes rest) (one-byte apostrophe (drop inside rest))))
+    search (rules, more-bytes, constant-bytes, one-byte)
 
 -- the two bytes that end a region, if they are there
 ends-bytes : (r : Region) (text : List Cell) → ends_region r text ≡ true → HoldsBytes 2 text
@@ -88,18 +86,7 @@ module _ (texts : List (List ℕ)) where
             at.line (line_ends r rest) (line_ends-in_order texts r stays rest front is2))),
       )
 
-  pub line_comment-in_order : (s : LexerState) (at : Point) (c : Cell) (cs : List Cell)
-      → IsTextAt texts at (c ∷ cs) → HoldsBytes 2 (c ∷ cs) → LexemeIsInOrder at.line cs (line_comment s (c ∷ cs))
-  line_comment-in_order s at c cs is h =
-      let inside : ℕ = count_before region.LineComment (drop 1 cs) in
-      let sum : 2 + inside ≡ 1 + (1 + inside) = omega arith in (
-        tt,
-        faults-in_order texts (λ l. IsAtLine l (drop (1 + inside) cs)) _ fault.CommentEnd _ at.line
-            (lexeme-line texts at (1 + inside) c cs is
-            (subst (λ n. HoldsBytes n (c ∷ cs)) sum (more-bytes 2 inside (c ∷ cs) h (line_comment-bytes (drop 1 cs))))),
-      )
-
   -- the first `n` bytes of a line are a range of it
   pub span-is : (at : Point) (n : ℕ) (c : Cell) (cs : List Cell) → IsTextAt texts at (c ∷ cs) → HoldsBytes n (c ∷ cs)
       → (c.line ≡ at.line) × IsSpan texts (span_at n (c ∷ cs))
-  span-is at n c cs is h = grind (arith, nat_tests, point_at, text-within, text-after)
+  span-is at n c cs is h = grind (arith, nat_tests, text-within, text-after)

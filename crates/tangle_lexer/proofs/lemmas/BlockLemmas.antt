@@ -1,13 +1,14 @@
 -- The tokens of a block: those before its head, in which runs stand for the tokens that they consist of.
+use Rattle.std.proofs.Common.{rules}
 use Rattle.std.proofs.lemmas.Bool.Decides.{nat_tests}
 use Rattle.std.proofs.Common.{◌≡◌, ◌<◌, ℕ, ◌+◌, Bool, true, false, List, [], ◌∷◌, ◌++◌, length, drop}
 use Rattle.std.proofs.Common.{refl, ap, sym, subst, ◌∙◌, append_assoc, drop-drop, arith, length-append}
-use Rattle.std.specs.List.{list_any, All}
+use Rattle.std.specs.List.{All}
 use Rattle.std.proofs.lemmas.List.Elements.{All-append, All-nil}
-use Rattle.std.proofs.lemmas.Bool.{or_parts, true≢false}
+use Rattle.std.proofs.lemmas.Bool.{or_parts}
 use Rattle.std.proofs.lemmas.Grind.{flat_map-append}
 use Rattle.tangle_lines.specs.Reading.{SourceLine}
-use Rattle.tangle_text.specs.Text.{Cell, IsRestOf, texts_of}
+use Rattle.tangle_text.specs.Text.{Cell, IsRestOf}
 use Rattle.tangle_lexer.specs.declared.modes.LexerState.{LexerState}
 use Rattle.tangle_lexer.specs.declared.tokens.Token.{Token}
 use Rattle.tangle_lexer.specs.Lexemes.{Lexeme}
@@ -27,29 +28,22 @@ no-head = none-by is_special is_head (λ t h. (or_parts (is_head t) (is_run t) h
 pub no-run : (ts : List Token) → HasNone is_special ts → HasNone is_run ts
 no-run = none-by is_special is_run (λ t h. (or_parts (is_head t) (is_run t) h).1)
 
-pub head-no-run : (t : Token) → is_head t ≡ true → is_run t ≡ false
-head-no-run x h = grind arith
-
 unfolded-one : (texts : List (List ℕ)) (t : Token) → is_run t ≡ false → unfolded_token texts t ≡ t ∷ []
 unfolded-one texts x h = grind arith
 
 pub unfolded-plain : (texts : List (List ℕ)) (ts : List Token) → HasNone is_run ts → unfolded texts ts ≡ ts
 unfolded-plain texts [] h = refl
 unfolded-plain texts (t ∷ ts) h =
-    let both = or_parts (is_run t) (list_any is_run ts) h in
-    rw (unfolded-one texts t both.0, unfolded-plain texts ts both.1) refl
+    grind (arith, nat_tests, unfolded-plain texts ts)
 
 pub unfolded-append : (texts : List (List ℕ)) (ts us : List Token)
     → unfolded texts (ts ++ us) ≡ unfolded texts ts ++ unfolded texts us
 unfolded-append texts ts us = flat_map-append (unfolded_token texts) ts us
 
-run_in-one : (texts : List (List ℕ)) (t : Token) → is_run t ≡ false → IsRunIn texts t
-run_in-one texts x h = grind arith
-
 pub runs-plain : (texts : List (List ℕ)) (ts : List Token) → HasNone is_run ts → All (IsRunIn texts) ts
 runs-plain texts [] h = All-nil (IsRunIn texts)
 runs-plain texts (t ∷ ts) h =
-    grind (arith, nat_tests, or_parts (is_run t) (list_any is_run ts) h, run_in-one texts t, runs-plain texts ts)
+    grind (arith, nat_tests, runs-plain texts ts)
 
 -- a rest of a rest of the text of lines is a rest of it
 pub rest-drop : (lines : List SourceLine) (n : ℕ) (text : List Cell)
@@ -64,14 +58,7 @@ pub plain-tokens : (texts : List (List ℕ)) (old new : List Token) (s after : L
     → HasNone is_run (lexeme s text).tokens
     → unfolded texts new ++ tokens_from after rest ≡ unfolded texts old ++ tokens_from s text
 plain-tokens texts old new s after text rest inside read none =
-    grind (
-      arith,
-      nat_tests,
-      unfolded-append texts old,
-      unfolded-plain texts,
-      append_assoc (unfolded texts old),
-      tokens_from-step s text inside,
-    )
+    grind (arith, unfolded-append texts old, unfolded-plain texts, append_assoc (unfolded texts old), tokens_from-step s text inside)
 
 pub plain-runs : (texts : List (List ℕ)) (old new : List Token) (s after : LexerState) (text rest : List Cell)
     → IsRead old new text rest after (lexeme s text) → HasNone is_run (lexeme s text).tokens
@@ -96,19 +83,9 @@ pub plain-reads-on : (lines : List SourceLine) (old new : List Token) (s after :
     → occurrences_from after rest ≡ occurrences_from s text → IsRestOf lines text
     → ReadsOn lines old new s after text rest
 plain-reads-on lines old new s after text rest inside read none occurrences ours =
-    grind (
-      arith,
-      nat_tests,
-      plain-tokens (texts_of lines) old new s after text rest inside read none,
-      plain-runs (texts_of lines) old new s after text rest read none,
-      read-ours lines old new s after text rest read ours,
-    )
+    search (rules, plain-tokens, plain-runs, read-ours)
 
 -- one after another
-
-pub reads-nothing : (lines : List SourceLine) (ts : List Token) (s : LexerState) (text : List Cell)
-    → IsRestOf lines text → ReadsOn lines ts ts s s text text
-reads-nothing lines ts s text ours = record { tokens = refl; runs = λ runs. runs; occurrences = refl; ours = ours }
 
 pub reads-trans : (lines : List SourceLine) (ts us vs : List Token) (s t u : LexerState) (x y z : List Cell)
     → ReadsOn lines ts us s t x y → ReadsOn lines us vs t u y z → ReadsOn lines ts vs s u x z
@@ -136,34 +113,18 @@ pub taken : (old new kept : List Token) (s after : LexerState) (text rest : List
     → HasNone is_head old → IsRead old new text rest after (lexeme s text)
     → (new ≡ kept ++ head ∷ []) × (is_head head ≡ true) → IsTaken old kept (lexeme s text) head
 taken old new kept s after text rest head none read popped =
-    grind (
-      arith,
-      nat_tests,
-      lexeme-alone s text,
-      no_head-snoc kept head popped.1,
-      none-append is_head old,
-      no-head,
-      same-parts kept old head,
-    )
+    grind (arith, lexeme-alone s text, no_head-snoc kept head popped.1, none-append is_head old, no-head, same-parts kept old head)
 
 -- no head was removed: the lexeme is none
 pub not-taken : (old new : List Token) (s after : LexerState) (text rest : List Cell)
     → IsRead old new text rest after (lexeme s text)
     → ((ts : List Token) (head : Token) → new ≡ ts ++ head ∷ [] → is_head head ≡ false)
     → IsPlain s (lexeme s text)
-not-taken old new s after text rest read none = grind (arith, nat_tests, lexeme-alone s text, true≢false)
+not-taken old new s after text rest read none = grind (arith, nat_tests, lexeme-alone s text)
 
 pub taken-tokens : (texts : List (List ℕ)) (old new kept : List Token) (s after : LexerState) (text rest : List Cell)
     (head : Token) → 0 < length text → IsRead old new text rest after (lexeme s text)
     → (new ≡ kept ++ head ∷ []) × (is_head head ≡ true) → IsTaken old kept (lexeme s text) head
     → unfolded texts kept ++ head ∷ [] ++ tokens_from after rest ≡ unfolded texts old ++ tokens_from s text
 taken-tokens texts old new kept s after text rest head inside read popped taken =
-    grind (
-      arith,
-      nat_tests,
-      taken,
-      head-no-run head popped.1,
-      unfolded-append texts kept (head ∷ []),
-      unfolded-plain texts (head ∷ []),
-      plain-tokens texts old new s after text rest inside read,
-    )
+    grind (arith, unfolded-append texts kept (head ∷ []), plain-tokens texts old new s after text rest inside read)

@@ -1,6 +1,6 @@
 -- Texts that are cut, unit by unit.
 use Rattle.std.proofs.lemmas.Bool.Decides.{nat_tests}
-use Rattle.std.proofs.Common.{◌≡◌, ◌<◌, ◌+◌, ℕ, Bool, true, false, List, [], ◌∷◌, ◌++◌, length, drop}
+use Rattle.std.proofs.Common.{◌≡◌, ◌<◌, ◌+◌, ℕ, Bool, true, List, [], ◌∷◌, ◌++◌, length, drop}
 use Rattle.std.proofs.Common.{drop-drop, refl, arith}
 use Rattle.std.proofs.lemmas.Bool.{eqb-true}
 use Rattle.tangle_text.specs.declared.regions.Region.{Region}
@@ -8,10 +8,8 @@ use Rattle.tangle_text.specs.declared.regions.Unit.{Unit as Unit-of}
 use Rattle.tangle_text.specs.declared.regions.Unit.TheVariants as unit
 use Rattle.tangle_lexer.specs.declared.tokens.Token.{Token}
 use Rattle.tangle_text.specs.Text.{Cell, byte_at, front_cell}
-use Rattle.tangle_text.specs.declared.regions.Region.TheVariants as region
-use Rattle.tangle_text.specs.Regions.{unit_at, more_by, units, region_end, count_before}
+use Rattle.tangle_text.specs.Regions.{unit_at, more_by, region_end, count_before}
 use Rattle.tangle_lexer.specs.Quoted.{cut_tokens, unit_tokens, next_start, ends_at_once, one_if}
-use Rattle.tangle_lexer.specs.Quoted.{is_backslash_at, last_is_backslash}
 use Rattle.tangle_text.proofs.RegionLemmas.{region_end-is}
 
 -- a unit that does not end the region adds its tokens
@@ -28,29 +26,7 @@ pub cut-stop : (ends : ℕ → List Cell → List Token) (r : Region) (start : �
 cut-stop ends r start [] h = refl
 cut-stop ends r start (c ∷ cs) h = rw h refl
 
-pub cut-nothing : (ends : ℕ → List Cell → List Token) (r : Region) (start : ℕ) (text : List Cell) → text ≡ [] →
-    cut_tokens ends r 0 start text ≡ ends start text
-cut-nothing ends r start text h = rw h refl
-
 -- whether a verbatim text ends in a backslash, unit by unit
-
-pub backslash-stop : (last : Bool) (text : List Cell) → unit_at region.Verbatim text ≡ unit.Stop
-    → last_is_backslash last (units region.Verbatim text) ≡ last
-backslash-stop last x h = grind arith
-
-pub backslash-go : (last : Bool) (text : List Cell) (u : Unit-of)
-    → 0 < length text → unit_at region.Verbatim text ≡ u → (u ≡ unit.Stop → ⊥)
-    → last_is_backslash last (units region.Verbatim text)
-    ≡ last_is_backslash (is_backslash_at u (byte_at 0 text)) (units region.Verbatim (drop (more_by u) (drop 1 text)))
-backslash-go last text u inside h go = grind (arith, nat_tests)
-
--- a region that ends at the front is empty
-pub at_once-stop : (r : Region) (text : List Cell) → unit_at r text ≡ unit.Stop → ends_at_once r text ≡ true
-at_once-stop r x h = grind arith
-
-pub at_once-go : (r : Region) (text : List Cell) (u : Unit-of)
-    → 0 < length text → unit_at r text ≡ u → (u ≡ unit.Stop → ⊥) → ends_at_once r text ≡ false
-at_once-go r text u inside h go = grind (arith, nat_tests)
 
 pub at_once-end : (r : Region) (text : List Cell) → ends_at_once r text ≡ true → text ≡ region_end r text
 unfolding region_end

@@ -21,5 +21,5 @@ ends_with_dots name r h =
     (λ equal.
     let same : drop k name ≡ dots = (bytes_eq-Decides (drop k name) dots).0 equal in
     let long : 3 ≤ length name = omega (arith, length-drop k name, ap length same) in
-    let fits : k + 3 ≤ length name = omega (arith, long) in
+    let fits : k + 3 ≤ length name = omega arith in
     h.1 (long, OccursAt-true name dots k (and_from _ _ (le-leb _ _ fits) (ap (λ l. bytes_eq l dots) all ∙ equal))))

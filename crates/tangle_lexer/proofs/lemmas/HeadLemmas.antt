@@ -13,7 +13,7 @@ use Rattle.tangle_lexer.specs.Lexemes.{Lexeme}
 use Rattle.tangle_faults.specs.declared.faults.FaultKind.TheVariants as fault
 use Rattle.tangle_lexer.specs.Names.{definition_or_mention, definition_count}
 use Rattle.tangle_lexer.specs.Steps.{lexeme}
-use Rattle.tangle_lexer.proofs.lemmas.PlainTokens.{HasNone, none-by, ArePlain, is_not_plain, fault_if-plain}
+use Rattle.tangle_lexer.proofs.lemmas.PlainTokens.{HasNone, none-by, ArePlain, fault_if-plain}
 use Rattle.tangle_lexer.proofs.lemmas.PlainLexemes.{IsPlainLexeme, use-plain, mention-plain, fault-plain, kind-plain}
 use Rattle.tangle_lexer.proofs.lemmas.LexemeCases.{lexeme-by}
 use Rattle.tangle_lexer.specs.Heads.{is_head}
@@ -43,7 +43,7 @@ IsHeadAlone s l = IsPlain s l ⊎ IsHead l
 
 -- plain tokens are neither heads nor runs
 plain-special : (ts : List Token) → ArePlain ts → HasNone is_special ts
-plain-special ts h = grind (arith, nat_tests, none-by, is_not_plain)
+plain-special ts h = grind (arith, nat_tests, none-by)
 
 plain-alone : (s : LexerState) (l : Lexeme) → IsPlainLexeme s l → IsHeadAlone s l
 plain-alone s l h = inl (plain-special l.tokens h.tokens, λ e. sym h.mode ∙ e)

@@ -1,9 +1,10 @@
 -- The cases of a lexeme, by the mode and by the first two cells.
+use Rattle.std.proofs.Common.{rules}
 use Rattle.std.proofs.Common.{arith}
-use Rattle.std.proofs.Common.{◌≡◌, ℕ, Bool, true, false, ◌&&◌, ◌==◌, Option, Some, None, List, [], refl, ap}
+use Rattle.std.proofs.Common.{◌≡◌, ℕ, Bool, true, false, ◌&&◌, ◌==◌, Option, Some, None, List, [], refl}
 use Rattle.std.proofs.lemmas.Bool.{cond_both}
 use Rattle.tangle_faults.specs.declared.faults.FaultKind.TheVariants as fault
-use Rattle.tangle_lines.specs.Bytes.{at_sign, double_quote, is_white}
+use Rattle.tangle_lines.specs.Bytes.{at_sign}
 use Rattle.tangle_lexer.specs.declared.modes.Mode.{Mode}
 use Rattle.tangle_lexer.specs.declared.modes.Mode.TheVariants as mode
 use Rattle.tangle_lexer.specs.declared.modes.LexerState.{LexerState}
@@ -12,16 +13,14 @@ use Rattle.tangle_lexer.specs.declared.lexeme_kinds.ControlCode.{ControlCode}
 use Rattle.tangle_lexer.specs.declared.lexeme_kinds.ControlCode.TheVariants as code
 use Rattle.tangle_lexer.specs.declared.lexeme_kinds.LexemeKind.{LexemeKind}
 use Rattle.tangle_lexer.specs.declared.lexeme_kinds.LexemeKind.TheVariants as lexeme_kind
-use Rattle.tangle_text.specs.Bytes.{asterisk, slash, less_sign, apostrophe, holds, holds_white, are_bytes, is_line_end}
-use Rattle.tangle_text.specs.Bytes.{is_word_byte}
+use Rattle.tangle_text.specs.Bytes.{asterisk, slash, holds, holds_white, are_bytes, is_line_end}
 use Rattle.tangle_text.specs.Text.{Cell, byte_at}
 use Rattle.tangle_lexer.specs.Lexemes.{Lexeme, lexeme_of, in_mode}
-use Rattle.tangle_lexer.specs.Comments.{starts_section}
 use Rattle.tangle_lexer.specs.Names.{use_of_name, name_in_documentation}
 use Rattle.tangle_lexer.specs.Segments.{OpensWith}
 use Rattle.tangle_lexer.specs.Lexemes.{is_c_part}
 use Rattle.tangle_lexer.specs.Simple.{is_c_text}
-use Rattle.tangle_lexer.specs.CText.{code_at, less_kind, kind_by, kind_at, section_start, code_fault}
+use Rattle.tangle_lexer.specs.CText.{code_at, less_kind, kind_by, section_start, code_fault}
 use Rattle.tangle_lexer.specs.Steps.{documentation_code}
 use Rattle.tangle_lexer.specs.Steps.{limbo_code, c_lexeme, macro_lexeme, lexeme_in, lexeme}
 
@@ -44,15 +43,10 @@ kind-opens inc (Some b) next =
     let P : LexemeKind → Type 0 = λ k. Opens k (Some b) next in
     cond_both (b == at_sign) (lexeme_kind.Control (code_at next)) _ P (λ e. (e, refl)) (λ other.
     cond_both (b == slash && holds asterisk next) lexeme_kind.BlockComment _ P (λ e. e) (λ e.
-    cond_both (b == slash && holds slash next) lexeme_kind.LineComment _ P (λ e. e) (λ e.
-    cond_both (b == double_quote) lexeme_kind.DoubleQuote _ P (λ e. (refl, other)) (λ e.
-    cond_both (b == apostrophe) lexeme_kind.Apostrophe _ P (λ e. (refl, other)) (λ e.
-    cond_both (b == less_sign) (less_kind inc) _ P (λ e. less inc other) (λ e.
-    cond_both (is_white b) lexeme_kind.White _ P (λ e. e) (λ e.
-    cond_both (is_word_byte b) lexeme_kind.Word lexeme_kind.Other P (λ e. (refl, other)) (λ e. (refl, other)))))))))
+    cond_both (b == slash && holds slash next) lexeme_kind.LineComment _ P (λ e. e) (search rules)))
   where
     less : (inc : IncludeState) → holds at_sign (Some b) ≡ false → Opens (less_kind inc) (Some b) next
-    less x h = grind arith
+    less x h = search rules
 
 -- lexemes of C text that begin no section and are no use of a name
 abbrev pub IsPlainKind : LexemeKind → Type 0
@@ -93,16 +87,13 @@ module _ (P : Lexeme → Type 0) (s : LexerState) (text : List Cell) (by : Lexem
 
   mode-by : (m : Mode) → s.mode ≡ m → P (lexeme_in m s text)
   mode-by mode.Limbo m =
-      cond_both (starts_section text) _ _ P (λ e. by.section)
-      (λ e. cond_both (holds at_sign (byte_at 0 text)) _ _ P
-      (λ e. by.limbo m _) (λ e. by.skip (ap is_c_text m) _))
+      search rules
   mode-by mode.Documentation m =
-      cond_both (holds at_sign (byte_at 0 text)) _ _ P
-      (λ e. documentation-by (code_at (byte_at 1 text)) m (e, refl)) (λ e. by.skip (ap is_c_text m) _)
+      search rules
   mode-by mode.CPart m =
-      c-by (kind_at s.line.include text) m (kind-opens s.line.include (byte_at 0 text) (byte_at 1 text))
+      search (rules, c-by, kind-opens)
   mode-by mode.Macro m =
-      macro-by (kind_at s.line.include text) m (kind-opens s.line.include (byte_at 0 text) (byte_at 1 text))
+      search (rules, macro-by, kind-opens)
 
   pub lexeme-by : P (lexeme s text)
   unfolding lexeme

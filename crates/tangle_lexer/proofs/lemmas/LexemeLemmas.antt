@@ -9,7 +9,7 @@ use Rattle.tangle_lexer.specs.declared.tokens.Token.{Token}
 use Rattle.tangle_text.specs.Text.{Cell, byte_at, front_cell}
 use Rattle.tangle_text.specs.Regions.{unit_at, more_by}
 use Rattle.tangle_text.specs.NameBytes.{name_bytes}
-use Rattle.tangle_text.proofs.UnitLemmas.{from_units, units-give, name_bytes_of, name_bytes-are}
+use Rattle.tangle_text.proofs.UnitLemmas.{from_units, units-give, name_bytes_of}
 use Rattle.tangle_text.specs.declared.regions.Region.TheVariants as region
 use Rattle.tangle_lexer.specs.LinesOfC.{after_line_end, after_line_ends}
 use Rattle.tangle_lexer.specs.Lexemes.{line_end_by}
@@ -38,9 +38,6 @@ pub line_ends-go : (r : Region) (last : ℕ) (text : List Cell) (u : Unit-of)
 line_ends-go r last text u inside h go = grind arith
 
 -- names, unit by unit
-
-pub name_bytes-stop : (text : List Cell) → unit_at region.Name text ≡ unit.Stop → name_bytes text ≡ []
-name_bytes-stop text h = name_bytes-are text ∙ from_units-stop name_bytes_of region.Name text h
 
 pub name_bytes-go : (last : ℕ) (text : List Cell) (u : Unit-of)
     → 0 < length text → unit_at region.Name text ≡ u → (u ≡ unit.Stop → ⊥)

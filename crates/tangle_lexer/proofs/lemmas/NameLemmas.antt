@@ -19,7 +19,7 @@ use Rattle.tangle_text.proofs.AheadLemmas.{byte_at-drop}
 
 pub byte_at-next : (n : ℕ) (text : List Cell) → byte_at (n + 1) text ≡ byte_at 1 (drop n text)
 byte_at-next n text =
-    grind (arith, nat_tests, byte_at-drop (n + 1) text, drop-drop 1 n text, byte_at-drop 1 (drop n text))
+    grind (arith, nat_tests, byte_at-drop (n + 1) text, drop-drop 1 n text)
 
 -- the equals sign, by the text after the cells before it
 pub equals-further : (text : List Cell)
@@ -33,12 +33,7 @@ name_end-is text mid h = mid-is region.Name text mid h
 pub after-is : (text mid rest : List Cell)
     → mid ≡ name_end text → rest ≡ drop (two_if (has_end_code mid)) mid → rest ≡ after_name text
 after-is text mid rest h go =
-    grind (
-      arith,
-      nat_tests,
-      after-two (name_count text) text,
-      drop-drop (two_if (is_ended text)) (1 + name_count text) (drop 1 text),
-    )
+    grind (arith, after-two (name_count text) text, drop-drop (two_if (is_ended text)) (1 + name_count text) (drop 1 text))
 
 -- the text after white space, + and white space
 pub plus-further : (text : List Cell) → holds plus_sign (byte_at 0 (white_end text)) ≡ true →

@@ -1,11 +1,12 @@
 -- How a name in normal form grows with the bytes that are read.
+use Rattle.std.proofs.Common.{rules}
 use Rattle.std.proofs.lemmas.Bool.Decides.{nat_tests}
 use Rattle.std.proofs.Common.{◌≡◌, ◌<◌, ℕ, List, [], ◌∷◌, ◌++◌, Bool, true, false, ◌&&◌, append_assoc}
-use Rattle.std.proofs.Common.{append-nil, length, length-append, Option, Some, None, refl, ap, sym, ◌∙◌, arith, cond}
+use Rattle.std.proofs.Common.{append-nil, length, length-append, Option, Some, refl, ap, sym, ◌∙◌, arith, cond}
 use Rattle.std.proofs.Common.{All, inl, inr, ◌⊎◌, if◌then◌else◌, filter}
 use Rattle.std.specs.List.{slice_split, onto_first, join_with_byte, last_or}
-use Rattle.std.proofs.lemmas.List.Splits.{slice_split_none, slice_split-cons_yes, slice_split-cons_no}
-use Rattle.std.proofs.lemmas.List.Elements.{filter-append, All-nil, All-cons}
+use Rattle.std.proofs.lemmas.List.Splits.{slice_split_none, slice_split-cons_yes}
+use Rattle.std.proofs.lemmas.List.Elements.{filter-append}
 use Rattle.tangle_files.specs.Bytes.{space}
 use Rattle.tangle_lines.specs.Bytes.{is_white}
 use Rattle.tangle_lexer.specs.Names.{has_bytes, name_words, normal_form, IsNameSoFar}
@@ -23,12 +24,6 @@ parts_by b white parts = cond white ([] ∷ parts) (onto_first b parts)
 
 abbrev AreOther : List ℕ → Type 0
 AreOther bytes = All (λ b. is_white b ≡ false) bytes
-
-none-other : AreOther []
-none-other = All-nil (λ b. is_white b ≡ false)
-
-and-other : (b : ℕ) (bytes : List ℕ) → is_white b ≡ false → AreOther bytes → AreOther (b ∷ bytes)
-and-other b bytes = All-cons (λ b. is_white b ≡ false) b bytes
 
 -- bytes are none, or have a last one
 from-end : (bytes : List ℕ) → (bytes ≡ []) ⊎ ((front : List ℕ) × (b : ℕ) × (bytes ≡ front ++ b ∷ []))
@@ -53,22 +48,14 @@ join-append (first ∷ second ∷ words) word =
     ap (λ bs. first ++ space ∷ bs) (join-append (second ∷ words) word)
     ∙ sym (append_assoc first (space ∷ join_with_byte space (second ∷ words)) (space ∷ word))
 
-join-begins : (b : ℕ) (bytes : List ℕ) (words : List (List ℕ))
-    → has_bytes (join_with_byte space ((b ∷ bytes) ∷ words)) ≡ true
-join-begins b bytes x = grind arith
-
 -- the normal form has a byte if there is a word
 join-has : (parts : List (List ℕ))
     → has_bytes (join_with_byte space (filter has_bytes parts)) ≡ has_words (filter has_bytes parts)
 join-has [] = refl
 join-has ([] ∷ parts) = join-has parts
-join-has ((b ∷ bytes) ∷ parts) = join-begins b bytes (filter has_bytes parts)
+join-has ((b ∷ bytes) ∷ parts) = (grind arith)
 
 -- parts and words
-
-by-append : (b : ℕ) (white : Bool) (parts more : List (List ℕ))
-    → 0 < length parts → parts_by b white (parts ++ more) ≡ parts_by b white parts ++ more
-by-append b white x more any = grind arith
 
 parts-any : (bytes : List ℕ) → 0 < length (parts_of bytes)
 parts-any [] = omega arith
@@ -79,8 +66,7 @@ parts-white : (front : List ℕ) (b : ℕ) (rest : List ℕ)
     → is_white b ≡ true → parts_of (front ++ b ∷ rest) ≡ parts_of front ++ parts_of rest
 parts-white [] b rest white = slice_split-cons_yes is_white b rest white
 parts-white (x ∷ front) b rest white =
-    ap (parts_by x (is_white x)) (parts-white front b rest white)
-    ∙ by-append x (is_white x) (parts_of front) (parts_of rest) (parts-any front)
+    grind (arith, nat_tests, parts-white front b rest white, parts-any front)
 
 -- bytes that are not white space belong to the last part
 parts-other : (bytes : List ℕ)
@@ -100,15 +86,11 @@ parts-other (b ∷ bytes) =
     by false [] part h = ([], b ∷ part, h)
     by false (first ∷ front) part h = ((b ∷ first) ∷ front, part, h)
 
--- white space at the end adds no word
-words-white : (bytes : List ℕ) (b : ℕ) → is_white b ≡ true → name_words (bytes ++ b ∷ []) ≡ name_words bytes
-words-white bytes b white = grind (arith, nat_tests, filter, parts-white, filter-append, append-nil)
-
 -- a byte after white space begins a word
 words-new : (front : List ℕ) (a b : ℕ) → is_white a ≡ true → is_white b ≡ false
     → name_words ((front ++ a ∷ []) ++ b ∷ []) ≡ name_words (front ++ a ∷ []) ++ (b ∷ []) ∷ []
 words-new front a b white other =
-    grind (arith, nat_tests, append_assoc, filter, parts-white, filter-append, slice_split-cons_no, words-white)
+    search (rules, append_assoc, parts-white, filter-append)
 
 -- a byte after another one belongs to the same word
 words-more : (bytes : List ℕ) (a b : ℕ) → is_white a ≡ false → is_white b ≡ false
@@ -117,70 +99,41 @@ words-more : (bytes : List ℕ) (a b : ℕ) → is_white a ≡ false → is_whit
 words-more bytes a b first second =
     let last = parts-other bytes in
     by (filter has_bytes last.0) last.1
-    (ap (filter has_bytes) (last.2 (a ∷ []) (and-other a [] first none-other))
-    ∙ filter-append has_bytes last.0 ((last.1 ++ a ∷ []) ∷ []))
-    (ap name_words (append_assoc bytes (a ∷ []) (b ∷ []))
-    ∙ ap (filter has_bytes) (last.2 (a ∷ b ∷ []) (and-other a (b ∷ []) first (and-other b [] second none-other)))
-    ∙ filter-append has_bytes last.0 ((last.1 ++ a ∷ b ∷ []) ∷ []))
+    (search (rules, filter-append))
+    (search (rules, append_assoc, filter-append))
   where
     by : {before after : List (List ℕ)} (words : List (List ℕ)) (part : List ℕ)
         → before ≡ words ++ filter has_bytes ((part ++ a ∷ []) ∷ [])
         → after ≡ words ++ filter has_bytes ((part ++ a ∷ b ∷ []) ∷ [])
         → (words : List (List ℕ)) × (word : List ℕ) × (before ≡ words ++ word ∷ [])
         × (after ≡ words ++ (word ++ b ∷ []) ∷ [])
-    by words [] e f = (words, a ∷ [], e, f)
-    by words (x ∷ part) e f = (
-      words,
-      x ∷ part ++ a ∷ [],
-      e,
-      f ∙ ap (λ bs. words ++ (x ∷ bs) ∷ []) (sym (append_assoc part (a ∷ []) (b ∷ []))),
-    )
+    by words [] e f = search rules
+    by words (x ∷ part) e f = search (rules, append_assoc)
 
 -- the normal form
-
-space-append : (after : Bool) (front word more : List ℕ)
-    → front ++ (if after then space ∷ (word ++ more) else word ++ more)
-    ≡ (front ++ (if after then space ∷ word else word)) ++ more
-space-append after front word more = grind (arith, nat_tests, append_assoc)
-
--- a byte after white space is added with one space before it, unless it is the first of the name
-form-new : (front : List ℕ) (a b : ℕ) → is_white a ≡ true → is_white b ≡ false
-    → normal_form ((front ++ a ∷ []) ++ b ∷ [])
-    ≡ normal_form (front ++ a ∷ []) ++ (if has_bytes (normal_form (front ++ a ∷ [])) then space ∷ b ∷ [] else b ∷ [])
-form-new front a b white other = grind (arith, nat_tests, words-new, join-append, join-has)
 
 -- a byte after another one is added
 form-more : (front : List ℕ) (a b : ℕ) → is_white a ≡ false → is_white b ≡ false
     → normal_form ((front ++ a ∷ []) ++ b ∷ []) ≡ normal_form (front ++ a ∷ []) ++ b ∷ []
 form-more front a b first second =
-    grind (arith, nat_tests, words-more front a b first second, join-append, space-append)
+    grind (arith, nat_tests, words-more front a b first second, join-append, append_assoc)
 
 -- the name with a byte more
 
 pub so-far-white : (read name : List ℕ) (white : Bool) (b : ℕ) → is_white b ≡ true → IsNameSoFar read name white
     → IsNameSoFar (read ++ b ∷ []) name true
-so-far-white read name white b is h = grind (arith, nat_tests, words-white, last-append)
+so-far-white read name white b is h = grind (arith, nat_tests, parts-white, filter-append, append-nil, last-append)
 
 -- the byte that is read is added, after a space if one is needed
 so-far-next : (read name : List ℕ) (white : Bool) (b : ℕ) → is_white b ≡ false → IsNameSoFar read name white
     → IsNameSoFar (read ++ b ∷ []) (name ++ (if has_bytes name && white then space ∷ b ∷ [] else b ∷ [])) false
 so-far-next read name white b is h =
-    grind (
-      arith,
-      nat_tests,
-      from-end read,
-      filter has_bytes,
-      slice_split-cons_no is_white b,
-      last-append None read b,
-      last-append None,
-      form-new,
-      form-more,
-    )
+    grind (arith, nat_tests, from-end read, last-append, words-new, join-append, join-has, form-more)
 
 pub so-far-space : (read name : List ℕ) (white : Bool) (b : ℕ) → is_white b ≡ false → IsNameSoFar read name white
     → 0 < length name → white ≡ true
     → IsNameSoFar (read ++ b ∷ []) ((name ++ space ∷ []) ++ b ∷ []) false
-so-far-space read [] white b is h any after = absurd (omega (arith, any))
+so-far-space read [] white b is h any after = absurd (omega arith)
 so-far-space read (x ∷ name) white b is h any after =
     grind (arith, nat_tests, append_assoc (x ∷ name) (space ∷ []) (b ∷ []), so-far-next read (x ∷ name) white b is h)
 
@@ -190,7 +143,7 @@ pub so-far-byte : (read name : List ℕ) (white : Bool) (b : ℕ) → is_white b
 so-far-byte read [] white b is h reason = so-far-next read [] white b is h
 so-far-byte read (x ∷ name) white b is h (inl other) =
     grind (arith, nat_tests, so-far-next read (x ∷ name) white b is h)
-so-far-byte read (x ∷ name) white b is h (inr none) = absurd (omega (arith, none))
+so-far-byte read (x ∷ name) white b is h (inr none) = absurd (omega arith)
 
 -- names that are in normal form as they are read
 
@@ -210,6 +163,6 @@ pub plain-byte : (read : List ℕ) (white : Bool) (b : ℕ)
     → is_white b ≡ false → IsPlainSoFar read white → IsPlainSoFar (read ++ b ∷ []) false
 plain-byte read true b is (inl none) = grind (arith, nat_tests)
 plain-byte read true b is (inr name) =
-    grind (arith, nat_tests, length-append read (b ∷ []), so-far-space read name.0 true b is name.3 name.1 refl)
+    grind (arith, nat_tests, length-append read, so-far-space read name.0 true b is name.3 name.1)
 plain-byte read false b is h =
-    (omega (arith, length-append read (b ∷ [])), so-far-byte read read false b is h.1 (inl refl))
+    grind (arith, nat_tests, length-append read, so-far-byte read read false b is h.1)

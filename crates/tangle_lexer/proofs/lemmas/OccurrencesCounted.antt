@@ -1,4 +1,5 @@
 -- Occurrences are numbered one after another, so their numbers in tokens are below their count.
+use Rattle.std.proofs.Common.{rules}
 use Rattle.std.proofs.lemmas.Bool.Decides.{nat_tests}
 use Rattle.std.proofs.Common.{◌≡◌, ◌≤◌, ◌<◌, ℕ, zero, suc, ◌+◌, false, ◌||◌, List, [], ◌∷◌, ◌++◌, length}
 use Rattle.std.proofs.Common.{flat_map, refl, ap, arith, Option, None, Some, option_to_list}
@@ -40,13 +41,13 @@ plain-below count (t ∷ ts) h = both t (λ k. plain-below count ts k) h
   where
     both : (t : Token) → (list_any is_not_plain ts ≡ false → AreBelow count ts)
         → (is_not_plain t || list_any is_not_plain ts) ≡ false → IsBelow count t × AreBelow count ts
-    both x more h = grind arith
+    both x more h = search rules
 
 -- a lexeme without an occurrence
 plain-keeps : (s : LexerState) (l : Lexeme)
     → l.occurrence ≡ None → l.after.occurrences ≡ s.occurrences → ArePlain l.tokens → Keeps s l
 plain-keeps s l none same q = record {
-  count = omega (arith, same, ap (λ n. length (option_to_list n)) none);
+  count = omega (arith, ap (λ n. length (option_to_list n)) none);
   below = plain-below _ l.tokens q.none;
 }
 
@@ -80,12 +81,9 @@ lexeme-keeps s text =
 
 -- all lexemes of a text
 
-token-more : (few many : ℕ) (t : Token) → few ≤ many → IsBelow few t → IsBelow many t
-token-more few many x h k = grind arith
-
 below-more : (few many : ℕ) (ts : List Token) → few ≤ many → AreBelow few ts → AreBelow many ts
 below-more few many [] h k = tt
-below-more few many (t ∷ ts) h k = (token-more few many t h k.0, below-more few many ts h k.1)
+below-more few many (t ∷ ts) h k = ((grind arith), below-more few many ts h k.1)
 
 lexemes-below : (k : ℕ) (s : LexerState) (text : List Cell) (count : ℕ)
     → count ≡ s.occurrences + length (flat_map (λ l. option_to_list l.occurrence) (lexemes k s text))
@@ -99,8 +97,8 @@ lexemes-below zero s (c ∷ cs) count is =
     let more = flat_map (λ l. option_to_list l.occurrence) (lexemes here.more here.after cs) in
     let lengths = length-append (option_to_list here.occurrence) more in
     below-append count here.tokens (flat_map (λ l. l.tokens) (lexemes here.more here.after cs))
-    (below-more _ count here.tokens (omega (arith, is, lengths)) keeps.below)
-    (lexemes-below here.more here.after cs count (omega (arith, is, lengths, keeps.count)))
+    (below-more _ count here.tokens (omega arith) keeps.below)
+    (lexemes-below here.more here.after cs count (omega arith))
 
 pub tokens-below : (s : LexerState) (text : List Cell)
     → AreBelow (s.occurrences + length (occurrences_from s text)) (tokens_from s text)

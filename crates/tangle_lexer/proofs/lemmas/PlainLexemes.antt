@@ -22,7 +22,7 @@ use Rattle.tangle_lexer.specs.Steps.{c_lexeme}
 use Rattle.tangle_lexer.proofs.lemmas.LexemeCases.{IsPlainKind}
 use Rattle.tangle_lexer.proofs.lemmas.PlainTokens.{ArePlain, seen, plain-append, fault_if-plain, white-plain}
 use Rattle.tangle_lexer.proofs.lemmas.PlainTokens.{line_ends-plain, verbatim_tokens-text, cut_tokens-text}
-use Rattle.tangle_lexer.proofs.lemmas.PlainTokens.{quote_end-text, text-plain, AreText}
+use Rattle.tangle_lexer.proofs.lemmas.PlainTokens.{text-plain, AreText}
 
 pub record IsPlainLexeme (s : LexerState) (here : Lexeme) : Type 0 where
   pub tokens : ArePlain here.tokens
@@ -53,11 +53,11 @@ constant-plain x s text = grind arith
 
 pub quoted-text : (r : Region) (close : ℕ) (s : LexerState) (text : List Cell)
     → AreText (quoted_text r close s text).tokens
-quoted-text r close s text = grind (arith, nat_tests, cut_tokens-text, quote_end-text)
+quoted-text r close s text = grind (arith, nat_tests, cut_tokens-text)
 
 quoted-plain : (r : Region) (close : ℕ) (s : LexerState) (text : List Cell)
     → IsPlainLexeme s (quoted_text r close s text)
-quoted-plain r close s text = grind (arith, nat_tests, plain, text-plain, quoted-text)
+quoted-plain r close s text = grind (arith, nat_tests, text-plain, quoted-text)
 
 pub fault-plain : (kind : FaultKind) (s : LexerState) (text : List Cell) → IsPlainLexeme s (code_fault kind s text)
 fault-plain kind s text = plain s _ (seen _ refl) refl refl refl refl
@@ -67,13 +67,13 @@ pub kind-plain : (kind : LexemeKind) (s : LexerState) (text : List Cell)
 kind-plain (lexeme_kind.Control code.SectionStart) s text h = absurd h
 kind-plain (lexeme_kind.Control code.Name) s text h = absurd h
 kind-plain (lexeme_kind.Control code.ControlText) s text h =
-    grind (arith, nat_tests, plain, white-plain, line_ends-plain, fault_if-plain)
-kind-plain (lexeme_kind.Control code.Verbatim) s text h = search (rules, plain, text-plain, verbatim_tokens-text)
+    search (rules, white-plain, line_ends-plain, fault_if-plain)
+kind-plain (lexeme_kind.Control code.Verbatim) s text h = search (rules, text-plain, verbatim_tokens-text)
 kind-plain (lexeme_kind.Control code.AllMacros) s text h = grind (arith, nat_tests)
 kind-plain (lexeme_kind.Control code.AsciiConstant) s text h = constant-plain (constant_at (drop 2 text)) s text
 kind-plain lexeme_kind.BlockComment s text h =
-    grind (arith, nat_tests, plain, white-plain, line_ends-plain, fault_if-plain)
-kind-plain lexeme_kind.LineComment s text h = grind (arith, nat_tests, plain, white-plain, seen, fault_if-plain)
+    search (rules, white-plain, line_ends-plain, fault_if-plain)
+kind-plain lexeme_kind.LineComment s text h = grind (arith, nat_tests, fault_if-plain)
 kind-plain lexeme_kind.DoubleQuote s text h = quoted-plain region.DoubleQuote _ s text
 kind-plain lexeme_kind.Apostrophe s text h = quoted-plain region.Apostrophe _ s text
 kind-plain lexeme_kind.HeaderName s text h = quoted-plain region.HeaderName _ s text

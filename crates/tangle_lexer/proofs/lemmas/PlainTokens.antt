@@ -1,9 +1,9 @@
 -- Tokens that are neither heads nor uses nor runs.
+use Rattle.std.proofs.Common.{rules}
 use Rattle.std.proofs.lemmas.Bool.Decides.{nat_tests}
 use Rattle.std.proofs.Common.{arith}
-use Rattle.std.proofs.Common.{◌≡◌, ℕ, zero, suc, Bool, true, false, List, [], ◌∷◌, ◌++◌, refl, Option}
+use Rattle.std.proofs.Common.{◌≡◌, ℕ, zero, suc, Bool, true, false, List, [], ◌∷◌, ◌++◌, refl}
 use Rattle.std.proofs.Common.{flat_map, map}
-use Rattle.std.proofs.lemmas.Bool.{cond_both, or_parts}
 use Rattle.std.specs.List.{list_any}
 use Rattle.std.proofs.lemmas.List.Folds.{list_any-append}
 use Rattle.tangle_faults.specs.declared.faults.FaultKind.{FaultKind}
@@ -16,8 +16,8 @@ use Rattle.tangle_text.specs.Regions.{unit_at, more_by}
 use Rattle.tangle_lexer.specs.LinesOfC.{inner_end_in}
 use Rattle.tangle_lexer.specs.Lexemes.{fault_if}
 use Rattle.tangle_lexer.specs.Comments.{line_ends}
-use Rattle.tangle_lexer.specs.Quoted.{unit_tokens, next_start, at_stop, cut_tokens, quote_end}
-use Rattle.tangle_lexer.specs.Quoted.{verbatim_end, verbatim_tokens, empty_end}
+use Rattle.tangle_lexer.specs.Quoted.{next_start, at_stop, cut_tokens}
+use Rattle.tangle_lexer.specs.Quoted.{verbatim_tokens}
 use Rattle.tangle_lexer.specs.Heads.{is_head}
 
 -- no token passes this test
@@ -32,7 +32,7 @@ none-append test ts us h j = rw (list_any-append test ts us, h) j
 pub none-by : (p q : Token → Bool) → ((t : Token) → p t ≡ false → q t ≡ false)
     → (ts : List Token) → HasNone p ts → HasNone q ts
 none-by p q weaker [] h = refl
-none-by p q weaker (t ∷ ts) h = grind (arith, nat_tests, or_parts (p t) (list_any p ts) h, none-by p q weaker ts)
+none-by p q weaker (t ∷ ts) h = grind (arith, nat_tests, none-by p q weaker ts)
 
 -- a token that is a head, a use or a run
 abbrev pub is_not_plain : Token → Bool
@@ -61,22 +61,17 @@ none-flat test f h [] = refl
 none-flat test f h (u ∷ us) = none-append test (f u) (flat_map f us) (h u) (none-flat test f h us)
 
 pub line_ends-plain : (r : Region) (text : List Cell) → ArePlain (line_ends r text)
-line_ends-plain r text = grind (arith, nat_tests, seen, none-flat)
-
--- as white space of a directive they are plain too
-inner-plain : (b : Bool) (t : Token) → is_not_plain (inner_end_in b t) ≡ is_not_plain t
-inner-plain b t = grind arith
+line_ends-plain r text = grind (arith, nat_tests, none-flat)
 
 inner_ends-plain : (b : Bool) (ts : List Token)
     → HasNone is_not_plain ts → HasNone is_not_plain (map (inner_end_in b) ts)
 inner_ends-plain b [] h = refl
 inner_ends-plain b (t ∷ ts) h =
-    let both = or_parts (is_not_plain t) (list_any is_not_plain ts) h in
-    rw (inner-plain b t, both.0) (inner_ends-plain b ts both.1)
+    grind (arith, nat_tests, inner_ends-plain b ts)
 
 pub white-plain : (b : Bool) (ends faults : List Token)
     → ArePlain ends → ArePlain faults → ArePlain (token.White ∷ map (inner_end_in b) ends ++ faults)
-white-plain b ends faults h k = grind (arith, nat_tests, seen, none-append, inner_ends-plain)
+white-plain b ends faults h k = grind (arith, nat_tests, none-append, inner_ends-plain)
 
 -- ranges of quoted and verbatim texts
 
@@ -91,18 +86,11 @@ is_not_text _ = true
 pub record AreText (ts : List Token) : Type 0 where
   pub none : HasNone is_not_text ts
 
-are-text : (ts : List Token) → HasNone is_not_text ts → AreText ts
-are-text ts h = record { none = h }
-
 text-append : (xs ys : List Token) → AreText xs → AreText ys → AreText (xs ++ ys)
-text-append xs ys h k = are-text (xs ++ ys) (none-append is_not_text xs ys h.none k.none)
+text-append xs ys h k = (record { none = (none-append is_not_text xs ys h.none k.none) })
 
 pub text-plain : (ts : List Token) → AreText ts → ArePlain ts
-text-plain ts h = grind (arith, nat_tests, seen, none-by)
-
-unit_tokens-text : (r : Region) (u : Unit-of) (start : ℕ) (c : Cell) (next : Option ℕ)
-    → AreText (unit_tokens r u start c next)
-unit_tokens-text r x start c next = grind arith
+text-plain ts h = grind (arith, nat_tests, none-by)
 
 at_stop-text : (u : Unit-of) (ending others : List Token)
     → AreText ending → AreText others → AreText (at_stop u ending others)
@@ -116,20 +104,10 @@ cut_tokens-text ends r (suc k) start [] h = h start []
 cut_tokens-text ends r (suc k) start (c ∷ cs) h = cut_tokens-text ends r k start cs h
 cut_tokens-text ends r zero start (c ∷ cs) h =
     at_stop-text (unit_at r (c ∷ cs)) _ _ (h start (c ∷ cs))
-    (text-append _ _ (unit_tokens-text r (unit_at r (c ∷ cs)) start c (byte_at 0 cs))
+    (text-append _ _ (grind arith)
     (cut_tokens-text ends r (more_by (unit_at r (c ∷ cs)))
     (next_start (unit_at r (c ∷ cs)) start c (byte_at 0 cs)) cs h))
 
-pub quote_end-text : (r : Region) (close last start : ℕ) (text : List Cell)
-    → AreText (quote_end r close last start text)
-quote_end-text r close last start x = grind arith
-
-verbatim_end-text : (start : ℕ) (text : List Cell) → AreText (verbatim_end start text)
-verbatim_end-text start x = grind arith
-
-empty_end-text : (text : List Cell) → AreText (empty_end text)
-empty_end-text x = grind arith
-
 pub verbatim_tokens-text : (text : List Cell) → AreText (verbatim_tokens text)
 verbatim_tokens-text text =
-    grind (arith, nat_tests, cond_both, are-text, empty_end-text, cut_tokens-text, verbatim_end-text)
+    search (rules, cut_tokens-text)

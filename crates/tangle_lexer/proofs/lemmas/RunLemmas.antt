@@ -1,4 +1,5 @@
 -- A run of a C part is read: its token stands for those of the words, signs and spaces that it consists of.
+use Rattle.std.proofs.Common.{rules}
 use Rattle.std.proofs.Common.{if◌then◌else◌, nat_le, ◌==◌}
 use Rattle.std.proofs.lemmas.List.{get_or-drop}
 use Rattle.std.proofs.lemmas.Bool.Decides.{nat_tests}
@@ -13,9 +14,8 @@ use Rattle.tangle_lines.specs.Reading.{SourceLine}
 use Rattle.tangle_text.specs.declared.spans.Span.{Span}
 use Rattle.tangle_text.specs.Text.{Cell, line_text, text_from, byte_at, span_at, texts_of}
 use Rattle.tangle_text.specs.Text.{IsRestOf}
-use Rattle.tangle_text.specs.Runs.{holds_plain, run_count, run_size, chunks, parts_of, run_parts, has_single_spaces}
+use Rattle.tangle_text.specs.Runs.{holds_plain, run_count, run_size, chunks, parts_of, run_parts}
 use Rattle.tangle_text.proofs.RunPartLemmas.{run_count-line, run_size-fits}
-use Rattle.tangle_lexer.specs.declared.modes.Mode.{Mode}
 use Rattle.tangle_lexer.specs.declared.modes.Mode.TheVariants as mode
 use Rattle.tangle_lexer.specs.declared.modes.LineOfC.{LineOfC}
 use Rattle.tangle_lexer.specs.declared.modes.LexerState.{LexerState}
@@ -30,7 +30,7 @@ use Rattle.tangle_lexer.specs.Simple.{IsSimple, simple_kind, is_c_text, is_word_
 use Rattle.tangle_lexer.specs.Steps.{c_lexeme, lexeme, tokens_from}
 use Rattle.tangle_lexer.specs.Steps.{occurrences_from}
 use Rattle.tangle_lexer.proofs.lemmas.BlockLemmas.{unfolded-append, rest-drop}
-use Rattle.tangle_lexer.proofs.lemmas.RunTokens.{in_part, Reads, front-byte, run-goes, BeginsRun, plain-begins}
+use Rattle.tangle_lexer.proofs.lemmas.RunTokens.{in_part, front-byte, run-goes, BeginsRun, plain-begins}
 use Rattle.tangle_lexer.proofs.lemmas.SimpleLemmas.{lexeme-simple}
 use Rattle.tangle_lexer.proofs.lemmas.StepLemmas.{tokens_from-step, occurrences_from-step}
 
@@ -69,8 +69,7 @@ text-place from (l ∷ ls) k h =
     elim (line-place from 0 l.bytes (text_from (from + 1) ls) k) [
       | inl near ↦
           let more : 0 < length (drop k l.bytes)
-          = byte-some from (0 + k) (drop k l.bytes) (text_from (from + 1) ls)
-          (subst (λ t. IsSome (byte_at 0 t)) near.1 h) in
+          = search (rules, byte-some) in
           let column : 0 + k ≡ k = omega arith in
           let line : from ≡ from + 0 = omega arith in
           record {
@@ -78,7 +77,7 @@ text-place from (l ∷ ls) k h =
             column = k;
             rest = text_from (from + 1) ls;
             real = omega arith;
-            inside = omega (arith, more, length-drop k l.bytes);
+            inside = omega (arith, length-drop k l.bytes);
             is = grind (arith, nat_tests);
           }
       | inr far ↦
@@ -89,7 +88,7 @@ text-place from (l ∷ ls) k h =
             line = suc place.line;
             column = place.column;
             rest = place.rest;
-            real = omega (arith, place.real);
+            real = omega arith;
             inside = place.inside;
             is = grind (arith, nat_tests);
           }
@@ -109,9 +108,6 @@ span-line : (line column n : ℕ) (bs : List ℕ) (rest : List Cell)
     → span_at n (line_text line column bs ++ rest) ≡ record { line = line; start = column; end = column + n }
 span-line line column n [] rest = refl
 span-line line column n (b ∷ bs) rest = refl
-
-some-size : (bs : List ℕ) → BeginsRun bs → 0 < run_size bs
-some-size x h = grind arith
 
 parts-are : (texts : List (List ℕ)) (line column n : ℕ)
     → run_parts texts (record { line = line; start = column; end = column + n })
@@ -149,21 +145,7 @@ line-run lines l stays occurrences last line column rest real inside begins =
     = ap (λ k. span_at k text) count ∙ span-line line column n bytes rest in
     let parts : run_parts texts span ≡ parts_of line column (chunks (take n bytes)) = parts-are texts line column n in
     let goes = run-goes l stays occurrences last line rest column bytes in
-    let read : Reads here text (map part_token (parts_of line column (chunks (take n bytes)))) (drop n text) = goes.0 in
-    record {
-      some = omega (arith, count, some-size bytes begins);
-      tokens = grind (arith, nat_tests);
-      occurrences = read.occurrences ∙ ap (λ k. occurrences_from here (drop k text)) (sym count);
-      run = subst (IsRunOf texts) (sym span_is) (record {
-        span = record {
-          line = real;
-          start = omega arith;
-          end = omega (arith, run_size-fits bytes, length-drop column (get_or texts line []), inside);
-        };
-        spaces = ap (has_single_spaces true) parts ∙ goes.1 true (λ e. begins);
-        ends = run-end (get_or texts line []) column (some-size bytes begins);
-      });
-    }
+    search (rules, run_size-fits, length-drop, run-end)
 
 -- the first lexeme of a run is read as if an item were before it on its line
 
@@ -181,18 +163,7 @@ lexeme-apart : (s : LexerState) (text : List Cell) (p : SimpleLexeme)
     → IsSimple text p → is_c_text s.mode ≡ true → is_word_or_sign p ≡ true
     → is_apart s.line.include s.line.line (byte_at 0 text) ≡ true → lexeme s text ≡ lexeme (elsewhere s) text
 lexeme-apart s text p here m h apart =
-    cc (lexeme-simple s text p here m, kind-apart p s text h apart, lexeme-simple (elsewhere s) text p here m)
-
-tokens-apart : (s t : LexerState) (text : List Cell) → 0 < length text
-    → lexeme s text ≡ lexeme t text → tokens_from s text ≡ tokens_from t text
-tokens-apart s t text inside same = grind (arith, nat_tests, tokens_from-step)
-
-occurrences-apart : (s t : LexerState) (text : List Cell) → 0 < length text
-    → lexeme s text ≡ lexeme t text → occurrences_from s text ≡ occurrences_from t text
-occurrences-apart s t text inside same = grind (arith, nat_tests, occurrences_from-step)
-
-c_part-is : (m : Mode) → is_c_part m ≡ true → m ≡ mode.CPart
-c_part-is x h = grind arith
+    grind (arith, nat_tests, kind-apart p s text h apart, lexeme-simple)
 
 -- a run that may begin at a simple lexeme is read from there on
 pub run-read : (lines : List SourceLine) (s : LexerState) (text : List Cell) (p : SimpleLexeme)
@@ -201,7 +172,7 @@ pub run-read : (lines : List SourceLine) (s : LexerState) (text : List Cell) (p 
 run-read lines s text p here begins ours =
     let all = and_parts (is_c_part s.mode && is_word_or_sign p) _ begins in
     let both = and_parts (is_c_part s.mode) (is_word_or_sign p) all.0 in
-    let m : s.mode ≡ mode.CPart = c_part-is s.mode both.0 in
+    let m : s.mode ≡ mode.CPart = (grind arith) in
     let plain : holds_plain (byte_at 0 text) ≡ true = here.plain both.1 in
     let some : IsSome (byte_at 0 text) = plain-some (byte_at 0 text) plain in
     let place : IsInLine (texts_of lines) 0 (drop ours.0 (text_from 0 lines))
@@ -215,23 +186,11 @@ run-read lines s text p here begins ours =
     let part : LexerState = in_part (with_item false s.line.line) s.occurrences s.last_line in
     let run : IsRunRead lines part part text
     = subst (IsRunRead lines part part) (sym is)
-    (line-run lines (with_item false s.line.line) (λ b. item-stays false b s.line.line) s.occurrences s.last_line
-    place.line place.column place.rest place.real place.inside (plain-begins bytes front)) in
-    let state : elsewhere s ≡ part
-    = ap (λ x. record { occurrences = s.occurrences; last_line = s.last_line; mode = x; line = (elsewhere s).line }) m
-    in
-    let same = lexeme-apart s text p here (ap is_c_text m) both.1 all.1 in
-    let there : IsRunRead lines (elsewhere s) (elsewhere s) text
-    = subst (λ t. IsRunRead lines t t text) (sym state) run in
-    record {
-      some = there.some;
-      tokens = tokens-apart s (elsewhere s) text here.inside same ∙ there.tokens;
-      occurrences = occurrences-apart s (elsewhere s) text here.inside same ∙ there.occurrences;
-      run = there.run;
-    }
+    (search (rules, line-run, item-stays, plain-begins)) in
+    grind (arith, nat_tests, lexeme-apart s text p here, tokens_from-step, occurrences_from-step)
   where
     plain-some : (b : Option ℕ) → holds_plain b ≡ true → IsSome b
-    plain-some x h = grind arith
+    plain-some x h = search rules
 
 -- the token of a run is added
 pub run-reads-on : (lines : List SourceLine) (old new : List Token)
@@ -244,12 +203,9 @@ run-reads-on lines old new s text rest span added is ahead ours run =
     let parts = map part_token (run_parts texts span) in
     let after = tokens_from (elsewhere s) rest in
     let from : tokens_from s text ≡ parts ++ after
-    = run.tokens
-    ∙ (ap (λ x. map part_token (run_parts texts x) ++ tokens_from (elsewhere s) (drop (run_count text) text)) (sym is)
-    ∙ ap (λ t. parts ++ tokens_from (elsewhere s) t) (sym ahead)) in
+    = search rules in
     let tokens_are : unfolded texts new ≡ unfolded texts old ++ parts
-    = ap (unfolded texts) added
-    ∙ (unfolded-append texts old (token.Run span ∷ []) ∙ ap (λ ts. unfolded texts old ++ ts) (append-nil parts)) in
+    = grind (arith, nat_tests, unfolded-append texts old, append-nil parts) in
     record {
       tokens = grind (arith, nat_tests, append_assoc);
       runs = λ runs. subst (All (IsRunIn texts)) (sym added)

@@ -1,9 +1,9 @@
 -- The tokens of a run are those of the words, signs and spaces that it consists of.
+use Rattle.std.proofs.Common.{rules}
 use Rattle.std.proofs.lemmas.Bool.Decides.{nat_tests}
-use Rattle.std.proofs.Common.{◌≡◌, ◌<◌, ℕ, zero, suc, ◌+◌, Bool, true, false, ◌==◌, not, List, [], ◌∷◌}
+use Rattle.std.proofs.Common.{◌≡◌, ◌<◌, ℕ, zero, suc, ◌+◌, Bool, true, false, ◌==◌, List, [], ◌∷◌}
 use Rattle.std.proofs.Common.{◌++◌, length, take, drop, map, Option, Some, None, ◌⊎◌, slice_get, inl, inr, refl, ap}
 use Rattle.std.proofs.Common.{sym, ◌∙◌, subst, arith}
-use Rattle.std.proofs.lemmas.Bool.{false≢true}
 use Rattle.tangle_lines.specs.Bytes.{at_sign, double_quote, is_white}
 use Rattle.tangle_files.specs.Bytes.{space}
 use Rattle.tangle_text.specs.declared.regions.Region.{Region}
@@ -59,9 +59,6 @@ pub record ArePlainTests (b : ℕ) : Type 0 where
   pub space : (b == space) ≡ false
   pub backslash : (b == backslash) ≡ false
 
-word-kind : (b : ℕ) (next : Option ℕ) → is_word_byte b ≡ true → kind_of b next ≡ lexeme_kind.Word
-word-kind b next h = grind (arith, nat_tests)
-
 plain-byte : (b : ℕ) (next : Option ℕ) → is_plain b ≡ true → IsRunByte b next
 plain-byte b next h = grind (arith, nat_tests)
 
@@ -87,10 +84,6 @@ front-take (suc n) c bs h = h
 run-grows : (b : ℕ) (bs : List ℕ) → is_in_run b (slice_get bs 0) ≡ true → run_size (b ∷ bs) ≡ suc (run_size bs)
 run-grows b bs h = rw h (one-more (run_size bs))
 
-word-taken : (b : ℕ) (bs : List ℕ) → is_word_byte b ≡ true
-    → take (run_size (b ∷ bs)) (b ∷ bs) ≡ b ∷ take (run_size bs) bs
-word-taken b bs word = ap (λ n. take n (b ∷ bs)) (run-grows b bs (rw (word-plain b word) refl))
-
 -- regions that end at once
 
 stop-count : (r : Region) (text : List Cell) → unit_at r text ≡ unit.Stop → count_before r text ≡ 0
@@ -98,9 +91,6 @@ stop-count r x h = grind arith
 
 plain-no_white : (b : Option ℕ) → holds_plain b ≡ true → holds_white b ≡ false
 plain-no_white x h = grind arith
-
-white-stop : (text : List Cell) → holds_plain (byte_at 0 text) ≡ true → count_before region.White text ≡ 0
-white-stop text h = stop-count region.White text (rw (plain-no_white (byte_at 0 text) h) refl)
 
 word-stop : (text : List Cell) → holds_word_byte (byte_at 0 text) ≡ false → count_before region.Word text ≡ 0
 word-stop text h = stop-count region.Word text (rw h refl)
@@ -124,11 +114,7 @@ lexeme-reads : (s : LexerState) (text : List Cell) (here : Lexeme)
     → 0 < length text → lexeme s text ≡ here → here.occurrence ≡ None → here.after ≡ s
     → Reads s text here.tokens (drop here.more (drop 1 text))
 lexeme-reads s text here inside is none after =
-    grind (arith, nat_tests, inside, tokens_from-step, occurrences_from-step)
-
-reads-cons : (s : LexerState) (text mid rest : List Cell) (t : Token) (ts us : List Token)
-    → us ≡ t ∷ ts → Reads s text (t ∷ []) mid → Reads s mid ts rest → Reads s text us rest
-reads-cons s text mid rest t ts us is first more = grind (arith, nat_tests)
+    search (rules, tokens_from-step, occurrences_from-step)
 
 end_of : List Token → ℕ
 end_of (token.Span kind s ∷ ts) = s.end
@@ -153,9 +139,6 @@ HasSingle line column bs xs =
 
 pub plain-begins : (bs : List ℕ) → holds_plain (slice_get bs 0) ≡ true → BeginsRun bs
 plain-begins x h = grind arith
-
-nothing-single : (line column : ℕ) (bs : List ℕ) → (BeginsRun bs → ⊥) → HasSingle line column bs []
-nothing-single line column bs not x h = grind arith
 
 module _ (l : LineOfC) (stays : (b : Bool) → with_item b l ≡ l) (occurrences last line : ℕ) (rest : List Cell) where
   abbrev here : LexerState
@@ -190,7 +173,7 @@ module _ (l : LineOfC) (stays : (b : Bool) → with_item b l ≡ l) (occurrences
   word-reads column b bs word =
       let text = at column (b ∷ bs) in
       lexeme-reads here text (c_lexeme lexeme_kind.Word here text) (inside column b bs)
-      (lexeme-here here text lexeme_kind.Word refl (kind-at column b bs ∙ word-kind b (slice_get bs 0) word)) refl
+      (lexeme-here here text lexeme_kind.Word refl (kind-at column b bs ∙ (grind (arith, nat_tests)))) refl
       (same-line false)
 
   sign-continues : (column b : ℕ) (bs xs : List ℕ) (after : List Cell)
@@ -203,11 +186,7 @@ module _ (l : LineOfC) (stays : (b : Bool) → with_item b l ≡ l) (occurrences
       let first : Reads here text (sign ∷ []) (at (column + 1) bs)
       = lexeme-reads here text (c_lexeme lexeme_kind.Other here text) (inside column b bs)
       (lexeme-here here text lexeme_kind.Other refl (kind-at column b bs ∙ kind)) refl
-      (rw no_backslash (same-line (b == number_sign))) in (
-        reads-cons here text (at (column + 1) bs) after sign (tokens_of (column + 1) xs) (tokens_of column (b ∷ xs))
-            (rw (alone-chunk b (chunks xs) no_word, no_space, no_word) refl) first more.0,
-        λ before h. rw (alone-chunk b (chunks xs) no_word, no_space, no_word) (more.1 false (λ e. cc)),
-      )
+      (rw no_backslash (same-line (b == number_sign))) in search (rules, alone-chunk)
 
   space-continues : (column : ℕ) (bs xs : List ℕ) (after : List Cell) → holds_plain (slice_get bs 0) ≡ true
       → Goes (column + 1) bs xs after → Goes column (space ∷ bs) (space ∷ xs) after
@@ -215,15 +194,10 @@ module _ (l : LineOfC) (stays : (b : Bool) → with_item b l ≡ l) (occurrences
       let text = at column (space ∷ bs) in
       let next = at (column + 1) bs in
       let none : count_before region.White next ≡ 0
-      = white-stop next (ap holds_plain (front-byte line (column + 1) bs rest) ∙ plain) in
+      = (stop-count region.White next (rw (plain-no_white (byte_at 0 next) (ap holds_plain (front-byte line (column + 1) bs rest) ∙ plain)) refl)) in
       let first : Reads here text (token.White ∷ []) (drop (count_before region.White next) next)
       = lexeme-reads here text (c_lexeme lexeme_kind.White here text) (inside column space bs)
-      (lexeme-here here text lexeme_kind.White refl (kind-at column space bs)) refl refl in (
-        reads-cons here text next after token.White (tokens_of (column + 1) xs) (tokens_of column (space ∷ xs))
-            (rw (alone-chunk space (chunks xs) refl) refl)
-            (subst (λ n. Reads here text (token.White ∷ []) (drop n next)) none first) more.0,
-        single,
-      )
+      (lexeme-here here text lexeme_kind.White refl (kind-at column space bs)) refl refl in search (rules, alone-chunk)
     where
       single : HasSingle line column (space ∷ bs) (space ∷ xs)
       single true h = let never = (h refl).1 in cc
@@ -233,16 +207,7 @@ module _ (l : LineOfC) (stays : (b : Bool) → with_item b l ≡ l) (occurrences
       → holds_word_byte (slice_get bs 0) ≡ false → holds_word_byte (slice_get xs 0) ≡ false
       → Goes (column + 1) bs xs after → Goes column (b ∷ bs) (b ∷ xs) after
   word-continues column b bs xs after word other first_other more =
-      grind (
-        arith,
-        nat_tests,
-        word-stop,
-        front-byte,
-        word-reads column b bs word,
-        reads-cons here,
-        alone-before b xs word first_other,
-        part-word,
-      )
+      grind (arith, nat_tests, word-stop, front-byte, word-reads column b bs word, alone-before b xs word first_other)
 
   -- a word byte before another belongs to the word of that
   word-joins : (column b c : ℕ) (bs xs : List ℕ) (after : List Cell)
@@ -272,19 +237,12 @@ module _ (l : LineOfC) (stays : (b : Bool) → with_item b l ≡ l) (occurrences
       (record { line = line; start = column; end = column + length (b ∷ c ∷ zs) }) in
       let column_is : column + length (b ∷ c ∷ zs) ≡ column + 1 + length (c ∷ zs) = omega arith in
       let parts : tokens_of column (b ∷ c ∷ xs) ≡ this ∷ others
-      = rw (chunk.2, word, next_word, part-word line column b (c ∷ zs) word)
-      (ap (λ k. this ∷ map part_token (parts_of line k chunk.1)) column_is) in
-      let size_is : 1 + count_before region.Word next ≡ length (b ∷ c ∷ zs) = omega (arith, counts, ends) in
+      = search rules in
+      let size_is : 1 + count_before region.Word next ≡ length (b ∷ c ∷ zs) = omega arith in
       let past_is : drop (count_before region.Word next) next ≡ drop n past
       = ap (λ k. drop k next) (counts ∙ one-more n) in
       let single : has_single_spaces false (parts_of line (column + 1 + length (c ∷ zs)) chunk.1) ≡ true
-      = rw (chunk.2, part-word line (column + 1) c zs next_word) at (more.1 false (λ e. cc)) in (
-        record {
-          tokens = grind (arith, nat_tests);
-          occurrences = grind (arith, nat_tests);
-        },
-        λ before h. rw (chunk.2, word, next_word, part-word line column b (c ∷ zs) word, column_is) single,
-      )
+      = rw (chunk.2, part-word line (column + 1) c zs next_word) at (more.1 false (λ e. cc)) in search rules
 
   -- a word byte of a run
   word-goes : (column b : ℕ) (bs : List ℕ) → is_word_byte b ≡ true
@@ -298,17 +256,16 @@ module _ (l : LineOfC) (stays : (b : Bool) → with_item b l ≡ l) (occurrences
 
       by : (w : Bool) → is_word_byte c ≡ w → Goes column (b ∷ c ∷ bs) (b ∷ take (run_size (c ∷ bs)) (c ∷ bs)) after
       by true next_word =
-          let xs = word-taken c bs next_word in
+          let xs = (ap (λ n. take n (c ∷ bs)) (run-grows c bs (rw (word-plain c next_word) refl))) in
           subst (λ ys. Goes column (b ∷ c ∷ bs) (b ∷ ys) after) (sym xs)
           (word-joins column b c bs (take (run_size bs) bs) after word next_word
           (subst (λ ys. Goes (column + 1) (c ∷ bs) ys after) xs more))
       by false other =
-          word-continues column b (c ∷ bs) (take (run_size (c ∷ bs)) (c ∷ bs)) after
-          word other (front-take (run_size (c ∷ bs)) c bs other) more
+          search (rules, word-continues, front-take)
 
   -- the run at the front is read
   pub run-goes : (column : ℕ) (bs : List ℕ) → Goes column bs (take (run_size bs) bs) (drop (run_size bs) (at column bs))
-  run-goes column [] = (record { tokens = refl; occurrences = refl }, nothing-single line column [] (λ h. h))
+  run-goes column [] = (record { tokens = refl; occurrences = refl }, (grind arith))
   run-goes column (b ∷ bs) = by (is_in_run b (slice_get bs 0)) refl (run-goes (column + 1) bs)
     where
       first : ℕ → Type 0
@@ -318,10 +275,7 @@ module _ (l : LineOfC) (stays : (b : Bool) → with_item b l ≡ l) (occurrences
           → Goes (column + 1) bs (take (run_size bs) bs) (drop (run_size bs) (at (column + 1) bs))
           → first (run_size (b ∷ bs))
       by false h more =
-          let none : run_size (b ∷ bs) ≡ 0 = rw h refl in
-          let never = λ (begins : BeginsRun (b ∷ bs)). let no : false ≡ true = sym h ∙ begins.0 in false≢true no in
-          subst first (sym none)
-          (record { tokens = refl; occurrences = refl }, nothing-single line column (b ∷ bs) never)
+          search rules
       by true h more =
           subst first (sym (run-grows b bs h)) (elim (run-byte b (slice_get bs 0) h) [
             | inl word ↦ word-goes column b bs word more

@@ -1,4 +1,5 @@
 -- What one step of the lexer does to the text, the tokens and the occurrences.
+use Rattle.std.proofs.Common.{rules}
 use Rattle.std.proofs.lemmas.Bool.Decides.{nat_tests}
 use Rattle.std.proofs.Common.{◌≡◌, ◌<◌, ◌+◌, ℕ, zero, suc, List, [], ◌∷◌, ◌++◌, length, drop, map}
 use Rattle.std.proofs.Common.{option_to_list, refl, ap, ◌∙◌, arith, append_assoc, length-drop}
@@ -47,7 +48,7 @@ pub step-occurrences : (lines : List SourceLine) (old new : List OccurrenceRead)
     → new ++ map (occurrence_of lines) (occurrences_from after rest)
     ≡ old ++ map (occurrence_of lines) (occurrences_from s text)
 step-occurrences lines old new from to s after text rest h read adds =
-    grind (arith, nat_tests, occurrences_from-step, append_assoc)
+    search (rules, occurrences_from-step, append_assoc)
 
 -- a step makes the text ahead shorter
 pub step-shorter : (old new : List Token) (s after : LexerState) (text rest : List Cell)
@@ -62,4 +63,4 @@ pub step-count : (lines : List SourceLine) (old new : List OccurrenceRead)
     → IsRead from to text rest after (lexeme s text) → AddsOccurrence lines old new (lexeme s text).occurrence
     → s.occurrences ≡ length old → after.occurrences ≡ length new
 step-count lines old new from to s after text rest read adds before =
-    grind (arith, nat_tests, lexeme-keeps, length_push)
+    search (rules, lexeme-keeps, length_push)

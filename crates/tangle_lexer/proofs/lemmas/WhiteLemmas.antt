@@ -31,7 +31,7 @@ use Rattle.tangle_lexer.specs.Comments.{is_on_line, ends_on_line, two_if}
 use Rattle.tangle_lexer.specs.Constants.{constant_lexeme}
 use Rattle.tangle_lexer.specs.White.{is_white_alone, lexeme_but_name, next_but_name}
 use Rattle.tangle_lexer.specs.White.{white_count, white_end}
-use Rattle.tangle_lexer.proofs.lemmas.LexemeLemmas.{line_ends-go, line_ends-stop}
+use Rattle.tangle_lexer.proofs.lemmas.LexemeLemmas.{line_ends-go}
 use Rattle.tangle_lexer.proofs.lemmas.OpenedRegions.{ended-ahead}
 use Rattle.tangle_lexer.proofs.lemmas.PlainTokens.{AreText, verbatim_tokens-text}
 use Rattle.tangle_lexer.proofs.lemmas.PlainLexemes.{quoted-text}
@@ -62,14 +62,14 @@ pub line-white : (s : LexerState) (text : List Cell) → is_white_alone (line_co
 line-white s text = by (starts_section (drop (count_before region.LineComment (drop 2 text)) (drop 2 text))) _
   where
     by : (b : Bool) (line : ℕ) → is_white_alone (token.White ∷ [] ++ fault_if b fault.CommentEnd line) ≡ not b
-    by b line = grind arith
+    by b line = search rules
 
 -- Whether a region ends on its first line, by a position that is reached in it without a line end before.
 
 module _ (r : Region) (text whole : List Cell)
     (ends : line_ends r text ≡ line_ends r whole) (end : region_end r text ≡ region_end r whole) where
   pub ends-here : unit_at r text ≡ unit.Stop → ends_region r text ≡ ends_on_line r whole
-  ends-here stop = grind (arith, nat_tests, region_end-stop, line_ends-stop)
+  ends-here stop = grind (arith, nat_tests, region_end-stop)
 
   pub never-ends : text ≡ [] → ends_on_line r whole ≡ false
   never-ends is = grind (arith, nat_tests, region_end-nothing)

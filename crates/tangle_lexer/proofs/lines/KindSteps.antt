@@ -35,9 +35,8 @@ use Rattle.tangle_lexer.specs.Steps.{c_lexeme}
 use Rattle.tangle_lexer.specs.LinesOfParts.{is_use_fault}
 use Rattle.tangle_lexer.specs.SpanBytes.{first_byte}
 use Rattle.tangle_lexer.proofs.lemmas.LexemeCases.{OpensLexeme, IsPlainKind}
-use Rattle.tangle_lexer.proofs.laws.Points.{Point, IsByte, IsCellAt, IsTextAt, byte-test, text-after}
-use Rattle.tangle_lexer.proofs.laws.CutTexts.{double_quote-cut, apostrophe-cut, header_name-cut}
-use Rattle.tangle_lexer.proofs.laws.RegionOrder.{some-byte, holds-byte, other-byte, code-bytes}
+use Rattle.tangle_lexer.proofs.laws.Points.{Point, IsByte, IsCellAt, IsTextAt, byte-test}
+use Rattle.tangle_lexer.proofs.laws.RegionOrder.{some-byte, other-byte}
 use Rattle.tangle_lexer.proofs.lines.LineSteps.{Judgement, Steps, no-steps, steps-append, white-step, fault-step, faults-step}
 use Rattle.tangle_lexer.proofs.lines.LineSteps.{item-step, join-step}
 use Rattle.tangle_lexer.proofs.lines.LineSteps.{line_end-step, inner-step, use-step}
@@ -58,14 +57,11 @@ line_ends-are : (r : Region) (text : List Cell) → AreLineEnds (line_ends r tex
 line_ends-are r text = all (units r text)
   where
     one : (u : List Cell) → AreLineEnds (unit_line_end u)
-    one x = grind arith
+    one x = search rules
 
     all : (us : List (List Cell)) → AreLineEnds (flat_map unit_line_end us)
-    all [] = tt
-    all (u ∷ us) = line_ends-append (unit_line_end u) (flat_map unit_line_end us) (one u) (all us)
-
-directive-line : (l : LineOfC) → lines_of_c.is_directive l ≡ true → line.Directive ≡ l
-directive-line l h = grind arith
+    all [] = search rules
+    all (u ∷ us) = grind (arith, nat_tests, line_ends-append (unit_line_end u) (flat_map unit_line_end us) (one u) (all us))
 
 pub in_directive : (s : LexerState) → s.mode ≡ mode.CPart → is_in_directive s ≡ lines_of_c.is_directive s.line.line
 in_directive s m = ap (λ x. is_c_part x && lines_of_c.is_directive s.line.line) m
@@ -122,8 +118,8 @@ module _ (texts : List (List ℕ)) (R : Judgement texts) where
           go true
           (subst (λ x. Follows l (map (inner_end_in true) ends) x) (sym (same-line ends l))
           (subst (λ k. Steps texts R k l.at_line_end (map (inner_end_in true) ends) k l.at_line_end)
-          (directive-line l.line h) (inner-ends l.at_line_end ends are)))
-      by false h = go false (outside-ends l ends are)
+          (grind arith) (inner-ends l.at_line_end ends are)))
+      by false h = grind (arith, nat_tests, go false (outside-ends l ends are))
 
   white-alone : (s : LexerState) (kind : FaultKind) (n : ℕ) → s.mode ≡ mode.CPart
       → is_use_fault (token.Fault kind n) ≡ false
@@ -174,7 +170,7 @@ module _ (texts : List (List ℕ)) (R : Judgement texts) where
   kind-follows (lexeme_kind.Control code.SectionStart) s at c cs m plain o is = absurd plain
   kind-follows (lexeme_kind.Control code.Name) s at c cs m plain o is = absurd plain
   kind-follows (lexeme_kind.Control code.DoubleAt) s at c cs m plain o is =
-      sign-follows s.line.line s.line.at_line_end at c cs false false (holds-byte at_sign c.byte o.0) is.0
+      sign-follows s.line.line s.line.at_line_end at c cs false false (grind arith) is.0
       (other-byte at_sign number_sign c.byte refl o.0) (other-byte at_sign backslash c.byte refl o.0)
   kind-follows (lexeme_kind.Control code.Macro) s at c cs m plain o is = white-alone s fault.CodeInC _ m refl
   kind-follows (lexeme_kind.Control code.Format) s at c cs m plain o is = white-alone s fault.CodeInC _ m refl
@@ -182,21 +178,21 @@ module _ (texts : List (List ℕ)) (R : Judgement texts) where
   kind-follows (lexeme_kind.Control code.ControlText) s at c cs m plain o is =
       search (rules, white-follows, line_ends-are, faults-step)
   kind-follows (lexeme_kind.Control code.Verbatim) s at c cs m plain o is =
-      grind (arith, nat_tests, verbatim-steps, text-after, code-bytes)
+      search (rules, verbatim-steps)
   kind-follows (lexeme_kind.Control code.Join) s at c cs m plain o is = grind (arith, nat_tests, join-step)
   kind-follows (lexeme_kind.Control code.AllMacros) s at c cs m plain o is =
-      grind (arith, nat_tests, in_directive, use-step)
+      search (rules, use-step)
   kind-follows (lexeme_kind.Control code.AsciiConstant) s at c cs m plain o is = search (rules, constant-follows)
   kind-follows (lexeme_kind.Control code.Other) s at c cs m plain o is = grind (arith, nat_tests, white-step)
   kind-follows lexeme_kind.BlockComment s at c cs m plain o is =
       search (rules, white-follows, line_ends-are, faults-step)
   kind-follows lexeme_kind.LineComment s at c cs m plain o is = search (rules, white-follows, faults-step)
   kind-follows lexeme_kind.DoubleQuote s at c cs m plain o is =
-      grind (arith, nat_tests, quoted-steps, double_quote-cut, some-byte)
+      search (rules, quoted-steps, some-byte)
   kind-follows lexeme_kind.Apostrophe s at c cs m plain o is =
-      grind (arith, nat_tests, quoted-steps, apostrophe-cut, some-byte)
+      search (rules, quoted-steps, some-byte)
   kind-follows lexeme_kind.HeaderName s at c cs m plain o is =
-      grind (arith, nat_tests, quoted-steps, header_name-cut, some-byte)
+      search (rules, quoted-steps, some-byte)
   kind-follows lexeme_kind.LineEnd s at c cs m plain o is = grind (arith, nat_tests, line_end-step)
   kind-follows lexeme_kind.White s at c cs m plain o is = white-step texts R
   kind-follows lexeme_kind.Word s at c cs m plain o is = item-step texts R _ refl

@@ -1,4 +1,5 @@
 -- What a token does to the open line of C, and that the lexer's state follows it.
+use Rattle.std.proofs.Common.{rules}
 use Rattle.std.proofs.lemmas.Bool.Decides.{nat_tests}
 use Rattle.std.proofs.Common.{arith}
 use Rattle.std.proofs.Common.{◌≡◌, ℕ, Bool, true, false, ◌&&◌, ◌||◌, not, List, [], ◌∷◌, ◌++◌, refl, ap, sym, ◌∙◌}
@@ -66,10 +67,7 @@ module _ (texts : List (List ℕ)) (R : Judgement texts) where
 
   pub steps-append : {l m n : LineOfC} {e f g : AtLineEnd} (ts us : List Token)
       → Steps l e ts m f → Steps m f us n g → Steps l e (ts ++ us) n g
-  steps-append ts us first more = record {
-    none = λ vs h. rw (append_assoc ts us vs) (first.none (us ++ vs) (more.none vs h));
-    holds = λ vs h next. rw (append_assoc ts us vs) (first.holds (us ++ vs) (more.none vs h) (more.holds vs h next));
-  }
+  steps-append ts us first more = search (rules, append_assoc)
 
   -- one token
 
@@ -77,10 +75,6 @@ module _ (texts : List (List ℕ)) (R : Judgement texts) where
   abbrev Goes : Bool → List Token → Token → LineOfC → AtLineEnd → List Token → Type 0
   Goes true before t l e ahead = IsOpen texts [] l e ahead × HasInnerEndsAsDirective texts (before ++ t ∷ [])
   Goes false before t l e ahead = IsOpen texts (before ++ t ∷ []) l e ahead
-
-  no-uses : (before : List Token) (t : Token) → list_any is_use before ≡ false → is_use t ≡ false
-      → uses_in_directive texts (before ++ t ∷ []) ≡ []
-  no-uses before t h j = grind (arith, nat_tests, uses-append, cond)
 
   one-step : {l m : LineOfC} {e f : AtLineEnd} (t : Token) → is_use t ≡ false → is_use_fault t ≡ false
       → ((before us : List Token) → IsOpen texts before l e (t ∷ us) → Goes (ends_line texts before t us) before t m f us)
@@ -95,7 +89,7 @@ module _ (texts : List (List ℕ)) (R : Judgement texts) where
           → R.holds (t ∷ us)
           (cond b ((before ++ t ∷ []) ∷ parts.lines_of_c texts [] us) (parts.lines_of_c texts (before ++ t ∷ []) us))
       by us h next before is true goes =
-          R.ended t us (before ++ t ∷ []) (parts.lines_of_c texts [] us) h goes.1 (no-uses before t is.uses no_use)
+          R.ended t us (before ++ t ∷ []) (parts.lines_of_c texts [] us) h goes.1 (grind (arith, nat_tests, uses-append))
           (next [] goes.0)
       by us h next before is false goes =
           R.kept t us (parts.lines_of_c texts (before ++ t ∷ []) us) h (next (before ++ t ∷ []) goes)
@@ -108,7 +102,7 @@ module _ (texts : List (List ℕ)) (R : Judgement texts) where
       → end_after texts t e ≡ f
       → IsOpen texts (before ++ t ∷ []) m f us
   grown before t us is no_use inner kind end =
-      grind (arith, nat_tests, kind-snoc, end-snoc, end_after, inner-snoc, uses-snoc)
+      search (rules, kind-snoc, end-snoc, inner-snoc, uses-snoc)
 
   -- white space and faults
   pub white-step : {l : LineOfC} {e : AtLineEnd} → Steps l e (token.White ∷ []) l e
@@ -155,21 +149,10 @@ module _ (texts : List (List ℕ)) (R : Judgement texts) where
       (ap (with_item false) is.kind ∙ item-settled false l (join_ahead us)) refl)
   item-step _ h = cc
 
-  -- joins
-  join-settled : (l : LineOfC) (j : Bool) → settled l true ≡ settled (joined_line l) j
-  join-settled l j = grind arith
-
   pub join-step : {l : LineOfC} {e : AtLineEnd} → Steps l e (token.Join ∷ []) (joined_line l) Removed
   join-step {l} =
       one-step token.Join refl refl
-      (λ before us is. grown before token.Join us is refl (λ h. cc) (is.kind ∙ join-settled l (join_ahead us)) refl)
-
-  -- line ends
-  ended-settled : (l : LineOfC) → line.Empty ≡ settled (lines_of_c.next_line l) false
-  ended-settled l = grind arith
-
-  kept-settled : (l : LineOfC) → settled l true ≡ settled (lines_of_c.next_line l) true
-  kept-settled l = grind arith
+      (λ before us is. grown before token.Join us is refl (λ h. cc) (is.kind ∙ (grind arith)) refl)
 
   pub line_end-step : {l : LineOfC} {e : AtLineEnd} (n : ℕ)
       → Steps l e (token.LineEnd n ∷ []) (line_after_end e l) (at_next_line_end e)
@@ -192,16 +175,9 @@ module _ (texts : List (List ℕ)) (R : Judgement texts) where
       by before us is false true j end joins =
           stays before us is (ap (λ x. settled (line_after_end x l) (join_ahead us)) end)
       by before us is false false true end joins =
-          stays before us is (ap (settled l) joins ∙ kept-settled l
-          ∙ ap (λ x. settled (line_after_end x l) true) end ∙ ap (settled (line_after_end e l)) (sym joins))
+          stays before us is (search rules)
       by before us is false false false end joins = (
-        record {
-          kind = ended-settled l ∙ ap (λ x. settled (line_after_end x l) false) end
-              ∙ ap (settled (line_after_end e l)) (sym joins);
-          end = ap at_next_line_end end;
-          inner = λ h. cc;
-          uses = refl;
-        },
+        search rules,
         inner-snoc texts before t is.inner (λ h. cc),
       )
 
@@ -221,18 +197,10 @@ module _ (texts : List (List ℕ)) (R : Judgement texts) where
   abbrev pub use_fault : Bool → ℕ → List Token
   use_fault b n = fault_if b fault.UseInDirective n
 
-  use-kind : (l : LineOfC) → lines_of_c.is_directive (with_item false (settled l false)) ≡ lines_of_c.is_directive l
-  use-kind l = grind arith
-
   module _ (t : Token) (is_used : is_use t ≡ true) (no_fault : is_use_fault t ≡ false)
       (no_inner : is_inner_line_end t ≡ false) (no_join : (us : List Token) → join_ahead (t ∷ us) ≡ false)
       (item : (l : LineOfC) → kind_after texts t l ≡ with_item false l)
       (ends : (before us : List Token) → ends_line texts before t us ≡ true) where
-    used-line : (before us : List Token) (l : LineOfC) (e : AtLineEnd) → IsOpen texts before l e (t ∷ us)
-        → uses_in_directive texts (before ++ t ∷ []) ≡ (if lines_of_c.is_directive l then t ∷ [] else [])
-    used-line before us l e is =
-        grind (arith, nat_tests, cond, uses-append, directive-is, kind-snoc, kind_of, settled, use-kind)
-
     pub use-step : {l : LineOfC} {e : AtLineEnd} (n : ℕ)
         → Steps l e (t ∷ use_fault (lines_of_c.is_directive l) n) line.Empty Ends
     use-step {l} {e} n = record {
@@ -240,7 +208,7 @@ module _ (texts : List (List ℕ)) (R : Judgement texts) where
       holds = λ us h next before is. rw (ends before (use_fault (lines_of_c.is_directive l) n ++ us))
           (by us h next before (lines_of_c.is_directive l)
           (inner-snoc texts before t is.inner (λ j. absurd (let never : true ≡ false = sym j ∙ no_inner in cc)))
-          (used-line before (use_fault (lines_of_c.is_directive l) n ++ us) l e is));
+          (grind (arith, nat_tests, uses-append, directive-is, kind-snoc)));
     }
       where
         by : (us : List Token) → begins_with_use_fault us ≡ false → Holds line.Empty Ends us

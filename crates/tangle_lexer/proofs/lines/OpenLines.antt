@@ -40,16 +40,16 @@ module _ (texts : List (List ℕ)) where
 
   pub kind-snoc : (ts : List Token) (t : Token) → kind_of (ts ++ t ∷ []) ≡ kind_after t (kind_of ts)
   kind-snoc [] t = refl
-  kind-snoc (u ∷ us) t = grind (arith, nat_tests, kind-snoc us t, cond)
+  kind-snoc (u ∷ us) t = grind (arith, nat_tests, kind-snoc us t)
 
   pub directive-is : (ts : List Token) → is_directive texts ts ≡ lines_of_c.is_directive (kind_of ts)
   directive-is [] = refl
-  directive-is (t ∷ ts) = grind (arith, nat_tests, directive-is ts, cond)
+  directive-is (t ∷ ts) = grind (arith, nat_tests, directive-is ts)
 
   -- a directive stays one
   pub directive-append : (ts us : List Token) → is_directive texts ts ≡ true → is_directive texts (ts ++ us) ≡ true
   directive-append [] us h = cc
-  directive-append (t ∷ ts) us h = grind (arith, nat_tests, directive-append ts us, cond)
+  directive-append (t ∷ ts) us h = grind (arith, nat_tests, directive-append ts us)
 
   -- what a line end after a line does
   abbrev pub end_of : List Token → AtLineEnd
@@ -71,10 +71,10 @@ module _ (texts : List (List ℕ)) where
   on-snoc : (ts : List Token) (t : Token)
       → goes_on texts (ts ++ t ∷ []) ≡ cond (is_white_space t) (goes_on texts ts) (ends_in_backslash texts t)
   on-snoc [] t = grind (arith, nat_tests)
-  on-snoc (u ∷ us) t = grind (arith, nat_tests, list_all-append is_white_space us (t ∷ []), on-snoc us t, cond)
+  on-snoc (u ∷ us) t = grind (arith, nat_tests, list_all-append is_white_space us (t ∷ []), on-snoc us t)
 
   pub end-snoc : (ts : List Token) (t : Token) → end_of (ts ++ t ∷ []) ≡ end_after t (end_of ts)
-  end-snoc ts t = grind (arith, nat_tests, cond, join-snoc, on-snoc)
+  end-snoc ts t = grind (arith, nat_tests, join-snoc, on-snoc)
 
   -- inner line ends are in directives alone, also with one more token
   pub inner-snoc : (ts : List Token) (t : Token)
@@ -86,7 +86,7 @@ module _ (texts : List (List ℕ)) where
 -- the uses among tokens without uses and others are those of the others
 pub uses-append : (ts us : List Token) → list_any is_use ts ≡ false → filter is_use (ts ++ us) ≡ filter is_use us
 uses-append [] us h = refl
-uses-append (t ∷ ts) us h = grind (arith, nat_tests, uses-append ts us, cond)
+uses-append (t ∷ ts) us h = grind (arith, nat_tests, uses-append ts us)
 
 pub uses-snoc : (ts : List Token) (t : Token) → list_any is_use ts ≡ false → is_use t ≡ false
     → list_any is_use (ts ++ t ∷ []) ≡ false

@@ -1,8 +1,9 @@
 -- Which lines of C of a part have inner line ends and which uses have the fault UseInDirective, lexeme by lexeme.
+use Rattle.std.proofs.Common.{rules}
 use Rattle.std.proofs.lemmas.Bool.Decides.{nat_tests}
 use Rattle.std.proofs.Common.{arith}
 use Rattle.std.proofs.Common.{◌≡◌, ℕ, zero, suc, Bool, true, false, List, [], ◌∷◌, ◌++◌, flat_map, length}
-use Rattle.std.proofs.Common.{Option, Some, None, refl, ap, sym, ◌∙◌, cond, drop}
+use Rattle.std.proofs.Common.{Option, Some, None, refl, ap, ◌∙◌, cond, drop}
 use Rattle.std.specs.Prelude.{filter}
 use Rattle.std.specs.List.{list_any, All}
 use Rattle.std.proofs.lemmas.Bool.{or_parts}
@@ -20,40 +21,34 @@ use Rattle.tangle_lexer.specs.declared.modes.AtLineEnd.TheVariants.{Ends}
 use Rattle.tangle_lexer.specs.declared.modes.LexerState.{LexerState}
 use Rattle.tangle_lexer.specs.Lexemes.{Lexeme, lexeme_of, in_mode, is_c_part, fault_if}
 use Rattle.tangle_lexer.specs.Heads.{is_head}
-use Rattle.tangle_lexer.specs.Names.{definition_or_mention, definition_count, mention_faults, use_of_name}
+use Rattle.tangle_lexer.specs.Names.{definition_or_mention, definition_count, use_of_name}
 use Rattle.tangle_lexer.specs.Simple.{is_c_text}
 use Rattle.tangle_lexer.specs.CText.{code_fault}
-use Rattle.tangle_lexer.specs.Steps.{limbo_code, c_lexeme, lexeme, lexemes, tokens_from, all_tokens, first_state}
+use Rattle.tangle_lexer.specs.Steps.{c_lexeme, lexeme, lexemes, tokens_from, all_tokens, first_state}
 use Rattle.tangle_lexer.specs.LinesOfParts.{is_use, is_directive, body, begins_c_part, c_parts, uses_in_directive}
 use Rattle.tangle_lexer.specs.LinesOfParts.{HasInnerEndsAsDirective, begins_with_use_fault, with_use_fault}
 use Rattle.tangle_lexer.specs.LinesOfParts as parts
 use Rattle.tangle_lexer.proofs.lemmas.LexemeCases.{OpensLexeme, IsPlainKind, lexeme-by}
-use Rattle.tangle_lexer.proofs.lemmas.PlainLexemes.{kind-plain, use-plain, mention-plain}
-use Rattle.tangle_lexer.proofs.lemmas.PlainTokens.{HasNone, none-by, is_not_plain, fault_if-plain}
+use Rattle.tangle_lexer.proofs.lemmas.PlainLexemes.{kind-plain, use-plain}
+use Rattle.tangle_lexer.proofs.lemmas.PlainTokens.{HasNone, none-by, is_not_plain}
 use Rattle.tangle_lexer.proofs.laws.Points.{Point, point_at, after_cell, IsTextAt, text-is}
-use Rattle.tangle_lexer.proofs.lines.LineSteps.{Judgement, Holds, front-open}
+use Rattle.tangle_lexer.proofs.lines.LineSteps.{Judgement, Holds}
 use Rattle.tangle_lexer.proofs.lines.KindSteps.{Follows, kind-follows, use-follows}
 
 -- tokens without heads
 
 pub no-heads : (ts : List Token) → HasNone is_not_plain ts → HasNone is_head ts
-no-heads = grind (arith, nat_tests, none-by, is_not_plain)
+no-heads = grind (arith, nat_tests, none-by)
 
 body-append : (ts us : List Token) → HasNone is_head ts → body (ts ++ us) ≡ ts ++ body us
 body-append [] us h = refl
 body-append (t ∷ ts) us h =
-    grind (arith, nat_tests, or_parts (is_head t) (list_any is_head ts) h, cond, body-append ts us)
-
-begins-head : (t : Token) → is_head t ≡ false → begins_c_part t ≡ false
-begins-head t h = grind arith
+    grind (arith, nat_tests, body-append ts us)
 
 c_parts-append : (ts us : List Token) → HasNone is_head ts → c_parts (ts ++ us) ≡ c_parts us
 c_parts-append [] us h = refl
 c_parts-append (t ∷ ts) us h =
-    grind (arith, nat_tests, or_parts (is_head t) (list_any is_head ts) h, cond, begins-head t, c_parts-append ts us)
-
-body-begins : (ts : List Token) → begins_with_use_fault ts ≡ false → begins_with_use_fault (body ts) ≡ false
-body-begins x h = grind arith
+    grind (arith, nat_tests, c_parts-append ts us)
 
 pub no-part : (m : Mode) → is_c_text m ≡ false → is_c_part m ≡ false
 no-part m h = grind arith
@@ -68,14 +63,8 @@ module _ (texts : List (List ℕ)) where
   are-right = record {
     holds = AreRight;
     kept = λ t us lines h more. record { inner = more.inner; uses = rw h more.uses };
-    ended = λ t us line lines h inner none more. record {
-      inner = All-cons (HasInnerEndsAsDirective texts) line lines inner more.inner;
-      uses = rw (h, none) more.uses;
-    };
-    used = λ t b n us line lines h inner uses more. record {
-      inner = All-cons (HasInnerEndsAsDirective texts) line lines inner more.inner;
-      uses = rw uses (by t b n us lines h more.uses);
-    };
+    ended = search rules;
+    used = search rules;
   }
     where
       by : (t : Token) (b : Bool) (n : ℕ) (us : List Token) (lines : List (List Token)) → begins_with_use_fault us ≡ false
@@ -105,13 +94,13 @@ module _ (texts : List (List ℕ)) where
   }
     where
       none : (ts : List Token) → list_any is_use ts ≡ false → filter is_use ts ≡ []
-      none [] h = refl
+      none [] h = search rules
       none (t ∷ ts) h =
           let both = or_parts (is_use t) (list_any is_use ts) h in
           ap (λ b. cond b (t ∷ filter is_use ts) (filter is_use ts)) both.0 ∙ none ts both.1
 
       by : (b : Bool) → filter is_use before ≡ [] → [] ≡ cond b (filter is_use before) [] ++ []
-      by x h = grind arith
+      by x h = search rules
 
   head-law : (s after : LexerState) (t : Token) (ts : List Token) → is_head t ≡ true → begins_with_use_fault (t ∷ ts) ≡ false
       → AreRightFrom after ts → begins_c_part t ≡ false → AreRightFrom s (t ∷ ts)
@@ -122,26 +111,16 @@ module _ (texts : List (List ℕ)) where
       → AreRightFrom after ts → begins_c_part t ≡ true → AreRightFrom s (t ∷ ts)
   unfolding are-right
   part-law s after t ts head begins m empty ends right part =
-      grind (arith, nat_tests, ended s.line.line s.line.at_line_end, front-open)
+      grind (arith, nat_tests, ended s.line.line s.line.at_line_end)
 
   -- outside of C parts
   outside-law : (s : LexerState) (here : Lexeme) → is_c_part s.mode ≡ false → HasNone is_head here.tokens → Law s here
-  outside-law s here out none ts right = record {
-    now = λ m. absurd (let never : true ≡ false = sym (ap is_c_part m) ∙ out in cc);
-    begins = λ m. absurd (let never : true ≡ false = sym (ap is_c_part m) ∙ out in cc);
-    all = rw (c_parts-append here.tokens ts none) right.all;
-  }
+  outside-law s here out none ts right = search (rules, c_parts-append)
 
   -- inside a C part
   inside-law : (s : LexerState) (here : Lexeme) → here.after.mode ≡ mode.CPart → HasNone is_head here.tokens
       → Follows texts are-right s.line here.tokens here.after.line → Law s here
-  inside-law s here m none follows ts right =
-      let begins : begins_with_use_fault (body ts) ≡ false = body-begins ts (right.begins m) in
-      record {
-        now = λ n. rw (body-append here.tokens ts none) (follows.holds (body ts) begins (right.now m));
-        begins = λ n. follows.none ts (right.begins m);
-        all = rw (c_parts-append here.tokens ts none) right.all;
-      }
+  inside-law s here m none follows ts right = search (rules, body-append, c_parts-append)
 
   inside-by : (m : Mode) (s : LexerState) (at : Point) (c : Cell) (cs : List Cell) (kind : LexemeKind)
       → s.mode ≡ m → is_c_text m ≡ true → IsPlainKind kind → OpensLexeme kind (c ∷ cs)
@@ -161,10 +140,9 @@ module _ (texts : List (List ℕ)) where
   name-law : (o : Option ℕ) (s : LexerState) (text : List Cell) → is_c_part s.mode ≡ false
       → Law s (definition_or_mention o s text)
   name-law None s text out =
-      outside-law s (definition_or_mention None s text) out
-      (no-heads (mention_faults s text) (mention-plain s text).none)
+      search rules
   name-law (Some k) s text out =
-      λ ts right. part-law s (definition_or_mention (Some k) s text).after _ ts refl refl refl refl refl right refl
+      search (rules, part-law)
 
   lexeme-law : (s : LexerState) (at : Point) (c : Cell) (cs : List Cell)
       → IsTextAt texts at (c ∷ cs) → Law s (lexeme s (c ∷ cs))
@@ -178,9 +156,7 @@ module _ (texts : List (List ℕ)) where
             inside-law s (use_of_name s text) m (no-heads (drop 1 (use_of_name s text).tokens) (use-plain s text).none)
             (use-follows texts are-right s text m);
         name = λ out. name-law (definition_count text) s text out;
-        limbo = λ m is_fault.
-            outside-law s (limbo_code is_fault s text) (ap is_c_part m)
-            (no-heads (limbo_code is_fault s text).tokens (fault_if-plain is_fault fault.LimboCode c.line).none);
+        limbo = search rules;
         skip = λ out n. outside-law s (lexeme_of [] n s) (no-part s.mode out) refl;
         format = λ m. outside-law s (lexeme_of [] 1 (in_mode mode.Documentation s)) (ap is_c_part m) refl;
         misplaced = λ m o. outside-law s (code_fault fault.MisplacedH s text) (ap is_c_part m) refl;

@@ -1,8 +1,9 @@
 -- Where a lexeme of a C part begins, the lexer knows whether the open line of C is a directive.
+use Rattle.std.proofs.Common.{rules}
 use Rattle.std.proofs.lemmas.Bool.Decides.{nat_tests}
 use Rattle.std.proofs.Common.{arith}
 use Rattle.std.proofs.Common.{◌≡◌, ℕ, zero, suc, Bool, true, false, ◌||◌, List, [], ◌∷◌, ◌++◌, length}
-use Rattle.std.proofs.Common.{Option, Some, None, refl, ap, sym, ◌∙◌, subst, cond, drop, append_assoc, append-nil}
+use Rattle.std.proofs.Common.{Option, refl, ap, sym, ◌∙◌, subst, cond, drop, append_assoc, append-nil}
 use Rattle.std.proofs.lemmas.List.Folds.{list_any-append}
 use Rattle.tangle_lines.specs.Reading.{SourceLine}
 use Rattle.tangle_text.specs.Text.{Cell, text_from, texts_of}
@@ -13,7 +14,6 @@ use Rattle.tangle_lexer.specs.declared.lexeme_kinds.ControlCode.TheVariants as c
 use Rattle.tangle_lexer.specs.declared.lexeme_kinds.LexemeKind.{LexemeKind}
 use Rattle.tangle_lexer.specs.declared.modes.Mode.{Mode}
 use Rattle.tangle_lexer.specs.declared.modes.Mode.TheVariants as mode
-use Rattle.tangle_lexer.specs.declared.modes.LineOfC.{LineOfC}
 use Rattle.tangle_lexer.specs.declared.modes.LineOfC.TheVariants as line
 use Rattle.tangle_lexer.specs.declared.modes.AtLineEnd.TheVariants.{Ends}
 use Rattle.tangle_lexer.specs.declared.modes.LexerState.{LexerState}
@@ -29,9 +29,9 @@ use Rattle.tangle_lexer.proofs.lemmas.LexemeCases.{OpensLexeme, IsPlainKind, lex
 use Rattle.tangle_lexer.proofs.lemmas.PlainLexemes.{kind-plain, use-plain}
 use Rattle.tangle_lexer.proofs.lemmas.PlainTokens.{HasNone}
 use Rattle.tangle_lexer.proofs.laws.Points.{Point, point_at, after_cell, IsTextAt, text-is}
-use Rattle.tangle_lexer.proofs.lines.OpenLines.{settled, directive-is}
+use Rattle.tangle_lexer.proofs.lines.OpenLines.{directive-is}
 use Rattle.tangle_lexer.proofs.lines.LineSteps.{Judgement, Steps, no-steps, steps-append, front-open}
-use Rattle.tangle_lexer.proofs.lines.KindSteps.{Follows, kind-follows, use-follows, in_directive}
+use Rattle.tangle_lexer.proofs.lines.KindSteps.{Follows, kind-follows, use-follows}
 use Rattle.tangle_lexer.proofs.lines.PartLines.{no-heads, no-part}
 
 -- the tokens after the last head
@@ -42,11 +42,11 @@ body-none (t ∷ ts) h = ap (λ b. cond b (last_body ts) (t ∷ ts)) h
 
 body-append : (ts us : List Token) → HasNone is_head us → last_body (ts ++ us) ≡ last_body ts ++ us
 body-append [] us h = body-none us h
-body-append (t ∷ ts) us h = grind (arith, nat_tests, cond, body-append ts us h, list_any-append is_head ts us)
+body-append (t ∷ ts) us h = grind (arith, nat_tests, body-append ts us h, list_any-append is_head ts us)
 
 body-head : (ts : List Token) (t : Token) → is_head t ≡ true → last_body (ts ++ t ∷ []) ≡ []
 body-head [] t h = ap (λ b. cond (b || false) [] (t ∷ [])) h
-body-head (u ∷ us) t h = grind (arith, nat_tests, cond, body-head us t h, list_any-append is_head us (t ∷ []))
+body-head (u ∷ us) t h = grind (arith, nat_tests, body-head us t h, list_any-append is_head us (t ∷ []))
 
 module _ (texts : List (List ℕ)) where
   -- whether the last of the lines of C is a directive
@@ -74,9 +74,7 @@ module _ (texts : List (List ℕ)) where
   inside-law : (s : LexerState) (here : Lexeme) → s.mode ≡ mode.CPart → HasNone is_head here.tokens
       → ((b : Bool) → Follows texts (last-is b) s.line here.tokens here.after.line) → Law s here
   unfolding HasRead Law
-  inside-law s here m none follows ts read n b =
-      rw (body-append ts here.tokens none)
-      (steps-append texts (last-is b) (last_body ts) here.tokens (read m b) (follows b))
+  inside-law s here m none follows ts read n b = search (rules, body-append, steps-append)
 
   outside-law : (s : LexerState) (here : Lexeme) → is_c_part here.after.mode ≡ false → Law s here
   unfolding HasRead Law
@@ -84,19 +82,16 @@ module _ (texts : List (List ℕ)) where
 
   name-law : (o : Option ℕ) (s : LexerState) (text : List Cell) → Law s (definition_or_mention o s text)
   unfolding HasRead Law
-  name-law None s text = outside-law s (definition_or_mention None s text) refl
-  name-law (Some k) s text = λ ts read m. part-begins ts _ refl
+  name-law o s text = search (rules, part-begins)
 
   inside-by : (m : Mode) (s : LexerState) (at : Point) (c : Cell) (cs : List Cell) (kind : LexemeKind)
       → s.mode ≡ m → is_c_text m ≡ true → IsPlainKind kind → OpensLexeme kind (c ∷ cs)
       → IsTextAt texts at (c ∷ cs) → Law s (c_lexeme kind s (c ∷ cs))
   inside-by mode.CPart s at c cs kind m within p o is =
       let plain = kind-plain kind s (c ∷ cs) p in
-      inside-law s (c_lexeme kind s (c ∷ cs)) m (no-heads (c_lexeme kind s (c ∷ cs)).tokens plain.tokens.none)
-      (λ b. kind-follows texts (last-is b) kind s at c cs m p o is)
+      search (rules, inside-law, no-heads, kind-follows)
   inside-by mode.Macro s at c cs kind m within p o is =
-      let plain = kind-plain kind s (c ∷ cs) p in
-      outside-law s (c_lexeme kind s (c ∷ cs)) (ap is_c_part (plain.mode ∙ m))
+      search (rules, outside-law)
   inside-by mode.Limbo s at c cs kind m within p o is = cc
   inside-by mode.Documentation s at c cs kind m within p o is = cc
 
@@ -121,9 +116,6 @@ module _ (texts : List (List ℕ)) where
         inside = λ within kind p o. inside-by s.mode s at c cs kind refl within p o is;
       })
 
-  empty-kind : (l : LineOfC) → lines_of_c.is_directive (settled l false) ≡ lines_of_c.is_directive l
-  empty-kind l = grind arith
-
   Knows : List Token → LexemeStart → Type 0
   Knows ts here =
       here.state.mode ≡ mode.CPart
@@ -135,10 +127,9 @@ module _ (texts : List (List ℕ)) where
   knows ts s text read m =
       let b : Bool = lines_of_c.is_directive s.line.line in
       let last = (read m b).holds [] refl
-      (λ before is other. directive-is texts before ∙ ap lines_of_c.is_directive is.kind ∙ empty-kind s.line.line)
+      (λ before is other. directive-is texts before ∙ ap lines_of_c.is_directive is.kind ∙ (grind arith))
       [] (front-open texts (last_body ts ++ [])) [] in
-      in_directive s m
-      ∙ sym (subst (λ us. is_directive texts (open_line texts us) ≡ b) (append-nil (last_body ts)) last)
+      search rules
 
   KnowsAll : List Token → List LexemeStart → Type 0
   KnowsAll ts [] = Unit {0}
@@ -162,8 +153,7 @@ module _ (texts : List (List ℕ)) where
   unfolding KnowsAll
   known-at [] after here ts all = subst (λ us. Knows us here) (sym (append-nil ts)) all.0
   known-at (b ∷ before) after here ts all =
-      subst (λ us. Knows us here) (append_assoc ts (lexeme b.state b.text).tokens (tokens_of before))
-      (known-at before after here (ts ++ (lexeme b.state b.text).tokens) all.1)
+      grind (arith, nat_tests, append_assoc ts, known-at before after here)
 
 -- the lexemes of a source
 pub directives-known : (lines : List SourceLine) (before after : List LexemeStart) (here : LexemeStart)

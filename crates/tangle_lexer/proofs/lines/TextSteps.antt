@@ -87,10 +87,6 @@ module _ (texts : List (List ℕ)) (R : Judgement texts) where
         → (start ≡ at.column → (0 < n) ⊎ ((x ≡ m) × (f ≡ ending last)))
         → Steps texts R x f ts m (ending (last_cell last n text))
 
-    pub nothing-left : (x : LineOfC) (f : AtLineEnd) (last : Bool) → (0 < 0) ⊎ ((x ≡ m) × (f ≡ ending last))
-        → Steps texts R x f [] m (ending last)
-    nothing-left x f last y = grind arith
-
     -- the range before a cell that ends the text, and a fault
     pub stop-step : (at : Point) (start : ℕ) (c : Cell) (cs : List Cell) (faults : List Token)
         → start ≤ at.column → IsCellAt texts at c → ((f : AtLineEnd) → Steps texts R m f faults m f)
@@ -100,11 +96,11 @@ module _ (texts : List (List ℕ)) (R : Judgement texts) where
         steps-append texts R (cut_range r c.line start c.column) faults
         (elim (eqb_tells start at.column) [
           | inl all ↦
-              rw (range-none r c.line start c.column (omega (arith, all.1, is.column)))
-              (nothing-left x f last (done all.1))
+              rw (range-none r c.line start c.column (omega arith))
+              (grind arith)
           | inr some ↦
-              let more : start < at.column = omega (arith, h, some.1) in
-              range-step x f c.line start c.column last same (omega (arith, more, is.column))
+              let more : start < at.column = omega arith in
+              range-step x f c.line start c.column last same (omega arith)
               (rw (is.line, is.column) (back more))
         ])
         (fault (ending last))
@@ -120,31 +116,31 @@ module _ (texts : List (List ℕ)) (R : Judgement texts) where
           (λ at start c cs ts n h is byte alone next x f last same back done.
           steps-append texts R _ ts (faults-step texts R (holds at_sign c.byte) fault.StringAt c.line refl)
           (next x f (holds backslash c.byte) same (λ k. after-byte-of at c byte is)
-          (λ k. absurd (omega (arith, k, h, is.column)))))
+          (λ k. absurd (omega arith))))
           (λ at start c d cs ts n h is cell byte second sign other next x f last same back done.
           let no_end : holds backslash c.byte ≡ false = other-byte at_sign backslash c.byte refl sign in
           let range : List Token = cut_range r c.line start (c.column + 1) in
           subst (λ b. Steps texts R x f (range ++ ts) m (ending (last_cell b n cs)))
           (sym (other-byte at_sign backslash d.byte refl other))
           (steps-append texts R range ts
-          (range-step x f c.line start (c.column + 1) false same (omega (arith, h, is.column))
+          (range-step x f c.line start (c.column + 1) false same (omega arith)
           (after-byte-of at c byte is ∙ no_end))
-          (next m (ending false) false (same-item l) (λ k. absurd (omega (arith, k, cell.column)))
+          (next m (ending false) false (same-item l) (λ k. absurd (omega arith))
           (λ k. inr (refl, refl)))))
           (λ at start c d cs ts n h is cell byte second sign other next x f last same back done.
           next x f (holds backslash d.byte) same (λ k. after-byte-of (point_at c.line (c.column + 1)) d second cell)
-          (λ k. absurd (omega (arith, k, h, is.column, cell.column))))
+          (λ k. absurd (omega arith)))
           (λ at start c d cs ts n h is cell byte none other next x f last same back done.
           let range : List Token = cut_range r c.line start (c.column + 1) in
           let b : Bool = holds backslash c.byte in
           subst (λ y. Steps texts R x f (range ++ token.QuoteBreak ∷ ts) m (ending (last_cell y n cs)))
           (sym (ap (holds backslash) none))
           (steps-append texts R range (token.QuoteBreak ∷ ts)
-          (range-step x f c.line start (c.column + 1) b same (omega (arith, h, is.column)) (after-byte-of at c byte is))
+          (range-step x f c.line start (c.column + 1) b same (omega arith) (after-byte-of at c byte is))
           (steps-append texts R (token.QuoteBreak ∷ []) ts
           (subst (λ y. Steps texts R m (ending b) (token.QuoteBreak ∷ []) y Ends) (same-item l)
           (item-step texts R token.QuoteBreak refl))
-          (next m Ends false (same-item l) (λ k. absurd (omega (arith, k))) (λ k. inr (refl, plain))))))
+          (next m Ends false (same-item l) (λ k. absurd (omega arith)) (λ k. inr (refl, plain))))))
 
   -- quoted texts: no line end after one of their ranges goes on
   module _ (r : Region) (cut : IsCut r) (quoted : (s : Span) → range_token r s ≡ token.Span span_kind.Quoted s)
@@ -160,7 +156,7 @@ module _ (texts : List (List ℕ)) (R : Judgement texts) where
         → IsCutFrom r cut (λ b. Ends) refl quoted-item l at start (quote_end r close last start text) 0 text
     unfolding IsCutFrom
     quoted-stop close last at start [] h is x f before same back done =
-        grind (arith, nat_tests, steps-append, fault-step)
+        grind (arith, nat_tests, fault-step)
     quoted-stop close last at start (c ∷ cs) h is x f before same back done = by (holds close c.byte)
       where
         by : (b : Bool) → Steps texts R x f
@@ -168,7 +164,7 @@ module _ (texts : List (List ℕ)) (R : Judgement texts) where
             (cut_range r c.line start c.column ++ token.Fault fault.StringEnd c.line ∷ [])) (with_item false l) Ends
         by true =
             range-step r cut (λ b. Ends) refl quoted-item l x f c.line start (c.column + 1) _ same
-            (omega (arith, h, is.0.column)) refl
+            (omega arith) refl
         by false =
             stop-step r cut (λ b. Ends) refl quoted-item l at start c cs
             (token.Fault fault.StringEnd c.line ∷ []) h is.0
@@ -181,4 +177,4 @@ module _ (texts : List (List ℕ)) (R : Judgement texts) where
     quoted-steps close last at c cs is byte =
         cut-from r cut (λ b. Ends) refl quoted-item l (quote_end r close last) (quoted-stop close last)
         (point_at c.line (c.column + 1)) c.column cs (omega arith) (text-next texts at c cs is byte) l e
-        (holds backslash c.byte) refl (λ k. after-byte-of at c byte is.0) (λ k. absurd (omega (arith, k)))
+        (holds backslash c.byte) refl (λ k. after-byte-of at c byte is.0) (λ k. absurd (omega arith))

@@ -1,7 +1,7 @@
 -- A verbatim text is an item of the open line of C, which may end in a backslash.
 use Rattle.std.proofs.Common.{rules}
 use Rattle.std.proofs.Common.{◌≡◌, ℕ, ◌+◌, ◌-◌, ◌≤◌, Bool, true, false, List, [], ◌∷◌, ◌==◌}
-use Rattle.std.proofs.Common.{Option, None, inl, inr, refl, ap, sym, arith, subst, cond}
+use Rattle.std.proofs.Common.{inl, inr, refl, ap, sym, arith, subst, cond}
 use Rattle.std.specs.Prelude.{nat_le}
 use Rattle.std.proofs.lemmas.Bool.Decides.{nat_tests, eqb_tells}
 use Rattle.tangle_faults.specs.declared.faults.FaultKind.TheVariants as fault
@@ -9,9 +9,8 @@ use Rattle.tangle_text.specs.declared.regions.Region.TheVariants as region
 use Rattle.tangle_text.specs.declared.regions.Unit.TheVariants as unit
 use Rattle.tangle_text.specs.declared.spans.Span.{Span}
 use Rattle.tangle_text.specs.Bytes.{backslash, holds, is_line_end}
-use Rattle.tangle_text.specs.Regions.{unit_of, unit_at, units, count_before}
+use Rattle.tangle_text.specs.Regions.{unit_at, units, count_before}
 use Rattle.tangle_text.specs.Text.{Cell, span_at}
-use Rattle.tangle_lines.specs.Bytes.{at_sign}
 use Rattle.tangle_lexer.specs.declared.modes.AtLineEnd.{AtLineEnd}
 use Rattle.tangle_lexer.specs.declared.modes.AtLineEnd.TheVariants.{Ends}
 use Rattle.tangle_lexer.specs.declared.modes.LineOfC.{LineOfC}
@@ -27,31 +26,27 @@ use Rattle.tangle_lexer.proofs.laws.RegionUnits.{units-by}
 use Rattle.tangle_lexer.proofs.lines.LineSteps.{Judgement, Steps, steps-append, faults-step, item-step}
 use Rattle.tangle_lexer.proofs.lines.TextSteps.{end_by, last_cell, IsCutFrom, stop-step, cut-from}
 
--- both cells of a unit of two are @ in a verbatim text
-two-signs : (b n : Option ℕ) → unit_of region.Verbatim b n ≡ unit.Two → holds at_sign n ≡ true
-two-signs b n e = grind arith
-
 -- the last unit is a backslash if the last cell is
 units-last : (text : List Cell) (last : Bool)
     → last_is_backslash last (units region.Verbatim text) ≡ last_cell last (count_before region.Verbatim text) text
 units-last =
     units-by region.Verbatim (λ n text. (last : Bool)
     → last_is_backslash last (units region.Verbatim text) ≡ last_cell last n text)
-    stop (λ last. refl) one two (λ c e. absurd (let never : false ≡ true = two-signs c.byte None e in cc))
+    stop (λ last. refl) one two (λ c e. absurd (let never : false ≡ true = (grind arith) in cc))
   where
     stop : (text : List Cell) → unit_at region.Verbatim text ≡ unit.Stop → (last : Bool)
         → last_is_backslash last (units region.Verbatim text) ≡ last
-    stop x e last = grind arith
+    stop x e last = search rules
 
     one : (n : ℕ) (c : Cell) (cs : List Cell) → unit_at region.Verbatim (c ∷ cs) ≡ unit.One
         → ((last : Bool) → last_is_backslash last (units region.Verbatim cs) ≡ last_cell last n cs) → (last : Bool)
         → last_is_backslash last (units region.Verbatim (c ∷ cs)) ≡ last_cell (holds backslash c.byte) n cs
-    one n c x e next last = grind arith
+    one n c x e next last = search rules
 
     two : (n : ℕ) (c d : Cell) (cs : List Cell) → unit_at region.Verbatim (c ∷ d ∷ cs) ≡ unit.Two
         → ((last : Bool) → last_is_backslash last (units region.Verbatim cs) ≡ last_cell last n cs) → (last : Bool)
         → last_is_backslash last (units region.Verbatim (c ∷ d ∷ cs)) ≡ last_cell (holds backslash d.byte) n cs
-    two n c d cs e next last = grind arith
+    two n c d cs e next last = search rules
 
 module _ (texts : List (List ℕ)) (R : Judgement texts) (l : LineOfC) where
   abbrev m : LineOfC
@@ -66,7 +61,7 @@ module _ (texts : List (List ℕ)) (R : Judgement texts) (l : LineOfC) where
       → IsCutFrom texts R region.Verbatim verbatim-cut end_by refl item l at start (verbatim_end start text) 0 text
   unfolding IsCutFrom
   verbatim-stop at start [] h is = grind (arith, nat_tests)
-  verbatim-stop at start (c ∷ cs) h is = search (rules, stop-step, verbatim-cut, end_by, faults-step)
+  verbatim-stop at start (c ∷ cs) h is = search (rules, stop-step, faults-step)
 
   empty-step : (e : AtLineEnd) (text : List Cell)
       → Steps texts R l e (token.Span span_kind.Verbatim (span_at 0 text) ∷ []) m Ends
@@ -101,6 +96,6 @@ module _ (texts : List (List ℕ)) (R : Judgement texts) (l : LineOfC) where
         | inr some ↦
             rw some.0
             (cut-from texts R region.Verbatim verbatim-cut end_by refl item l verbatim_end verbatim-stop
-            at c.column text (omega (arith, is.0.column)) is l e false refl
-            (λ k. absurd (omega (arith, k, is.0.column))) (λ k. inl (omega (arith, some.1))))
+            at c.column text (omega arith) is l e false refl
+            (λ k. absurd (omega arith)) (λ k. inl (omega arith)))
       ])

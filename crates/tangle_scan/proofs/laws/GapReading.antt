@@ -4,7 +4,7 @@ use Rattle.std.proofs.Common.{arith}
 use Rattle.std.proofs.Common.{◌≡◌, ℕ, Bool, false, ◌&&◌, ◌==◌, not, List, [], ◌∷◌, ◌++◌, Option, Some, refl}
 use Rattle.std.proofs.Common.{append_assoc, if◌then◌else◌}
 use Rattle.std.proofs.lemmas.List.Elements.{filter-append}
-use Rattle.std.proofs.Math.Bool.{and-true, and-false}
+use Rattle.std.proofs.Math.Bool.{and-true}
 use Rattle.tangle_files.specs.Bytes.{space}
 use Rattle.tangle_lines.specs.declared.origin.Origin.{Origin}
 use Rattle.tangle_lexer.specs.declared.tokens.Token.{Token}
@@ -21,7 +21,7 @@ some-append (x ∷ xs) y ys = refl
 pub read-append : (after : Bool) (gap more : List Gap)
     → as_read after (gap ++ more) ≡ as_read after gap ++ as_read (after && is_empty gap) more
 read-append after [] more = rw (and-true after) refl
-read-append after (x ∷ gap) more = grind (arith, nat_tests, and-false after, read-append false gap more)
+read-append after (x ∷ gap) more = grind (arith, nat_tests, read-append false gap more)
 
 pub spaces-append : (xs ys : List ℕ) → without_spaces (xs ++ ys) ≡ without_spaces xs ++ without_spaces ys
 spaces-append xs ys = filter-append (λ b. not (b == space)) xs ys

@@ -1,4 +1,5 @@
 -- The items that are dropped at the end of a macro are those of the tokens that are dropped there.
+use Rattle.std.proofs.Common.{rules}
 use Rattle.std.proofs.lemmas.Bool.Decides.{nat_tests}
 use Rattle.std.proofs.Common.{arith}
 use Rattle.std.proofs.Common.{◌≡◌, ℕ, Bool, true, false, if◌then◌else◌, List, [], ◌∷◌, ◌++◌, refl}
@@ -49,10 +50,6 @@ module _ (texts : List (List ℕ)) where
 
   -- items before items none of which is written
 
-  -- a token that is dropped, before tokens that are all dropped
-  dropped-before : (e : Token) (es : List Token) → is_dropped_token texts e ≡ true → AreDropped es → AreDropped (e ∷ es)
-  dropped-before e es dropped h in_name before white = grind arith
-
   -- items before items of which some are written
   more-items : (ps xs ys : List Item) → IsWritten xs ys → IsWritten (ps ++ xs) (ps ++ ys)
   more-items [] xs ys h = h
@@ -60,47 +57,30 @@ module _ (texts : List (List ℕ)) where
 
   -- a token that is written, before tokens that are all dropped
 
-  written-last : (e : Token) (es : List Token)
-      → is_dropped_token texts e ≡ false → AreDropped es → AreWritten (e ∷ es) (e ∷ [])
-  written-last e es kept h in_name before white = grind arith
-
   -- a token before tokens of which some are written
   written-before : (e : Token) (es fs : List Token)
       → next_item es ≡ next_item fs → AreWritten es fs → AreWritten (e ∷ es) (e ∷ fs)
   written-before e es fs next h in_name before white = grind arith
-
-  next_item-before : (e : Token) (es fs : List Token)
-      → next_item es ≡ next_item fs → next_item (e ∷ es) ≡ next_item (e ∷ fs)
-  next_item-before x es fs h = grind arith
-
-  next_item-kept : (e : Token) (es : List Token)
-      → is_dropped_token texts e ≡ false → next_item (e ∷ es) ≡ next_item (e ∷ [])
-  next_item-kept x es h = grind arith
 
   written : (es : List Token) → Written es
   written [] = NoToken refl (λ in_name before white. refl)
   written (e ∷ es) = by (written es)
     where
       last : AreDropped es → (b : Bool) → is_dropped_token texts e ≡ b → written_tokens texts es ≡ [] → Written (e ∷ es)
-      last dropped true is none = NoToken (rw (none, is) refl) (dropped-before e es is dropped)
+      last dropped true is none = search rules
       last dropped false is none =
-          SomeTokens e [] (rw (none, is) refl) (next_item-kept e es is) (written-last e es is dropped)
+          SomeTokens e [] (rw (none, is) refl) (grind arith) (grind arith)
 
       by : Written es → Written (e ∷ es)
-      by (NoToken none dropped) = last dropped (is_dropped_token texts e) refl none
+      by (NoToken none dropped) = grind (arith, nat_tests, last dropped (is_dropped_token texts e) refl none)
       by (SomeTokens f fs are next some) =
-          SomeTokens e (f ∷ fs) (rw are refl) (next_item-before e es (f ∷ fs) next)
+          SomeTokens e (f ∷ fs) (rw are refl) (grind arith)
           (written-before e es (f ∷ fs) next some)
 
   -- the written items of a macro are the items of its written tokens
   pub end-items : (es : List Token) (in_name : Bool) (before : Option Token) (white : Bool) →
       without_end texts (items_from in_name before white es) ≡ items_from in_name before white (written_tokens texts es)
-  end-items es in_name before white = by (written es)
-    where
-      by : Written es
-          → without_end texts (items_from in_name before white es)
-          ≡ items_from in_name before white (written_tokens texts es)
-      by x = grind arith
+  end-items es in_name before white = search (rules, written)
 
   -- The last of the tokens is an item that is written. If there are no tokens, the token before them is such an item,
   -- or there is none.

@@ -1,21 +1,21 @@
 -- A C compiler reads the items of a macro as the author means them.
+use Rattle.std.proofs.Common.{rules}
 use Rattle.std.proofs.lemmas.Bool.Decides.{nat_tests}
 use Rattle.std.proofs.Common.{arith}
 use Rattle.std.proofs.Common.{◌≡◌, ℕ, Bool, true, false, ◌&&◌, not, if◌then◌else◌, List, [], ◌∷◌, ◌++◌, flat_map}
-use Rattle.std.proofs.Common.{append_assoc, append-nil, Option, Some, None, is_some, inl, inr, ◌⊎◌, refl, ap, ◌∙◌, subst}
-use Rattle.std.proofs.Math.Bool.{and-false}
+use Rattle.std.proofs.Common.{append_assoc, Option, Some, None, is_some, inl, inr, ◌⊎◌, refl, subst}
 use Rattle.tangle_files.specs.Bytes.{space, line_feed}
 use Rattle.tangle_lexer.specs.declared.tokens.Token.{Token}
 use Rattle.tangle_lexer.specs.declared.tokens.Token.TheVariants as token
 use Rattle.tangle_scan.specs.Rules.{next_item, has_blank_at_line_end, is_name_part, macro_blanks, unmarked_items}
 use Rattle.tangle_scan.specs.Rules.{is_front_gap, is_continued}
-use Rattle.tangle_scan.specs.MacroBytes.{without_end, macro_item_bytes, macro_bytes}
+use Rattle.tangle_scan.specs.MacroBytes.{macro_item_bytes, macro_bytes}
 use Rattle.tangle_scan.specs.ReadAsMeant.{Gap, Space, TakenOut, gap_bytes, as_read, is_empty, without_spaces, IsReadAs}
 use Rattle.tangle_scan.specs.ReadAsMeant.{needs_white, written_tokens, token_bytes, AreReadAsMeant}
 use Rattle.tangle_scan.specs.ReadAsMeant.{EndsMacro, IsMacroReadAsMeant}
 use Rattle.tangle_scan.proofs.laws.MacroEnds.{items_from, end-items, EndsInItem, ends-before, written-ends}
-use Rattle.tangle_scan.proofs.laws.GapReading.{some-append, read-append, spaces-append, bytes-append}
-use Rattle.tangle_scan.proofs.laws.GapReading.{blank_before, item-as-meant}
+use Rattle.tangle_scan.proofs.laws.GapReading.{read-append, spaces-append, bytes-append}
+use Rattle.tangle_scan.proofs.laws.GapReading.{blank_before}
 
 module _ (texts : List (List ℕ)) where
   -- The bytes that rule 3 makes of the tokens of a macro. The arguments before the tokens are those of the rule.
@@ -58,7 +58,7 @@ module _ (texts : List (List ℕ)) where
   AreSpaces meant white = (without_spaces meant ≡ []) × (is_empty meant ≡ not white)
 
   more-spaces : (meant : List ℕ) (white : Bool) → AreSpaces meant white → AreSpaces (meant ++ space ∷ []) true
-  more-spaces meant white are = grind (arith, nat_tests, spaces-append, append-nil, some-append)
+  more-spaces meant white are = grind (arith, nat_tests, spaces-append)
 
   -- the tokens that follow are read as meant after an item on the same line, or at the front of the macro
   abbrev ReadsOnLine : List Token → Type 0
@@ -85,7 +85,7 @@ module _ (texts : List (List ℕ)) where
 
   reads-line_end : (line : ℕ) (es : List Token) → ReadsAfterLineEnds es → ReadsOnLine (token.LineEnd line ∷ es)
   reads-line_end line es next in_name white meant before are ends =
-      by (has_blank_at_line_end texts in_name before (next_item es)) refl
+      grind (arith, nat_tests, by (has_blank_at_line_end texts in_name before (next_item es)) refl)
     where
       line_text : Bool → List ℕ
       line_text blank =
@@ -96,52 +96,41 @@ module _ (texts : List (List ℕ)) where
       after : (gap : List Gap) → IsGap in_name before gap es → AreRead in_name (meant ++ space ∷ []) before es
           (bytes_in_gap gap ++ (text_from false None false es ++ line_feed ∷ []))
       after gap is =
-          next in_name false (meant ++ space ∷ []) before gap (more-spaces meant white are) is
-          (ends-before texts (token.LineEnd line) es (Some token.White) refl ends)
+          search (rules, more-spaces, ends-before)
 
       by : (blank : Bool) → has_blank_at_line_end texts in_name before (next_item es) ≡ blank →
           AreRead in_name (meant ++ space ∷ []) before es (line_text blank ++ line_feed ∷ [])
-      by true is = after (Space ∷ TakenOut ∷ []) (refl, inl refl)
-      by false is = after (TakenOut ∷ []) (refl, inr is)
+      by true is = grind (arith, nat_tests, after (Space ∷ TakenOut ∷ []) (refl, inl refl))
+      by false is = grind (arith, nat_tests, after (TakenOut ∷ []) (refl, inr is))
 
   -- the bytes before an item that is on the line of the last one
   gap-on_line : (in_name white : Bool) (meant : List ℕ) (before : Option Token) (e : Token) → AreSpaces meant white
       → IsReadAs meant (as_read (is_continued texts before) (blank_before (is_some before && white) []))
       (needs_white texts in_name meant before e)
-  gap-on_line in_name white meant before e are = grind (arith, nat_tests, and-false)
+  gap-on_line in_name white meant before e are = grind (arith, nat_tests)
 
   reads-on_line : (e : Token) (es : List Token) → is_front_gap e ≡ false → ReadsOnLine es → ReadsOnLine (e ∷ es)
   reads-on_line e es item next in_name white meant before are ends =
-      grind (arith, nat_tests, item-as-meant, blank_before, text-item, append_assoc, gap-on_line)
-
-  -- the bytes before an item that is on a later line than the last one
-  gap-after_line_ends : (in_name : Bool) (meant : List ℕ) (before : Option Token) (gap : List Gap) (e : Token) (es : List Token)
-      → next_item (e ∷ es) ≡ Some e → AreSpaces meant true
-      → IsGap in_name before gap (e ∷ es) →
-      IsReadAs meant (as_read (is_continued texts before) gap) (needs_white texts in_name meant before e)
-  gap-after_line_ends in_name meant before gap e es first are is = grind (arith, nat_tests)
+      search (rules, text-item, append_assoc)
 
   reads-after_line_ends : (e : Token) (es : List Token)
       → is_front_gap e ≡ false → next_item (e ∷ es) ≡ Some e → ReadsOnLine es
       → ReadsAfterLineEnds (e ∷ es)
   reads-after_line_ends e es item first next in_name white meant before gap are is ends =
-      grind (arith, nat_tests, item-as-meant, text-item, append_assoc, gap-after_line_ends, and-false)
+      search (rules, append_assoc)
 
   -- one more line end after line ends
   reads-more_line_ends : (line : ℕ) (es : List Token)
       → ReadsAfterLineEnds es → ReadsAfterLineEnds (token.LineEnd line ∷ es)
   reads-more_line_ends line es next in_name white meant before gap are is ends =
       subst (AreRead in_name (meant ++ space ∷ []) before es)
-      (ap (λ bytes. bytes ++ (text_from false None false es ++ line_feed ∷ []))
-      (bytes-append (λ origin. []) gap (TakenOut ∷ []))
-      ∙ append_assoc (bytes_in_gap gap) (bytes_in_gap (TakenOut ∷ [])) (text_from false None false es ++ line_feed ∷ []))
+      (search (rules, bytes-append, append_assoc))
       (next in_name false (meant ++ space ∷ []) before (gap ++ TakenOut ∷ []) (more-spaces meant true are) (rw all is)
       (ends-before texts (token.LineEnd line) es (Some token.White) refl ends))
     where
       all : as_read (is_continued texts before) (gap ++ TakenOut ∷ []) ≡ as_read (is_continued texts before) gap
       all =
-          read-append (is_continued texts before) gap (TakenOut ∷ [])
-          ∙ append-nil (as_read (is_continued texts before) gap)
+          search (rules, read-append)
 
   reads : (es : List Token) → Reads es
   reads [] = grind (arith, nat_tests)
@@ -149,31 +138,20 @@ module _ (texts : List (List ℕ)) where
       let next = reads es in
       record {
         on_line = λ in_name white meant before are ends.
-            next.on_line in_name true (meant ++ space ∷ []) before (more-spaces meant white are)
-            (ends-before texts token.White es before refl ends);
+            grind (arith, nat_tests, more-spaces meant white are, ends-before);
         after_line_ends = λ in_name white meant before gap are is ends.
             next.after_line_ends in_name true (meant ++ space ∷ []) before gap (more-spaces meant true are) is ends;
       }
   reads (token.LineEnd line ∷ es) =
       let next = reads es in
-      record {
-        on_line = reads-line_end line es next.after_line_ends;
-        after_line_ends = reads-more_line_ends line es next.after_line_ends;
-      }
+      search (rules, reads-line_end, reads-more_line_ends)
   reads (e ∷ es) =
       let next = reads es in
-      record {
-        on_line = reads-on_line e es refl next.on_line;
-        after_line_ends = reads-after_line_ends e es refl refl next.on_line;
-      }
+      search (rules, reads-on_line, reads-after_line_ends)
 
   -- the items of a whole macro are read as meant
   pub macro-as-meant : (es : List Token)
       → IsMacroReadAsMeant texts es (macro_bytes texts (unmarked_items (macro_blanks texts true None false es)))
   macro-as-meant es =
-      let tokens : List Token = written_tokens texts es in (
-        flat_map (macro_item_bytes texts) (without_end texts (items_from texts true None false es)) ++ line_feed ∷ [],
-        refl,
-        rw (end-items texts es true None false)
-            ((reads tokens).on_line true false [] None (refl, refl) (written-ends texts es)),
-      )
+      let tokens : List Token = written_tokens texts es in
+      grind (arith, nat_tests, end-items texts es, reads tokens, written-ends texts es)

@@ -81,7 +81,7 @@ pieces-kept : (source : SourceRead)
     ≡ flat_map kept_points (all_segments source.lines)
 unfolding tokens_from
 pieces-kept source =
-    let lines : List SourceLine = source.lines in
+    let lines = source.lines in
     ap points_of (flat_map-twice (λ p. item_spans p.items) (piece_of lines) (blocks 0 (all_tokens lines)))
     ∙ flat_map-twice span_points (λ b. flat_map (λ p. item_spans p.items) (piece_of lines b))
     (blocks 0 (all_tokens lines))
@@ -118,18 +118,18 @@ module _ (texts : List (List ℕ)) where
       (cell-kept a c (byte_points cs ++ qs) is.0 (cells-from Kept (after_cell c) cs text qs is.1 rest))
   cells-from kind a [] text qs is rest = rest a is
   cells-from kind a (c ∷ cs) text qs is rest =
-      cell-dropped a c qs is.0 (cells-from kind (after_cell c) cs text qs is.1 rest)
+      grind (arith, nat_tests, cell-dropped a c qs is.0 (cells-from kind (after_cell c) cs text qs is.1 rest))
 
   segments-from : (ss : List Segment) (a : Point)
       → IsTextAt texts a (flat_map (λ s. s.cells) ss) → AreFrom a (flat_map kept_points ss)
-  segments-from [] a is = (All-nil (IsFromOn a), λ i j d k l. absurd (omega (arith, l)))
+  segments-from [] a is = (All-nil (IsFromOn a), λ i j d k l. absurd (omega arith))
   segments-from (s ∷ ss) a is =
       cells-from s.kind a s.cells (flat_map (λ t. t.cells) ss) (flat_map kept_points ss) is (segments-from ss)
 
 -- No byte of a C part is lost: the law.
 pub web-keeps-bytes : (source : SourceRead) → KeepsEachByte source (web_of source)
 web-keeps-bytes source =
-    let lines : List SourceLine = source.lines in
+    let lines = source.lines in
     let filled = segments-fill 0 (first_state (length lines)) (text_from 0 lines) in
     record {
       filled = filled;

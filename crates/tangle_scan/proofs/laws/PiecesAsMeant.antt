@@ -1,11 +1,12 @@
 -- A C compiler reads the items of a piece as the author means them.
+use Rattle.std.proofs.Common.{rules}
 use Rattle.std.proofs.lemmas.Bool.Decides.{nat_tests}
 use Rattle.std.proofs.Common.{arith}
 use Rattle.std.proofs.Common.{◌≡◌, ℕ, ◌+◌, Bool, true, false, ◌&&◌, if◌then◌else◌, List, [], ◌∷◌, ◌++◌, flat_map}
-use Rattle.std.proofs.Common.{append_assoc, append-nil, Option, Some, None, is_some, refl, ap, sym, ◌∙◌, subst}
+use Rattle.std.proofs.Common.{append_assoc, append-nil, Option, Some, None, is_some, refl, sym, ◌∙◌, subst}
 use Rattle.std.proofs.lemmas.Slice.Eq.{bytes_eq-Decides}
 use Rattle.std.proofs.lemmas.Bool.{and_parts}
-use Rattle.std.proofs.Math.Bool.{and-true, and-false}
+use Rattle.std.proofs.Math.Bool.{and-false}
 use Rattle.tangle_files.specs.Bytes.{space, line_feed}
 use Rattle.tangle_text.specs.Bytes.{backslash}
 use Rattle.tangle_lines.specs.declared.origin.Origin.{Origin}
@@ -61,7 +62,7 @@ module _ (lines : List SourceLine) (used : ℕ → List ℕ) (mark : Origin → 
       → text_from before white counted (e ∷ es)
       ≡ blank_bytes (is_some before && white)
       ++ (bytes_of e ++ text_from (Some e) false (counted_after_token lines counted e) es)
-  text-item before white counted e es item = grind (arith, nat_tests, blanks-item, text-blank, item-text)
+  text-item before white counted e es item = grind (arith, nat_tests, blanks-item, item-text)
 
   -- the tokens that the compiler reads, from an item on
   read-item : (continued : Bool) (e : Token) (es : List Token) → is_front_gap e ≡ false →
@@ -93,26 +94,13 @@ module _ (lines : List SourceLine) (used : ℕ → List ℕ) (mark : Origin → 
   no-gap : (last : Option Token) → IsGap [] false last last []
   no-gap last = grind (arith, nat_tests)
 
-  white-gap : (meant : List ℕ) (white : Bool) (last before : Option Token) (gap : List Gap)
-      → IsGap meant white last before gap → IsGap (meant ++ space ∷ []) true last before gap
-  white-gap meant white last before gap is =
-      grind (arith, nat_tests, spaces-append, append-nil, some-append, and-true)
-
-  -- the gap after the end of a line that is not continued
-  line_end-gap : (meant : List ℕ) (white : Bool) (last before : Option Token) (gap : List Gap) (end : Gap)
-      → IsGap meant white last before gap → is_continued texts before ≡ false
-      → as_read false (end ∷ []) ≡ line_feed ∷ []
-      → IsGap (meant ++ line_feed ∷ []) false last None (gap ++ end ∷ [])
-  line_end-gap meant white last before gap end is continued read =
-      grind (arith, nat_tests, read-append, some-append, spaces-append, and-false)
-
   -- the compiler reads the gap with the blank as meant, and after that perhaps what is taken out
   blanked : (meant : List ℕ) (white : Bool) (last before : Option Token) (gap more : List Gap)
       → IsGap meant white last before gap → ((after : Bool) → as_read after more ≡ []) → (f : Token)
       → IsReadAs meant (read_since last (gap ++ blank_before (is_some before && white) more))
       (needs_white texts false meant last f)
   blanked meant white last before gap more is none f =
-      grind (arith, nat_tests, blank_before, read-append, spaces-append, append-nil, and-false, some-append)
+      search (rules, read-append, spaces-append)
 
   -- The items of the tokens that follow are read as meant.
 
@@ -147,32 +135,16 @@ module _ (lines : List SourceLine) (used : ℕ → List ℕ) (mark : Origin → 
       by : (blank : Bool) → is_open texts before ≡ blank → EndsPiece texts mark last meant (gap_bytes mark gap
           ++ flat_map item_bytes (items_by_origin lines before counted (if blank then token.White ∷ [] else [])))
       by true is_open_end =
-          let all : read_since last (gap ++ Space ∷ []) ≡ read_since last gap ++ space ∷ [] =
-          read-append (is_continued texts last) gap (Space ∷ []) in
-          record {
-            gap = gap ++ Space ∷ [];
-            is = sym (bytes-append mark gap (Space ∷ []));
-            lines =
-                rw (all, spaces-append (read_since last gap) (space ∷ []))
-                (append-nil (without_spaces (read_since last gap)) ∙ is.line_ends);
-            closing = λ none.
-                let some : is_empty (read_since last (gap ++ Space ∷ [])) ≡ false =
-                rw all (some-append (read_since last gap) space []) in
-                absurd cc;
-          }
-      by false closed = record {
-        gap = gap;
-        is = append-nil (gap_bytes mark gap);
-        lines = is.line_ends;
-        closing = λ none. is.closing none closed;
-      }
+          let all = read-append (is_continued texts last) gap (Space ∷ []) in
+          grind (arith, nat_tests, bytes-append mark gap, spaces-append, append-nil)
+      by false closed = search rules
 
   plain-line_end : (line : ℕ) (es : List Token) → ReadsPlain es → ReadsPlain (token.LineEnd line ∷ es)
   plain-line_end line es next meant white last before counted gap is continued =
       by (is_expected lines counted line) refl
     where
       ends : is_continued texts before ≡ false
-      ends = sym (and-true (is_continued texts before)) ∙ continued
+      ends = grind (arith, nat_tests)
 
       -- the line end is a line feed or a mark
       after : (end : Gap) (counted : Origin) → as_read false (end ∷ []) ≡ line_feed ∷ [] →
@@ -180,10 +152,9 @@ module _ (lines : List SourceLine) (used : ℕ → List ℕ) (mark : Origin → 
           (gap_bytes mark gap ++ (gap_bytes mark (end ∷ []) ++ text_from None false counted es))
       after end counted read =
           subst (AreRead (meant ++ line_feed ∷ []) last (read_tokens texts false es))
-          (ap (λ bytes. bytes ++ text_from None false counted es) (bytes-append mark gap (end ∷ []))
-          ∙ append_assoc (gap_bytes mark gap) (gap_bytes mark (end ∷ [])) (text_from None false counted es))
+          (grind (arith, nat_tests, bytes-append, append_assoc))
           (next (meant ++ line_feed ∷ []) false last None counted (gap ++ end ∷ [])
-          (line_end-gap meant white last before gap end is ends read) refl)
+          (search (rules, read-append, some-append, spaces-append)) refl)
 
       by : (b : Bool) → is_expected lines counted line ≡ b → AreRead (meant ++ line_feed ∷ []) last
           (read_tokens texts false es) (gap_bytes mark gap ++ text_from before white counted (token.LineEnd line ∷ es))
@@ -194,15 +165,8 @@ module _ (lines : List SourceLine) (used : ℕ → List ℕ) (mark : Origin → 
 
   continued-line_end : (line : ℕ) (es : List Token) → ReadsPlain es → ReadsContinued (token.LineEnd line ∷ es)
   continued-line_end line es next meant white last before counted front gap bytes is continued ends =
-      let at : Option Token = Some (token.LineEnd line) in
-      rw continued
-      (subst (AreRead meant last (read_tokens texts false es))
-      (ap (λ bs. bs ++ text_from at false (next_line counted) es) bytes
-      ∙ append_assoc front (line_feed ∷ []) (text_from at false (next_line counted) es))
-      (next meant false last at (next_line counted) gap (is line) refl))
-
-  backslash-bytes : (e : Token) → is_backslash texts e ≡ true → bytes_of e ≡ backslash ∷ []
-  backslash-bytes e is = grind (arith, nat_tests, bytes_eq-Decides)
+      rw continued (subst (AreRead meant last (read_tokens texts false es)) (search (rules, append_assoc))
+      (next meant false last (Some (token.LineEnd line)) (next_line counted) gap (is line) refl))
 
   plain-item : (e : Token) (es : List Token) → is_front_gap e ≡ false → Reads es → ReadsPlain (e ∷ es)
   plain-item e es item next meant white last before counted gap is plain =
@@ -222,11 +186,7 @@ module _ (lines : List SourceLine) (used : ℕ → List ℕ) (mark : Origin → 
       gap-bytes : (more : List Gap) → gap_bytes mark (gap ++ blank_before blank more)
           ≡ gap_bytes mark gap ++ (blank_bytes blank ++ gap_bytes mark more)
       gap-bytes more =
-          bytes-append mark gap (blank_before blank more)
-          ∙ ap (λ bytes. gap_bytes mark gap ++ bytes) (blank-bytes blank)
-        where
-          blank-bytes : (b : Bool) → gap_bytes mark (blank_before b more) ≡ blank_bytes b ++ gap_bytes mark more
-          blank-bytes x = grind arith
+          search (rules, bytes-append)
 
       -- the case in which the compiler reads the item
       kept : (fs : List Token) → AreRead [] (Some e) fs rest →
@@ -234,8 +194,7 @@ module _ (lines : List SourceLine) (used : ℕ → List ℕ) (mark : Origin → 
       kept fs more =
           item-as-meant texts mark (use_bytes lines used mark macros) line_feed (EndsPiece texts mark) false meant last
           e fs (gap ++ blank_before blank []) rest _ item
-          (sym (ap (λ bytes. bytes ++ (bytes_of e ++ rest)) (bytes-append mark gap (blank_before blank []))
-          ∙ append_assoc (gap_bytes mark gap) (blank_bytes blank) (bytes_of e ++ rest)))
+          (search (rules, bytes-append, append_assoc))
           (blanked meant white last before gap [] is (λ after. refl) e) more
 
       -- the case in which the item is a backslash at the end of a continued line
@@ -244,13 +203,11 @@ module _ (lines : List SourceLine) (used : ℕ → List ℕ) (mark : Origin → 
       taken_out is_last line_ends bytes =
           rw bytes
           (subst (AreRead meant last (read_tokens texts true es))
-          (append_assoc (gap_bytes mark gap) (blank_bytes blank ++ backslash ∷ []) rest
-          ∙ ap (λ bs. gap_bytes mark gap ++ bs) (append_assoc (blank_bytes blank) (backslash ∷ []) rest))
+          (search (rules, append_assoc))
           (next.continued meant false last (Some e) counted_after (gap_bytes mark gap ++ (blank_bytes blank ++ backslash ∷ []))
           (gap ++ blank_before blank (TakenOut ∷ []))
           (gap-bytes (TakenOut ∷ [])
-          ∙ sym (append_assoc (gap_bytes mark gap) (blank_bytes blank ++ backslash ∷ []) (line_feed ∷ [])
-          ∙ ap (λ bs. gap_bytes mark gap ++ bs) (append_assoc (blank_bytes blank) (backslash ∷ []) (line_feed ∷ []))))
+          ∙ sym (search (rules, append_assoc)))
           joined is_last line_ends))
         where
           not_empty : (b : Bool) → is_empty (gap ++ blank_before b (TakenOut ∷ [])) ≡ false
@@ -271,20 +228,15 @@ module _ (lines : List SourceLine) (used : ℕ → List ℕ) (mark : Origin → 
       -- the gap after a verbatim text at the end of a continued line
       verbatim-gap : ends_in_backslash texts e ≡ true → (line : ℕ)
           → IsGap [] false (Some e) (Some (token.LineEnd line)) (LineFeed ∷ [])
-      verbatim-gap is_last line = record {
-        line_ends = rw is_last refl;
-        together = λ none. (rw is_last refl, refl);
-        apart = λ no_blank f needed. absurd cc;
-        front = λ none. absurd cc;
-        ended = λ ends. and-false (ends_in_backslash texts e);
-        closing = λ none closed. absurd cc;
-      }
+      verbatim-gap is_last line = search rules
 
       by : (continues : Bool) → (ends_in_backslash texts e && ends_line es) ≡ continues → (is_sign : Bool)
           → is_backslash texts e ≡ is_sign
           → AreRead meant last ((if continues && is_sign then [] else e ∷ []) ++ read_tokens texts continues es)
           (gap_bytes mark gap ++ (blank_bytes blank ++ (bytes_of e ++ rest)))
-      by true both true sign = let ends = and_parts _ _ both in taken_out ends.0 ends.1 (backslash-bytes e sign)
+      by true both true sign =
+          let ends = and_parts _ _ both in
+          taken_out ends.0 ends.1 (grind (arith, nat_tests, bytes_eq-Decides))
       by true both false other =
           let ends = and_parts _ _ both in
           kept (read_tokens texts true es)
@@ -301,13 +253,13 @@ module _ (lines : List SourceLine) (used : ℕ → List ℕ) (mark : Origin → 
       let next = reads es in
       record {
         plain = λ meant white last before counted gap is.
-            next.plain (meant ++ space ∷ []) true last before counted gap (white-gap meant white last before gap is);
+            next.plain (meant ++ space ∷ []) true last before counted gap (search (rules, spaces-append));
         continued = λ meant white last before counted. next.continued meant true last before counted;
       }
   reads (token.LineEnd line ∷ es) =
       let next = reads es in
       record { plain = plain-line_end line es next.plain; continued = continued-line_end line es next.plain }
-  reads (e ∷ es) = grind (arith, nat_tests, plain-item e es refl (reads es), reads es)
+  reads (e ∷ es) = grind (arith, nat_tests, plain-item e es refl (reads es))
 
   -- the items of a whole piece are read as meant
   pub piece-as-meant : (line : ℕ) (tokens : List Token)

@@ -1,20 +1,19 @@
 -- The spans of the items of a web are ranges of source lines, and the numbers of its occurrences are below their count.
+use Rattle.std.proofs.Common.{rules}
 use Rattle.std.proofs.lemmas.Bool.Decides.{nat_tests}
 use Rattle.std.proofs.Common.{◌≡◌, length, map, arith, subst, ◌<◌, ℕ, ◌+◌}
-use Rattle.std.proofs.Common.{Bool, true, false, Option, Some, None, List, [], ◌∷◌, ◌++◌, flat_map}
-use Rattle.std.proofs.Common.{cond}
+use Rattle.std.proofs.Common.{true, false, Option, Some, None, List, [], ◌∷◌, ◌++◌, flat_map}
 use Rattle.std.specs.List.{AllByRecursion, All}
 use Rattle.std.specs.Option.{IfSome}
-use Rattle.std.proofs.lemmas.List.Elements.{All-from_recursion, All-weaker}
+use Rattle.std.proofs.lemmas.List.Elements.{All-from_recursion}
 use Rattle.tangle_lines.specs.declared.origin.Origin.{Origin}
-use Rattle.tangle_lines.specs.Reading.{SourceLine, SourceRead, origin_at}
+use Rattle.tangle_lines.specs.Reading.{SourceLine, SourceRead}
 use Rattle.tangle_lexer.specs.declared.tokens.Token.{Token}
-use Rattle.tangle_lexer.specs.declared.tokens.SpanKind.{SpanKind}
 use Rattle.tangle_lexer.specs.declared.tokens.SpanKind.TheVariants as span_kind
 use Rattle.tangle_text.specs.declared.spans.Span.{Span}
 use Rattle.tangle_lexer.specs.declared.tokens.Token.TheVariants as token
 use Rattle.tangle_scan.specs.declared.items.Item.{Item}
-use Rattle.tangle_scan.specs.Rules.{texts_of, span_item, part_tokens, macro_tokens}
+use Rattle.tangle_scan.specs.Rules.{texts_of, part_tokens, macro_tokens}
 use Rattle.tangle_scan.specs.Rules.{is_continued, at_line_front, blanks, macro_blanks, unmarked_items}
 use Rattle.tangle_scan.specs.Rules.{part_items, macro_items, without_backslashes}
 use Rattle.tangle_scan.specs.LineTruth.{counted_after_line_end}
@@ -84,48 +83,39 @@ module _ (lines : List SourceLine) (count : ℕ) where
   abbrev IsRightItem : ℕ → Item → Type 0
   IsRightItem n i = IsInRange texts i × IsUseBelow n i
 
-  span_item-right : (n : ℕ) (kind : SpanKind) (s : Span) → IsSpan texts s → IsRightItem n (span_item kind s)
-  span_item-right n x s h = grind arith
-
-  items_at-right : (e : Token) → IsRight e → AllByRecursion (IsRightItem count) (items_at lines e)
-  items_at-right x h = grind arith
-
   items_by_origin-right : (before : Option Token) (origin : Origin) (es : List Token)
       → AreRight es → AllByRecursion (IsRightItem count) (items_by_origin lines before origin es)
   items_by_origin-right before origin [] h = tt
   items_by_origin-right before origin (token.White ∷ es) h = ((tt, tt), items_by_origin-right before origin es h.1)
   items_by_origin-right before origin (token.LineEnd line ∷ es) h =
-      let continued : Bool = is_continued texts before in (
+      let continued = is_continued texts before in (
         by-line_item (IsRightItem count) lines continued origin line (tt, tt) (λ p. (tt, tt)),
         items_by_origin-right (at_line_front texts before line)
             (counted_after_line_end lines continued origin line) es h.1,
       )
   items_by_origin-right before origin (e ∷ es) h =
-      let after : Origin = counted_after_token lines origin e in
+      let after = counted_after_token lines origin e in
       all-append (IsRightItem count) (items_at lines e) (items_by_origin lines (Some e) after es)
-      (items_at-right e h.0) (items_by_origin-right (Some e) after es h.1)
+      (grind arith) (items_by_origin-right (Some e) after es h.1)
 
   part-right : (line : ℕ) (es : List Token) → AreRight es → All (IsRightItem count) (part_items lines line es)
   part-right line es h =
-      let ruled : List Token = blanks texts None false (part_tokens texts es) in
-      All-from_recursion (IsRightItem count) _ (rw (part_items-by_origin lines line es)
-      (items_by_origin-right None (origin_at lines line) ruled (same-right ruled es (part-kept texts es) h)))
+      let ruled = blanks texts None false (part_tokens texts es) in
+      All-from_recursion (IsRightItem count) _ (search (rules, part_items-by_origin, items_by_origin-right, same-right, part-kept))
 
   -- a macro has no uses
   unmarked-right : (es : List Token) → AreRight es → AllByRecursion (IsRightItem 0) (unmarked_items es)
   unmarked-right [] h = tt
   unmarked-right (token.White ∷ es) h = ((tt, tt), unmarked-right es h.1)
-  unmarked-right (token.Span kind s ∷ es) h = (span_item-right 0 kind s h.0, unmarked-right es h.1)
+  unmarked-right (token.Span kind s ∷ es) h = ((grind arith), unmarked-right es h.1)
   unmarked-right (e ∷ es) h = assumption (unmarked-right es h.1)
 
   macro-right : (es : List Token) → AreRight es → All (IsRightItem 0) (macro_items texts es)
   macro-right es h =
-      let spaced : List Token = macro_tokens texts es in
-      let left : List Token = without_backslashes texts spaced in
-      let ruled : List Token = macro_blanks texts true None false left in
+      let left : List Token = without_backslashes texts (macro_tokens texts es) in
+      let ruled = macro_blanks texts true None false left in
       All-from_recursion (IsRightItem 0) _
-      (unmarked-right ruled (same-right ruled left (macro_blanks-kept texts true None false left)
-      (backslashes-right spaced (same-right spaced es (macro-kept texts es) h))))
+      (unmarked-right ruled (search (rules, same-right, macro_blanks-kept, backslashes-right, macro-kept)))
 
   record IsRightPiece (p : PieceRead) : Type 0 where
     pub items : All (IsRightItem count) p.items
@@ -135,69 +125,26 @@ module _ (lines : List SourceLine) (count : ℕ) where
       → AllByRecursion IsRightPiece (flat_map (piece_of lines) (blocks n es))
   pieces-right n line [] h k = tt
   pieces-right n line (token.UnnamedPart at ∷ es) h k =
-      grind (
-        arith,
-        nat_tests,
-        part-right at (body es) (body-right at es h.1 k.1),
-        body-right at es h.1 k.1,
-        pieces-right n at es h.1 k.1,
-      )
+      grind (arith, nat_tests, part-right at, body-right at es h.1 k.1, pieces-right n at es h.1 k.1)
   pieces-right n line (token.NamedPart at occurrence ∷ es) h k =
-      grind (
-        arith,
-        nat_tests,
-        part-right at (body es) (body-right at es h.1 k.1),
-        body-right at es h.1 k.1,
-        pieces-right n at es h.1 k.1,
-      )
+      grind (arith, nat_tests, part-right at, body-right at es h.1 k.1, pieces-right n at es h.1 k.1)
   pieces-right n line (e ∷ es) h k = pieces-right (section_after n e) (line_after line e) es h.1 k.1
 
   macros-right : (n line : ℕ) (es : List Token) → AreFromLine texts line es → AreBelow count es
       → AllByRecursion (All (IsRightItem 0)) (flat_map (macro_of lines) (blocks n es))
   macros-right n line [] h k = tt
   macros-right n line (token.MacroStart at ∷ es) h k =
-      grind (
-        arith,
-        nat_tests,
-        macros-right n at es h.1 k.1,
-        cond,
-        macro-right (body es) (body-right at es h.1 k.1),
-        body-right at es h.1 k.1,
-      )
+      grind (arith, nat_tests, macros-right n at es h.1 k.1, macro-right, body-right at es h.1 k.1)
   macros-right n line (e ∷ es) h k = macros-right (section_after n e) (line_after line e) es h.1 k.1
-
-  range-of : (n : ℕ) (items : List Item) → All (IsRightItem n) items → All (IsInRange texts) items
-  range-of n items h = All-weaker (IsRightItem n) (IsInRange texts) (λ i k. k.0) items h
-
-  uses-of : (n : ℕ) (items : List Item) → All (IsRightItem n) items → All (IsUseBelow n) items
-  uses-of n items h = All-weaker (IsRightItem n) (IsUseBelow n) (λ i k. k.1) items h
 
 pub web-well-formed : (source : SourceRead) → IsWellFormed (web_of source)
 web-well-formed source =
     let lines = source.lines in
     let ordered = all-in_order lines in
-    let count : ℕ = length (map (occurrence_of lines) (all_occurrences lines)) in
-    let same : 0 + length (all_occurrences lines) ≡ count =
-    omega (arith, length-map (all_occurrences lines) (occurrence_of lines)) in
-    let P : ℕ → Type 0 = λ n. AreBelow n (all_tokens lines) in
-    let below : AreBelow count (all_tokens lines) =
-    subst P same (tokens-below (first_state (length lines)) (text_from 0 lines)) in
+    let count = length (map (occurrence_of lines) (all_occurrences lines)) in
+    let below = subst (λ n. AreBelow n (all_tokens lines)) (omega (arith, length-map (all_occurrences lines) (occurrence_of lines))) (tokens-below (first_state (length lines)) (text_from 0 lines)) in
     let pieces = All-from_recursion (IsRightPiece lines count) _
     (pieces-right lines count 0 0 (all_tokens lines) ordered below) in
     let macros = All-from_recursion (All (IsRightItem lines count 0)) _
     (macros-right lines count 0 0 (all_tokens lines) ordered below) in
-    record {
-      spans = record {
-        pieces = All-weaker (IsRightPiece lines count) (λ p. All (IsInRange (texts_of lines)) p.items)
-            (λ p h. range-of lines count count p.items h.items) _ pieces;
-        macros = All-weaker (All (IsRightItem lines count 0)) (All (IsInRange (texts_of lines)))
-            (range-of lines count 0) _ macros;
-      };
-      occurrences = record {
-        uses = All-weaker (IsRightPiece lines count) (λ p. All (IsUseBelow count) p.items)
-            (λ p h. uses-of lines count count p.items h.items) _ pieces;
-        definitions = All-weaker (IsRightPiece lines count)
-            (λ p. IfSome p.occurrence (λ occurrence. occurrence < count)) (λ p h. h.occurrence) _ pieces;
-        macros = All-weaker (All (IsRightItem lines count 0)) (All (IsUseBelow 0)) (uses-of lines count 0) _ macros;
-      };
-    }
+    search rules

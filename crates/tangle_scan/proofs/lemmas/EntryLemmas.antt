@@ -1,44 +1,33 @@
 -- The items of a C part, token by token.
+use Rattle.std.proofs.Common.{rules}
 use Rattle.std.proofs.lemmas.Bool.Decides.{nat_tests}
 use Rattle.std.proofs.Common.{◌≡◌, ℕ, ◌-◌, length, slice_get, arith, Bool, true, false, ◌||◌, List, []}
-use Rattle.std.proofs.Common.{◌∷◌, ◌++◌, refl, ap, ◌∙◌, if◌then◌else◌, Option, Some, append_assoc}
-use Rattle.std.proofs.Common.{append-nil, length-append, map, take, ◌≤◌}
+use Rattle.std.proofs.Common.{◌∷◌, ◌++◌, refl, ap, ◌∙◌, if◌then◌else◌, Some, append_assoc}
+use Rattle.std.proofs.Common.{append-nil, length-append, map}
 use Rattle.tangle_lexer.specs.declared.tokens.Token.{Token}
 use Rattle.tangle_lexer.specs.declared.tokens.Token.TheVariants as token
 use Rattle.tangle_scan.specs.declared.items.Item.{Item}
 use Rattle.tangle_scan.specs.declared.items.Item.TheVariants as item
 use Rattle.tangle_scan.specs.declared.items.Entry.{Entry}
 use Rattle.tangle_scan.specs.declared.items.Entry.TheVariants as entry
-use Rattle.tangle_lines.specs.declared.origin.Origin.{Origin}
 use Rattle.tangle_lines.specs.Reading.{SourceLine}
 use Rattle.tangle_text.specs.declared.spans.Span.{Span}
-use Rattle.tangle_lexer.specs.declared.tokens.SpanKind.{SpanKind}
 use Rattle.tangle_scan.specs.declared.parts.PartState.{PartState}
-use Rattle.tangle_scan.specs.declared.parts.Start.{Start}
-use Rattle.tangle_scan.specs.Rules.{texts_of, span_item, would_merge}
+use Rattle.tangle_scan.specs.Rules.{texts_of, would_merge}
 use Rattle.tangle_lexer.specs.SpanBytes.{ends_in}
 use Rattle.std.specs.List.{list_any, All}
 use Rattle.std.proofs.lemmas.List.Elements.{All-append, All-map, All-push}
-use Rattle.std.proofs.lemmas.List.{take_all, take-append-le}
+use Rattle.std.proofs.lemmas.List.{take-append-le}
 use Rattle.std.proofs.lemmas.List.Concat.{flat_map-append}
 use Rattle.std.proofs.lemmas.List.Folds.{list_any-append}
-use Rattle.std.proofs.Math.Bool.{or_comm, or-false}
 use Rattle.tangle_scan.specs.Web.{is_line_mark}
 use Rattle.tangle_text.specs.declared.runs.RunPart.{RunPart}
 use Rattle.tangle_text.specs.declared.runs.RunPart.TheVariants as part
-use Rattle.tangle_text.specs.Runs.{run_parts}
 use Rattle.tangle_lexer.specs.Heads.{is_head}
 use Rattle.tangle_scan.specs.Entries.{entry_items, items_of, entry_is_mark, part_item, IsEntryInRange}
-use Rattle.tangle_scan.specs.Passes.{items_at, item_ends_in, entry_ends_in, entries_end_in, last_ends_in}
-use Rattle.tangle_scan.specs.Passes.{last_entry, entries_merge, items_by_origin, blank_if, IsMarked}
-use Rattle.tangle_scan.specs.Passes.{start_of_gap, is_after_line_end}
+use Rattle.tangle_scan.specs.Passes.{items_at, entry_ends_in, entries_end_in, last_ends_in}
+use Rattle.tangle_scan.specs.Passes.{last_entry, entries_merge, blank_if, IsMarked}
 use Rattle.tangle_scan.proofs.lemmas.RuleLemmas.{is_solid}
-
-pub items_by_origin-blank : (lines : List SourceLine) (before : Option Token)
-    (counted : Origin) (blank : Bool) (es : List Token)
-    → items_by_origin lines before counted ((if blank then token.White ∷ [] else []) ++ es)
-    ≡ (if blank then item.Blank ∷ [] else []) ++ items_by_origin lines before counted es
-items_by_origin-blank lines before counted x es = grind arith
 
 -- the items of entries that were added
 
@@ -53,7 +42,7 @@ items-of-items texts (x ∷ items) = ap (λ t. x ∷ t) (items-of-items texts it
 pub items-more : (texts : List (List ℕ)) (entries : List Entry) (items : List Item)
     → items_of texts (entries ++ map entry.Item items) ≡ items_of texts entries ++ items
 items-more texts entries items =
-    cc (flat_map-append (entry_items texts) entries (map entry.Item items), items-of-items texts items)
+    search (rules, flat_map-append, items-of-items)
 
 -- the last entry, on which it depends whether the next line continues this one and whether rule 1 puts white space
 
@@ -71,24 +60,16 @@ pub last-ends : (b : ℕ) (texts : List (List ℕ)) (entries : List Entry) (x : 
     → entries_end_in b texts (entries ++ x ∷ []) ≡ entry_ends_in b texts x
 last-ends b texts entries x = ap (last_ends_in b texts) (last-of-push entries x)
 
-pub span-ends : (b : ℕ) (texts : List (List ℕ)) (kind : SpanKind) (s : Span)
-    → item_ends_in b texts (span_item kind s) ≡ ends_in b texts (token.Span kind s)
-span-ends b texts x s = grind arith
-
 -- an entry and another one, or no other
 pub item-ends : (b : ℕ) (lines : List SourceLine) (entries : List Entry) (e : Token)
     → is_solid e ≡ true → is_head e ≡ false → ((s : Span) → e ≡ token.Run s → ⊥)
     → entries_end_in b (texts_of lines) (entries ++ map entry.Item (items_at lines e)) ≡ ends_in b (texts_of lines) e
-item-ends b lines entries e solid head run = grind (arith, nat_tests, last-ends, span-ends, last-of-two)
-
-span-merges : (texts : List (List ℕ)) (entries : List Entry) (kind : SpanKind) (s : Span) (f : Token)
-    → entries_merge texts (entries ++ entry.Item (span_item kind s) ∷ []) f ≡ would_merge texts (token.Span kind s) f
-span-merges texts entries kind s f = grind (arith, nat_tests, last-of-push)
+item-ends b lines entries e solid head run = grind (arith, nat_tests, last-ends, last-of-two)
 
 pub item-merges : (lines : List SourceLine) (entries : List Entry) (e f : Token)
     → is_solid e ≡ true → is_head e ≡ false → ((s : Span) → e ≡ token.Run s → ⊥)
     → entries_merge (texts_of lines) (entries ++ map entry.Item (items_at lines e)) f ≡ would_merge (texts_of lines) e f
-item-merges lines entries e f solid head run = grind (arith, nat_tests, span-merges, last-of-push, last-of-two)
+item-merges lines entries e f solid head run = grind (arith, nat_tests, last-of-push, last-of-push, last-of-two)
 
 -- whether the entries made so far have a mark
 
@@ -107,7 +88,7 @@ pub marks-of-entries : (texts : List (List ℕ)) (entries : List Entry)
 marks-of-entries texts [] = refl
 marks-of-entries texts (entry.Item x ∷ entries) = ap (λ b. is_line_mark x || b) (marks-of-entries texts entries)
 marks-of-entries texts (entry.Run s ∷ entries) =
-    no-mark-in-run (run_parts texts s) (items_of texts entries) ∙ marks-of-entries texts entries
+    grind (arith, nat_tests, no-mark-in-run, marks-of-entries texts entries)
 
 -- a blank is no mark
 pub blank-unmarked : (b : Bool) → list_any entry_is_mark (map entry.Item (if b then item.Blank ∷ [] else [])) ≡ false
@@ -115,17 +96,13 @@ blank-unmarked x = grind arith
 
 -- the start of the gap
 
-pub start-within : (entries : List Entry) (at : PartState) → at.start.entries ≤ length entries
-    → (start_of_gap entries at).entries ≤ length entries
-start-within entries at within = grind (arith, nat_tests)
-
 -- the marks among the entries, and among those before the gap
 
 marked-more : (old new : List Entry) (at next : PartState) (more : List Entry) → IsMarked old at → new ≡ old ++ more
     → next.start ≡ at.start → next.counted.has_mark ≡ (list_any entry_is_mark more || at.counted.has_mark)
     → IsMarked new next
 marked-more old new at next more h is start mark =
-    grind (arith, nat_tests, length-append, list_any-append, or_comm, take-append-le)
+    search (rules, length-append, list_any-append, take-append-le)
 
 pub marked-item : (old new : List Entry) (at next : PartState) (blank : Bool) (items : List Item) → IsMarked old at
     → new ≡ (old ++ map entry.Item (blank_if blank)) ++ map entry.Item items → next.start ≡ at.start
@@ -135,28 +112,12 @@ marked-item old new at next blank items h is start mark =
     (is ∙ append_assoc old (map entry.Item (blank_if blank)) (map entry.Item items)) start
     (rw (list_any-append entry_is_mark (map entry.Item (blank_if blank)), blank-unmarked blank, marks-of-items items) mark)
 
-pub marked-end : (old new : List Entry) (at next : PartState) (x : Item) → IsMarked old at
-    → new ≡ old ++ entry.Item x ∷ [] → next.start ≡ start_of_gap old at
-    → next.counted.has_mark ≡ (is_line_mark x || at.counted.has_mark) → IsMarked new next
-marked-end old new at next x h is start mark =
-    marked-more old new (record at { start = start_of_gap old at }) next (entry.Item x ∷ [])
-    (record { start = start-within old at h.start; now = h.now; before = by (is_after_line_end at.last) }) is start
-    (rw (or-false (is_line_mark x)) mark)
-  where
-    by : (b : Bool) → let start : Start = if b then at.start else record { entries = length old; counted = at.counted } in
-        list_any entry_is_mark (take start.entries old) ≡ start.counted.has_mark
-    by true = h.before
-    by false = ap (list_any entry_is_mark) (take_all (length old) old (omega arith)) ∙ h.now
-
 -- the runs among the entries are ranges of lines
-
-pub items-in-range : (texts : List (List ℕ)) (items : List Item) → All (IsEntryInRange texts) (map entry.Item items)
-items-in-range texts items = All-map (IsEntryInRange texts) entry.Item items (λ i d low. tt)
 
 pub range-items : (texts : List (List ℕ)) (entries new : List Entry) (items : List Item)
     → new ≡ entries ++ map entry.Item items → All (IsEntryInRange texts) entries → All (IsEntryInRange texts) new
 range-items texts entries new items is old =
-    rw is (All-append (IsEntryInRange texts) entries (map entry.Item items) old (items-in-range texts items))
+    rw is (All-append (IsEntryInRange texts) entries (map entry.Item items) old ((All-map (IsEntryInRange texts) entry.Item items (λ i d low. tt))))
 
 pub range-push : (texts : List (List ℕ)) (entries new : List Entry) (x : Entry)
     → IsEntryInRange texts x → new ≡ entries ++ x ∷ []

@@ -1,9 +1,9 @@
 -- Rules 4 and 5 in one pass over the tokens.
+use Rattle.std.proofs.Common.{rules}
 use Rattle.std.proofs.lemmas.Bool.Decides.{nat_tests}
 use Rattle.std.proofs.Common.{arith}
 use Rattle.std.proofs.Common.{◌≡◌, ℕ, ◌+◌, nat_le, length, Bool, true, false, ◌&&◌, ◌||◌, if◌then◌else◌}
 use Rattle.std.proofs.Common.{Option, Some, None, is_some, List, [], ◌∷◌, ◌++◌, refl, ap, ◌∙◌}
-use Rattle.std.proofs.lemmas.Bool.Decides.{eqb_tells}
 use Rattle.tangle_lines.specs.declared.origin.Origin.{Origin}
 use Rattle.tangle_lexer.specs.declared.tokens.Token.{Token}
 use Rattle.tangle_lexer.specs.declared.tokens.Token.TheVariants as token
@@ -12,24 +12,14 @@ use Rattle.tangle_lines.specs.Reading.{SourceLine, origin_at}
 use Rattle.tangle_scan.specs.declared.items.Item.{Item}
 use Rattle.tangle_scan.specs.declared.items.Item.TheVariants as item
 use Rattle.tangle_scan.specs.Rules.{texts_of, is_continued, at_line_front, blanks, next_line, same_origin}
-use Rattle.tangle_scan.specs.Rules.{with_all_marks, with_needed_marks, is_front_gap, part_tokens, part_items}
+use Rattle.tangle_scan.specs.Rules.{with_all_marks, with_needed_marks, part_tokens, part_items}
 use Rattle.tangle_scan.specs.LineTruth.{counted_after_line_end}
-use Rattle.tangle_scan.specs.Passes.{line_item, items_at, counted_after_token, items_by_origin}
-
-pub items_by_origin-item : (lines : List SourceLine) (before : Option Token) (counted : Origin) (e : Token)
-    (es : List Token) → is_front_gap e ≡ false
-    → items_by_origin lines before counted (e ∷ es)
-    ≡ items_at lines e ++ items_by_origin lines (Some e) (counted_after_token lines counted e) es
-items_by_origin-item lines before counted x es item = grind arith
+use Rattle.tangle_scan.specs.Passes.{line_item, items_by_origin}
 
 -- what is true of a line end and of each mark is true of the item for the end of a line
 pub by-line_item : (P : Item → Type 0) (lines : List SourceLine) (continued : Bool) (counted : Origin) (line : ℕ)
     → P item.LineEnd → ((p : Origin) → P (item.LineMark p)) → P (line_item lines continued counted line)
 by-line_item x lines continued counted line end mark = grind arith
-
--- the choice between two origins that are the same makes no difference
-pub same_origin-either : (p q : Origin) → (if same_origin p q then q else p) ≡ p
-same_origin-either p q = grind (arith, nat_tests, eqb_tells)
 
 module _ (lines : List SourceLine) where
   abbrev texts : List (List ℕ)
@@ -61,14 +51,14 @@ module _ (lines : List SourceLine) where
       rest = with_all_marks lines (Some (token.LineEnd line)) es
 
       by : (continued last : Bool) →
-          let same : Bool = same_origin next (next_line counted) in
+          let same = same_origin next (next_line counted) in
           with_needed_marks counted
           (item.LineEnd ∷ ((if continued || last then [] else item.LineMark next ∷ []) ++ rest))
           ≡ (if continued || (last || same) then item.LineEnd else item.LineMark next)
           ∷ with_needed_marks (if continued || (last || same) then next_line counted else next) rest
-      by true last = line_end-alone (Some (token.LineEnd line)) counted es
-      by false true = line_end-alone (Some (token.LineEnd line)) counted es
-      by false false = rw (same_origin-either next (next_line counted)) refl
+      by true last = search (rules, line_end-alone)
+      by false true = search (rules, line_end-alone)
+      by false false = search rules
 
   -- Rule 3 leaves no white space before a line end, so the token
   -- directly before a line end is the last one on the line.
@@ -86,7 +76,7 @@ module _ (lines : List SourceLine) where
       (made-blanks (Some (token.LineEnd line)) front false after es (ends (is_continued texts before))))
     where
       ends : (b : Bool) → false ≡ is_continued texts (if b then Some (token.LineEnd line) else None)
-      ends x = grind arith
+      ends x = search rules
   made-blanks left before white counted (e ∷ es) alike =
       by (is_some before && white) (λ after. made-blanks (Some e) (Some e) false after es refl)
     where
@@ -96,7 +86,7 @@ module _ (lines : List SourceLine) where
       by : (blank : Bool) → ((after : Origin) → made (Some e) after rest ≡ items_by_origin lines (Some e) after rest) →
           let tokens : List Token = (if blank then token.White ∷ [] else []) ++ e ∷ rest in
           made left counted tokens ≡ items_by_origin lines before counted tokens
-      by x h = grind arith
+      by x h = search rules
 
   -- rules 4 and 5, one after the other, give the same items of a C part as the one pass
   pub part_items-by_origin : (line : ℕ) (es : List Token)

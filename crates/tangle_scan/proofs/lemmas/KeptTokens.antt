@@ -1,4 +1,5 @@
 -- Rules 1 to 3 keep all tokens other than white space, line ends, joins and faults, in their order.
+use Rattle.std.proofs.Common.{rules}
 use Rattle.std.proofs.lemmas.Bool.Decides.{nat_tests}
 use Rattle.std.proofs.Common.{arith}
 use Rattle.std.proofs.Common.{◌≡◌, ℕ, Bool, true, false, ◌&&◌, not, if◌then◌else◌, Option, Some, None, is_some}
@@ -8,9 +9,9 @@ use Rattle.tangle_lexer.specs.declared.tokens.Token.{Token}
 use Rattle.tangle_lexer.specs.declared.tokens.Token.TheVariants as token
 use Rattle.tangle_scan.specs.Rules.{is_open}
 use Rattle.tangle_scan.specs.Rules.{white_inner_end, clean_tokens}
-use Rattle.tangle_scan.specs.Rules.{without_faults, would_merge, with_spaces, with_space_after}
+use Rattle.tangle_scan.specs.Rules.{without_faults, would_merge, with_spaces}
 use Rattle.tangle_scan.specs.Rules.{with_name_space, is_gap, left_of_run, without_joins, part_tokens}
-use Rattle.tangle_scan.specs.Rules.{at_line_front, blanks, next_item, has_blank_at_line_end, is_name_part}
+use Rattle.tangle_scan.specs.Rules.{at_line_front, blanks, is_name_part}
 use Rattle.tangle_scan.specs.Rules.{macro_blanks, without_front_gaps, macro_tokens}
 
 -- a token that the rules keep, as a list
@@ -43,19 +44,12 @@ with_spaces-kept texts (e ∷ []) = refl
 with_spaces-kept texts (e ∷ f ∷ es) =
     ap (λ ts. keep e ++ ts) (white-kept (would_merge texts e f) (with_spaces texts (f ∷ es)) ∙ with_spaces-kept texts (f ∷ es))
 
-with_space_after-kept : (texts : List (List ℕ)) (e : Token) (es : List Token)
-    → kept (with_space_after texts e es) ≡ kept (e ∷ es)
-with_space_after-kept texts e x = grind arith
-
 with_name_space-kept : (texts : List (List ℕ)) (es : List Token) → kept (with_name_space texts es) ≡ kept es
 with_name_space-kept texts [] = refl
 with_name_space-kept texts (token.White ∷ es) = with_name_space-kept texts es
 with_name_space-kept texts (token.LineEnd line ∷ es) = with_name_space-kept texts es
 with_name_space-kept texts (token.Join ∷ es) = with_name_space-kept texts es
-with_name_space-kept texts (e ∷ es) = with_space_after-kept texts e es
-
-gap-gone : (e : Token) → is_gap e ≡ true → keep e ≡ []
-gap-gone x h = grind arith
+with_name_space-kept texts (e ∷ es) = (grind arith)
 
 left-kept : (run : List Token) → kept run ≡ [] → kept (left_of_run run) ≡ []
 left-kept run none = grind arith
@@ -72,8 +66,8 @@ without_joins-kept run (e ∷ es) none =
         → kept (if b then without_joins (run ++ e ∷ []) es else left_of_run run ++ e ∷ without_joins [] es)
         ≡ keep e ++ kept es
     by true gap more rest =
-        let gone = gap-gone e gap in rw gone (more (rw (flat_map-append, none, gone) refl))
-    by false gap more rest = rw (flat_map-append, left-kept run none) (ap (λ ts. keep e ++ ts) rest)
+        search (rules, flat_map-append)
+    by false gap more rest = search (rules, flat_map-append)
 
 last-kept : (b : Bool) → kept (if b then token.White ∷ [] else []) ≡ []
 last-kept x = grind arith
@@ -92,19 +86,9 @@ pub macro_blanks-kept : (texts : List (List ℕ)) (in_name : Bool) (before : Opt
 macro_blanks-kept texts in_name before white [] = refl
 macro_blanks-kept texts in_name before white (token.White ∷ es) = macro_blanks-kept texts in_name before true es
 macro_blanks-kept texts in_name before white (token.LineEnd line ∷ es) =
-    grind (
-      arith,
-      nat_tests,
-      white-kept (has_blank_at_line_end texts in_name before (next_item es)),
-      macro_blanks-kept texts false None false es,
-    )
+    grind (arith, macro_blanks-kept texts false None false es)
 macro_blanks-kept texts in_name before white (e ∷ es) =
-    grind (
-      arith,
-      nat_tests,
-      white-kept (is_some before && white),
-      macro_blanks-kept texts (in_name && not white && is_name_part e) (Some e) false es,
-    )
+    grind (arith, macro_blanks-kept texts (in_name && not white && is_name_part e) (Some e) false es)
 
 without_front-kept : (es : List Token) → kept (without_front_gaps es) ≡ kept es
 without_front-kept [] = refl
@@ -119,12 +103,4 @@ part-kept texts es = grind (arith, nat_tests, blanks-kept, without_joins-kept, w
 -- the tokens of a macro after rules 1 and 2
 pub macro-kept : (texts : List (List ℕ)) (es : List Token) → kept (macro_tokens texts es) ≡ kept es
 macro-kept texts es =
-    grind (
-      arith,
-      nat_tests,
-      without_joins-kept,
-      with_name_space-kept,
-      with_spaces-kept,
-      without_front-kept,
-      clean-kept,
-    )
+    search (rules, without_joins-kept, with_name_space-kept, with_spaces-kept, without_front-kept, clean-kept)

@@ -4,7 +4,7 @@ use Rattle.std.proofs.Common.{◌≡◌, ℕ, zero, suc, ◌+◌, Bool, true, fa
 use Rattle.std.proofs.Common.{refl, ap, ◌∙◌, if◌then◌else◌, Option, Some, None, option_to_list}
 use Rattle.std.proofs.Common.{append-nil, arith, take}
 use Rattle.std.specs.List.{list_all}
-use Rattle.std.proofs.Math.Bool.{and-false, or-false, or-true}
+use Rattle.std.proofs.Math.Bool.{or-false, or-true}
 use Rattle.tangle_lexer.specs.declared.tokens.Token.{Token}
 use Rattle.tangle_lexer.specs.declared.tokens.Token.TheVariants as token
 use Rattle.tangle_scan.specs.declared.items.Item.{Item}
@@ -15,18 +15,7 @@ use Rattle.tangle_scan.specs.Rules.{next_item, has_blank_at_line_end, is_name_pa
 use Rattle.tangle_scan.specs.Rules.{is_front_gap, is_line_backslash, without_backslashes, ends_line}
 use Rattle.tangle_scan.specs.Passes.{item_of, blank_if, from_item, left_gap, joined_from, is_solid, is_dropped}
 use Rattle.tangle_scan.specs.Passes.{has_white, line_ends, gap_of, has_blank, is_in_name, items_from, items_ahead}
-use Rattle.tangle_scan.proofs.lemmas.RuleLemmas.{macro_blanks-item}
 use Rattle.tangle_scan.proofs.lemmas.SpacingLemmas.{item-ahead, macro-begin, left-front_gap}
-
--- the item of a token other than white space and line ends
-unmarked-step : (e : Token) (es : List Token) → is_front_gap e ≡ false
-    → unmarked_items (e ∷ es) ≡ option_to_list (item_of e) ++ unmarked_items es
-unmarked-step x es item = grind arith
-
-pub unmarked-blank : (blank : Bool) (es : List Token)
-    → unmarked_items ((if blank then token.White ∷ [] else []) ++ es)
-    ≡ (if blank then item.Blank ∷ [] else []) ++ unmarked_items es
-unmarked-blank x es = grind arith
 
 -- the items after a gap, of which a part was read
 
@@ -55,7 +44,7 @@ gap-after_ends : (texts : List (List ℕ)) (in_name : Bool) (before : Option Tok
     → after_ends texts in_name before ends (gap ++ es) ≡ after_ends texts in_name before (ends + line_ends gap) es
 gap-after_ends texts in_name before ends [] es h = grind (arith, nat_tests)
 gap-after_ends texts in_name before ends (token.White ∷ gap) es h =
-    rw (front-white texts (gap ++ es)) (gap-after_ends texts in_name before ends gap es h)
+    grind (arith, nat_tests, front-white texts, gap-after_ends texts in_name before ends gap es h)
 gap-after_ends texts in_name before ends (token.LineEnd line ∷ gap) es h =
     grind (arith, nat_tests, one-more ends, gap-after_ends texts in_name before (suc ends) gap es h)
 gap-after_ends texts in_name before ends (_ ∷ gap) es h = cc
@@ -74,24 +63,14 @@ gap-on_line texts in_name before white (token.White ∷ gap) es h =
 gap-on_line texts in_name before white (token.LineEnd line ∷ gap) es h =
     let more : 1 + line_ends gap ≡ suc (line_ends gap) = omega arith in
     rw (some-ends (line_ends gap))
-    (unmarked-blank (has_blank_at_line_end texts in_name before (next_item (gap ++ es)))
-    (token.LineEnd line ∷ macro_blanks texts false None false (gap ++ es))
+    ((grind arith)
     ∙ (gap-after_ends texts in_name before 1 gap es h ∙ ap (λ n. after_ends texts in_name before n es) more))
 gap-on_line texts in_name before white (_ ∷ gap) es h = cc
-
-gap-items : (texts : List (List ℕ)) (in_name : Bool) (before : Option Token) (white : Bool) (ends : ℕ)
-    (gap es : List Token) → list_all is_front_gap gap ≡ true
-    → items_from texts in_name before (gap_with white ends) (gap ++ es)
-    ≡ items_from texts in_name before (gap_with (white || has_white gap) (ends + line_ends gap)) es
-gap-items texts in_name before white ends gap es h = grind (arith, nat_tests, gap-on_line, some-ends, gap-after_ends)
 
 -- the items after a gap, at an item and at the end
 
 solid-front : (e : Token) → is_solid e ≡ true → is_front_gap e ≡ false
 solid-front x h = grind arith
-
-next-solid : (e : Token) (es : List Token) → is_solid e ≡ true → next_item (e ∷ es) ≡ Some e
-next-solid x es h = grind arith
 
 solid-items : (texts : List (List ℕ)) (in_name : Bool) (before : Option Token) (white : Bool) (ends : ℕ) (e : Token)
     (es : List Token) → is_solid e ≡ true → items_from texts in_name before (gap_with white ends) (e ∷ es)
@@ -99,21 +78,11 @@ solid-items : (texts : List (List ℕ)) (in_name : Bool) (before : Option Token)
     ++ (option_to_list (item_of e) ++ unmarked_items
     (macro_blanks texts (in_name && (ends == 0 && not white) && is_name_part e) (Some e) false es)))
 solid-items texts in_name before white ends e es h =
-    grind (
-      arith,
-      nat_tests,
-      macro_blanks-item,
-      solid-front,
-      unmarked-blank,
-      unmarked-step,
-      some-ends,
-      next-solid,
-      and-false,
-    )
+    grind (arith, nat_tests)
 
 end-items : (texts : List (List ℕ)) (in_name : Bool) (before : Option Token) (white : Bool) (ends : ℕ)
     → items_from texts in_name before (gap_with white ends) [] ≡ replicate ends item.LineEnd
-end-items texts in_name before white ends = grind (arith, nat_tests, some-ends, append-nil, replicate)
+end-items texts in_name before white ends = grind (arith, nat_tests, append-nil)
 
 -- backslashes, of which a gap has none
 
@@ -169,7 +138,7 @@ pub ahead-backslash : (texts : List (List ℕ)) (at : MacroState) (e : Token) (e
       gap = gap_with (at.gap.has_white || gap.has_white) (at.gap.line_ends + gap.line_ends);
     }) (from_item es)
 unfolding items_ahead
-ahead-backslash texts at e es h gone = grind (arith, nat_tests, ahead, gap-items, left-front_gap)
+ahead-backslash texts at e es h gone = grind (arith, nat_tests, ahead, gap-on_line, gap-after_ends, left-front_gap)
 
 pub ahead-begin : (texts : List (List ℕ)) (at : MacroState) (es : List Token)
     → at ≡ record { is_first = true; item = None; in_name = true; gap = gap_of [] }

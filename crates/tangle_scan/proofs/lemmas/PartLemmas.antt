@@ -1,11 +1,11 @@
 -- What one pass over the tokens of a C part read, and what is left.
 use Rattle.std.proofs.lemmas.Bool.Decides.{nat_tests}
 use Rattle.std.proofs.Common.{rules}
-use Rattle.std.proofs.Common.{◌≡◌, ◌≤◌, ℕ, Bool, true, false, ◌&&◌, ◌||◌, not, if◌then◌else◌, refl, ap, Option, None, Some}
+use Rattle.std.proofs.Common.{◌≡◌, ◌≤◌, ℕ, Bool, true, false, ◌&&◌, ◌||◌, if◌then◌else◌, refl, ap, Option, None, Some}
 use Rattle.std.proofs.Common.{is_some, List, [], ◌∷◌, ◌++◌, sym, ◌∙◌, append_assoc, append-nil, length, take, map, arith}
 use Rattle.std.proofs.Common.{length-append}
 use Rattle.std.proofs.Math.Bool.{and-false, or-false, or-true}
-use Rattle.std.proofs.lemmas.List.{take_all, take-append-le, length-take-le}
+use Rattle.std.proofs.lemmas.List.{take_all, take-append-le}
 use Rattle.tangle_lexer.specs.declared.tokens.Token.{Token}
 use Rattle.tangle_lexer.specs.declared.tokens.SpanKind.TheVariants as span_kind
 use Rattle.tangle_lexer.specs.declared.tokens.Token.TheVariants as token
@@ -26,9 +26,8 @@ use Rattle.tangle_scan.specs.declared.parts.CountedOrigin.{CountedOrigin}
 use Rattle.tangle_scan.specs.declared.parts.Last.{Last}
 use Rattle.tangle_scan.specs.declared.parts.Last.TheVariants as last
 use Rattle.tangle_scan.specs.declared.parts.PartState.{PartState}
-use Rattle.tangle_scan.specs.declared.parts.Start.{Start}
 use Rattle.tangle_scan.specs.Entries.{items_of, part_item}
-use Rattle.tangle_scan.specs.Rules.{clean_tokens, white_inner_end, would_merge, is_constant}
+use Rattle.tangle_scan.specs.Rules.{white_inner_end, would_merge, is_constant}
 use Rattle.tangle_scan.specs.Rules.{may_merge, without_joins, is_gap, left_of_run, is_open}
 use Rattle.tangle_lexer.specs.SpanBytes.{ends_in}
 use Rattle.tangle_scan.specs.Rules.{has_join, texts_of, is_continued, at_line_front}
@@ -39,13 +38,13 @@ use Rattle.tangle_scan.specs.Rules.{blanks, part_items, is_front_gap}
 use Rattle.tangle_scan.specs.LineTruth.{counted_after_line_end}
 use Rattle.tangle_scan.specs.Passes.{IsPassed, from_gap, start_of_gap, items_after, spaced_after, blank_before, blank_before_run}
 use Rattle.tangle_scan.specs.Passes.{is_joined, is_item, is_after_line_end, keeps_white, last_after_line_end}
-use Rattle.tangle_scan.specs.Passes.{line_item, items_at, counted_after_token, items_by_origin, blank_if}
+use Rattle.tangle_scan.specs.Passes.{line_item, items_at, counted_after_token, blank_if}
 use Rattle.tangle_scan.specs.Passes.{item_ends_in, entries_end_in, entries_continue, are_open, entries_merge, is_code, last_entry, origin_of}
-use Rattle.tangle_scan.proofs.lemmas.ItemsByOrigin.{items_by_origin-item, part_items-by_origin, by-line_item}
-use Rattle.tangle_scan.proofs.lemmas.RuleLemmas.{without_joins-item, has_join-push, is_solid}
+use Rattle.tangle_scan.proofs.lemmas.ItemsByOrigin.{part_items-by_origin, by-line_item}
+use Rattle.tangle_scan.proofs.lemmas.RuleLemmas.{has_join-push, is_solid}
 use Rattle.tangle_scan.proofs.lemmas.SpacingLemmas.{spaced-inside}
-use Rattle.tangle_scan.proofs.lemmas.EntryLemmas.{items_by_origin-blank, items-push, items-more, last-ends}
-use Rattle.tangle_scan.proofs.lemmas.EntryLemmas.{last-of-push, item-ends, item-merges, start-within}
+use Rattle.tangle_scan.proofs.lemmas.EntryLemmas.{items-push, items-more, last-ends}
+use Rattle.tangle_scan.proofs.lemmas.EntryLemmas.{last-of-push, item-ends, item-merges}
 use Rattle.tangle_scan.proofs.lemmas.RunItems.{last_token, run-front, run-ends, run-merges}
 
 abbrev white_if : Bool → List Token
@@ -76,16 +75,6 @@ blanks-at-front texts None (token.White ∷ es) h = refl
 blanks-at-front texts None (e ∷ es) h = refl
 blanks-at-front texts (Some x) es h = cc
 
-white-made : (lines : List SourceLine) (before : Option Token) (counted : Origin) (at : Last) (has : Bool)
-    (gap : List Token) (made : List Token → List Item) (items : List Item) → has_join gap ≡ is_joined at
-    → (is_joined at ≡ false → is_some before ≡ keeps_white at)
-    → ((es : List Token)
-    → made (left_of_run gap ++ es) ≡ items ++ items_after lines before counted (keeps_white at && has) es)
-    → (es : List Token) → made (left_of_run (gap ++ token.White ∷ []) ++ es)
-    ≡ items ++ items_after lines before counted (keeps_white at && true) es
-white-made lines before counted at has gap made items joined keeps h es =
-    grind (arith, nat_tests, has_join-push, append_assoc, blanks-at-front)
-
 pub passed-white : (lines : List SourceLine) (whole : List Item) (entries : List Entry) (at : PartState) (es : List Token)
     → IsPassed lines whole entries at (token.White ∷ es)
     → IsPassed lines whole entries (record at { has_white = true }) es
@@ -97,16 +86,14 @@ passed-white lines whole entries at es h = record {
     prev = token.White;
     start = h.read.start;
     joined = has_join-push h.read.gap token.White ∙ (or-false (has_join h.read.gap) ∙ h.read.joined);
-    made = white-made lines h.read.before (origin_of at.counted) at.last at.has_white h.read.gap
-        (from_gap lines entries at h.read.front) (items_of (texts_of lines) entries) h.read.joined h.read.keeps h.read.made;
+    made = (search (rules, has_join-push, append_assoc, blanks-at-front));
     keeps = h.read.keeps;
     continues = h.read.continues;
     front_open = h.read.front_open;
     before_open = h.read.before_open;
     merges = λ e. sym (ap (λ b. b && entries_merge (texts_of lines) entries e) (and-false (is_item at.last)));
   };
-  left = h.left
-      ∙ ap (from_gap lines entries at h.read.front) (spaced-gap (texts_of lines) h.read.gap h.read.prev token.White es refl refl);
+  left = search rules;
 }
 
 -- a line end of a directive is white space
@@ -125,7 +112,7 @@ pub passed-joined-end : (lines : List SourceLine) (whole : List Item) (entries :
     (line : ℕ) (es : List Token) → at.last ≡ last.Joined
     → IsPassed lines whole entries at (token.LineEnd line ∷ es) → IsPassed lines whole entries at es
 passed-joined-end lines whole entries at line es is h =
-    let joined : has_join h.read.gap ≡ true = h.read.joined ∙ ap is_joined is in
+    let joined = h.read.joined ∙ ap is_joined is in
     record {
       read = record {
         gap = h.read.gap ++ token.LineEnd line ∷ [];
@@ -141,29 +128,15 @@ passed-joined-end lines whole entries at line es is h =
         before_open = h.read.before_open;
         merges = λ e. rw is refl;
       };
-      left = h.left
-          ∙ ap (from_gap lines entries at h.read.front) (spaced-gap (texts_of lines) h.read.gap h.read.prev (token.LineEnd line) es refl refl);
+      left = search rules;
     }
 
 after-end : (continued : Bool) → is_after_line_end (last_after_line_end continued) ≡ true
 after-end x = grind arith
 
-unjoined-end : (continued : Bool) → is_joined (last_after_line_end continued) ≡ false
-unjoined-end x = grind arith
-
-item-end : (continued : Bool) → is_item (last_after_line_end continued) ≡ false
-item-end x = grind arith
-
-front-keeps : (line : ℕ) (continued : Bool)
-    → is_some (if continued then Some (token.LineEnd line) else None) ≡ keeps_white (last_after_line_end continued)
-front-keeps line x = grind arith
-
 front-continues : (texts : List (List ℕ)) (line : ℕ) (continued : Bool)
     → is_continued texts (if continued then Some (token.LineEnd line) else None) ≡ false
 front-continues texts line x = grind arith
-
-unjoined : (at : Last) → (at ≡ last.Joined → ⊥) → is_joined at ≡ false
-unjoined x h = grind arith
 
 end-open : (texts : List (List ℕ)) (line : ℕ) (continued : Bool) (new : List Entry)
     → entries_end_in slash texts new ≡ false
@@ -191,28 +164,16 @@ passed-end lines whole entries at line counted es other is h = record {
     before = at_line_front texts before line;
     prev = token.LineEnd line;
     start = omega (arith, within, length-append entries (entry.Item made ∷ []));
-    joined = end-joined gap line ∙ (none ∙ sym (unjoined-end continued));
+    joined = end-joined gap line ∙ (none ∙ sym (grind arith));
     made = λ xs.
         same (left_of_run (gap ++ token.LineEnd line ∷ []) ++ xs)
         ∙ (ap (from_gap lines entries at h.read.front) (opened xs)
-        ∙ ((rw none at h.read.made (token.LineEnd line ∷ xs))
-        ∙ rw (
-          continues,
-          is,
-          items-push texts entries (entry.Item made),
-          and-false (keeps_white (last_after_line_end continued)),
-          append_assoc (items_of texts entries) (made ∷ []) _,
-        ) refl));
-    keeps = λ _. rw continues (front-keeps line continued);
-    continues = λ _. front-continues texts line (is_continued texts before)
-        ∙ sym (ends_in_none backslash);
-    front_open = rw (
-      after-end continued,
-      take-append-le (start_of_gap entries at).entries entries (entry.Item made ∷ []) within,
-    ) h.read.front_open;
+        ∙ (grind (arith, nat_tests, items-push texts entries, and-false, append_assoc)));
+    keeps = λ _. rw continues (grind arith);
+    continues = λ _. cc (front-continues texts line (is_continued texts before) ∙ sym (ends_in_none backslash));
+    front_open = search (rules, take-append-le);
     before_open = rw continues (end-open texts line continued (entries ++ entry.Item made ∷ []) (ends_in_none slash));
-    merges = λ e. sym (ap (λ b. b && true && entries_merge texts (entries ++ entry.Item made ∷ []) e)
-        (item-end continued));
+    merges = search rules;
   };
   left = h.left ∙ (ap (from_gap lines entries at h.read.front) (spaced-gap texts gap h.read.prev (token.LineEnd line) es refl refl)
       ∙ sym (same (without_joins (gap ++ token.LineEnd line ∷ []) (spaced_after texts (token.LineEnd line) es))));
@@ -234,10 +195,10 @@ passed-end lines whole entries at line counted es other is h = record {
     made = line_item lines continued (origin_of at.counted) line
 
     none : has_join gap ≡ false
-    none = h.read.joined ∙ unjoined at.last other
+    none = search rules
 
     continues : is_continued texts before ≡ continued
-    continues = h.read.continues (unjoined at.last other)
+    continues = search rules
 
     ends_in_none : (b : ℕ) → entries_end_in b texts (entries ++ entry.Item made ∷ []) ≡ false
     ends_in_none b = last-ends b texts entries (entry.Item made)
@@ -245,10 +206,10 @@ passed-end lines whole entries at line counted es other is h = record {
         refl (λ p. refl)
 
     opened : (xs : List Token) → left_of_run (gap ++ token.LineEnd line ∷ []) ++ xs ≡ gap ++ token.LineEnd line ∷ xs
-    opened xs = rw (end-joined gap line, none) (append_assoc gap (token.LineEnd line ∷ []) xs)
+    opened xs = search (rules, end-joined, append_assoc)
 
     within : (start_of_gap entries at).entries ≤ length entries
-    within = start-within entries at h.read.start
+    within = search rules
 
     next : PartState
     next = record at {
@@ -261,8 +222,7 @@ passed-end lines whole entries at line counted es other is h = record {
     same : (xs : List Token)
         → from_gap lines (entries ++ entry.Item made ∷ []) next h.read.front xs ≡ from_gap lines entries at h.read.front xs
     same xs =
-        rw (after-end continued, take-append-le (start_of_gap entries at).entries entries (entry.Item made ∷ []) within)
-        refl
+        search (rules, take-append-le)
 
 -- a join
 
@@ -273,8 +233,7 @@ pub passed-join : (lines : List SourceLine) (whole : List Item) (entries : List 
 passed-join lines whole entries at es h =
     let left = take (start_of_gap entries at).entries entries in
     let all : take (length left) left ≡ left = take_all (length left) left (omega arith) in
-    let joined : has_join (h.read.gap ++ token.Join ∷ []) ≡ true =
-    has_join-push h.read.gap token.Join ∙ or-true (has_join h.read.gap) in
+    let joined = has_join-push h.read.gap token.Join ∙ or-true (has_join h.read.gap) in
     record {
       read = record {
         gap = h.read.gap ++ token.Join ∷ [];
@@ -295,8 +254,8 @@ passed-join lines whole entries at es h =
   where
     within : (b : Bool) → at.start.entries
         ≤ length (take (if b then at.start else record { entries = length entries; counted = at.counted }).entries entries)
-    within true = omega (arith, length-take-le at.start.entries entries h.read.start)
-    within false = omega (arith, length-take-le (length entries) entries (omega arith), h.read.start)
+    within true = search rules
+    within false = search rules
 
 -- an item
 
@@ -304,34 +263,12 @@ passed-join lines whole entries at es h =
 abbrev ahead : List SourceLine → Token → Origin → List Token → List Item
 ahead lines e counted es = items_after lines (Some e) counted false (without_joins [] (spaced_after (texts_of lines) e es))
 
-solid-spaced : (texts : List (List ℕ)) (prev e : Token) (es : List Token) → is_solid e ≡ true
-    → spaced_after texts prev (e ∷ es) ≡ white_if (would_merge texts prev e) ++ e ∷ spaced_after texts e es
-solid-spaced texts prev x es h = grind arith
-
-solid-gap : (e : Token) → is_solid e ≡ true → is_gap e ≡ false
-solid-gap x h = grind arith
-
 abbrev is_end : Token → Bool
 is_end (token.LineEnd line) = true
 is_end _ = false
 
-solid-end : (e : Token) → is_solid e ≡ true → is_end e ≡ false
-solid-end x h = grind arith
-
 solid-front : (e : Token) → is_solid e ≡ true → is_front_gap e ≡ false
 solid-front x h = grind arith
-
--- rule 2 at an item, perhaps after white space that rule 1 puts before it
-item-joins : (gap : List Token) (merges : Bool) (e : Token) (es : List Token) → is_gap e ≡ false
-    → (merges ≡ true → has_join gap ≡ false)
-    → without_joins gap (white_if merges ++ e ∷ es) ≡ left_of_run gap ++ (white_if merges ++ e ∷ without_joins [] es)
-item-joins gap merges e es solid none = grind (arith, nat_tests, without_joins-item, has_join-push, append_assoc)
-
-touching-item : (at : Last) (white merges : Bool) → (is_item at && not white && merges) ≡ true → is_item at ≡ true
-touching-item x white merges h = grind arith
-
-item-unjoined : (at : Last) → is_item at ≡ true → is_joined at ≡ false
-item-unjoined x h = grind arith
 
 -- rule 3 at an item
 item-blanks : (texts : List (List ℕ)) (at : Last) (white merges : Bool) (before : Option Token) (e : Token)
@@ -347,22 +284,7 @@ item-ahead : (lines : List SourceLine) (whole : List Item) (entries : List Entry
     ++ (blank_if (blank_before lines entries at e)
     ++ (items_at lines e ++ ahead lines e (counted_after_token lines (origin_of at.counted) e) es))
 item-ahead lines whole entries at e es solid h =
-    grind (
-      arith,
-      nat_tests,
-      solid-spaced,
-      item-joins,
-      solid-gap,
-      item-unjoined,
-      item-blanks,
-      solid-front,
-      items_by_origin-blank,
-      items_by_origin-item,
-      touching-item,
-    )
-
-open-item : (texts : List (List ℕ)) (e : Token) → is_end e ≡ false → is_open texts (Some e) ≡ ends_in slash texts e
-open-item texts x h = grind arith
+    grind (arith, has_join-push, append_assoc, item-blanks)
 
 -- after an item, with which the entries end
 item-passed : (lines : List SourceLine) (whole : List Item) (new : List Entry) (next : PartState)
@@ -374,7 +296,7 @@ item-passed : (lines : List SourceLine) (whole : List Item) (new : List Entry) (
     → IsPassed lines whole new next es
 item-passed lines whole new next e es item white within solid ends merges left =
     let all : take (length new) new ≡ new = take_all (length new) new (omega arith) in
-    let is = open-item (texts_of lines) e solid ∙ ends slash refl refl in
+    let is = (grind arith) ∙ ends slash refl refl in
     record {
       read = record {
         gap = [];
@@ -404,14 +326,8 @@ passed-item lines whole entries new at next e es solid head run is_new item whit
     let blank = blank_if (blank_before lines entries at e) in
     let middle = entries ++ map entry.Item blank in
     rw is_new (item-passed lines whole _ next e es item white
-    (omega (
-      arith,
-      h.read.start,
-      ap (λ (s : Start). s.entries) start,
-      length-append entries (map entry.Item blank),
-      length-append middle (map entry.Item (items_at lines e)),
-    ))
-    (solid-end e solid) (λ b _ _. sym (item-ends b lines middle e solid head run))
+    (search (rules, length-append))
+    (grind arith) (λ b _ _. sym (item-ends b lines middle e solid head run))
     (λ f. sym (item-merges lines middle e f solid head run))
     (item-ahead lines whole entries at e es solid h
     ∙ rw (
@@ -484,15 +400,13 @@ run-passed lines whole entries at s (p ∷ ps) es is run spaces h =
     let texts = texts_of lines in
     let blank = blank_if (blank_before_run lines entries at s) in
     let middle = entries ++ map entry.Item blank in
-    let end = last_token (part_token p) ps in
     let first : blank_before lines entries at (part_token p) ≡ blank_before_run lines entries at s =
     rw (front-merges texts entries p, run-front texts s p ps is) refl in
-    item-passed lines whole _ _ end es refl refl
-    (omega (arith, h.read.start, length-append entries (map entry.Item blank), length-append middle (entry.Run s ∷ [])))
+    item-passed lines whole _ _ (last_token (part_token p) ps) es refl refl
+    (omega (arith, length-append entries (map entry.Item blank), length-append middle (entry.Run s ∷ [])))
     (last-solid (part_token p) ps (part-solid p))
     (λ b word white. run-ends b texts word white s p ps is run ∙ sym (last-ends b texts middle (entry.Run s)))
-    (λ f. rw (last-of-push middle (entry.Run s), last-plain (part_token p) ps (plain-part p), run-merges texts s p ps is run)
-    refl)
+    (search (rules, last-of-push, last-plain, run-merges))
     (part-ahead lines whole entries at p ps es spaces h
     ∙ rw (first, items-push texts middle (entry.Run s), items-more texts entries blank, append_assoc, append_assoc, is) refl)
 
@@ -514,7 +428,7 @@ passed-begin lines line at es front start is_start is = record {
     front = None;
     before = None;
     prev = token.White;
-    start = omega (arith, start);
+    start = omega arith;
     joined = rw front refl;
     made = λ xs. rw (front, start, is_start, is) refl;
     keeps = λ _. rw front refl;
@@ -523,21 +437,11 @@ passed-begin lines line at es front start is_start is = record {
     before_open = rw front refl;
     merges = λ e. rw front refl;
   };
-  left = part_items-by_origin lines line es
-      ∙ rw (front, start, is_start, spaced-inside (texts_of lines) (clean_tokens es)) refl;
+  left = search (rules, part_items-by_origin, spaced-inside);
 }
-
-last-blank : (lines : List SourceLine) (before : Option Token) (counted : Origin) (b : Bool)
-    → items_by_origin lines before counted (white_if b) ≡ blank_if b
-last-blank lines before counted x = grind arith
 
 pub passed-whole : (lines : List SourceLine) (whole : List Item) (entries : List Entry) (at : PartState) (es : List Token)
     → es ≡ [] → IsPassed lines whole entries at es
     → items_of (texts_of lines) entries ++ blank_if (are_open (texts_of lines) entries at.last) ≡ whole
 passed-whole lines whole entries at es none h =
-    grind (
-      arith,
-      nat_tests,
-      append-nil (left_of_run h.read.gap),
-      last-blank lines h.read.before (origin_of at.counted) (are_open (texts_of lines) entries at.last),
-    )
+    grind (arith, append-nil (left_of_run h.read.gap))

@@ -4,7 +4,7 @@ use Rattle.std.proofs.Common.{◌&&◌, not, Option, Some, is_some, if◌then◌
 use Rattle.tangle_faults.specs.declared.faults.FaultKind.{FaultKind}
 use Rattle.tangle_lexer.specs.declared.tokens.Token.{Token}
 use Rattle.tangle_lexer.specs.declared.tokens.Token.TheVariants as token
-use Rattle.tangle_scan.specs.Rules.{without_joins, left_of_run, has_join, is_gap, is_front_gap}
+use Rattle.tangle_scan.specs.Rules.{has_join, is_front_gap}
 use Rattle.tangle_lexer.specs.LinesOfParts.{is_join}
 use Rattle.tangle_scan.specs.Rules.{blanks, is_name_part, macro_blanks}
 pub use Rattle.tangle_scan.specs.Passes.{is_solid}
@@ -30,14 +30,6 @@ pub macro_blanks-item : (texts : List (List ℕ)) (in_name : Bool) (before : Opt
 macro_blanks-item texts in_name before white x es item = grind arith
 
 -- rule 2 at a gap and at another token
-
-pub without_joins-gap : (run : List Token) (e : Token) (es : List Token)
-    → is_gap e ≡ true → without_joins run (e ∷ es) ≡ without_joins (run ++ e ∷ []) es
-without_joins-gap run x es h = grind arith
-
-pub without_joins-item : (run : List Token) (e : Token) (es : List Token)
-    → is_gap e ≡ false → without_joins run (e ∷ es) ≡ left_of_run run ++ e ∷ without_joins [] es
-without_joins-item run x es h = grind arith
 
 pub has_join-push : (run : List Token) (e : Token) → has_join (run ++ e ∷ []) ≡ (has_join run || is_join e)
 has_join-push [] token.Join = refl

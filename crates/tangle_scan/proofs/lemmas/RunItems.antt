@@ -121,12 +121,12 @@ run-bytes texts parts bytes stands s (b ∷ bs) none is start end spaces =
     long : length (b ∷ bs) ≡ s.end - s.start
     long =
         ap length is
-        ∙ length-take-le (s.end - s.start) (drop s.start text) (omega (arith, end, length-drop s.start text))
+        ∙ length-take-le (s.end - s.start) (drop s.start text) (omega (arith, length-drop s.start text))
 
     at : (k : ℕ) → k < length (b ∷ bs) → get_or text (s.start + k) 0 ≡ get_or (b ∷ bs) k 0
     at k h =
         sym (ap (λ t. get_or t k 0) is
-        ∙ (get_or-take (s.end - s.start) (drop s.start text) k 0 (omega (arith, h, long))
+        ∙ (get_or-take (s.end - s.start) (drop s.start text) k 0 (omega (arith, long))
         ∙ get_or-drop s.start text k 0))
 
     last : last_byte texts s ≡ get_or text (s.start + length bs) 0
@@ -141,10 +141,9 @@ front-merges : (texts : List (List ℕ)) (s : Span) (cs : List (List ℕ)) (rest
 front-merges texts s [] rest p ps h is parts = cc
 front-merges texts s ([] ∷ cs) rest p ps h is parts = absurd h.0
 front-merges texts s ((b ∷ bs) ∷ cs) rest p ps h is parts =
-    let first : part_of s.line s.start (b ∷ bs) ≡ p = cc in
     let front = front-byte (get_or texts s.line []) s.start (b ∷ bs) (joined cs ++ rest) h.0
     (is ∙ append_assoc (b ∷ bs) (joined cs) rest) in
-    ap (merges texts) (sym first) ∙ (first-merges texts s.line s.start b bs front ∙ ap is_merging_byte (sym front))
+    ap (merges texts) (sym cc) ∙ (first-merges texts s.line s.start b bs front ∙ ap is_merging_byte (sym front))
 
 pub run-front : (texts : List (List ℕ)) (s : Span) (p : RunPart) (ps : List RunPart) → run_parts texts s ≡ p ∷ ps
     → may_merge texts (part_token p) ≡ is_merging_byte (first_byte texts s)

@@ -1,4 +1,5 @@
 -- Gathering a web block by block.
+use Rattle.std.proofs.Common.{rules}
 use Rattle.std.proofs.lemmas.Bool.Decides.{nat_tests}
 use Rattle.std.proofs.Common.{◌≡◌, ◌≤◌, ◌<◌, ◌+◌, true, List, [], ◌∷◌, ◌++◌, length, map, refl, arith}
 use Rattle.std.proofs.Common.{Option, option_to_list}
@@ -38,7 +39,7 @@ pub block-builder : (source : SourceRead) (before : WebBuilderRead) (head : Toke
     (option_to_list next_head ++ tokens_from after rest)
     ≡ builder_with source before (head ∷ tokens_from s text)
 block-builder source before head s after text rest block next_head all some end =
-    grind (arith, nat_tests, builder-cut, ends-body)
+    search (rules, builder-cut, ends-body)
 
 -- gathering the tokens before the first head, and then those from it on, gathers all of them
 pub front-builder : (source : SourceRead) (before : WebBuilderRead) (s after : LexerState)
@@ -48,7 +49,7 @@ pub front-builder : (source : SourceRead) (before : WebBuilderRead) (s after : L
     → builder_with source (builder_with source before block) (option_to_list next_head ++ tokens_from after rest)
     ≡ builder_with source before (tokens_from s text)
 front-builder source before s after text rest block next_head all some end =
-    grind (arith, nat_tests, builder-cut, ends-body)
+    search (rules, builder-cut, ends-body)
 
 -- each head has at least one cell
 pub block-shorter : (text rest : List Cell) (next_head : Option Token)

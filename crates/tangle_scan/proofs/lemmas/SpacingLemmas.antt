@@ -1,17 +1,17 @@
 -- Rules 1 and 2 for the tokens of a macro, from item to item.
+use Rattle.std.proofs.Common.{rules}
 use Rattle.std.proofs.lemmas.Bool.Decides.{nat_tests}
 use Rattle.std.proofs.Common.{arith}
-use Rattle.std.proofs.Common.{◌≡◌, ℕ, Bool, true, false, ◌||◌, not, List, [], ◌∷◌, ◌++◌, refl, ap, ◌∙◌}
+use Rattle.std.proofs.Common.{◌≡◌, ℕ, Bool, true, false, List, [], ◌∷◌, ◌++◌, refl, ap, ◌∙◌}
 use Rattle.std.proofs.Common.{if◌then◌else◌, append_assoc, append-nil}
 use Rattle.std.specs.List.{list_all}
 use Rattle.tangle_lexer.specs.declared.tokens.Token.{Token}
 use Rattle.tangle_lexer.specs.declared.tokens.Token.TheVariants as token
 use Rattle.tangle_scan.specs.Rules.{is_gap, without_joins, left_of_run, has_join, clean_tokens, white_inner_end}
-use Rattle.tangle_scan.specs.Rules.{with_spaces, with_space_after, may_follow_name}
+use Rattle.tangle_scan.specs.Rules.{with_spaces}
 use Rattle.tangle_scan.specs.Rules.{macro_tokens, is_front_gap}
 use Rattle.tangle_scan.specs.Passes.{with_white_space, gap_before, from_item, is_spaced, left_gap}
 use Rattle.tangle_scan.specs.Passes.{spaced_from, joined_from, is_solid}
-use Rattle.tangle_scan.proofs.lemmas.RuleLemmas.{without_joins-gap}
 
 -- rule 1, token by token
 
@@ -31,17 +31,6 @@ spaced-inside texts es = after-gap texts token.White es refl
 
 -- the white space of rule 1 after the first item of a macro
 
-after-name : (texts : List (List ℕ)) (e f : Token) (es : List Token) (touching following : Bool)
-    → may_follow_name texts f ≡ following
-    → with_space_after texts e ((if touching then token.White ∷ [] else []) ++ f ∷ es)
-    ≡ e ∷ (if not following || touching then token.White ∷ [] else []) ++ f ∷ es
-after-name texts e f es x y is = grind arith
-
-name-after : (texts : List (List ℕ)) (e : Token) (es : List Token)
-    → with_space_after texts e (with_white_space texts false e es) ≡ e ∷ with_white_space texts true e es
-name-after texts e [] = refl
-name-after texts e (f ∷ es) = grind (arith, nat_tests, after-name)
-
 -- rule 1 at a gap and at an item
 
 gap-spaced : (texts : List (List ℕ)) (first : Bool) (e : Token) (es : List Token)
@@ -51,7 +40,7 @@ gap-spaced texts first e es h same = grind arith
 
 item-spaced : (texts : List (List ℕ)) (first : Bool) (e : Token) (es : List Token) → is_solid e ≡ true
     → spaced_from texts first (e ∷ es) ≡ e ∷ with_white_space texts first e (clean_tokens es)
-item-spaced texts first e es h = grind (arith, nat_tests, inside-spaced, name-after)
+item-spaced texts first e es h = grind (arith, nat_tests, inside-spaced)
 
 -- rule 2 at a gap, of which `run` was read, and at the item after it
 
@@ -60,7 +49,7 @@ run-more : (texts : List (List ℕ)) (first : Bool) (run : List Token) (e : Toke
     without_joins (run ++ e ∷ []) (spaced_from texts first es) ≡ left_of_run ((run ++ e ∷ []) ++ gap_before es) ++ ahead →
     without_joins run (spaced_from texts first (e ∷ es)) ≡ left_of_run (run ++ e ∷ gap_before es) ++ ahead
 run-more texts first run e es ahead h same more =
-    grind (arith, nat_tests, gap-spaced, without_joins-gap, append_assoc)
+    search (rules, append_assoc)
 
 run-ahead : (texts : List (List ℕ)) (first : Bool) (run es : List Token)
     → without_joins run (spaced_from texts first es)
@@ -100,14 +89,14 @@ left-ahead texts first before es =
   where
     spaced : (es : List Token) → with_white_space texts first before (clean_tokens es)
         ≡ (if is_spaced texts first before es then token.White ∷ [] else []) ++ with_spaces texts (clean_tokens es)
-    spaced [] = refl
-    spaced (token.Fault kind line ∷ es) = spaced es
-    spaced (token.InnerLineEnd line ∷ es) = rw (inside-spaced texts token.White (clean_tokens es)) refl
-    spaced (e ∷ es) = rw (inside-spaced texts e (clean_tokens es)) refl
+    spaced [] = search rules
+    spaced (token.Fault kind line ∷ es) = cc (spaced es)
+    spaced (token.InnerLineEnd line ∷ es) = search (rules, inside-spaced)
+    spaced (e ∷ es) = search (rules, inside-spaced)
 
     opened : (b : Bool) → without_joins [] ((if b then token.White ∷ [] else []) ++ with_spaces texts (clean_tokens es))
         ≡ without_joins (if b then token.White ∷ [] else []) (with_spaces texts (clean_tokens es))
-    opened x = grind arith
+    opened x = search rules
 
 pub item-ahead : (texts : List (List ℕ)) (first : Bool) (e : Token) (es : List Token) → is_solid e ≡ true
     → joined_from texts first (e ∷ es) ≡ e ∷ (left_gap texts first e es ++ joined_from texts false (from_item es))

@@ -1,10 +1,10 @@
 -- The tokens of runs are no heads, no faults and no @h.
-use Rattle.std.proofs.Common.{◌<◌, zero, suc, length, get_or, arith}
-use Rattle.std.proofs.Common.{◌≡◌, ℕ, Bool, false, List, [], ◌∷◌, map, refl, ap, sym, ◌∙◌}
+use Rattle.std.proofs.lemmas.Bool.Decides.{nat_tests}
+use Rattle.std.proofs.Common.{arith}
+use Rattle.std.proofs.Common.{◌≡◌, ℕ, Bool, false, List, [], ◌∷◌, map, refl, sym, ◌∙◌}
 use Rattle.std.specs.List.{list_any, flat_map}
 use Rattle.std.proofs.lemmas.Grind.{flat_map-append}
 use Rattle.std.proofs.lemmas.List.Folds.{list_any-append}
-use Rattle.std.proofs.lemmas.Bool.{or_parts}
 use Rattle.std.proofs.Math.Bool.{or-false}
 use Rattle.tangle_files.specs.Lines.{FileTable}
 use Rattle.tangle_lines.specs.Reading.{SourceLine}
@@ -17,7 +17,7 @@ use Rattle.tangle_lexer.specs.declared.tokens.Token.TheVariants as token
 use Rattle.tangle_lexer.specs.declared.tokens.SpanKind.{SpanKind}
 use Rattle.tangle_lexer.specs.declared.tokens.SpanKind.TheVariants as span_kind
 use Rattle.tangle_lexer.specs.Heads.{is_head}
-use Rattle.tangle_lexer.specs.Runs.{part_token, unfolded_token, unfolded, is_run, HasNoRun}
+use Rattle.tangle_lexer.specs.Runs.{part_token, unfolded_token, unfolded, HasNoRun}
 use Rattle.tangle_scan.specs.Web.{is_all_macros}
 use Rattle.tangle_scan.specs.WebBuilder.{own_fault}
 
@@ -69,13 +69,6 @@ faults-unfolded texts files lines (t ∷ ts) =
 
 -- tokens without a head
 
-pub no-head-at : (ts : List Token) (i : ℕ) (d : Token) → list_any is_head ts ≡ false → i < length ts
-    → is_head (get_or ts i d) ≡ false
-no-head-at [] i d none low = absurd (omega (arith, low))
-no-head-at (t ∷ ts) zero d none low = (or_parts (is_head t) (list_any is_head ts) none).0
-no-head-at (t ∷ ts) (suc i) d none low =
-    no-head-at ts i d (or_parts (is_head t) (list_any is_head ts) none).1 (omega (arith, low))
-
 pub unfolded-no_head : (texts : List (List ℕ)) (ts : List Token) → list_any is_head ts ≡ false
     → list_any is_head (unfolded texts ts) ≡ false
 unfolded-no_head texts ts none = any-unfolded is_head texts refl (λ kind s. refl) (λ s. refl) ts ∙ none
@@ -85,4 +78,4 @@ pub unfolded-same : (texts : List (List ℕ)) (ts : List Token) → HasNoRun ts 
 unfolded-same texts [] none = refl
 unfolded-same texts (token.Run s ∷ ts) none = cc
 unfolded-same texts (t ∷ ts) none =
-    ap (λ us. t ∷ us) (unfolded-same texts ts (or_parts (is_run t) (list_any is_run ts) none).1)
+    grind (arith, nat_tests, unfolded-same texts ts)

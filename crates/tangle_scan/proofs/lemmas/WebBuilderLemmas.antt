@@ -1,12 +1,9 @@
 use Rattle.std.proofs.lemmas.Bool.Decides.{nat_tests}
 use Rattle.std.proofs.Common.{arith}
-use Rattle.std.proofs.Common.{◌≡◌, ℕ, ◌+◌, true, false, List, [], ◌∷◌, ◌++◌, refl, ap, sym, ◌∙◌, if◌then◌else◌}
+use Rattle.std.proofs.Common.{◌≡◌, ℕ, ◌+◌, false, List, [], ◌∷◌, ◌++◌, refl, ap, sym, ◌∙◌, if◌then◌else◌}
 use Rattle.std.proofs.Common.{append_assoc, append-nil, ◌||◌, Option, None, Some}
 use Rattle.std.specs.List.{list_any, flat_map}
-use Rattle.std.proofs.lemmas.Grind.{flat_map-append}
-use Rattle.std.proofs.lemmas.List.Folds.{list_any-append}
 use Rattle.std.proofs.lemmas.Bool.{or_parts}
-use Rattle.std.proofs.Math.Bool.{or_assoc, or-false}
 use Rattle.tangle_faults.specs.declared.faults.FaultKind.TheVariants as fault
 use Rattle.tangle_lines.specs.Reading.{SourceRead, origin_at}
 use Rattle.tangle_lexer.specs.declared.tokens.Token.{Token}
@@ -22,23 +19,23 @@ use Rattle.tangle_scan.specs.WebBuilder.{WebBuilderRead, builder_with, with_head
 
 pub body-whole : (es : List Token) → list_any is_head es ≡ false → body es ≡ es
 body-whole [] h = refl
-body-whole (e ∷ es) h = grind (arith, nat_tests, or_parts (is_head e) (list_any is_head es) h, body-whole es)
+body-whole (e ∷ es) h = grind (arith, nat_tests, body-whole es)
 
 -- an empty list of tokens adds nothing
 pub builder-nothing : (source : SourceRead) (before : WebBuilderRead) → builder_with source before [] ≡ before
 unfolding builder_with
-builder-nothing source before = grind (arith, nat_tests, append-nil, or-false)
+builder-nothing source before = grind (arith, nat_tests, append-nil)
 
 -- gathering a token, and then the tokens after it, gathers all of them
 builder-first : (source : SourceRead) (before : WebBuilderRead) (e : Token) (es : List Token)
     → builder_with source (with_head source before e es) es ≡ builder_with source before (e ∷ es)
 unfolding builder_with
-builder-first source before e es = grind (arith, nat_tests, flat_map-append, list_any-append, append_assoc, or_assoc)
+builder-first source before e es = grind (arith, nat_tests, append_assoc)
 
 -- a token that is no head adds its own fault only
 fault-added : (source : SourceRead) (before : WebBuilderRead) (e : Token) (es : List Token) → is_head e ≡ false
     → record before { faults = before.faults ++ own_fault source.files source.lines e } ≡ with_head source before e es
-fault-added source before e es h = grind (arith, nat_tests, append-nil, or-false)
+fault-added source before e es h = grind (arith, nat_tests, append-nil)
 
 -- tokens without a head add only their faults
 pub front-whole : (source : SourceRead) (before : WebBuilderRead) (es : List Token) → list_any is_head es ≡ false
@@ -59,7 +56,7 @@ pub block-whole : (source : SourceRead) (before : WebBuilderRead) (head : Token)
     { faults = (with_head source before head es).faults ++ flat_map (own_fault source.files source.lines) es }
     ≡ builder_with source before (head ∷ es)
 block-whole source before head es h =
-    front-whole source (with_head source before head es) es h ∙ builder-first source before head es
+    grind (arith, nat_tests, front-whole source, builder-first source before head es)
 
 -- a builder with the faults among these tokens
 abbrev with_faults : SourceRead → List Token → WebBuilderRead → WebBuilderRead
@@ -70,15 +67,7 @@ pub section-gathered : (source : SourceRead) (before : WebBuilderRead) (es : Lis
     → with_faults source es (record before { sections = before.sections + 1 })
     ≡ builder_with source before (token.Section ∷ es)
 section-gathered source before es none =
-    grind (
-      arith,
-      nat_tests,
-      block-whole source before token.Section es none,
-      append-nil before.pieces,
-      append-nil before.macros,
-      append-nil before.faults,
-      or-false before.has_all_macros,
-    )
+    grind (arith, block-whole source before token.Section es none, append-nil before.pieces, append-nil before.macros, append-nil before.faults)
 
 -- a C part
 
@@ -102,22 +91,7 @@ pub piece-gathered : (source : SourceRead) (before : WebBuilderRead) (occurrence
     → with_faults source es (with_piece source before occurrence line es)
     ≡ builder_with source before (part_head line occurrence ∷ es)
 piece-gathered source before occurrence line es none =
-    grind (
-      arith,
-      nat_tests,
-      block-whole source before (part_head line occurrence) es none,
-      body-whole es none,
-      append-nil before.macros,
-      append-nil before.faults,
-      or-false (list_any is_all_macros es),
-    )
-
--- a head is one of four kinds of tokens
-pub no-other-head : (e : Token)
-    → is_head e ≡ true → (e ≡ token.Section → ⊥) → ((line : ℕ) → e ≡ token.MacroStart line → ⊥)
-    → ((line : ℕ) → e ≡ token.UnnamedPart line → ⊥) → ((line occurrence : ℕ) → e ≡ token.NamedPart line occurrence → ⊥)
-    → ⊥
-no-other-head x h a b c d = grind arith
+    grind (arith, block-whole source before (part_head line occurrence) es none, body-whole es none, append-nil before.macros, append-nil before.faults)
 
 -- Gathering a list of tokens is gathering the tokens before a head, and then those from that head on.
 
@@ -125,33 +99,11 @@ body-cut : (xs es : List Token) → body es ≡ [] → body (xs ++ es) ≡ body 
 body-cut [] es cut = cut
 body-cut (x ∷ xs) es cut = ap (λ t. if is_head x then [] else x ∷ t) (body-cut xs es cut)
 
-head-cut : (source : SourceRead) (before : WebBuilderRead) (x : Token) (xs es : List Token)
-    → body es ≡ [] → with_head source before x xs ≡ with_head source before x (xs ++ es)
-head-cut source before x xs es cut = grind (arith, nat_tests, body-cut)
-
 pub builder-cut : (source : SourceRead) (before : WebBuilderRead) (xs es : List Token) → body es ≡ [] →
     builder_with source (builder_with source before xs) es ≡ builder_with source before (xs ++ es)
 builder-cut source before [] es cut = ap (λ g. builder_with source g es) (builder-nothing source before)
 builder-cut source before (x ∷ xs) es cut =
-    grind (
-      arith,
-      nat_tests,
-      builder-first source before x xs,
-      builder-cut source (with_head source before x xs) xs es cut,
-      head-cut source before x xs es cut,
-      builder-first source before x (xs ++ es),
-    )
-
--- a macro without a head inside, whose items were added or whose fault
-macro-added : (source : SourceRead) (before : WebBuilderRead) (line : ℕ) (es : List Token) → body es ≡ es →
-    (let items = macro_items (texts_of source.lines) es in
-    let is_macro = is_macro (texts_of source.lines) items in
-    record before {
-      macros = before.macros ++ (if is_macro then items ∷ [] else []);
-      faults = before.faults
-          ++ (if is_macro then [] else fault_on source.files source.lines fault.MacroName line ∷ []);
-    } ≡ with_head source before (token.MacroStart line) es)
-macro-added source before line es whole = grind (arith, nat_tests, append-nil, or-false)
+    grind (arith, builder-first source before x xs, builder-cut source (with_head source before x xs) xs es cut, body-cut, builder-first source before x (xs ++ es))
 
 pub macro-gathered : (source : SourceRead) (before : WebBuilderRead) (line : ℕ) (es : List Token)
     → list_any is_head es ≡ false →
@@ -163,5 +115,4 @@ pub macro-gathered : (source : SourceRead) (before : WebBuilderRead) (line : ℕ
           ++ (if is_macro then [] else fault_on source.files source.lines fault.MacroName line ∷ []);
     }) ≡ builder_with source before (token.MacroStart line ∷ es))
 macro-gathered source before line es none =
-    ap (with_faults source es) (macro-added source before line es (body-whole es none))
-    ∙ block-whole source before (token.MacroStart line) es none
+    grind (arith, nat_tests, append-nil, body-whole es none, block-whole source before)

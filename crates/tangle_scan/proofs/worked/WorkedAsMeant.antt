@@ -1,4 +1,5 @@
 -- What a C compiler reads, and bytes of macros and pieces that it reads as their author means them, or otherwise.
+use Rattle.std.proofs.Common.{rules}
 use Rattle.std.proofs.Common.{◌≡◌, ℕ, Bool, true, false, List, [], ◌∷◌, Some, None, refl, codes}
 use Rattle.tangle_files.specs.Bytes.{space, line_feed}
 use Rattle.tangle_lines.specs.declared.origin.Origin.{Origin}
@@ -148,11 +149,11 @@ ends_in_slash h = by h.gap h.is h.closing
   where
     by : (gap : List Gap) → [] ≡ gap_bytes (λ origin. codes "#") gap
         → (is_empty (as_read false gap) ≡ true → (gap ≡ []) × (is_open texts (Some slash) ≡ false)) → ⊥
-    by [] is closing = let closed = (closing refl).1 in absurd cc
-    by (Space ∷ gap) is closing = absurd cc
-    by (LineFeed ∷ gap) is closing = absurd cc
-    by (TakenOut ∷ gap) is closing = absurd cc
-    by (Mark at ∷ gap) is closing = absurd cc
+    by [] is closing = search rules
+    by (Space ∷ gap) is closing = search rules
+    by (LineFeed ∷ gap) is closing = search rules
+    by (TakenOut ∷ gap) is closing = search rules
+    by (Mark at ∷ gap) is closing = search rules
 
 ends_after_slash : Ends slash [] (codes " ")
 ends_after_slash = record { gap = Space ∷ []; is = refl; lines = refl; closing = λ none. absurd cc }
@@ -235,4 +236,4 @@ accepted = (
 )
   where
     together : IsReadAs [] [] false
-    together = record { lines = refl; together = λ none. refl; apart = λ needed. absurd cc }
+    together = search rules

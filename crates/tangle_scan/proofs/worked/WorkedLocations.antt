@@ -1,5 +1,6 @@
 -- Stretches and the counted origin, on small lists.
-use Rattle.std.proofs.Common.{◌≡◌, ℕ, Bool, true, false, List, [], ◌∷◌, None, Some, codes, refl}
+use Rattle.std.proofs.Common.{rules}
+use Rattle.std.proofs.Common.{◌≡◌, ℕ, Bool, true, false, List, [], ◌∷◌, None, Some, codes}
 use Rattle.tangle_lines.specs.declared.origin.Origin.{Origin}
 use Rattle.tangle_text.specs.declared.spans.Span.{Span}
 use Rattle.tangle_lines.specs.Reading.{SourceLine}
@@ -46,96 +47,75 @@ joins =
     word 1 ∷ token.White ∷ token.Join ∷ token.LineEnd 1 ∷ word 2
     ∷ token.Join ∷ word 2 ∷ token.White ∷ token.LineEnd 2 ∷ word 3 ∷ []
 
-runs_with_joins : tokens_and_joins [] joins
-    ≡ word 1 ∷ token.Join ∷ word 2 ∷ word 2 ∷ token.White ∷ token.LineEnd 2 ∷ word 3 ∷ []
-runs_with_joins = refl
-
--- the join removes a line end: the items after it are in a stretch, up to the next line end
-removed_line_end :
-    part_locations (source (origin 2)) 1 joins
-    ≡ word_location 1 false ∷ word_location 2 true ∷ word_location 2 true ∷ word_location 3 false ∷ []
-removed_line_end = refl
-
--- the items after a line end in a quoted text are in a stretch, up to a mark
-quote_break :
-    locations (source (origin 2)) None (origin 0) false (token.QuoteBreak ∷ word 2 ∷ token.UseOf 2 0 ∷ word 2 ∷ [])
-    ≡ word_location 2 true ∷ word_location 2 false ∷ []
-quote_break = refl
-
--- a line end inside a comment of a directive begins a stretch, and one of a run with a join is removed with the run
-inner_line_ends :
-    part_locations (source (origin 2)) 1
-    (word 1 ∷ token.White ∷ token.InnerLineEnd 1 ∷ word 2 ∷ token.LineEnd 2 ∷ word 3 ∷ [])
-    ≡ word_location 1 false ∷ word_location 2 true ∷ word_location 3 false ∷ []
-inner_line_ends = refl
-
-inner_line_end_joined :
-    tokens_and_joins []
-    (word 1 ∷ token.LineEnd 1 ∷ token.White ∷ token.InnerLineEnd 2 ∷ token.Join ∷ word 3 ∷ [])
-    ≡ word 1 ∷ token.Join ∷ word 3 ∷ []
-inner_line_end_joined = refl
-
 -- the end of a continued line begins no stretch, if the next source line is the one that the count expects
 abbrev continued : List Token
 continued = sign 1 ∷ token.White ∷ token.LineEnd 1 ∷ word 2 ∷ token.LineEnd 2 ∷ word 3 ∷ []
-
-expected_line : part_locations (source (origin 2)) 1 continued
-    ≡ sign_location 1 false ∷ word_location 2 false ∷ word_location 3 false ∷ []
-expected_line = refl
 
 -- if the next source line is another, as one of a change file, no mark is put, and the line is in a stretch, up to the
 -- next line end that begins none
 abbrev other : Origin
 other = record { file = 1; line = 7 }
 
-other_line : part_locations (source other) 1 continued
-    ≡ sign_location 1 false ∷ word_location 2 true ∷ word_location 3 false ∷ []
-other_line = refl
+record Examples : Type 0 where
+  pub runs_with_joins : tokens_and_joins [] joins
+      ≡ word 1 ∷ token.Join ∷ word 2 ∷ word 2 ∷ token.White ∷ token.LineEnd 2 ∷ word 3 ∷ []
+  -- the join removes a line end: the items after it are in a stretch, up to the next line end
+  pub removed_line_end :
+      part_locations (source (origin 2)) 1 joins
+      ≡ word_location 1 false ∷ word_location 2 true ∷ word_location 2 true ∷ word_location 3 false ∷ []
+  -- the items after a line end in a quoted text are in a stretch, up to a mark
+  pub quote_break :
+      locations (source (origin 2)) None (origin 0) false (token.QuoteBreak ∷ word 2 ∷ token.UseOf 2 0 ∷ word 2 ∷ [])
+      ≡ word_location 2 true ∷ word_location 2 false ∷ []
+  -- a line end inside a comment of a directive begins a stretch, and one of a run with a join is removed with the run
+  pub inner_line_ends :
+      part_locations (source (origin 2)) 1
+      (word 1 ∷ token.White ∷ token.InnerLineEnd 1 ∷ word 2 ∷ token.LineEnd 2 ∷ word 3 ∷ [])
+      ≡ word_location 1 false ∷ word_location 2 true ∷ word_location 3 false ∷ []
+  pub inner_line_end_joined :
+      tokens_and_joins []
+      (word 1 ∷ token.LineEnd 1 ∷ token.White ∷ token.InnerLineEnd 2 ∷ token.Join ∷ word 3 ∷ [])
+      ≡ word 1 ∷ token.Join ∷ word 3 ∷ []
+  pub expected_line : part_locations (source (origin 2)) 1 continued
+      ≡ sign_location 1 false ∷ word_location 2 false ∷ word_location 3 false ∷ []
+  pub other_line : part_locations (source other) 1 continued
+      ≡ sign_location 1 false ∷ word_location 2 true ∷ word_location 3 false ∷ []
+  pub other_line_counted :
+      counted_items (Some (origin 1)) (part_items (source other) 1 continued)
+      ≡ record { item = item.Sign (at 1); origin = Some (origin 1) }
+      ∷ record { item = item.Word (at 2); origin = Some (origin 2) }
+      ∷ record { item = item.Word (at 3); origin = Some (origin 3) }
+      ∷ []
+  -- the end of a continued line ends a stretch, if the next source line is the one that the count expects
+  pub expected_after_break :
+      locations (source (origin 2)) None (origin 0) false (token.QuoteBreak ∷ sign 1 ∷ token.LineEnd 1 ∷ word 2 ∷ [])
+      ≡ sign_location 1 true ∷ word_location 2 false ∷ []
+  -- an ASCII constant has its line
+  pub constant_line :
+      locations (source (origin 2)) None (origin 0) false (token.AsciiConstant 65 7 ∷ [])
+      ≡ record { item = item.Code 65; line = 7; in_stretch = false } ∷ []
+  -- the counted origin: each line end adds a line, a mark sets it, and after a use it is not known
+  pub counted_lines :
+      counted_items (Some (origin 4))
+      (item.LineEnd ∷ item.Word (at 1) ∷ item.UseOf 0 ∷ item.Word (at 2)
+      ∷ item.LineMark (origin 9) ∷ item.QuoteBreak ∷ item.Word (at 3) ∷ [])
+      ≡ record { item = item.Word (at 1); origin = Some (origin 5) }
+      ∷ record { item = item.Word (at 2); origin = None }
+      ∷ record { item = item.Word (at 3); origin = Some (origin 10) }
+      ∷ []
+  -- a mark follows the end of a line that is not continued
+  pub all_marks :
+      with_all_marks (source other) None (sign 1 ∷ token.LineEnd 1 ∷ word 2 ∷ token.LineEnd 2 ∷ word 3 ∷ [])
+      ≡ item.Sign (at 1) ∷ item.LineEnd ∷ item.Word (at 2) ∷ item.LineEnd ∷ item.LineMark (origin 3)
+      ∷ item.Word (at 3)
+      ∷ []
+  -- the first mark has the origin that is counted, the second has not
+  pub needed_marks :
+      with_needed_marks (origin 1)
+      (item.LineEnd ∷ item.LineMark (origin 2) ∷ item.Word (at 1) ∷ item.LineEnd ∷ item.LineMark other
+      ∷ item.Word (at 2)
+      ∷ [])
+      ≡ item.LineEnd ∷ item.Word (at 1) ∷ item.LineMark other ∷ item.Word (at 2) ∷ []
 
-other_line_counted :
-    counted_items (Some (origin 1)) (part_items (source other) 1 continued)
-    ≡ record { item = item.Sign (at 1); origin = Some (origin 1) }
-    ∷ record { item = item.Word (at 2); origin = Some (origin 2) }
-    ∷ record { item = item.Word (at 3); origin = Some (origin 3) }
-    ∷ []
-other_line_counted = refl
-
--- the end of a continued line ends a stretch, if the next source line is the one that the count expects
-expected_after_break :
-    locations (source (origin 2)) None (origin 0) false (token.QuoteBreak ∷ sign 1 ∷ token.LineEnd 1 ∷ word 2 ∷ [])
-    ≡ sign_location 1 true ∷ word_location 2 false ∷ []
-expected_after_break = refl
-
--- an ASCII constant has its line
-constant_line :
-    locations (source (origin 2)) None (origin 0) false (token.AsciiConstant 65 7 ∷ [])
-    ≡ record { item = item.Code 65; line = 7; in_stretch = false } ∷ []
-constant_line = refl
-
--- the counted origin: each line end adds a line, a mark sets it, and after a use it is not known
-counted_lines :
-    counted_items (Some (origin 4))
-    (item.LineEnd ∷ item.Word (at 1) ∷ item.UseOf 0 ∷ item.Word (at 2)
-    ∷ item.LineMark (origin 9) ∷ item.QuoteBreak ∷ item.Word (at 3) ∷ [])
-    ≡ record { item = item.Word (at 1); origin = Some (origin 5) }
-    ∷ record { item = item.Word (at 2); origin = None }
-    ∷ record { item = item.Word (at 3); origin = Some (origin 10) }
-    ∷ []
-counted_lines = refl
-
--- a mark follows the end of a line that is not continued
-all_marks :
-    with_all_marks (source other) None (sign 1 ∷ token.LineEnd 1 ∷ word 2 ∷ token.LineEnd 2 ∷ word 3 ∷ [])
-    ≡ item.Sign (at 1) ∷ item.LineEnd ∷ item.Word (at 2) ∷ item.LineEnd ∷ item.LineMark (origin 3)
-    ∷ item.Word (at 3)
-    ∷ []
-all_marks = refl
-
--- the first mark has the origin that is counted, the second has not
-needed_marks :
-    with_needed_marks (origin 1)
-    (item.LineEnd ∷ item.LineMark (origin 2) ∷ item.Word (at 1) ∷ item.LineEnd ∷ item.LineMark other
-    ∷ item.Word (at 2)
-    ∷ [])
-    ≡ item.LineEnd ∷ item.Word (at 1) ∷ item.LineMark other ∷ item.Word (at 2) ∷ []
-needed_marks = refl
+examples : Examples
+examples = search rules

@@ -26,10 +26,10 @@ pub control_text_that_another_code_ended : ShowsKind ControlText (cells (codes "
 control_text_that_another_code_ended = ((refl, refl), (inr refl, tt))
 
 pub no_control_text_past_its_end : ShowsKind ControlText (cells (codes "@^x@>;")) → ⊥
-no_control_text_past_its_end h = grind (arith, h.1.0)
+no_control_text_past_its_end h = grind arith
 
 pub no_control_text_past_another_code : ShowsKind ControlText (cells (codes "@^x@h@>")) → ⊥
-no_control_text_past_another_code h = grind (arith, h.1.0)
+no_control_text_past_another_code h = grind arith
 
 -- section names
 
@@ -37,13 +37,13 @@ pub section_name : ShowsKind SectionName (cells (codes "@<a@@>@xb@>"))
 section_name = ((refl, refl), (inr refl, (inr refl, (inl (refl, refl), tt))))
 
 pub no_section_name_past_its_end : ShowsKind SectionName (cells (codes "@<a@>;")) → ⊥
-no_section_name_past_its_end h = grind (arith, h.1.0)
+no_section_name_past_its_end h = grind arith
 
 pub no_section_name_over_a_section_start : ShowsKind SectionName (cells (codes "@<a@*b@>")) → ⊥
-no_section_name_over_a_section_start h = grind (arith, h.1.0)
+no_section_name_over_a_section_start h = grind arith
 
 pub no_section_name_over_a_name_start : ShowsKind SectionName (cells (codes "@<a@<b@>")) → ⊥
-no_section_name_over_a_name_start h = grind (arith, h.1.0)
+no_section_name_over_a_name_start h = grind arith
 
 -- ASCII constants
 

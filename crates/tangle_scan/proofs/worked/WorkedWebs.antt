@@ -1,5 +1,6 @@
 -- Worked webs: the pieces, macros, occurrences and faults of each.
-use Rattle.std.specs.Prelude.{◌≡◌, ℕ, ◌+◌, List, [], ◌∷◌, ◌++◌, map, flat_map, refl, codes, take, ◌/◌, ◌%◌, ◌==◌}
+use Rattle.std.proofs.Common.{rules}
+use Rattle.std.specs.Prelude.{◌≡◌, ℕ, ◌+◌, List, [], ◌∷◌, ◌++◌, map, flat_map, codes, take, ◌/◌, ◌%◌, ◌==◌}
 use Rattle.std.specs.Prelude.{if◌then◌else◌, Bool, true, false}
 use Rattle.tangle_faults.specs.declared.faults.FaultKind.{FaultKind}
 use Rattle.tangle_faults.specs.declared.faults.FaultKind.TheVariants as fault
@@ -86,107 +87,11 @@ shown texts = web_shown (web texts)
 abbrev pub plain : Shown
 plain = record { sections = 1; pieces = []; macros = []; names = []; has_all_macros = false; faults = [] }
 
--- one C part
-pub one_part : shown (codes "@ A." ∷ codes "@c" ∷ codes "int x;" ∷ [])
-    ≡ record plain { pieces = codes "1:2\nint x;\n\n" }
-unfolding lexeme tokens_from occurrences_from
-one_part = refl
-
--- a use of a name
-pub one_use :
-    shown (codes "@ A." ∷ codes "@c" ∷ codes "int x=@<v@>;" ∷ codes "@ @<v@>=" ∷ codes "1" ∷ [])
-    ≡ record plain {
-      sections = 2;
-      pieces = codes "1:2\nint x=<0>\n#3\n;\n\n2:4\n1\n\n";
-      names = codes "v" ∷ codes "v" ∷ [];
-    }
-unfolding lexeme tokens_from occurrences_from
-one_use = refl
-
 -- an abbreviation that begins two names
 abbrev abbreviated : List (List ℕ)
 abbreviated =
     codes "@ A." ∷ codes "@c" ∷ codes "@<Ini...@>" ∷ codes "@ @<Initialize@>=" ∷ codes "x=0;"
     ∷ codes "@ @<Init table@>=" ∷ []
-
-pub abbreviated_web : shown abbreviated
-    ≡ record plain {
-      sections = 3;
-      pieces = codes "1:2\n<0>\n#3\n\n\n2:4\nx=0;\n\n3:6\n\n";
-      names = codes "Ini..." ∷ codes "Initialize" ∷ codes "Init table" ∷ [];
-    }
-unfolding lexeme tokens_from occurrences_from
-abbreviated_web = refl
-
--- the macros inside a C part
-pub macros_in_text :
-    shown (codes "@ A." ∷ codes "@d N 10" ∷ codes "@c" ∷ codes "@h" ∷ codes "int x=N;" ∷ [])
-    ≡ record plain {
-      pieces = codes "1:3\nH\n#4\n\nint x=N;\n\n";
-      macros = codes "N 10\n\n";
-      has_all_macros = true;
-    }
-unfolding lexeme tokens_from occurrences_from
-macros_in_text = refl
-
--- a join removes the line end beside it
-pub join_over_line : shown (codes "@ A." ∷ codes "@c" ∷ codes "a@&" ∷ codes "b;" ∷ codes "c;" ∷ [])
-    ≡ record plain { pieces = codes "1:2\nab;\n#5\nc;\n\n" }
-unfolding lexeme tokens_from occurrences_from
-join_over_line = refl
-
--- a quoted text with a single @ that does not end
-pub quote_to_line_end : shown (codes "@ A." ∷ codes "@c" ∷ codes "s=\"a@b" ∷ codes "t;" ∷ [])
-    ≡ record plain {
-      pieces = codes "1:2\ns=\"a@b\nt;\n\n";
-      faults = on fault.StringAt 3 ∷ on fault.StringEnd 3 ∷ [];
-    }
-unfolding lexeme tokens_from occurrences_from
-quote_to_line_end = refl
-
--- comments, a control code that is white space, a constant, control texts and a verbatim text
-pub kinds_of_tokens :
-    shown (codes "@ A." ∷ codes "@c" ∷ codes "a /* b */ c // d" ∷ codes "return@,x+@'A';@^idx@>"
-    ∷ codes "\"q@@\"@=v@> @t\\TeX@>z" ∷ [])
-    ≡ record plain { pieces = codes "1:2\na c\nreturn x+65;\n\"q@\"v z\n\n" }
-unfolding lexeme tokens_from occurrences_from
-kinds_of_tokens = refl
-
--- a macro over several lines, and one that is dropped
-pub macro_lines :
-    shown (codes "@ A." ∷ codes "@d F(x) x" ∷ codes "  +1" ∷ codes "" ∷ codes "@d 3" ∷ codes "@c"
-    ∷ codes "y" ∷ [])
-    ≡ record plain {
-      pieces = codes "1:6\ny\n\n";
-      macros = codes "F(x) x\n+1\n\n\n";
-      faults = on fault.MacroName 5 ∷ [];
-    }
-unfolding lexeme tokens_from occurrences_from
-macro_lines = refl
-
--- two uses that touch
-pub two_uses : shown (codes "@ A." ∷ codes "@c" ∷ codes "@<u@>@<u@>" ∷ [])
-    ≡ record plain {
-      pieces = codes "1:2\n<0>\n#3\n<1>\n#3\n\n\n";
-      names = codes "u" ∷ codes "u" ∷ [];
-    }
-unfolding lexeme tokens_from occurrences_from
-two_uses = refl
-
--- faults of control codes, constants, control texts, verbatim texts and comments
-pub many_faults :
-    shown (codes "@ A." ∷ codes "@d M @h 1" ∷ codes "@c" ∷ codes "@d x @'ab' y" ∷ codes "@^q@,z"
-    ∷ codes "@=v" ∷ codes "/* w" ∷ codes "@ B." ∷ [])
-    ≡ record plain {
-      sections = 2;
-      pieces = codes "1:3\nx y\nz\nv\n\n\n";
-      macros = codes "M 1\n\n";
-      faults =
-          on fault.MisplacedH 2 ∷ on fault.CodeInC 4 ∷ on fault.AsciiBad 4 ∷ on fault.ControlText 5
-          ∷ on fault.VerbatimEnd 6 ∷ on fault.CommentEnd 8 ∷ [];
-    }
-unfolding lexeme tokens_from occurrences_from
-many_faults = refl
 
 -- a quoted text over a line end, and texts with @@
 abbrev cut_texts : List (List ℕ)
@@ -194,151 +99,10 @@ cut_texts =
     codes "@ A." ∷ codes "@c" ∷ codes "s=\"a\\" ∷ codes "b\";@=u@@v@>" ∷ codes "#include <p@@q>"
     ∷ []
 
-pub cut_texts_web : shown cut_texts
-    ≡ record plain { pieces = codes "1:2\ns=\"a\\\nb\";u@v\n#include <p@q>\n\n" }
-unfolding lexeme tokens_from occurrences_from
-cut_texts_web = refl
-
--- a mention, uses, and a name that does not end
-pub occurrences_and_faults :
-    shown (codes "@ A @<In it@>." ∷ codes "@c" ∷ codes "@<  In   @>@<Zz...@>" ∷ codes "@<b@>="
-    ∷ codes "@<q" ∷ codes "@ B." ∷ [])
-    ≡ record plain {
-      sections = 2;
-      pieces = codes "1:2\n<1>\n#3\n<2>\n#3\n\n<3>\n#4\n=\n<4>\n#6\n\n";
-      names = codes "In it" ∷ codes "In" ∷ codes "Zz..." ∷ codes "b" ∷ codes "q" ∷ [];
-      faults = on fault.NameEquals 4 ∷ on fault.NameEnd 6 ∷ [];
-    }
-unfolding lexeme tokens_from occurrences_from
-occurrences_and_faults = refl
-
--- control codes before the first section
-pub codes_in_limbo : shown (codes "a @@ @d b @q c @L @> @F" ∷ codes "@Q@C @ A." ∷ [])
-    ≡ record plain { faults = on fault.LimboCode 1 ∷ on fault.LimboCode 2 ∷ [] }
-unfolding lexeme tokens_from occurrences_from
-codes_in_limbo = refl
-
--- names that end macros, of which one does not end and one is a definition
-pub names_in_macros :
-    shown (codes "@ A." ∷ codes "@d F a @<n@> b @<n@>" ∷ codes "@d G@<q" ∷ codes "@ B." ∷ codes "@d H@<n@>=" ∷ [])
-    ≡ record plain {
-      sections = 2;
-      pieces = codes "2:5\n\n";
-      macros = codes "F a\nG\nH\n";
-      names = codes "n" ∷ codes "n" ∷ codes "q" ∷ codes "n" ∷ [];
-      faults = on fault.NameInMacro 2 ∷ on fault.NameEnd 4 ∷ on fault.NameInMacro 3 ∷ [];
-    }
-unfolding lexeme tokens_from occurrences_from
-names_in_macros = refl
-
--- heads with white space of each kind, and mentions before what is none
-pub white_space_in_heads :
-    shown (codes "@ @<n@>@&= @<n@>@^x@,@>= @<n@>/*" ∷ codes "*/= @<n@>@^x@>=u" ∷ codes "@ @<n@> /*@=*/+@;@t y@@@> ==z" ∷ [])
-    ≡ record plain {
-      sections = 2;
-      pieces = codes "1:2u\n\n2:3z\n\n";
-      names = codes "n" ∷ codes "n" ∷ codes "n" ∷ codes "n" ∷ codes "n" ∷ [];
-    }
-unfolding lexeme tokens_from occurrences_from
-white_space_in_heads = refl
-
--- an empty verbatim text, and one that ends in @@
-pub empty_verbatim : shown (codes "@ A." ∷ codes "@c" ∷ codes "a@=@>b@=x@@@>c" ∷ [])
-    ≡ record plain { pieces = codes "1:2\nabx@c\n\n" }
-unfolding lexeme tokens_from occurrences_from
-empty_verbatim = refl
-
--- octal, escaped and doubled constants, and one that is too large
-pub constants : shown (codes "@ A." ∷ codes "@c" ∷ codes "@'\\101'@'\\n'@'@@'x@'\\400'" ∷ [])
-    ≡ record plain {
-      pieces = codes "1:2\n65 10 64 x\n\n";
-      faults = on fault.AsciiBad 3 ∷ [];
-    }
-unfolding lexeme tokens_from occurrences_from
-constants = refl
-
--- #include with white space
-pub spaced_include :
-    shown (codes "@ A." ∷ codes "@c" ∷ codes " # include <a b@@c>" ∷ codes "x" ∷ [])
-    ≡ record plain { pieces = codes "1:2\n# include <a b@c>\nx\n\n" }
-unfolding lexeme tokens_from occurrences_from
-spaced_include = refl
-
--- a comment over several lines
-pub comment_over_lines : shown (codes "@ A." ∷ codes "@c" ∷ codes "a /* x" ∷ codes "y */ b" ∷ [])
-    ≡ record plain { pieces = codes "1:2\na\nb\n\n" }
-unfolding lexeme tokens_from occurrences_from
-comment_over_lines = refl
-
--- white space after the name of a macro
-pub macro_names : shown (codes "@ A." ∷ codes "@d N@'a'" ∷ codes "@d M\"x\"" ∷ codes "@c" ∷ [])
-    ≡ record plain {
-      pieces = codes "1:4\n\n";
-      macros = codes "N 97\n\nM \"x\"\n\n";
-    }
-unfolding lexeme tokens_from occurrences_from
-macro_names = refl
-
--- a name over two lines, with control codes in it, and a head with + and ==
-pub name_over_lines :
-    shown (codes "@ A." ∷ codes "@<a@@b@xc" ∷ codes " d @> + ==" ∷ codes "x@<a...@>y" ∷ [])
-    ≡ record plain {
-      pieces = codes "1:3\nx<1>\n#4\ny\n\n";
-      names = codes "a@b@xc d" ∷ codes "a..." ∷ [];
-    }
-unfolding lexeme tokens_from occurrences_from
-name_over_lines = refl
-
 -- bytes past 127, a zero byte, and a tab and a carriage return at a line's end
 abbrev other_bytes : List (List ℕ)
 other_bytes =
     codes "@ A." ∷ codes "@c" ∷ (99 ∷ 97 ∷ 102 ∷ 233 ∷ 0 ∷ 61 ∷ 49 ∷ 32 ∷ 9 ∷ 13 ∷ []) ∷ []
-
-pub other_bytes_items : map (λ p. p.items) (web other_bytes).pieces
-    ≡ (item.LineEnd ∷ item.Word (record { line = 2; start = 0; end = 4 })
-    ∷ item.Sign (record { line = 2; start = 4; end = 5 })
-    ∷ item.Sign (record { line = 2; start = 5; end = 6 })
-    ∷ item.Word (record { line = 2; start = 6; end = 7 }) ∷ item.LineEnd ∷ []) ∷ []
-unfolding lexeme tokens_from occurrences_from
-other_bytes_items = refl
-
--- the first quoted text of the cut ones: an item, a break and an item
-pub cut_texts_items : flat_map (λ p. take 8 p.items) (web cut_texts).pieces
-    ≡ item.LineEnd ∷ item.Word (record { line = 2; start = 0; end = 1 })
-    ∷ item.Sign (record { line = 2; start = 1; end = 2 })
-    ∷ item.Quoted (record { line = 2; start = 2; end = 5 })
-    ∷ item.QuoteBreak ∷ item.Quoted (record { line = 3; start = 0; end = 2 })
-    ∷ item.Sign (record { line = 3; start = 2; end = 3 }) ∷ item.Verbatim (record { line = 3; start = 5; end = 7 }) ∷ []
-unfolding lexeme tokens_from occurrences_from
-cut_texts_items = refl
-
--- the occurrences of names: abbreviated or not, in which role, and where
-pub abbreviated_occurrences : (web abbreviated).occurrences
-    ≡ record {
-      text = codes "Ini...";
-      is_abbreviation = true;
-      is_file = false;
-      role = role.Use;
-      origin = record { file = 0; line = 3 };
-    }
-    ∷ record {
-      text = codes "Initialize";
-      is_abbreviation = false;
-      is_file = false;
-      role = role.Definition;
-      origin = record { file = 0; line = 4 };
-    }
-    ∷ record {
-      text = codes "Init table";
-      is_abbreviation = false;
-      is_file = false;
-      role = role.Definition;
-      origin = record { file = 0; line = 6 };
-    } ∷ []
-unfolding lexeme tokens_from occurrences_from
-abbreviated_occurrences = refl
-
--- what becomes of each byte and line end of a text
 
 abbrev kind_letter : SegmentKind → List ℕ
 kind_letter Kept = codes "k"
@@ -352,9 +116,98 @@ kind_letter SectionName = codes "n"
 kind_letter AsciiConstant = codes "a"
 kind_letter Outside = codes "."
 
-pub kinds_of_bytes :
-    flat_map (λ s. flat_map (λ c. kind_letter s.kind) s.cells)
-    (all_segments (lines_from 1 (codes "@ A." ∷ codes "@c a@@b/*c*/ \"x@@y\"" ∷ codes "@<N@>@'x'@^i@>@=v@>" ∷ [])))
-    ≡ codes "....." ++ codes "..wkkskcccccwkkkskkl" ++ codes "nnnnnaaaattttt@@k@@l"
-unfolding lexeme
-kinds_of_bytes = refl
+record Examples : Type 0 where
+  -- control codes before the first section
+  pub codes_in_limbo : shown (codes "a @@ @d b @q c @L @> @F" ∷ codes "@Q@C @ A." ∷ [])
+      ≡ record plain { faults = on fault.LimboCode 1 ∷ on fault.LimboCode 2 ∷ [] }
+  -- names that end macros, of which one does not end and one is a definition
+  pub names_in_macros :
+      shown (codes "@ A." ∷ codes "@d F a @<n@> b @<n@>" ∷ codes "@d G@<q" ∷ codes "@ B." ∷ codes "@d H@<n@>=" ∷ [])
+      ≡ record plain {
+        sections = 2;
+        pieces = codes "2:5\n\n";
+        macros = codes "F a\nG\nH\n";
+        names = codes "n" ∷ codes "n" ∷ codes "q" ∷ codes "n" ∷ [];
+        faults = on fault.NameInMacro 2 ∷ on fault.NameEnd 4 ∷ on fault.NameInMacro 3 ∷ [];
+      }
+  -- heads with white space of each kind, and mentions before what is none
+  pub white_space_in_heads :
+      shown (codes "@ @<n@>@&= @<n@>@^x@,@>= @<n@>/*" ∷ codes "*/= @<n@>@^x@>=u" ∷ codes "@ @<n@> /*@=*/+@;@t y@@@> ==z" ∷ [])
+      ≡ record plain {
+        sections = 2;
+        pieces = codes "1:2u\n\n2:3z\n\n";
+        names = codes "n" ∷ codes "n" ∷ codes "n" ∷ codes "n" ∷ codes "n" ∷ [];
+      }
+  -- an empty verbatim text, and one that ends in @@
+  pub empty_verbatim : shown (codes "@ A." ∷ codes "@c" ∷ codes "a@=@>b@=x@@@>c" ∷ [])
+      ≡ record plain { pieces = codes "1:2\nabx@c\n\n" }
+  -- octal, escaped and doubled constants, and one that is too large
+  pub constants : shown (codes "@ A." ∷ codes "@c" ∷ codes "@'\\101'@'\\n'@'@@'x@'\\400'" ∷ [])
+      ≡ record plain {
+        pieces = codes "1:2\n65 10 64 x\n\n";
+        faults = on fault.AsciiBad 3 ∷ [];
+      }
+  -- #include with white space
+  pub spaced_include :
+      shown (codes "@ A." ∷ codes "@c" ∷ codes " # include <a b@@c>" ∷ codes "x" ∷ [])
+      ≡ record plain { pieces = codes "1:2\n# include <a b@c>\nx\n\n" }
+  -- a comment over several lines
+  pub comment_over_lines : shown (codes "@ A." ∷ codes "@c" ∷ codes "a /* x" ∷ codes "y */ b" ∷ [])
+      ≡ record plain { pieces = codes "1:2\na\nb\n\n" }
+  -- white space after the name of a macro
+  pub macro_names : shown (codes "@ A." ∷ codes "@d N@'a'" ∷ codes "@d M\"x\"" ∷ codes "@c" ∷ [])
+      ≡ record plain {
+        pieces = codes "1:4\n\n";
+        macros = codes "N 97\n\nM \"x\"\n\n";
+      }
+  -- a name over two lines, with control codes in it, and a head with + and ==
+  pub name_over_lines :
+      shown (codes "@ A." ∷ codes "@<a@@b@xc" ∷ codes " d @> + ==" ∷ codes "x@<a...@>y" ∷ [])
+      ≡ record plain {
+        pieces = codes "1:3\nx<1>\n#4\ny\n\n";
+        names = codes "a@b@xc d" ∷ codes "a..." ∷ [];
+      }
+  pub other_bytes_items : map (λ p. p.items) (web other_bytes).pieces
+      ≡ (item.LineEnd ∷ item.Word (record { line = 2; start = 0; end = 4 })
+      ∷ item.Sign (record { line = 2; start = 4; end = 5 })
+      ∷ item.Sign (record { line = 2; start = 5; end = 6 })
+      ∷ item.Word (record { line = 2; start = 6; end = 7 }) ∷ item.LineEnd ∷ []) ∷ []
+  -- the first quoted text of the cut ones: an item, a break and an item
+  pub cut_texts_items : flat_map (λ p. take 8 p.items) (web cut_texts).pieces
+      ≡ item.LineEnd ∷ item.Word (record { line = 2; start = 0; end = 1 })
+      ∷ item.Sign (record { line = 2; start = 1; end = 2 })
+      ∷ item.Quoted (record { line = 2; start = 2; end = 5 })
+      ∷ item.QuoteBreak ∷ item.Quoted (record { line = 3; start = 0; end = 2 })
+      ∷ item.Sign (record { line = 3; start = 2; end = 3 }) ∷ item.Verbatim (record { line = 3; start = 5; end = 7 }) ∷ []
+  -- the occurrences of names: abbreviated or not, in which role, and where
+  pub abbreviated_occurrences : (web abbreviated).occurrences
+      ≡ record {
+        text = codes "Ini...";
+        is_abbreviation = true;
+        is_file = false;
+        role = role.Use;
+        origin = record { file = 0; line = 3 };
+      }
+      ∷ record {
+        text = codes "Initialize";
+        is_abbreviation = false;
+        is_file = false;
+        role = role.Definition;
+        origin = record { file = 0; line = 4 };
+      }
+      ∷ record {
+        text = codes "Init table";
+        is_abbreviation = false;
+        is_file = false;
+        role = role.Definition;
+        origin = record { file = 0; line = 6 };
+      } ∷ []
+  -- what becomes of each byte and line end of a text
+  pub kinds_of_bytes :
+      flat_map (λ s. flat_map (λ c. kind_letter s.kind) s.cells)
+      (all_segments (lines_from 1 (codes "@ A." ∷ codes "@c a@@b/*c*/ \"x@@y\"" ∷ codes "@<N@>@'x'@^i@>@=v@>" ∷ [])))
+      ≡ codes "....." ++ codes "..wkkskcccccwkkkskkl" ++ codes "nnnnnaaaattttt@@k@@l"
+
+examples : Examples
+unfolding lexeme tokens_from occurrences_from
+examples = search rules

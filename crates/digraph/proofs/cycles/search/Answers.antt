@@ -1,4 +1,4 @@
-use Rattle.std.proofs.Common.{◌≡◌, ◌<◌, ◌∙◌, ℕ, List, Bool, true, false, length, set, replicate, get_or-set_same, sym}
+use Rattle.std.proofs.Common.{◌≡◌, ◌<◌, ◌∙◌, ℕ, List, Bool, true, false, length, set, replicate}
 use Rattle.std.proofs.Common.{ap, subst, arith, rules}
 use Rattle.std.proofs.lemmas.List.{length-replicate}
 use Rattle.digraph.specs.Flags.{IsFlagged}
@@ -14,8 +14,7 @@ returns c =
     c.deref.ensures.value ∙ ap (λ (xs : List Bool). set xs c.args.n true) none in
     let room : c.args.n < length (replicate size false) = omega (arith, length-replicate size false, c.requires.node) in
     let flagged : IsFlagged flags c.args.n =
-    subst (λ (xs : List Bool). IsFlagged xs c.args.n) (sym alone)
-    (get_or-set_same (replicate size false) c.args.n true false room) in
+    search rules in
     search_says c.args.uses.now flags c.in_ok-found.found.items c.args.n c.any_flagged.result c.requires.range
     (λ m f. flagged_alone size c.args.n m (subst (λ (xs : List Bool). IsFlagged xs m) alone f)) flagged
     c.in_ok-found.ensures.flags

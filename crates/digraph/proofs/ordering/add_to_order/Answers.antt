@@ -1,3 +1,4 @@
+use Rattle.std.proofs.Common.{rules}
 use Rattle.std.proofs.Common.{◌<◌, ◌≡◌, false, length, get_or, arith, inl, inr, ◌∙◌, sym}
 use Rattle.std.proofs.lemmas.List.{get_or_read}
 use Rattle.digraph.proofs.OrderSoFarLemmas.{order_push, listed_row}
@@ -17,7 +18,7 @@ returns-then-index-clause-stuck c = λ _.
     ]
   where
     room : c.args.n < length c.args.flags.now.items
-    room = omega (arith, c.requires.node, c.requires.order.size)
+    room = search rules
 
 pub returns-clause-order : goal.returns-clause-order
 returns-clause-order c =
@@ -27,5 +28,4 @@ returns-clause-order c =
     let free : get_or c.args.flags.now.items c.args.n false ≡ false =
     sym (get_or_read _ c.args.n _ room c.index.ensures false) ∙ c.if-index.false in
     rw (c.in_ok-push.ensures.items, c.new.ensures)
-    (order_push _ _ _ _ c.requires.order c.requires.node free
-    (listed_row _ c.args.flags.now.items _ _ c.requires.order flagged))
+    (search (rules, order_push, listed_row))

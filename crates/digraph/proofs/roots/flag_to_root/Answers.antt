@@ -1,3 +1,5 @@
+use Rattle.std.proofs.Common.{arith}
+use Rattle.std.proofs.lemmas.Bool.Decides.{nat_tests}
 use Rattle.std.proofs.Common.{ℕ, sym, subst}
 use Rattle.digraph.specs.Graph.{HasUse}
 use Rattle.digraph.specs.Reach.{Reaches, here}
@@ -15,6 +17,5 @@ returns-then-root-n c =
           (subst (λ (r : ℕ). Reaches (HasUse c.args.uses.now) c.args.n r) (sym w.if-root-n.true) here)
       | then-root-n-via-else-root-n+then-leads_to_root w ↦
           only_set c.args.uses.now _ c.args.n c.requires.flags
-          (root_is_reached _ _ _ c.args.n c.requires.flags
-          (rw w.row.ensures at (w.leads_to_root.ensures w.if-leads_to_root.true)))
+          (grind (arith, nat_tests, root_is_reached))
     ]

@@ -1,3 +1,5 @@
+use Rattle.std.proofs.Common.{arith}
+use Rattle.std.proofs.lemmas.Bool.Decides.{nat_tests}
 use Rattle.std.proofs.Common.{All, subst, sym}
 use Rattle.tangle_scan.specs.ItemSpans.{IsInRange}
 use Rattle.tangle_expansion.proofs.MacroEndLemmas.{All-without_end}
@@ -8,5 +10,4 @@ push_macro_item-requires c =
     let texts = c.args.web.now.texts in
     let all = All-without_end texts (IsInRange texts) c.args.items.now c.requires in
     let written = subst (All (IsInRange texts)) (sym c.without_end-item-items.ensures) all in
-    subst (IsInRange texts) (sym c.item-item.is)
-    (written c.loop-item.item-index c.item-item.result c.loop-item-test.true)
+    grind (arith, nat_tests)

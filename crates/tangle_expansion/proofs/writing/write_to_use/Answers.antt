@@ -1,4 +1,5 @@
-use Rattle.std.proofs.Common.{◌∙◌, ◌++◌, ap, refl, arith}
+use Rattle.std.proofs.Common.{rules}
+use Rattle.std.proofs.Common.{◌∙◌, ap, refl, arith}
 use Rattle.tangle_expansion.specs.Writing.{bytes_between}
 use Rattle.tangle_expansion.proofs.CursorLemmas.{passes_symbols, passes_use, stops_at_end}
 use Rattle.tangle_expansion.proofs.WriteLemmas.{wrote_at_first, wrote_more, wrote_same}
@@ -18,8 +19,7 @@ returns-in-Use g c = λ used.
     let next = c.cursor_after-next.result in
     let written = c.bytes_between.ensures ∙ ap (λ l. bytes_between l start next.start) c.deref.ensures.value in
     wrote_more _ _ _ _ _ _ _ _ _ _ (c.loop-end.invariant.wrote used)
-    (passes_use text.numbers.now text.body.now c.loop-end.end next c.index-tag.result.now (omega arith)
-    c.index-tag.ensures c.cursor_after-next.ensures start c.loop-end.invariant.low c.in-Use.is used)
+    (search (rules, passes_use))
     (rw written at c.write_after-so_far.ensures)
 
 pub loop-end-preserved : goal.loop-end-preserved
@@ -46,6 +46,5 @@ returns g c = λ used.
     let start = c.loop-end.at.start in
     let written = c.bytes_between-2.ensures ∙ ap (λ l. bytes_between l start end.start) c.deref-2.ensures.value in
     wrote_more _ _ _ _ _ _ _ _ _ _ (c.loop-end.invariant.wrote used)
-    (ap (λ l. bytes_between text.body.now.bytes.items start end.start ++ l)
-    (stops_at_end text.numbers.now text.body.now end (omega arith) used))
+    (search (rules, stops_at_end))
     (rw written at c.write_after-all.ensures)

@@ -1,3 +1,5 @@
+use Rattle.std.proofs.Common.{rules}
+use Rattle.std.proofs.lemmas.Bool.Decides.{nat_tests}
 use Rattle.std.proofs.Common.{add-one, arith}
 use Rattle.std.proofs.lemmas.List.{take_rest}
 use Rattle.std.proofs.lemmas.Bool.{false_from_ne_true}
@@ -9,11 +11,8 @@ pub returns-in-Some-clause-lines : goal.returns-in-Some-clause-lines
 returns-in-Some-clause-lines c =
     let h = c.in-Some.ensures in
     rw (take_rest, add-one)
-    (raw_lines_at c.args.bytes.now c.in-Some.end h.0.high
-    (λ k l. false_from_ne_true _ (h.0.before k (omega arith) l)) h.1)
+    (grind (arith, nat_tests, raw_lines_at, false_from_ne_true))
 
 pub returns-in-None-clause-lines : goal.returns-in-None-clause-lines
 returns-in-None-clause-lines c =
-    let h = c.in-None.ensures in
-    rw (take_rest, drop-length)
-    (raw_lines_whole c.args.bytes.now c.requires (λ k l. false_from_ne_true _ (h k (omega arith) l)))
+    search (rules, take_rest, drop-length, raw_lines_whole, false_from_ne_true)

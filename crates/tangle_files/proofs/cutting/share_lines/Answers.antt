@@ -1,4 +1,5 @@
-use Rattle.std.proofs.Common.{length, arith}
+use Rattle.std.proofs.Common.{rules}
+use Rattle.std.proofs.Common.{arith}
 use Rattle.tangle_files.proofs.CuttingLemmas.{all_cut, last_line, next_line, one_more_line}
 use Rattle.tangle_files.proofs.cutting.share_lines.Goals as goal
 
@@ -36,6 +37,5 @@ returns c =
     let last = last_line bytes c.loop-end.start _ (omega (arith, c.if-start-bytes.false))
     c.in-None.ensures.steps.0 c.loop-end.invariant.feeds in
     let added = rw (← c.bytes_of-bytes.ensures) at c.in_ok-add_line-2.ensures in
-    let all = all_cut bytes _ (one_more_line bytes c.loop-end.start (length bytes) c.loop-end.lines.items
-    c.add_line-2.new.lines.items last (omega arith) added.0 added.1 added.2 c.loop-end.invariant.cut) in
+    let all = all_cut bytes _ (search (rules, one_more_line)) in
     rw (← c.bytes_of-bytes.ensures) (record { lines = all.0; within = all.1 })

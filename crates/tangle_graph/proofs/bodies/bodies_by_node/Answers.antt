@@ -1,9 +1,10 @@
-use Rattle.std.proofs.Common.{◌∙◌, ◌∷◌, [], ap, length, length-append, arith}
+use Rattle.std.proofs.Common.{rules}
+use Rattle.std.proofs.lemmas.Bool.Decides.{nat_tests}
+use Rattle.std.proofs.Common.{length-append, arith}
 use Rattle.std.specs.Global.{Global}
 use Rattle.std.specs.declared.rc.Rc.{Rc}
 use Rattle.std.proofs.lemmas.List.{length-map}
 use Rattle.tangle_plans.specs.declared.nodes.NodeBody.{NodeBody}
-use Rattle.tangle_graph.specs.Bodies.{node_bodies}
 use Rattle.tangle_graph.proofs.PushLemmas.{IsBodyMade, bodies_push, new_of_old}
 use Rattle.tangle_graph.proofs.bodies.bodies_by_node.Goals as goal
 
@@ -11,10 +12,8 @@ pub loop-n-preserved : goal.loop-n-preserved
 loop-n-preserved c =
     let made = c.in_ok-made.made in
     record {
-      size = ap length c.in_ok-push-2.ensures.items
-          ∙ omega (arith, length-append c.loop-n.bodies.items (made.body ∷ []), c.loop-n.invariant.size);
-      flags_size = ap length c.in_ok-push.ensures.items
-          ∙ omega (arith, length-append c.loop-n.new_shapes.items (made.has_new_shape ∷ []), c.loop-n.invariant.flags_size);
+      size = grind (arith, nat_tests, length-append);
+      flags_size = grind (arith, nat_tests, length-append);
       each = rw (c.in_ok-push-2.ensures.items, c.in_ok-push.ensures.items)
           (bodies_push (IsBodyMade c.args.grouped c.args.old) c.loop-n.bodies.items
           c.loop-n.new_shapes.items c.loop-n.n made.body made.has_new_shape c.loop-n.invariant.size
@@ -29,16 +28,9 @@ returns-clause-bodies c =
     let bodies = c.loop-n.bodies.items in
     let count = length-map bodies (λ (t : Rc NodeBody Global). t.value) in
     record {
-      size = omega (
-        arith,
-        count,
-        c.loop-n.invariant.size,
-        c.requires.grouped.pieces.size,
-        ap length c.requires.grouped.names,
-      );
+      size = search rules;
       each = λ node body at. (c.loop-n.invariant.each node body at).0;
     }
 
 pub returns-clause-new_shapes : goal.returns-clause-new_shapes
-returns-clause-new_shapes c = new_of_old c.args.grouped c.args.old (node_bodies c.loop-n.bodies.items)
-    c.loop-n.new_shapes.items c.loop-n.invariant.each
+returns-clause-new_shapes c = search (rules, new_of_old)

@@ -1,35 +1,25 @@
-use Rattle.std.proofs.Common.{◌≡◌, ◌∙◌, ◌↔◌, ap, length, refl, subst, sym, true}
+use Rattle.std.proofs.Common.{arith}
+use Rattle.std.proofs.Common.{rules}
+use Rattle.std.proofs.lemmas.Bool.Decides.{nat_tests}
+use Rattle.std.proofs.Common.{◌∙◌, ap, refl, sym, true}
 use Rattle.std.proofs.lemmas.List.{length-map}
 use Rattle.std.proofs.lemmas.Option.{IfSome_then}
 use Rattle.digraph.specs.Graph.{row_at}
-use Rattle.tangle_names.specs.NameTable.{TableRead}
-use Rattle.tangle_names.specs.Resolving.{resolve}
-use Rattle.tangle_plans.specs.NodeBodies.{HaveOneShape, body_items, names_at}
+use Rattle.tangle_plans.specs.NodeBodies.{names_at}
 use Rattle.tangle_plans.specs.Nodes.{title_at}
 use Rattle.tangle_graph.proofs.BodyLemmas.{new_unless_same}
 use Rattle.tangle_graph.proofs.PlanLemmas.{body_made, body_of_items, new_if_pieces, numbers, uses_below}
 use Rattle.tangle_graph.proofs.bodies.body_after.Goals as goal
 
 pub make-requires : goal.make-requires
-make-requires c = record {
-  numbers = numbers c.args.grouped c.requires.grouped c.args.node c.requires.node c.row-row.result.now
-      (c.row-row.ensures ∙ ap (row_at c.args.grouped.pieces.now) c.number.ensures);
-  ours = ap (λ (t : TableRead). length t.resolved) c.requires.grouped.table
-      ∙ length-map c.args.grouped.web.now.occurrences (resolve c.args.grouped.web.now.occurrences);
-}
+make-requires c = search (rules, numbers, length-map)
 
 pub has_shape_of-has_new_shape-requires-clause-inside : goal.has_shape_of-has_new_shape-requires-clause-inside
 has_shape_of-has_new_shape-requires-clause-inside c =
-    uses_below c.args.grouped c.requires.grouped c.args.node c.requires.node c.row-row.result.now
-    (c.row-row.ensures ∙ ap (row_at c.args.grouped.pieces.now) c.number.ensures) c.make.new.self c.in_ok-make.ensures
+    grind (arith, nat_tests, uses_below)
 
 pub returns-then-has_uses_of-clause-body : goal.returns-then-has_uses_of-clause-body
-returns-then-has_uses_of-clause-body c = rw c.in_ok-body-2.ensures.cases
-    (body_of_items c.args.grouped c.requires.grouped c.args.node c.requires.node c.row-row.result.now
-    (c.row-row.ensures ∙ ap (row_at c.args.grouped.pieces.now) c.number.ensures) c.make.new.self c.in_ok-make.ensures
-    c.in-Some.before.body.now.value c.in-Some.ensures.title
-    (rw c.deref.ensures at (c.has_shape_of-has_new_shape.ensures.0 c.if-not-has_new_shape.true))
-    (rw c.deref-then-not-has_new_shape.ensures at (c.has_uses_of.ensures.0 c.if-has_uses_of.true)))
+returns-then-has_uses_of-clause-body c = search (rules, body_of_items)
 
 pub returns-then-has_uses_of-clause-new_shape : goal.returns-then-has_uses_of-clause-new_shape
 returns-then-has_uses_of-clause-new_shape c =
@@ -48,9 +38,7 @@ returns-then-has_uses_of-clause-new_shape c =
 
 pub returns-clause-body : goal.returns-clause-body
 returns-clause-body c =
-    body_made c.args.grouped c.requires.grouped c.args.node c.requires.node c.row-row.result.now
-    (c.row-row.ensures ∙ ap (row_at c.args.grouped.pieces.now) c.number.ensures) c.make.new.self c.in_ok-make.ensures
-    c.in_ok-body-3.body.value c.in_ok-body-3.ensures.title c.in_ok-body-3.ensures.items
+    search (rules, body_made)
 
 pub returns-clause-new_shape : goal.returns-clause-new_shape
 returns-clause-new_shape c =
@@ -60,15 +48,12 @@ returns-clause-new_shape c =
     let had = c.in-Some.before.body.now.value in
     IfSome_then c.args.old c.in-Some.ensures.shape (λ store held before shape is holds.
     new_unless_same names old_names c.in_ok-body-3.body.value had shape (before (title_at names c.args.node)) same
-    (subst (λ items. (same ≡ true) ↔ HaveOneShape names old_names items (body_items had))
-    (sym c.in_ok-body-3.ensures.items) (rw c.deref.ensures at c.has_shape_of-has_new_shape.ensures))
+    (search rules)
     holds (held before is))
 
 pub returns-in_default-clause-body : goal.returns-in_default-clause-body
 returns-in_default-clause-body c =
-    body_made c.args.grouped c.requires.grouped c.args.node c.requires.node c.row-row.result.now
-    (c.row-row.ensures ∙ ap (row_at c.args.grouped.pieces.now) c.number.ensures) c.make.new.self c.in_ok-make.ensures
-    c.in_ok-body.body.value c.in_ok-body.ensures.title c.in_ok-body.ensures.items
+    search (rules, body_made)
 
 pub returns-in_default-clause-new_shape : goal.returns-in_default-clause-new_shape
 returns-in_default-clause-new_shape c =

@@ -1,5 +1,4 @@
-use Rattle.std.proofs.Common.{refl, subst}
-use Rattle.tangle_plans.specs.NodeBodies.{HoldsShape}
+use Rattle.std.proofs.Common.{refl}
 use Rattle.tangle_plans.specs.Nodes.{title_at}
 use Rattle.tangle_graph.proofs.NameLemmas.{no_shape}
 use Rattle.tangle_graph.proofs.bodies.body_before.Goals as goal
@@ -8,9 +7,3 @@ pub returns-in_err-before-clause-shape : goal.returns-in_err-before-clause-shape
 returns-in_err-before-clause-shape c = rw (c.in_ok-old.was, c.from_residual-in_err-before.ensures) (λ shapes is.
     no_shape shapes c.in_ok-old.old.now (title_at c.args.names.now c.args.node) is
     (rw c.names.ensures at (c.in_err-before.ensures.none refl)))
-
-pub returns-clause-shape : goal.returns-clause-shape
-returns-clause-shape c = rw (c.in_ok-old.was, c.names-2.ensures) (λ shapes is.
-    subst (λ t. HoldsShape c.in_ok-old.old.now.names (shapes t) c.body.result.now.value)
-    (rw c.names.ensures at c.in_ok-before.ensures.title)
-    (is.bodies.each c.in_ok-before.before c.body.result.now.value c.body.ensures.body).shape)

@@ -1,3 +1,4 @@
+use Rattle.std.proofs.Common.{rules}
 use Rattle.std.proofs.Common.{◌≡◌, ◌∙◌, ◌<◌, ◌≤◌, Contains, inl, inr, ap, arith, get_or, length, length-set, subst, suc}
 use Rattle.std.proofs.lemmas.List.{get_or-replicate, get_or_read, length-replicate, take_all}
 use Rattle.std.proofs.lemmas.List.Elements.{All-contains}
@@ -10,7 +11,7 @@ use Rattle.tangle_plans.specs.NodeBodies.{body_uses}
 use Rattle.tangle_plans.specs.Nodes.{title_at}
 use Rattle.tangle_names.proofs.ContainsLemmas.{no_item}
 use Rattle.tangle_graph.specs.Bodies.{node_bodies}
-use Rattle.tangle_graph.specs.Measures.{measure_of, no_piece_measure}
+use Rattle.tangle_graph.specs.Measures.{measure_of}
 use Rattle.tangle_graph.specs.declared.measures.Measure.{Measure}
 use Rattle.tangle_graph.proofs.BodyLemmas.{read}
 use Rattle.tangle_graph.proofs.GraphLemmas.{sound, use_up, uses_count}
@@ -29,8 +30,7 @@ loop-node-init c =
       size = omega (arith, count, length-replicate {A = Measure}, c.len.ensures);
       measured = λ shapes names bodies n low. inr (
         no_item n,
-        rw all (get_or-replicate c.len.result n _ no_piece_measure
-            (omega (arith, low, c.len.ensures))),
+        search (rules, get_or-replicate),
       );
     }
 

@@ -1,6 +1,6 @@
+use Rattle.std.proofs.Common.{rules}
 use Rattle.std.proofs.Common.{◌≡◌, ◌∙◌, ◌++◌, ◌∷◌, [], arith, get_or, sym}
 use Rattle.std.proofs.lemmas.List.{take_more}
-use Rattle.tangle_graph.proofs.NameGraphLemmas.{same_by_test}
 use Rattle.tangle_graph.proofs.name_graph.are_same_names.Goals as goal
 
 pub loop-id-preserved : goal.loop-id-preserved
@@ -9,8 +9,7 @@ loop-id-preserved c =
     let names = c.args.names.now in
     let others = c.args.others.now in
     let same : get_or names id [] ≡ get_or others id [] =
-    sym c.text.ensures ∙ same_by_test c.text.result.now c.text-in-loop-id.result.now (sym c.ne.ensures ∙ c.if-ne.false)
-    ∙ c.text-in-loop-id.ensures in
+    search rules in
     take_more names id [] (omega arith)
     ∙ (λ i. c.loop-id.invariant i ++ same i ∷ [])
     ∙ sym (take_more others id [] (omega arith))

@@ -1,7 +1,9 @@
-use Rattle.std.proofs.Common.{◌≡◌, ◌∙◌, ◌≤◌, ◌<◌, ◌++◌, ℕ, List, All, ap, arith, length, map, subst, suc, sym, take}
+use Rattle.std.proofs.Common.{rules}
+use Rattle.std.proofs.lemmas.Grind.{common_steps}
+use Rattle.std.proofs.Common.{◌≡◌, ◌≤◌, ◌<◌, ℕ, List, arith, length, map, subst, suc, take}
 use Rattle.std.specs.Global.{Global}
 use Rattle.std.specs.declared.rc.Rc.{Rc}
-use Rattle.std.proofs.lemmas.List.{length-map, take_all}
+use Rattle.std.proofs.lemmas.List.{length-map}
 use Rattle.digraph.specs.Graph.{Graph}
 use Rattle.digraph.specs.Rows.{IsOnceEach}
 use Rattle.tangle_plans.specs.NodeBodies.{body_uses}
@@ -15,13 +17,12 @@ use Rattle.tangle_graph.proofs.name_graph.uses_of_bodies.Goals as goal
 all_taken : (i : ℕ) (bodies : List (Rc NodeBody Global)) (rows : Graph) → length bodies ≤ i
     → AreUsesOf (map body_uses (node_bodies (take i bodies))) rows → AreUsesOf (map body_uses (node_bodies bodies)) rows
 all_taken i bodies rows h are =
-    subst (λ bs. AreUsesOf (map body_uses (node_bodies bs)) rows) (take_all i bodies h) are
+    grind (arith, common_steps)
 
 pub fill_with_names-requires : goal.fill_with_names-requires
 fill_with_names-requires c =
     let given : c.extend_from_slice.new.self.items ≡ body_uses c.body-item.result.value =
-    c.in_ok-extend_from_slice.ensures.items
-    ∙ ap (λ l. l ++ c.uses.result.now) c.clear.ensures.items ∙ c.uses.ensures ∙ ap body_uses c.deref.ensures in
+    search rules in
     rw c.deref-in-loop-body.ensures.value
     (λ k id h. (let below = once_all (λ id. suc id < length c.args.bodies.now) c.args.bodies.now
     c.loop-body.body-index c.body-item.result c.once_each.new.row.items
@@ -36,11 +37,9 @@ loop-body-preserved c =
     let body = c.body-item.result in
     let once = c.once_each.new.row.items in
     let given : c.extend_from_slice.new.self.items ≡ body_uses body.value =
-    c.in_ok-extend_from_slice.ensures.items
-    ∙ ap (λ l. l ++ c.uses.result.now) c.clear.ensures.items ∙ c.uses.ensures ∙ ap body_uses c.deref.ensures in
+    search rules in
     let made : c.deref-in-loop-body-2.result.now ≡ map suc once =
-    c.deref-in-loop-body-2.ensures.value ∙ c.in_ok-fill_with_names.ensures
-    ∙ ap (map suc) c.deref-in-loop-body.ensures.value in
+    search rules in
     rw (uses_more bodies i body c.loop-body-test.true c.body-item.is, c.in_ok-push_row.ensures.ok, made)
     (uses_push (map body_uses (node_bodies (take i bodies))) c.loop-body.rows (body_uses body.value) (map suc once)
     c.loop-body.invariant
@@ -51,12 +50,8 @@ returns-clause-range c =
     let bodies = c.args.bodies.now in
     each_in_range (map body_uses (node_bodies bodies)) c.loop-body.rows
     (all_taken c.loop-body.body-index bodies c.loop-body.rows (omega arith) c.loop-body.invariant)
-    (subst (λ size. All (All (λ id. suc id < size)) (map body_uses (node_bodies bodies)))
-    (sym (length-map (node_bodies bodies) body_uses
-    ∙ length-map bodies (λ (t : Rc NodeBody Global). t.value)))
-    c.requires)
+    (search (rules, length-map))
 
 pub returns-clause-increasing : goal.returns-clause-increasing
 returns-clause-increasing c =
-    each_increasing (map body_uses (node_bodies c.args.bodies.now)) c.loop-body.rows
-    (all_taken c.loop-body.body-index c.args.bodies.now c.loop-body.rows (omega arith) c.loop-body.invariant)
+    search (rules, each_increasing, all_taken)

@@ -1,13 +1,11 @@
-use Rattle.std.proofs.Common.{◌≡◌, ◌∙◌, ◌<◌, ◌++◌, ◌∷◌, ◌&&◌, ◌||◌, [], length, map, suc, take, filter, get_or, ap, append_assoc}
-use Rattle.std.proofs.Common.{sym, append-nil, arith, true, false}
-use Rattle.std.specs.Prelude.{All, not, if◌then◌else◌}
-use Rattle.std.specs.Str.{bytes_eq}
-use Rattle.digraph.specs.Nodes.{program}
+use Rattle.std.proofs.Common.{rules}
+use Rattle.std.proofs.Common.{◌≡◌, ◌∙◌, ◌<◌, ◌++◌, ◌∷◌, [], length, map, suc, take, filter, get_or, ap, append_assoc}
+use Rattle.std.proofs.Common.{sym, arith, true}
+use Rattle.std.specs.Prelude.{All, if◌then◌else◌}
 use Rattle.tangle_plans.specs.Shapes.{Named, Program}
 use Rattle.tangle_plans.specs.WebShapes.{name_at, shapes}
-use Rattle.tangle_graph.specs.Measures.{measure_at, measure_of}
+use Rattle.tangle_graph.specs.Measures.{measure_of}
 use Rattle.tangle_graph.specs.Outputs.{main_file, named_file, is_written, is_expandable}
-use Rattle.tangle_graph.specs.declared.measures.Measure.{Measure}
 use Rattle.tangle_graph.proofs.ListLemmas.{mapped_more}
 use Rattle.tangle_graph.proofs.NodeLemmas.{title_inside}
 use Rattle.tangle_graph.proofs.StoreLemmas.{piece_by_measure}
@@ -17,18 +15,9 @@ pub loop-id-init : goal.loop-id-init
 loop-id-init c =
     let all = shapes c.args.web.now c.args.table.now in
     let measured : c.entry-program.result ≡ measure_of all Program =
-    c.entry-program.ensures ∙ ap (measure_at c.args.measures.now) c.program.ensures
-    ∙ c.requires.measures program (omega arith) in
+    search rules in
     let has = piece_by_measure all Program _ measured in
-    let is = ap (λ (m : Measure). m.is_expandable) measured in
-    c.in_ok-files.ensures
-    ∙ (λ i. if not (has i) || is i then record {
-      name = c.args.out.now;
-      node = program;
-      has_macros = not c.args.web.now.has_all_macros;
-      has_piece = has i;
-    } ∷ [] else [])
-    ∙ sym (append-nil (main_file c.args.web.now c.args.table.now c.args.out.now))
+    search rules
 
 pub loop-id-preserved : goal.loop-id-preserved
 loop-id-preserved c =
@@ -45,11 +34,9 @@ loop-id-preserved c =
     let node : c.name-node.result ≡ suc id = omega (arith, c.name-node.ensures, room) in
     let flag : c.entry-measure.result.is_expandable
     ≡ is_expandable (shapes web table) (Named (name_at table id)) =
-    ap (λ (m : Measure). m.is_expandable) (c.entry-measure.ensures ∙ ap (measure_at c.args.measures.now) node
-    ∙ c.requires.measures (suc id) low ∙ ap (measure_of (shapes web table)) (title_inside table.names id low)) in
+    search (rules, title_inside) in
     c.in_ok-add_named_file.ensures
-    ∙ (λ j. c.loop-id.files.items ++ (if flag j && not (bytes_eq (c.text-name.ensures j) out)
-    then record { name = c.text-name.ensures j; node = node j; has_macros = false; has_piece = true } ∷ [] else []))
+    ∙ (search rules)
     ∙ ap (λ l. l ++ (if is_written web table out id then named_file table id ∷ [] else [])) c.loop-id.invariant
     ∙ append_assoc (main_file web table out) (map (named_file table) (filter (is_written web table out) (take i xs)))
     (if is_written web table out id then named_file table id ∷ [] else [])

@@ -1,3 +1,4 @@
+use Rattle.std.proofs.Common.{rules}
 use Rattle.std.proofs.Common.{◌<◌, length, ap, arith}
 use Rattle.std.proofs.lemmas.List.{length-map}
 use Rattle.tangle_scan.specs.Entries.{piece_read}
@@ -20,10 +21,4 @@ node_of_piece-requires-clause-occurrence c =
 
 pub returns-clause-next : goal.returns-clause-next
 returns-clause-next c =
-    let web = c.args.web.now in
-    let stored = c.pieces-pieces.result.now in
-    let is = c.pieces-pieces.ensures.pieces in
-    let low : c.args.i < length stored =
-    omega (arith, c.requires.piece, ap length is, length-map stored (piece_read web.texts)) in
-    next_position web c.args.table.now stored c.args.i c.index-pieces-i.result is low c.index-pieces-i.is
-    c.requires.table c.occurrence.result c.occurrence.ensures c.node_of_piece.result c.node_of_piece.ensures.node
+    search (rules, length-map, next_position)

@@ -1,5 +1,4 @@
 use Rattle.std.proofs.lemmas.Bool.Decides.{nat_tests}
-use Rattle.std.proofs.Common.{rules}
 use Rattle.std.proofs.Common.{map, ◌++◌, ap, sym, subst, ◌∙◌, arith}
 use Rattle.std.specs.List.{list_any, All}
 use Rattle.tangle_text.specs.Text.{texts_of}
@@ -40,18 +39,6 @@ returns-in-Some-pop_head c =
       occurrences = step-occurrences lines _ _ _ _ s _ text _ inside read adds ∙ before.occurrences;
       count = step-count lines _ _ _ _ s _ text _ read adds before.count;
     }
-
-pub returns-clause-tokens : goal.returns-clause-tokens
-returns-clause-tokens c = search rules
-
-pub returns-clause-ours : goal.returns-clause-ours
-returns-clause-ours c = c.loop-front.invariant.ours
-
-pub returns-clause-runs : goal.returns-clause-runs
-returns-clause-runs c = c.loop-front.invariant.runs
-
-pub returns-clause-no_run : goal.returns-clause-no_run
-returns-clause-no_run c = c.loop-front.invariant.no_run
 
 pub loop-front-preserved : goal.loop-front-preserved
 loop-front-preserved c =

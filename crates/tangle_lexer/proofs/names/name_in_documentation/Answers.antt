@@ -1,8 +1,7 @@
 use Rattle.std.proofs.Common.{arith}
 use Rattle.std.proofs.lemmas.Bool.Decides.{nat_tests}
-use Rattle.std.proofs.Common.{drop, ap, sym, ◌∙◌, append_assoc}
+use Rattle.std.proofs.Common.{sym, ◌∙◌, append_assoc}
 use Rattle.std.proofs.lemmas.Bool.{not-false}
-use Rattle.tangle_lexer.specs.Names.{definition_or_mention}
 use Rattle.tangle_lexer.proofs.lemmas.NameLemmas.{definition-found, definition-not-found}
 use Rattle.tangle_lexer.proofs.names.name_in_documentation.Goals as goal
 
@@ -16,14 +15,7 @@ returns c =
     let found =
     definition-found s.last_line c.in-Some.line c.pass_equals.result text c.read_name.new.reader c.pass_equals.new.reader
     (sym name.is_ended ∙ not-false _ c.if-not-name.false) name.ahead c.in-Some.is c.pass_equals.ensures in
-    record {
-      read = record {
-        tokens = grind (arith, nat_tests);
-        ahead = found.2 ∙ ap (λ h. drop (definition_or_mention h s text).more (drop 1 text)) (sym found.1);
-        state = c.in_ok-after-3.ensures.state ∙ ap (λ h. (definition_or_mention h s text).after) (sym found.1);
-      };
-      occurrences = grind (arith, nat_tests);
-    }
+    grind (arith, nat_tests)
 
 pub returns-in_default : goal.returns-in_default
 returns-in_default c = grind (arith, nat_tests, definition-not-found, not-false, append_assoc)

@@ -1,5 +1,6 @@
-use Rattle.std.proofs.Common.{◌++◌, [], ◌∷◌, false, inl, inr, ap, sym, subst, ◌∙◌, arith}
-use Rattle.std.proofs.lemmas.Bool.{eqb-true, eqb-false}
+use Rattle.std.proofs.Common.{rules}
+use Rattle.std.proofs.Common.{◌++◌, [], ◌∷◌, false, ap, sym, subst, ◌∙◌, arith}
+use Rattle.std.proofs.lemmas.Bool.{eqb-false}
 use Rattle.tangle_lexer.specs.Names.{IsNameSoFar}
 use Rattle.tangle_lexer.proofs.lemmas.NameWords.{so-far-white, so-far-space, so-far-byte}
 use Rattle.tangle_lexer.proofs.names.push_byte.Goals as goal
@@ -23,8 +24,5 @@ returns c = λ read h.
           (omega (arith, name.ok.0, eqb-false _ 0 (sym c.is_empty.ensures ∙ w.if-not-is_empty.true))) w.if-white.true)
       | else-not-is_empty w ↦
           subst (λ bs. IsNameSoFar (read ++ b ∷ []) bs false) (ap (λ n. n.items ++ b ∷ []) (sym w.name-is) ∙ added)
-          (so-far-byte read name.items c.args.white b other h (elim w.else-not-is_empty.either [
-            | inl any ↦ inl any.1
-            | inr none ↦ inr (omega (arith, name.ok.0, eqb-true _ 0 (sym c.is_empty.ensures ∙ none)))
-          ]))
+          (so-far-byte read name.items c.args.white b other h (search rules))
     ]

@@ -1,6 +1,6 @@
 use Rattle.std.proofs.Common.{rules}
 use Rattle.std.proofs.lemmas.Bool.Decides.{nat_tests}
-use Rattle.std.proofs.Common.{Result, OnOk, [], drop, ap, refl, sym}
+use Rattle.std.proofs.Common.{Result, OnOk, [], drop, ap, refl}
 use Rattle.std.proofs.Common.{append_assoc, length, length-drop, arith}
 use Rattle.tangle_text.specs.declared.regions.Region.TheVariants as region
 use Rattle.tangle_text.specs.Regions.{more_by}
@@ -10,20 +10,14 @@ use Rattle.tangle_lexer.proofs.lemmas.LexemeLemmas.{name_bytes-go}
 use Rattle.tangle_lexer.proofs.names.read_text.Goals as goal
 
 if_ok : {T E P : Type 0} (r : Result T E) → P → OnOk r P
-if_ok r p = grind (arith, nat_tests)
+if_ok r p = search rules
 
 -- the name that is a slice of its line
-
-pub returns-then-has_single_spaces-clause-text : goal.returns-then-has_single_spaces-clause-text
-returns-then-has_single_spaces-clause-text c = search rules
 
 pub returns-then-has_single_spaces-clause-ahead : goal.returns-then-has_single_spaces-clause-ahead
 returns-then-has_single_spaces-clause-ahead c = grind (arith, nat_tests, region_end-stop)
 
 -- the name that is read unit by unit
-
-pub returns-in-Stop-clause-text : goal.returns-in-Stop-clause-text
-returns-in-Stop-clause-text c = search rules
 
 pub returns-in-Stop-clause-ahead : goal.returns-in-Stop-clause-ahead
 returns-in-Stop-clause-ahead c = grind (arith, nat_tests, unit_at-front, if_ok, region_end-stop)
@@ -32,10 +26,7 @@ pub loop-front-init : goal.loop-front-init
 loop-front-init c =
     let begins = c.in_ok-slice.ensures in
     let name = c.in_ok-white.ensures [] (record { form = c.in_ok-name.ensures.items; ends = refl }) in
-    record {
-      end = sym begins.end;
-      name = (c.in_ok-slice.slice, rw (c.bytes-2.ensures) at name, begins.units);
-    }
+    grind (arith, nat_tests)
 
 pub loop-front-preserved : goal.loop-front-preserved
 loop-front-preserved c =

@@ -1,6 +1,5 @@
 use Rattle.std.proofs.Common.{arith}
 use Rattle.std.proofs.lemmas.Bool.Decides.{nat_tests}
-use Rattle.std.proofs.Common.{rules}
 use Rattle.std.proofs.Common.{append_assoc}
 use Rattle.tangle_text.proofs.RegionLemmas.{unit_at-front, region_end-nothing, region_end-stop, region_end-go}
 use Rattle.tangle_lexer.proofs.lemmas.CutLemmas.{cut-go, cut-stop}
@@ -20,6 +19,3 @@ loop-front-preserved c =
 
 pub returns-clause-ahead : goal.returns-clause-ahead
 returns-clause-ahead c = grind (arith, nat_tests, region_end-nothing)
-
-pub returns-clause-tokens : goal.returns-clause-tokens
-returns-clause-tokens c = search rules

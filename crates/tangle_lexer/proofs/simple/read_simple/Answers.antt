@@ -2,14 +2,8 @@ use Rattle.std.proofs.Common.{rules}
 use Rattle.std.proofs.Common.{sym, subst, arith}
 use Rattle.tangle_lexer.specs.Lexemes.{with_line}
 use Rattle.tangle_lexer.specs.Reads.{ReadsOn}
-use Rattle.tangle_lexer.proofs.lemmas.BlockLemmas.{reads-nothing, reads-trans}
+use Rattle.tangle_lexer.proofs.lemmas.BlockLemmas.{reads-trans}
 use Rattle.tangle_lexer.proofs.simple.read_simple.Goals as goal
-
-pub returns-then-not-is_c_text-clause-read : goal.returns-then-not-is_c_text-clause-read
-returns-then-not-is_c_text-clause-read c = λ lines ours. reads-nothing lines _ c.args.from c.args.reader.now ours
-
-pub loop-simple-init : goal.loop-simple-init
-loop-simple-init c = search rules
 
 pub loop-simple-preserved : goal.loop-simple-preserved
 loop-simple-preserved c =
@@ -20,10 +14,7 @@ loop-simple-preserved c =
           let first = before.read lines ours in
           reads-trans lines _ _ _ c.args.from (with_line c.loop-simple.line c.args.from) _ c.args.reader.now
           c.loop-simple.here _ first (step.read lines first.ours);
-      adds = record {
-        no_head = λ none. step.adds.no_head (before.adds.no_head none);
-        no_run = λ other none. step.adds.no_run other (before.adds.no_run other none);
-      };
+      adds = search rules;
       shorter = omega (arith, step.shorter, before.shorter);
       mode = before.mode;
     }

@@ -1,9 +1,9 @@
-use Rattle.std.proofs.Common.{◌≡◌, true, length, drop, ap, sym, ◌∙◌, arith, length-drop}
+use Rattle.std.proofs.Common.{rules}
+use Rattle.std.proofs.Common.{◌≡◌, true, length, drop, ap, arith, length-drop}
 use Rattle.tangle_text.specs.Text.{byte_at}
-use Rattle.tangle_lexer.specs.declared.modes.LexerState.{LexerState}
 use Rattle.tangle_lexer.specs.Lexemes.{with_line}
 use Rattle.tangle_lexer.specs.Simple.{begins_run, simple_kind}
-use Rattle.tangle_lexer.specs.Steps.{c_lexeme, lexeme}
+use Rattle.tangle_lexer.specs.Steps.{c_lexeme}
 use Rattle.tangle_lexer.proofs.lemmas.BlockLemmas.{no-run, plain-reads-on}
 use Rattle.tangle_lexer.proofs.lemmas.RunLemmas.{run-read, run-reads-on}
 use Rattle.tangle_lexer.proofs.lemmas.SimpleLemmas.{simple-again, simple-read, simple-occurrences_from, simple-special}
@@ -13,9 +13,7 @@ pub returns-then-begins_run-clause-read : goal.returns-then-begins_run-clause-re
 returns-then-begins_run-clause-read c = λ lines ours.
     let state = with_line c.args.line.now c.args.from in
     let begins : begins_run state.mode state.line c.args.simple (byte_at 0 c.args.reader.now) ≡ true
-    = ap (begins_run state.mode state.line c.args.simple) (sym c.byte.ensures)
-    ∙ (ap (λ (s : LexerState). begins_run s.mode s.line c.args.simple c.byte.result) (sym c.with_line-state.ensures)
-    ∙ (sym c.begins_run.ensures ∙ c.if-begins_run.true)) in
+    = search rules in
     rw (c.set.ensures, c.elsewhere.ensures, c.with_line-state.ensures)
     (run-reads-on lines _ _ state c.args.reader.now _ c.take_run-run.result
     c.in_ok-push.ensures.items c.take_run-run.ensures.span c.take_run-run.ensures.ahead ours
@@ -28,11 +26,7 @@ returns-clause-read c = λ lines ours.
     c.with_line-state.ensures c.in_ok-after.ensures in
     let read = simple-read _ _ state _ c.args.reader.now _ c.args.simple c.requires.simple c.requires.mode again in
     rw c.set-2.ensures
-    (plain-reads-on lines _ _ state _ c.args.reader.now _ c.requires.simple.inside read
-    (no-run (lexeme state c.args.reader.now).tokens
-    (simple-special state c.args.reader.now c.args.simple c.requires.simple c.requires.mode))
-    (simple-occurrences_from _ _ state _ c.args.reader.now _ c.args.simple c.requires.simple c.requires.mode again)
-    ours)
+    (search (rules, plain-reads-on, no-run, simple-special, simple-occurrences_from))
 
 pub returns-clause-shorter : goal.returns-clause-shorter
 returns-clause-shorter c =

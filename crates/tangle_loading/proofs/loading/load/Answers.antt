@@ -1,34 +1,27 @@
-use Rattle.std.proofs.Common.{◌∙◌, ap, inl, inr, refl, subst, sym}
-use Rattle.std.specs.Option.{option_copied}
+use Rattle.std.proofs.Common.{arith}
+use Rattle.std.proofs.Common.{rules}
+use Rattle.std.proofs.lemmas.Grind.{common_steps}
+use Rattle.std.proofs.Common.{◌∙◌, subst}
 use Rattle.std.proofs.lemmas.Result.{err_from_is_err_and}
 use Rattle.tangle_files.specs.Roles.{RolesRead}
-use Rattle.tangle_loading.specs.Loading.{bad_name, ending_of}
-use Rattle.tangle_loading.specs.Loads.{Loads, StopsLoading}
-use Rattle.tangle_loading.specs.Loads.StopsLoading.{IsUnasked}
+use Rattle.tangle_loading.specs.Loading.{ending_of}
+use Rattle.tangle_loading.specs.Loads.{StopsLoading}
 use Rattle.tangle_loading.proofs.loading.load.Goals as goal
 
 pub returns-in-Some-clause-err : goal.returns-in-Some-clause-err
 returns-in-Some-clause-err g c =
-    IsUnasked refl (elim c.refused.ensures [
-      | inl e ↦ inl (_, sym c.first_bad.ensures ∙ ap option_copied c.in-Some.is, e)
-      | inr e ↦ inr e
-    ])
+    search rules
 
 pub returns-in_default-new-clause-err : goal.returns-in_default-new-clause-err
-returns-in_default-new-clause-err g c = IsUnasked refl (inr refl)
+returns-in_default-new-clause-err g c = search rules
 
 pub load_files-requires : goal.load_files-requires
 load_files-requires g c =
-    let given = rw (c.web.ensures, c.change.ensures, c.out.ensures) at c.in-Ok.ensures.roles in
-    ap bad_name (c.set_marks.ensures ∙ (λ i. record (given i) { marks = c.marks.ensures i }))
-    ∙ sym c.first_bad.ensures ∙ ap option_copied c.in_default.is
+    search rules
 
 pub returns-clause-ok : goal.returns-clause-ok
 returns-clause-ok g c =
-    let given = rw (c.web.ensures, c.change.ensures, c.out.ensures) at c.in-Ok.ensures.roles in
-    subst (λ (r : RolesRead).
-    Loads r (g.F.Folder.state c.args.folder.now) (g.F.Folder.state c.load_files.new.folder) c.in_ok-files.files)
-    (c.set_marks.ensures ∙ (λ i. record (given i) { marks = c.marks.ensures i })) c.in_ok-files.ensures.ok
+    grind (arith, common_steps)
 
 pub returns-in_err-files-clause-err : goal.returns-in_err-files-clause-err
 returns-in_err-files-clause-err g c =

@@ -1,3 +1,4 @@
+use Rattle.std.proofs.lemmas.Bool.Decides.{nat_tests}
 use Rattle.std.proofs.Common.{◌∙◌, arith, refl, sym}
 use Rattle.std.proofs.lemmas.Result.{err_from_is_err_and}
 use Rattle.tangle_loading.specs.Loading.{missed_in}
@@ -41,15 +42,11 @@ returns-then-count-clause-ok g c =
 
 pub returns-then-count-clause-fits : goal.returns-then-count-clause-fits
 returns-then-count-clause-fits g c =
-    grows_fits c.loop-asked.files c.read_inclusions.new.files c.args.roles.now
-    (reads_grow _ _ _ _ c.in_ok-read_inclusions.ensures) c.loop-asked.invariant.has_roles
+    grind (arith, nat_tests, grows_fits, reads_grow)
 
 pub loop-asked-smaller : goal.loop-asked-smaller
 loop-asked-smaller g c =
-    let more = longer c.loop-asked.files c.read_inclusions.new.files
-    (reads_grow _ _ _ _ c.in_ok-read_inclusions.ensures)
-    (λ e. c.if-count.false (c.count.ensures.count ∙ e ∙ sym c.count-count.ensures.count)) in
-    omega (arith, more, c.count.ensures.count, c.count.ensures.limit)
+    grind (arith, nat_tests, longer, reads_grow)
 
 pub loop-asked-preserved : goal.loop-asked-preserved
 loop-asked-preserved g c =

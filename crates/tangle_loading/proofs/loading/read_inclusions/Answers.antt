@@ -1,3 +1,4 @@
+use Rattle.std.proofs.Common.{rules}
 use Rattle.std.proofs.Common.{◌∙◌, ◌+◌, ◌++◌, ◌∷◌, [], ap, drop, false, refl, subst, sym, take}
 use Rattle.std.proofs.lemmas.Result.{err_from_is_err_and}
 use Rattle.tangle_loading.specs.Loading.{ending_of, missed_in}
@@ -38,5 +39,4 @@ loop-fault-preserved g c =
     c.read_missing.new.files c.read_missing.new.asked in
     subst (λ l. Reads false l old next)
     (sym (missed_more faults i c.fault-item.result c.loop-fault-test.true c.fault-item.is))
-    (reads_then false (missed_in (take i faults)) (missed_in (c.fault-item.result ∷ [])) old state next
-    c.loop-fault.invariant c.in_ok-read_missing.ensures)
+    (search (rules, reads_then))

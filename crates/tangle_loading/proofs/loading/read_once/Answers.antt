@@ -1,4 +1,5 @@
-use Rattle.std.proofs.Common.{◌∙◌, [], ◌∷◌, None, Some, Ok, Err, ap, cond, inl, inr, refl, sym}
+use Rattle.std.proofs.Common.{rules}
+use Rattle.std.proofs.Common.{◌∙◌, None, Some, Ok, Err, ap, cond, inl, inr, sym}
 use Rattle.std.proofs.lemmas.Result.{err_from_is_err_and}
 use Rattle.tangle_loading.specs.Loading.LoadEnd.{CannotRead}
 use Rattle.tangle_loading.specs.Loads.{Unfailed, progress}
@@ -11,16 +12,11 @@ use Rattle.tangle_loading.proofs.loading.read_once.Goals as goal
 
 pub returns-then-contains : goal.returns-then-contains
 returns-then-contains g c =
-    reads_none c.args.needed (c.args.name.now ∷ [])
-    (progress (g.F.Folder.state c.args.folder.now) c.args.files.now c.args.asked.now)
-    (with_asked_old c.args.asked.now c.args.name.now (sym c.contains.ensures ∙ c.if-contains.true))
+    search (rules, reads_none, with_asked_old)
 
 pub returns-in_err-insert : goal.returns-in_err-insert
 returns-in_err-insert g c =
-    let left = err_from_is_err_and c.from_residual.result c.from_residual.ensures.1 in
-    rw (left.1, left.2) (stops_before c.args.needed (c.args.name.now ∷ [])
-    (progress (g.F.Folder.state c.args.folder.now) c.args.files.now c.args.asked.now)
-    (g.F.Folder.state c.args.folder.now) (asks_none _ _ refl) (unfailed_still _))
+    search (rules, err_from_is_err_and, stops_before, asks_none, unfailed_still)
 
 pub returns-in-Ok : goal.returns-in-Ok
 returns-in-Ok g c =
@@ -83,8 +79,7 @@ returns-in-Err-NoMemory g c =
     let unfailed : Unfailed (g.F.Folder.state c.args.folder.now) (g.F.Folder.state c.read_file.new.self) =
     record { failed = said.fails; failures = said.counted } in
     elim said.asks [
-      | inl e ↦ stops_before c.args.needed (c.args.name.now ∷ []) _ _
-          (none_asked _ _ e said.files_stay said.created_stay) unfailed
+      | inl e ↦ search (rules, stops_before, none_asked)
       | inr e ↦ stops_at c.args.needed c.args.name.now _ _ _ (sym c.contains.ensures ∙ c.if-contains.false)
           (asks_one _ _ _ e said.files_stay said.created_stay) (IsShort (Some c.args.name.now) unfailed)
     ]

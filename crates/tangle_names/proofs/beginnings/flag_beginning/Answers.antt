@@ -1,4 +1,5 @@
-use Rattle.std.proofs.Common.{◌≡◌, ◌∙◌, sym, ap, true, false}
+use Rattle.std.proofs.Common.{rules}
+use Rattle.std.proofs.Common.{◌∙◌, sym, ap, true}
 use Rattle.tangle_names.specs.declared.Resolved.TheVariants.{Name}
 use Rattle.tangle_names.specs.Names.{NameText, One}
 use Rattle.tangle_names.specs.Resolving.{resolved_meaning}
@@ -17,5 +18,4 @@ returns-then-begins_at c =
 
 pub returns-else-begins_at : goal.returns-else-begins_at
 returns-else-begins_at c =
-    flags-kept _ _ _ (begins_none-read c.args.sorted.now c.args.position _ c.requires.order c.requires.inside
-    (λ next. let clash : true ≡ false = sym (c.begins_at.ensures.1 next) ∙ c.if-begins_at.false in cc))
+    flags-kept _ _ _ (search (rules, begins_none-read))

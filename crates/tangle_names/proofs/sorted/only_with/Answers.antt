@@ -17,10 +17,7 @@ returns-then-not-begins_at c = λ full same.
     (λ begun. let clash : true ≡ false = sym (c.begins_at.ensures.1 begun) ∙ c.if-not-begins_at.true in cc)
 
 pub returns-then-begins_at : goal.returns-then-begins_at
-returns-then-begins_at c = λ full same.
-    several_found full (borrowed_names c.args.sorted.now) c.args.prefix.now
-    c.partition_point-first.result same c.requires (c.begins_at.ensures.0 c.if-not-begins_at.false)
-    (c.begins_at-else-not-begins_at.ensures.0 c.if-begins_at.true)
+returns-then-begins_at c = search (rules, several_found)
 
 pub returns-else-begins_at : goal.returns-else-begins_at
 returns-else-begins_at c = λ full same.
@@ -28,10 +25,8 @@ returns-else-begins_at c = λ full same.
     c.args.sorted.now _ c.partition_point-first.ensures.partitioned
     (is_parted c.args.sorted.now c.args.prefix.now c.requires) (λ a r q k. search rules) in
     ap One
-    (at_begun c.args.sorted.now c.args.prefix.now c.partition_point-first.result
-    _ (c.begins_at.ensures.0 c.if-not-begins_at.false))
+    (search (rules, at_begun))
     ∙ one_found full (borrowed_names c.args.sorted.now) c.args.prefix.now c.partition_point-first.result
     same (gathers_from c.args.sorted.now c.args.prefix.now _ c.args.prefix c.requires point)
     (c.begins_at.ensures.0 c.if-not-begins_at.false)
-    (λ begun. let clash : true ≡ false = sym (c.begins_at-else-not-begins_at.ensures.1 begun) ∙ c.if-begins_at.false in
-    cc)
+    (search rules)

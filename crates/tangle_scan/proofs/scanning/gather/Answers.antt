@@ -5,8 +5,6 @@ use Rattle.std.proofs.Common.{option_to_list, List, Option, None}
 use Rattle.std.specs.Option.{IfNone}
 use Rattle.std.proofs.lemmas.List.Elements.{All-nil}
 use Rattle.std.specs.List.{All}
-use Rattle.tangle_lexer.specs.declared.modes.Mode.{Mode}
-use Rattle.tangle_lexer.specs.declared.modes.Mode.TheVariants as mode
 use Rattle.tangle_lexer.specs.declared.tokens.Token.{Token}
 use Rattle.tangle_text.specs.Text.{Cell}
 use Rattle.tangle_lexer.specs.Runs.{unfolded}
@@ -22,9 +20,6 @@ use Rattle.tangle_scan.proofs.scanning.gather.Goals as goal
 
 pub next_block-requires-clause-ours : goal.next_block-requires-clause-ours
 next_block-requires-clause-ours c = (0, c.new-reader.ensures.text)
-
-other-mode : (m : Mode) → m ≡ mode.Macro → m ≡ mode.CPart → ⊥
-other-mode m macro part = cc
 
 pub add_block-requires-clause-no_run : goal.add_block-requires-clause-no_run
 add_block-requires-clause-no_run c = search rules

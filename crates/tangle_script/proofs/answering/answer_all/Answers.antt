@@ -1,3 +1,5 @@
+use Rattle.std.proofs.Common.{arith}
+use Rattle.std.proofs.lemmas.Bool.Decides.{nat_tests}
 use Rattle.std.specs.Option.{option_copied}
 use Rattle.tangle_script.specs.Commands.{found_commands}
 use Rattle.tangle_script.specs.Script.{IsAnswerCut, IsQuitAnswered}
@@ -9,11 +11,7 @@ loop-found-init g c = under_at_first g.P.Project.answers _ _
 
 pub loop-found-preserved : goal.loop-found-preserved
 loop-found-preserved g c =
-    let line = rw c.in-Ok-false.field-0-test at c.in-Ok-false.ensures in
-    under_more g.P.Project.answers _ _ _ _ _ c.in-Some.found.rest.now
-    (found_commands c.in-Some.found.line.now (option_copied c.in-Some.found.text))
-    c.loop-found.invariant c.in-Some.ensures.commands c.in-Some.ensures.pending
-    c.in-Some.ensures.rest line.0 line.1
+    grind (arith, nat_tests, under_more)
 
 pub returns-in-Err-clause-answered : goal.returns-in-Err-clause-answered
 returns-in-Err-clause-answered g c =

@@ -2,11 +2,8 @@ use Rattle.std.proofs.Common.{ap, arith, sym, ◌∙◌}
 use Rattle.std.proofs.lemmas.Bool.{eqb-true, eqb-false}
 use Rattle.std.proofs.lemmas.List.{nil_from_length}
 use Rattle.tangle_script.specs.Commands.{found_commands, last_text}
-use Rattle.tangle_script.proofs.CommandLemmas.{last_alone, last_with_text, some_text}
+use Rattle.tangle_script.proofs.CommandLemmas.{last_with_text, some_text}
 use Rattle.tangle_script.proofs.commands.last_command.Goals as goal
-
-pub returns-in-None : goal.returns-in-None
-returns-in-None c = last_alone _ c.in-None.ensures.none.0 c.in-None.ensures.none.1
 
 pub returns-then-is_empty : goal.returns-then-is_empty
 returns-then-is_empty c =

@@ -1,6 +1,7 @@
-use Rattle.std.proofs.Common.{◌∙◌, ap, sym}
+use Rattle.std.proofs.Common.{arith}
+use Rattle.std.proofs.lemmas.Bool.Decides.{nat_tests}
+use Rattle.std.proofs.Common.{◌∙◌, sym}
 use Rattle.std.proofs.lemmas.List.{take_rest}
-use Rattle.tangle_script.specs.Script.{has_quit}
 use Rattle.tangle_script.specs.Buffer.{bytes}
 use Rattle.tangle_script.proofs.CommandLemmas.{waits_in}
 use Rattle.tangle_script.proofs.ConversationLemmas.{answered_nothing}
@@ -11,7 +12,4 @@ returns-then-not-ends_a_line g c =
     let none = rw (take_rest, c.as_slice.ensures) at
     (sym c.ends_a_line.ensures ∙ c.if-not-ends_a_line.true) in
     let all = waits_in c.args.searched (bytes c.args.buffer.now) c.requires.waits none in
-    record {
-      answered = (answered_nothing g.P.Project.answers _ _ all.0, ap has_quit all.0);
-      pending = sym all.1;
-    }
+    grind (arith, nat_tests, answered_nothing)

@@ -1,5 +1,6 @@
-use Rattle.std.proofs.Common.{◌∙◌, ◌++◌, [], ap, append-nil, arith, length, refl}
-use Rattle.std.proofs.Common.{subst, sym, take}
+use Rattle.std.proofs.Common.{rules}
+use Rattle.std.proofs.Common.{◌∙◌, ◌++◌, [], ap, append-nil, arith, refl}
+use Rattle.std.proofs.Common.{subst, sym}
 use Rattle.std.proofs.lemmas.List.{take_at}
 use Rattle.tangle_script.specs.Buffer.{bytes}
 use Rattle.tangle_script.specs.Commands.{OnlyWaits}
@@ -38,9 +39,7 @@ answer_chunk-requires-clause-waits g c =
     let chunk = c.in-Some.ensures.read in
     let before = bytes c.make_space.new.self in
     subst OnlyWaits
-    (sym (ap (take (length c.as_slice-searched.result.now)) chunk.2
-    ∙ take_at before chunk.0 _ (sym (ap length c.as_slice-searched.ensures))
-    ∙ c.in_default.ensures.bytes))
+    (search (rules, take_at))
     (waits_now g.P.Project.answers g.P.Project.has_error _ _ _ _ c.loop-count.invariant.holds)
 
 pub returns-in-Err-answer_chunk : goal.returns-in-Err-answer_chunk

@@ -1,10 +1,10 @@
-use Rattle.std.proofs.Common.{◌≡◌, ◌<◌, ◌∙◌, true, false, length, get_or, refl, sym, arith}
+use Rattle.std.proofs.lemmas.Bool.Decides.{nat_tests}
+use Rattle.std.proofs.Common.{◌≡◌, ◌<◌, ◌∙◌, true, false, length, get_or, sym, arith}
 use Rattle.std.proofs.lemmas.List.{get_or_read}
 use Rattle.digraph.specs.Evidence.{IsEvidence}
-use Rattle.digraph.specs.Graph.{row_at}
 use Rattle.digraph.specs.Flags.{IsFlagged}
 use Rattle.digraph.proofs.ReachLemmas.{not_itself}
-use Rattle.digraph.proofs.RootLemmas.{by_root, LeadsTo}
+use Rattle.digraph.proofs.RootLemmas.{by_root}
 use Rattle.digraph.proofs.evidence.Evidence.conclusion.Goals as goal
 
 pub returns-then-leads_to_root : goal.returns-then-leads_to_root
@@ -18,12 +18,7 @@ returns-then-leads_to_root c =
     let is_root : c.index-then-index.result.now ≡ get_or roots n 0 =
     get_or_read roots n _ in_roots c.index-then-index.ensures 0 in
     let flagged : IsFlagged flags n = sym (get_or_read flags n _ in_flags c.index.ensures false) ∙ c.if-index.true in
-    let leads : LeadsTo roots c.args.self.now.to_root.items (row_at c.args.uses.now n) (get_or roots n 0) =
-    rw (c.row-row.ensures, c.deref.ensures.value, c.deref-then-index.ensures.value, is_root)
-    at (c.leads_to_root.ensures c.if-leads_to_root.true) in (
-      λ _. by_root _ _ _ _ n given.from_root given.to_root flagged leads,
-      λ _. refl,
-    )
+    grind (arith, nat_tests, by_root _ _ _ _ n given.from_root given.to_root flagged)
 
 pub returns-then-lowest-index : goal.returns-then-lowest-index
 returns-then-lowest-index c =

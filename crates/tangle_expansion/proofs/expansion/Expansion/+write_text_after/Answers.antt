@@ -1,3 +1,4 @@
+use Rattle.std.proofs.Common.{rules}
 use Rattle.std.proofs.Common.{◌+◌, ◌∷◌, ◌++◌, List, [], ap, drop, refl, arith}
 use Rattle.std.specs.Prelude.{Option, unwrap_or}
 use Rattle.std.proofs.lemmas.List.{drop_all}
@@ -12,17 +13,7 @@ use Rattle.tangle_expansion.proofs.expansion.Expansion.+write_text_after.Goals.{
 
 pub loop-used-init : goal.loop-used-init
 loop-used-init g t c =
-    rw (
-      c.first_cursor-at.ensures.piece,
-      c.first_cursor-at.ensures.marks,
-      c.first_cursor-at.ensures.start,
-      c.first_cursor-at.ensures.tag,
-      c.deref-used-items.ensures.value,
-      c.deref-body.ensures,
-      c.deref-shared.ensures,
-      c.self.view_is,
-    )
-    (wrote_at_first _ _ _)
+    search (rules, wrote_at_first)
 
 pub loop-used-preserved : goal.loop-used-preserved
 loop-used-preserved g t c =

@@ -1,3 +1,4 @@
+use Rattle.std.proofs.Common.{rules}
 use Rattle.std.proofs.Common.{◌∙◌, ℕ, List, ap, arith, length, map}
 use Rattle.std.proofs.lemmas.List.{length-map}
 use Rattle.tangle_names.specs.NameTable.{table_of}
@@ -31,10 +32,4 @@ returns c =
     ∙ rows_numbers pieces web.pieces c.in_ok-read.ensures.sections c.in_ok-read.ensures.origins
     c.args.pieces.now.value c.requires.pieces.inside
     ∙ ap (map (map numbers_of_piece)) c.requires.pieces.right in
-    λ i. record {
-      mark_ends = c.in_ok-mark_ends.ensures i;
-      names = (c.in_ok-share.ensures ∙ c.requires.names) i;
-      rows = rows i;
-      macros = c.in_ok-macros_bytes.ensures i;
-      marks = c.args.marks;
-    }
+    search rules

@@ -1,13 +1,13 @@
-use Rattle.std.proofs.Common.{◌≡◌, None, ap, sym, ◌∙◌}
+use Rattle.std.proofs.Common.{rules}
+use Rattle.std.proofs.Common.{◌≡◌, None, ap, ◌∙◌}
 use Rattle.tangle_files.specs.Adding.{add_refusal}
-use Rattle.tangle_files.proofs.TableLemmas.{files_of-with_file, IsWithinLimits-with_file, refused_by_lines}
+use Rattle.tangle_files.proofs.TableLemmas.{files_of-with_file, IsWithinLimits-with_file}
 use Rattle.tangle_files.proofs.files.Files.add_owned.Goals as goal
 
 pub invariant_of-self-2 : goal.invariant_of-self-2
 invariant_of-self-2 c =
     let none : None ≡ add_refusal c.args.self.now c.args.name.now c.args.bytes.items
-    = sym (refused_by_lines c.args.self.now c.args.name.now c.args.bytes.items (sym c.in_default.ensures)
-    ∙ c.in_ok-lines.ensures.accepted) in
+    = search rules in
     let cut = ap (λ lines. lines.items) c.in_ok-lines-2.ensures.ok ∙ c.in_ok-lines.ensures.ok in
     let same = files_of-with_file c.args.self.now c.args.name.now c.args.bytes.items
     c.self.inside.table c.insert.new.self c.in_ok-name.name c.in_ok-lines-2.lines
@@ -19,8 +19,7 @@ invariant_of-self-2 c =
 pub returns-clause-ok : goal.returns-clause-ok
 returns-clause-ok c =
     let none : None ≡ add_refusal c.args.self.now c.args.name.now c.args.bytes.items
-    = sym (refused_by_lines c.args.self.now c.args.name.now c.args.bytes.items (sym c.in_default.ensures)
-    ∙ c.in_ok-lines.ensures.accepted) in
+    = search rules in
     let cut = ap (λ lines. lines.items) c.in_ok-lines-2.ensures.ok ∙ c.in_ok-lines.ensures.ok in
     files_of-with_file c.args.self.now c.args.name.now c.args.bytes.items
     c.self.inside.table c.insert.new.self c.in_ok-name.name c.in_ok-lines-2.lines

@@ -1,14 +1,14 @@
-use Rattle.std.proofs.Common.{◌≡◌, ◌∙◌, ℕ, zero, suc, ◌-◌, ◌<◌, List, [], ◌∷◌, take, drop, length, min, refl, sym, ap, arith}
-use Rattle.std.proofs.lemmas.List.{drop-drop, length-take, take_min, take-take}
+use Rattle.std.proofs.Common.{rules}
+use Rattle.std.proofs.lemmas.Grind.{common_steps}
+use Rattle.std.proofs.Common.{◌≡◌, ◌∙◌, ℕ, zero, suc, ◌-◌, ◌<◌, List, [], ◌∷◌, take, drop, min, refl, sym, ap, arith}
+use Rattle.std.proofs.lemmas.List.{drop-drop}
 use Rattle.std.proofs.Math.Seq.{take-nil}
 use Rattle.tangle_files.specs.Sharing.{position_of}
 use Rattle.tangle_files.proofs.line.Line.slice.Goals as goal
 
 take_of_take : (n m : ℕ) (bytes : List ℕ) → take n (take m bytes) ≡ take (min n m) bytes
 take_of_take n m bytes =
-    let few : min n (length (take m bytes)) ≡ min (min n m) (length (take m bytes)) = omega (arith, length-take m bytes) in
-    sym (take_min n (take m bytes)) ∙ ap (λ k. take k (take m bytes)) few
-    ∙ take_min (min n m) (take m bytes) ∙ take-take (min n m) m bytes (omega arith)
+    grind (arith, common_steps)
 
 drop_of_take : (n m : ℕ) (bytes : List ℕ) → drop n (take m bytes) ≡ take (m - n) (drop n bytes)
 drop_of_take zero m bytes = let all : m ≡ m - 0 = omega arith in ap (λ k. take k bytes) all
@@ -33,16 +33,4 @@ returns c =
     let stop = min c.args.end line.size in
     let from = min start stop in
     let few : stop - from ≡ min size (line.size - start) = omega arith in
-    rw (
-      ← c.self.view_is,
-      c.new.ensures,
-      c.in_ok-clone.ensures.cases,
-      c.position.ensures,
-      c.min-start.ensures,
-      c.min-end.ensures,
-    )
-    (ap (take (stop - from)) (sym (drop-drop from position text))
-    ∙ taken_from (stop - from) from start (drop position text) (λ some. omega (arith, some))
-    ∙ ap (λ k. take k (drop start (drop position text))) few
-    ∙ sym (take_of_take size (line.size - start) (drop start (drop position text)))
-    ∙ ap (take size) (sym (drop_of_take start line.size (drop position text))))
+    search (rules, drop-drop, taken_from, take_of_take, drop_of_take)

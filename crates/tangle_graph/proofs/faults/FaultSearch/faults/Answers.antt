@@ -1,3 +1,5 @@
+use Rattle.std.proofs.Common.{arith}
+use Rattle.std.proofs.lemmas.Bool.Decides.{nat_tests}
 use Rattle.std.proofs.Common.{◌∙◌, ap}
 use Rattle.tangle_graph.specs.Faults.{has_piece_of_node, is_too_large}
 use Rattle.tangle_graph.specs.Stores.{contains_itself_at, flag_at}
@@ -17,17 +19,5 @@ returns c =
       reaches_cycle = flag_at search.store.now.reaching_cycles;
       self_containing = c.requires.containing;
       reaching_cycles = c.requires.reaching;
-      list = rw (
-        c.in_ok-add_unplaced-2.ensures,
-        c.in_ok-add_faults-5.ensures,
-        c.in_ok-add_unplaced.ensures,
-        c.in_ok-add_faults-4.ensures,
-        c.in_ok-add_faults-3.ensures,
-        c.in_ok-add_faults-2.ensures,
-        c.in_ok-add_faults.ensures,
-        c.new-faults.ensures.items,
-        is_large,
-        has_piece,
-        one_after_another,
-      );
+      list = grind (arith, nat_tests, one_after_another);
     }

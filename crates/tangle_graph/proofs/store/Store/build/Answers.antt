@@ -1,16 +1,13 @@
-use Rattle.std.proofs.Common.{◌≡◌, ◌∙◌, ◌≤◌, ◌↔◌, ap, length, map, refl, subst, sym, true, ℕ}
-use Rattle.std.specs.Global.{Global}
+use Rattle.std.proofs.Common.{arith}
+use Rattle.std.proofs.lemmas.Bool.Decides.{nat_tests}
+use Rattle.std.proofs.Common.{◌≡◌, ◌∙◌, ◌≤◌, ◌↔◌, ap, length, map, refl, subst, true, ℕ}
 use Rattle.std.specs.List.{IsDistinct}
 use Rattle.std.specs.Str.{bytes_eq}
-use Rattle.std.specs.declared.rc.Rc.{Rc}
 use Rattle.std.proofs.lemmas.List.{length-map}
 use Rattle.std.proofs.lemmas.Option.{IfSome_then}
-use Rattle.tangle_names.specs.NameTable.{TableRead}
-use Rattle.tangle_names.specs.Resolving.{resolve}
 use Rattle.tangle_plans.specs.NodeBodies.{body_uses}
 use Rattle.tangle_plans.specs.Nodes.{title_at}
 use Rattle.tangle_plans.specs.WebShapes.{shapes}
-use Rattle.tangle_plans.specs.declared.nodes.NodeBody.{NodeBody}
 use Rattle.tangle_plans.specs.Shapes.{Uses}
 use Rattle.tangle_graph.specs.Bodies.{AreBodiesOf, node_bodies}
 use Rattle.tangle_graph.specs.Measures.{AreMeasures}
@@ -25,30 +22,9 @@ use Rattle.tangle_graph.proofs.StoreIs.{known_name, order_is, reaching_is, store
 use Rattle.tangle_graph.proofs.store.Store.build.Goals as goal
 use Rattle.digraph.specs.Reach.{ReachesCycle}
 
-pub bodies_by_node-requires-clause-grouped : goal.bodies_by_node-requires-clause-grouped
-bodies_by_node-requires-clause-grouped c = record {
-  table = c.requires;
-  names = c.in_ok-names.ensures;
-  pieces = rw (c.deref-rows.ensures, c.in_ok-pieces.ensures.ok) c.in_ok-pieces_by_node.ensures;
-}
-
 pub name_graph_after-requires-clause-inside : goal.name_graph_after-requires-clause-inside
 name_graph_after-requires-clause-inside c = rw c.deref.ensures.value
     (uses_inside (shapes c.args.web.now c.args.table.now) _ c.in_ok-made.made.bodies.items c.in_ok-made.ensures.bodies)
-
-pub measures_of_nodes-requires : goal.measures_of_nodes-requires
-measures_of_nodes-requires c =
-    let items = c.in_ok-made.made.bodies.items in
-    let graph : IsNameGraphOf (map body_uses (node_bodies items)) c.in_ok-name_graph.name_graph.value =
-    rw c.deref.ensures.value at c.in_ok-name_graph.ensures.name_graph in
-    record {
-      size = rw (c.deref-3.ensures.value, c.deref-shared.ensures)
-          (sym (length-map items (λ (t : Rc NodeBody Global). t.value))
-          ∙ sym (length-map (node_bodies items) body_uses) ∙ sym graph.uses.size);
-      uses = rw (c.deref-3.ensures.value, c.deref-shared.ensures) graph.uses;
-      range = rw c.deref-shared.ensures graph.range;
-      order = rw (c.deref-2.ensures.value, c.deref-shared.ensures) graph.order;
-    }
 
 pub outputs-requires : goal.outputs-requires
 outputs-requires c =
@@ -62,8 +38,7 @@ outputs-requires c =
     subst (λ ns. AreBodiesOf all ns (node_bodies items)) c.in_ok-names.ensures c.in_ok-made.ensures.bodies in
     record {
       inside = resolves_inside web table c.requires;
-      ours = ap (λ (t : TableRead). length t.resolved) c.requires
-          ∙ length-map web.occurrences (resolve web.occurrences);
+      ours = grind (arith, nat_tests, length-map);
       size = ap length c.deref-4.ensures.value ∙ c.in_ok-measures.ensures.size
           ∙ rw c.deref-shared.ensures (uses_count all table.names (node_bodies items)
           c.in_ok-name_graph.name_graph.value.uses bodies graph.uses);

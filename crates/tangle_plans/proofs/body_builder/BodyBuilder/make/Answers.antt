@@ -1,3 +1,4 @@
+use Rattle.std.proofs.Common.{rules}
 use Rattle.std.proofs.Common.{drop, ◌+◌}
 use Rattle.std.proofs.lemmas.List.{drop_all, drop_more}
 use Rattle.tangle_plans.specs.Nodes.{pieces_at}
@@ -5,9 +6,7 @@ use Rattle.tangle_plans.proofs.AddingEntries.{no_pieces_added, piece_added, piec
 use Rattle.tangle_plans.proofs.body_builder.BodyBuilder.make.Goals as goal
 
 pub loop-number-init : goal.loop-number-init
-loop-number-init c = λ new added.
-    pieces_made c.args.web.now.texts c.args.table.now new (pieces_at c.args.web.now.pieces c.args.numbers.now)
-    (rw c.clear.ensures at added)
+loop-number-init c = search (rules, pieces_made)
 
 pub loop-number-preserved : goal.loop-number-preserved
 loop-number-preserved c = λ new rest.
@@ -22,5 +21,4 @@ loop-number-preserved c = λ new rest.
 pub returns : goal.returns
 returns c =
     c.loop-number.invariant c.loop-number.self
-    (rw (drop_all c.loop-number.number-index c.args.numbers.now c.loop-number-test.false)
-    (no_pieces_added c.args.web.now.texts c.args.table.now c.loop-number.self))
+    (search (rules, drop_all, no_pieces_added))
